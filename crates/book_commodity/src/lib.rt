@@ -1,0 +1,21 @@
+//! The small values that every other crate of the book stands on: text, bytes and lists with a plain
+//! meaning, days of the calendar, and the words for kinds of things and for limits.
+//! Contracts see a `Text` and a `Bytes` as the list of its bytes, a `Many` as the list of its items.
+//! Amounts are whole counts of the smallest unit of their commodity.
+#![tactic(auto)]
+
+mod bytes;
+mod counted;
+mod day;
+mod kind;
+mod many;
+mod memory;
+mod text;
+
+pub use bytes::Bytes;
+pub use counted::Counted;
+pub use day::Day;
+pub use kind::Kind;
+pub use many::Many;
+pub use memory::OutOfMemory;
+pub use text::Text;

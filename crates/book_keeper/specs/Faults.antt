@@ -1,0 +1,11 @@
+-- Counts of faults. Each object of the outside has one; it begins at 0, never falls, and stays at 2 ^ 64 - 1.
+use Rattle.std.specs.Prelude.{◌≡◌, ℕ, ◌+◌, ◌-◌, ◌^◌, ◌≤◌, min, Result, OnErr}
+
+-- the count rose by at least one, or stands at its last value
+abbrev pub Rose : ℕ → ℕ → Type 0
+Rose before now = min (before + 1) (2 ^ 64 - 1) ≤ now
+
+-- a call left the count at least where it was, and an error comes only where the count rose
+pub record HasCause {T E : Type 0} (before now : ℕ) (result : Result T E) : Type 0 where
+  pub later : before ≤ now
+  pub failed : OnErr result (Rose before now)

@@ -1,0 +1,10 @@
+//! Transactions and their splits. A transaction moves value among accounts: each split gives one account
+//! a value, in the transaction's currency, and a quantity, in the account's commodity, and the values of
+//! a transaction sum to zero (GnuCash Concepts Guide, the accounting equation and double entry).
+#![tactic(auto)]
+
+mod split;
+mod transaction;
+
+pub use split::{Mark, Split};
+pub use transaction::Txn;

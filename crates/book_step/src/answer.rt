@@ -1,0 +1,13 @@
+use book_commodity::Many;
+
+/// What an accepted command is answered, by the command's name.
+#[derive(Drop)]
+pub enum Answer {
+    /// The number of the new transaction, the numbers of its splits by place, and for each split the balance
+    /// of its account after the post, in smallest units of the account's commodity.
+    Post {
+        transaction: u64,
+        splits: Many<u64>,
+        balances: Many<i128>,
+    },
+}
