@@ -7,8 +7,8 @@ use Rattle.std.proofs.lemmas.List.{take_more, take-append-drop, map-append, appe
 use Rattle.std.proofs.Math.ListN.{length-append}
 use Rattle.std.proofs.lemmas.Int.{ints}
 use Rattle.std.proofs.Math.IntN.{+ℤ_idr}
-use Rattle.book_splits.specs.Balance.{quantity_on, splits_of}
-use Rattle.book_splits.specs.Balances.{balance_at, Counts, IsWithin, IsSmall, Adds, Puts}
+use Rattle.book_splits.specs.Balance.{IsWithin, quantity_on, splits_of}
+use Rattle.book_splits.specs.Balances.{balance_at, Counts, IsSmall, Adds, Puts}
 use Rattle.book_splits.proofs.BalanceLemmas.{quantity_on-append, quantity_on-one, splits_of-append}
 use Rattle.book_splits.specs.declared.transaction.Txn.{Txn}
 use Rattle.book_splits.specs.declared.balances.Balances.{Balances}

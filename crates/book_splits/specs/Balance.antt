@@ -1,5 +1,5 @@
 -- Sums over splits, computed afresh from the transactions (GnuCash Concepts Guide, account registers).
-use Rattle.std.specs.Prelude.{ℕ, ℤ, pos, ◌+ℤ◌, ◌==◌, List, [], ◌∷◌, ◌++◌, map, filter}
+use Rattle.std.specs.Prelude.{ℕ, ◌*◌, ◌^◌, ℤ, pos, ◌+ℤ◌, ◌-ℤ◌, ◌≤ℤ◌, ◌==◌, List, [], ◌∷◌, ◌++◌, map, filter}
 use Rattle.book_splits.specs.declared.split.Split.{Split}
 use Rattle.book_splits.specs.declared.transaction.Txn.{Txn}
 
@@ -24,3 +24,7 @@ quantity_on account splits = total (map (λ split. split.quantity) (filter (λ s
 -- the balance of an account over all days
 abbrev pub balance : List (ℕ × Txn) → ℕ → ℤ
 balance transactions account = quantity_on account (splits_of transactions)
+
+-- the amount is small enough to be the sum of so many amounts of 64 bits
+abbrev pub IsWithin : ℕ → ℤ → Type 0
+IsWithin count sum = ((pos 0 -ℤ pos (2 ^ 63 * count)) ≤ℤ sum) × (sum ≤ℤ pos (2 ^ 63 * count))

@@ -2,7 +2,7 @@
 use Rattle.std.specs.Prelude.{◌≡◌, ℕ, ◌*◌, ◌^◌, ◌==◌, ℤ, pos, ◌+ℤ◌, ◌-ℤ◌, ◌≤ℤ◌, List, Option, Some, IfSome, option_map, if◌then◌else◌}
 use Rattle.std.specs.BTreeMap.{BTreeMap, get}
 use Rattle.std.specs.Ordering.{nat_cmp}
-use Rattle.book_splits.specs.Balance.{quantity_on}
+use Rattle.book_splits.specs.Balance.{quantity_on, IsWithin}
 use Rattle.book_splits.specs.declared.balances.Balances.{Balances}
 use Rattle.book_splits.specs.declared.split.Split.{Split}
 
@@ -13,10 +13,6 @@ balance_at balances account = get nat_cmp balances.sums account
 -- each balance in the table is the sum of the quantities of these splits on its account
 pub record Counts (balances : Balances) (splits : List Split) : Type 0 where
   pub sums : (account : ℕ) → IfSome (balance_at balances account) (λ sum. sum ≡ quantity_on account splits)
-
--- the amount is small enough to be the sum of so many amounts of 64 bits
-abbrev pub IsWithin : ℕ → ℤ → Type 0
-IsWithin count sum = ((pos 0 -ℤ pos (2 ^ 63 * count)) ≤ℤ sum) × (sum ≤ℤ pos (2 ^ 63 * count))
 
 -- each balance in the table is small enough to be the sum of so many amounts of 64 bits
 pub record IsSmall (balances : Balances) (count : ℕ) : Type 0 where

@@ -66,24 +66,31 @@ abbrev pub too_many_splits : Book → List GivenSplit → Option Rule
 too_many_splits book splits =
     broken_where (nat_lt 1000000 (length (splits_of book.transactions) + length splits)) (Limit Splits 1000000)
 
--- the state after a post: the transaction takes the next number, its splits those that follow
-abbrev pub posted : State → ℤ → ℕ → List ℕ → List GivenSplit → State
-posted state day currency description splits = record {
-  book = record {
-    transactions = state.book.transactions
-        ++ (state.next, record { currency = currency; day = day; num = []; description = description; splits = new_splits (state.next + 1) splits })
-        ∷ [];
-  };
-  next = state.next + 1 + length splits;
+-- the rules of a post, in the order in which they are tried
+abbrev pub post_rules : Book → List GivenSplit → List (Option Rule)
+post_rules book splits = unbalanced splits ∷ too_many_transactions book ∷ too_many_splits book splits ∷ []
+
+-- the transaction of a post: it has the day, the currency and the description given, and no number text
+abbrev pub new_transaction : ℕ → ℤ → ℕ → List ℕ → List GivenSplit → ℕ × Txn
+new_transaction number day currency description splits = (
+    number,
+    record { currency = currency; day = day; num = []; description = description; splits = new_splits (number + 1) splits },
+)
+
+-- the state after a transaction is added: it took the next number, its splits those that follow
+abbrev pub added : State → ℕ × Txn → State
+added state entry = record {
+  book = record { transactions = state.book.transactions ++ entry ∷ [] };
+  next = state.next + 1 + length entry.1.splits;
   version = state.version + 1;
 }
 
 -- a post is answered with the numbers it drew, and for each split the balance of its account after the post
-abbrev pub post_answer : State → State → List GivenSplit → Answer
-post_answer before after splits = answer.Post
-    before.next
-    (map (λ split. split.id) (new_splits (before.next + 1) splits))
-    (map (λ split. balance after.book.transactions split.account) splits)
+abbrev pub post_answer : State → ℕ × Txn → Answer
+post_answer after entry = answer.Post
+    entry.0
+    (map (λ split. split.id) entry.1.splits)
+    (map (λ split. balance after.book.transactions split.account) entry.1.splits)
 
 -- what is done where no rule is broken
 abbrev pub unless_broken : Option Rule → State → Answer → Outcome
@@ -93,8 +100,6 @@ unless_broken None after given = Done after given
 -- the step of a command from a state
 abbrev pub step : State → Command → Outcome
 step state (Post day currency description splits) =
-    let after = posted state day currency description splits in
-    unless_broken
-        (first_broken (unbalanced splits ∷ too_many_transactions state.book ∷ too_many_splits state.book splits ∷ []))
-        after
-        (post_answer state after splits)
+    let entry = new_transaction state.next day currency description splits in
+    let after = added state entry in
+    unless_broken (first_broken (post_rules state.book splits)) after (post_answer after entry)

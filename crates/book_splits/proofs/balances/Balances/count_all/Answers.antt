@@ -3,9 +3,9 @@ use Rattle.std.proofs.Math.ListN.{length-append}
 use Rattle.std.proofs.lemmas.Grind.{common_steps}
 use Rattle.std.proofs.lemmas.List.{take_more, take_all, map-append}
 use Rattle.std.proofs.lemmas.List.Elements.{All-more, All-get_or, All-weaker}
-use Rattle.book_splits.specs.Balance.{quantity_on, splits_of}
+use Rattle.book_splits.specs.Balance.{IsWithin, quantity_on, splits_of}
 use Rattle.book_splits.specs.declared.split.Split.{Split}
-use Rattle.book_splits.specs.Balances.{balance_at, Adds, Counts, IsSmall, IsWithin, Puts}
+use Rattle.book_splits.specs.Balances.{balance_at, Adds, Counts, IsSmall, Puts}
 use Rattle.book_splits.proofs.BalanceLemmas.{quantity_on-append, splits_of-append}
 use Rattle.book_splits.proofs.Tables.{IsSmall-more, Counts-more, Adds-keeps, IsSmall-le, Counts-along, take-item, splits_of-item, length-splits_of-take, Puts-here, Puts-keeps, Puts-zero, IsSmall-zero, balances-are}
 use Rattle.book_splits.proofs.balances.Balances.count_all.Goals as goal

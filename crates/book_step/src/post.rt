@@ -1,0 +1,78 @@
+ghost use Rattle.std.specs.Prelude.{◌≡◌, ℕ, ◌+◌, ◌<◌, ◌^◌, None, Some, IfOk, MatchResult, length};
+ghost use Rattle.book_splits.specs.Balance.{splits_of};
+ghost use Rattle.book_step.specs.Book.{Book};
+ghost use Rattle.book_step.specs.Step.{given_sum, first_broken, post_rules, new_split, new_splits};
+
+use crate::{GivenSplit, Rule};
+use book_commodity::{Counted, Many, OutOfMemory, Text};
+use book_splits::{Mark, Split};
+use std::alloc::Global;
+
+const MAX_TRANSACTIONS: u64 = 200_000;
+const MAX_SPLITS: u64 = 1_000_000;
+
+/// The sum of the values given, in smallest units of the transaction's currency.
+fn sum_of_values(given: &[GivenSplit]) -> i128
+    ensures { result ≡ given_sum given.now }
+{
+    let mut sum = 0i128;
+    for split in given {
+        sum += i128::from(split.value);
+    }
+    sum
+}
+
+/// The first rule that a post of these splits breaks in a book of so many transactions and splits: the
+/// values do not sum to zero, or the transactions or the splits would pass their limit.
+pub fn check_post(transactions: u64, splits: u64, given: &[GivenSplit]) -> Result<(), Rule>
+    requires transactions { transactions < 2 ^ 62 }
+    requires splits { splits < 2 ^ 62 }
+    ensures { (book : Book) → length book.transactions ≡ transactions → length (splits_of book.transactions) ≡ splits
+        → MatchResult result (λ _. first_broken (post_rules book given.now) ≡ None) (λ rule. first_broken (post_rules book given.now) ≡ Some rule) }
+{
+    let sum = sum_of_values(given);
+    if sum != 0 {
+        return Err(Rule::Unbalanced { sum });
+    }
+    if transactions + 1 > MAX_TRANSACTIONS {
+        return Err(Rule::Limit {
+            which: Counted::Transactions,
+            at: MAX_TRANSACTIONS,
+        });
+    }
+    if splits + given.len() as u64 > MAX_SPLITS {
+        return Err(Rule::Limit {
+            which: Counted::Splits,
+            at: MAX_SPLITS,
+        });
+    }
+    Ok(())
+}
+
+/// A split as it stands in the book after a post.
+fn split_given(alloc: Global, number: u64, given: &GivenSplit) -> Split
+    ensures { result ≡ new_split number given.now }
+{
+    Split {
+        id: number,
+        account: given.account,
+        memo: Text::new(alloc),
+        action: Text::new(alloc),
+        mark: Mark::New,
+        recon: None,
+        value: given.value,
+        quantity: given.value,
+    }
+}
+
+/// The splits of a post, of which the first gets the number.
+pub fn splits_given(alloc: Global, number: u64, given: &[GivenSplit]) -> Result<Many<Split>, OutOfMemory>
+    requires { number + length given.now < 2 ^ 64 }
+    ensures { IfOk result (λ splits. splits ≡ new_splits number given.now) }
+{
+    let mut splits = Many::new(alloc);
+    for (place, split) in given.iter().enumerate() {
+        splits.push(split_given(alloc, number + place as u64, split))?;
+    }
+    Ok(splits)
+}
