@@ -1,0 +1,15 @@
+-- How counts of faults go along the calls of a longer piece of work.
+use Rattle.std.proofs.Common.{ℕ, ◌≤◌, arith}
+use Rattle.book_keeper.specs.Faults.{next_count, Rose}
+
+-- a count that rose and then stayed or rose has risen
+pub Rose-≤ : (a b c : ℕ) → Rose a b → b ≤ c → Rose a c
+Rose-≤ a b c rose later = omega arith
+
+-- a count that stayed or rose and then rose has risen
+pub ≤-Rose : (a b c : ℕ) → a ≤ b → Rose b c → Rose a c
+≤-Rose a b c later rose = omega arith
+
+-- the next count is one that rose
+pub Rose-next_count : (a : ℕ) → Rose a (next_count a)
+Rose-next_count a = omega arith
