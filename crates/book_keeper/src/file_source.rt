@@ -65,3 +65,53 @@ fn read_some<R: Read>(reader: &mut R, buffer: &mut [u8]) -> Result<usize, Failed
     }
     Err(Failed)
 }
+
+#[cfg(test)]
+mod tests {
+    use super::*;
+    use std::io;
+
+    /// A reader that is interrupted, gives two bytes, fails, gives one more and is at its end.
+    #[derive(Drop)]
+    struct Uneven {
+        calls: u32,
+    }
+
+    impl Read for Uneven {
+        fn read(&mut self, buffer: &mut [u8]) -> io::Result<usize> {
+            self.calls = self.calls.saturating_add(1);
+            match self.calls {
+                1 => Err(io::Error::new(ErrorKind::Interrupted, "interrupted")),
+                2 => Ok(copy_front(buffer, b"ab")),
+                3 => Err(io::Error::other("broken")),
+                4 => Ok(copy_front(buffer, b"c")),
+                _ => Ok(0),
+            }
+        }
+    }
+
+    fn copy_front(buffer: &mut [u8], bytes: &[u8]) -> usize
+        ensures { result ≤ length buffer.old }
+    {
+        let count = bytes.len().min(buffer.len());
+        buffer[..count].copy_from_slice(&bytes[..count]);
+        count
+    }
+
+    #[test]
+    fn gives_what_the_reader_gives_and_counts_its_error(rt: HostRuntime) {
+        let mut source = FileSource::new(Uneven { calls: 0 });
+        let mut buffer = [b'.'; 4];
+        let steps = [
+            (Ok(2), b"ab..", 0),
+            (Err(Failed), b"ab..", 1),
+            (Ok(1), b"cb..", 1),
+            (Ok(0), b"cb..", 1),
+        ];
+        for (answer, after, faults) in steps {
+            assert_eq!(rt; source.read(&mut buffer), answer);
+            assert_eq!(rt; &buffer, after);
+            assert_eq!(rt; source.faults, faults);
+        }
+    }
+}

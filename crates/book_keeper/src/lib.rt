@@ -11,6 +11,8 @@ mod mem_source;
 mod sink;
 mod source;
 mod stream_sink;
+#[cfg(test)]
+mod tests;
 mod writing;
 
 pub use file_source::FileSource;

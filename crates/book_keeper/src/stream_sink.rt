@@ -92,3 +92,62 @@ fn flush<W: Write>(writer: &mut W) -> Result<(), Failed> {
 fn is_interrupted(error: &Error) -> bool {
     error.kind() == ErrorKind::Interrupted
 }
+
+#[cfg(test)]
+mod tests {
+    use super::*;
+    use std::io;
+    use std::test::Fail;
+
+    /// A writer that keeps back what it takes until it is flushed; its calls are interrupted, take two bytes,
+    /// fail, take none, and from then on take two bytes.
+    #[derive(Drop)]
+    struct Uneven {
+        calls: u32,
+        kept: Vec<u8>,
+        flushed: Vec<u8>,
+    }
+
+    impl Write for Uneven {
+        fn write(&mut self, bytes: &[u8]) -> io::Result<usize> {
+            self.calls = self.calls.saturating_add(1);
+            match self.calls {
+                1 => return Err(io::Error::new(ErrorKind::Interrupted, "interrupted")),
+                3 => return Err(io::Error::other("broken")),
+                4 => return Ok(0),
+                _ => {}
+            }
+            let count = bytes.len().min(2);
+            self.kept.extend_from_slice(&bytes[..count])?;
+            Ok(count)
+        }
+
+        fn flush(&mut self) -> io::Result<()> {
+            self.flushed.extend_from_slice(self.kept.as_slice())?;
+            self.kept.clear();
+            Ok(())
+        }
+    }
+
+    #[test]
+    fn hands_on_what_it_says_and_counts_errors(rt: HostRuntime) -> Result<(), Fail> {
+        let mut sink = StreamSink::new(Uneven {
+            calls: 0,
+            kept: Vec::new(rt.alloc()),
+            flushed: Vec::new(rt.alloc()),
+        });
+        let steps = [
+            (Ok(2), "ab", 0),
+            (Err(Failed), "ab", 1),
+            (Err(Failed), "ab", 2),
+            (Ok(2), "abab", 2),
+        ];
+        for (answer, written, faults) in steps {
+            assert_eq!(rt; sink.write(b"abc"), answer);
+            assert_eq!(rt; sink.writer.flushed.as_slice(), written.as_bytes());
+            assert_eq!(rt; sink.faults, faults);
+        }
+        assert_eq!(rt; sink.write(b""), Ok(0));
+        Ok(())
+    }
+}
