@@ -1,7 +1,7 @@
 -- What was taken and what was written, over one call after another.
-use Rattle.std.proofs.Common.{◌≡◌, ℕ, List, [], ◌++◌, Option, None, Some, refl, sym, ap, ◌∙◌, append_assoc, append-nil}
+use Rattle.std.proofs.Common.{◌≡◌, ℕ, List, [], ◌++◌, Option, None, Some, refl, sym, ap, ◌∙◌, append_assoc, append-nil, length-append, arith}
 use Rattle.std.proofs.lemmas.List.{append_cancel_left}
-use Rattle.book_keeper.specs.Stream.{Are, Took, Wrote}
+use Rattle.book_keeper.specs.Stream.{Are, Took, Wrote, WrotePart}
 
 -- nothing taken
 pub Took-nil : (a : Option (List ℕ)) → Took a a []
@@ -42,3 +42,23 @@ Are-Took (Some x) (Some y) taken left p q = p ∙ ap (λ l. taken ++ l) q
 pub Took-Are : (x : List ℕ) (b : Option (List ℕ)) (taken left : List ℕ) → Took (Some x) b taken → x ≡ taken ++ left → Are b left
 Took-Are x None taken left p q = absurd p
 Took-Are x (Some y) taken left p q = append_cancel_left taken y left (sym p ∙ q)
+
+-- bytes written whole, and then a part of others, are a part of both
+pub WrotePart-after : (a b c : Option (List ℕ)) (first next : List ℕ) → Wrote a b first → WrotePart b c next → WrotePart a c (first ++ next)
+WrotePart-after a b c first next whole part = record {
+  part = first ++ part.part;
+  rest = part.rest;
+  parts = ap (λ l. first ++ l) part.parts ∙ sym (append_assoc first part.part part.rest);
+  short = part.short;
+  wrote = Wrote-append a b c first part.part whole part.wrote;
+}
+
+-- a part of bytes is a part of longer ones
+pub WrotePart-longer : (a b : Option (List ℕ)) (bytes more : List ℕ) → WrotePart a b bytes → WrotePart a b (bytes ++ more)
+WrotePart-longer a b bytes more part = record {
+  part = part.part;
+  rest = part.rest ++ more;
+  parts = ap (λ l. l ++ more) part.parts ∙ append_assoc part.part part.rest more;
+  short = let short = part.short in omega (arith, length-append part.rest more);
+  wrote = part.wrote;
+}

@@ -6,7 +6,7 @@ use std::io::{Error, ErrorKind, Write};
 use std::marker::Model;
 
 /// A sink over a writer of std, such as a file or standard output. It tells its count of faults alone,
-/// which is what contracts see, and nothing of content.
+/// which is what contracts see, and nothing of content. Each write is flushed: what it says was taken has left.
 #[derive(Drop)]
 pub struct StreamSink<W> {
     writer: W,
@@ -65,6 +65,7 @@ fn write_flushed<W: Write>(writer: &mut W, bytes: &[u8]) -> Result<usize, Failed
     Ok(count)
 }
 
+/// Writes from the front of the bytes, again where that was interrupted, and says how many it took.
 fn write_some<W: Write>(writer: &mut W, bytes: &[u8]) -> Result<usize, Failed>
     ensures { IfOk result (λ count. count ≤ length bytes.now) }
 {
@@ -78,6 +79,7 @@ fn write_some<W: Write>(writer: &mut W, bytes: &[u8]) -> Result<usize, Failed>
     Err(Failed)
 }
 
+/// Hands on what the writer kept back, again where that was interrupted.
 fn flush<W: Write>(writer: &mut W) -> Result<(), Failed> {
     for _ in 0..TRIES {
         match writer.flush() {
