@@ -1,5 +1,6 @@
 -- Laws of sums over splits.
 use Rattle.std.proofs.Common.{◌≡◌, ℕ, ◌+◌, ℤ, pos, ◌+ℤ◌, ◌==◌, Bool, true, false, cond, if◌then◌else◌, List, [], ◌∷◌, ◌++◌, map, refl, sym, ap, ◌∙◌, append_assoc, filter}
+use Rattle.std.proofs.lemmas.List.{append-nil}
 use Rattle.std.proofs.Math.IntN.{+ℤ_assoc, +ℤ_idl, +ℤ_idr}
 use Rattle.book_splits.specs.Balance.{total, quantity_on, splits_of}
 use Rattle.book_splits.specs.declared.split.Split.{Split}
@@ -27,3 +28,6 @@ quantity_on-one account split =
 pub splits_of-append : (xs ys : List (ℕ × Txn)) → splits_of (xs ++ ys) ≡ splits_of xs ++ splits_of ys
 splits_of-append [] ys = refl
 splits_of-append (x ∷ xs) ys = ap (λ splits. x.1.splits ++ splits) (splits_of-append xs ys) ∙ sym (append_assoc x.1.splits (splits_of xs) (splits_of ys))
+
+pub splits_of-added : (transactions : List (ℕ × Txn)) (entry : ℕ × Txn) → splits_of (transactions ++ entry ∷ []) ≡ splits_of transactions ++ entry.1.splits
+splits_of-added transactions entry = splits_of-append transactions (entry ∷ []) ∙ ap (λ splits. splits_of transactions ++ splits) (append-nil entry.1.splits)

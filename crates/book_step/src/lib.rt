@@ -10,6 +10,6 @@ mod rule;
 
 pub use answer::Answer;
 pub use command::{Command, GivenSplit};
-pub use post::{check_post, splits_given};
+pub use post::{answer_given, check_post, splits_given};
 pub use refusal::Refusal;
 pub use rule::Rule;

@@ -1,11 +1,11 @@
-ghost use Rattle.std.specs.Prelude.{◌≡◌, ℕ, ◌+◌, ◌<◌, ◌^◌, None, Some, IfOk, MatchResult, length};
-ghost use Rattle.book_splits.specs.Balance.{splits_of};
+ghost use Rattle.std.specs.Prelude.{◌≡◌, ℕ, ◌+◌, ◌<◌, ◌≤◌, ◌^◌, ◌++◌, map, None, Some, IfOk, MatchResult, length};
+ghost use Rattle.book_splits.specs.Balance.{quantity_on, splits_of};
 ghost use Rattle.book_step.specs.Book.{Book};
 ghost use Rattle.book_step.specs.Step.{given_sum, first_broken, post_rules, new_split, new_splits};
 
-use crate::{GivenSplit, Rule};
+use crate::{Answer, GivenSplit, Rule};
 use book_commodity::{Counted, Many, OutOfMemory, Text};
-use book_splits::{Mark, Split};
+use book_splits::{Mark, Split, Txn, balances_after};
 use std::alloc::Global;
 
 const MAX_TRANSACTIONS: u64 = 200_000;
@@ -75,4 +75,25 @@ pub fn splits_given(alloc: Global, number: u64, given: &[GivenSplit]) -> Result<
         splits.push(split_given(alloc, number + place as u64, split))?;
     }
     Ok(splits)
+}
+
+/// The numbers of the splits, by place.
+fn numbers_of(alloc: Global, splits: &[Split]) -> Result<Many<u64>, OutOfMemory>
+    ensures { IfOk result (λ numbers. numbers ≡ map (λ split. split.id) splits.now) }
+{
+    let numbers = splits.iter().map(|split| split.id).collect(alloc)?;
+    Ok(Many::of(numbers))
+}
+
+/// The answer to a post that took the number and has these splits, behind the transactions that were there:
+/// the numbers it drew, and for each split the balance of its account after the post.
+pub fn answer_given(alloc: Global, number: u64, transactions: &[(u64, Txn)], splits: &[Split]) -> Result<Answer, OutOfMemory>
+    requires few { length (splits_of transactions.now) ≤ 2 ^ 61 }
+    ensures { IfOk result (λ given. given ≡ Answer.Post number (map (λ split. split.id) splits.now) (map (λ split. quantity_on split.account (splits_of transactions.now ++ splits.now)) splits.now)) }
+{
+    Ok(Answer::Post {
+        transaction: number,
+        splits: numbers_of(alloc, splits)?,
+        balances: balances_after(alloc, transactions, splits)?,
+    })
 }

@@ -2,6 +2,7 @@ ghost use Rattle.std.specs.Prelude.{◌≡◌};
 
 use crate::Rule;
 use book_commodity::OutOfMemory;
+use std::alloc::AllocError;
 
 /// Why a command was not accepted: a rule that it breaks, or memory that was refused. Nothing was changed.
 #[derive(Clone, Copy, Debug, PartialEq, Eq)]
@@ -26,6 +27,16 @@ impl From<OutOfMemory> for Refusal {
     ghost from_gives = { λ memory given. given ≡ refusal.OutOfMemory };
 
     fn from(_memory: OutOfMemory) -> Refusal {
+        Refusal::OutOfMemory
+    }
+}
+
+impl From<AllocError> for Refusal {
+    ghost use Rattle.book_step.specs.declared.refusal.Refusal.TheVariants as refusal;
+
+    ghost from_gives = { λ memory given. given ≡ refusal.OutOfMemory };
+
+    fn from(_memory: AllocError) -> Refusal {
         Refusal::OutOfMemory
     }
 }
