@@ -5,17 +5,21 @@
 #![tactic(auto)]
 
 mod bytes;
+mod commodity;
 mod counted;
 mod day;
 mod kind;
 mod many;
 mod memory;
+mod table;
 mod text;
 
 pub use bytes::Bytes;
+pub use commodity::{Commodities, Commodity};
 pub use counted::Counted;
 pub use day::Day;
 pub use kind::Kind;
 pub use many::Many;
 pub use memory::OutOfMemory;
+pub use table::Table;
 pub use text::Text;
