@@ -1,8 +1,9 @@
 ghost use Rattle.std.specs.Prelude.{◌≡◌, ◌≤◌, None, IfOk, OnOk, OnErr, length};
 ghost use Rattle.book_keeper.specs.Faults.{HasCause, next_count};
 
+use crate::interrupted::{TRIES, is_interrupted};
 use crate::{Failed, Source};
-use std::io::{ErrorKind, Read};
+use std::io::Read;
 use std::marker::Model;
 
 /// A source over a reader of std, such as a file or standard input. It tells its count of faults alone,
@@ -21,9 +22,6 @@ impl<R> Model for FileSource<R> {
     ghost view = { λ s. s.faults };
 }
 
-/// How often a read that was interrupted is tried.
-const TRIES: u32 = 1_000_000;
-
 impl<R: Read> FileSource<R> {
     /// A source of what the reader gives.
     pub fn new(reader: R) -> FileSource<R>
@@ -38,6 +36,7 @@ impl<R: Read> Source for FileSource<R> {
 
     ghost faults = { λ source. source };
 
+    /// Counts a fault where the reader answers an error that is no interruption.
     fn read(&mut self, buffer: &mut [u8]) -> Result<usize, Failed>
         ensures within { IfOk result (λ count. count ≤ length buffer.old) }
         ensures read { OnOk result (self.new ≡ self.old) }
@@ -59,7 +58,7 @@ fn read_some<R: Read>(reader: &mut R, buffer: &mut [u8]) -> Result<usize, Failed
     for _ in 0..TRIES {
         match reader.read(buffer) {
             Ok(count) => return Ok(count),
-            Err(error) if error.kind() == ErrorKind::Interrupted => {}
+            Err(error) if is_interrupted(&error) => {}
             Err(_) => break,
         }
     }
@@ -70,6 +69,7 @@ fn read_some<R: Read>(reader: &mut R, buffer: &mut [u8]) -> Result<usize, Failed
 mod tests {
     use super::*;
     use std::io;
+    use std::io::ErrorKind;
 
     /// A reader that is interrupted, gives two bytes, fails, gives one more and is at its end.
     #[derive(Drop)]

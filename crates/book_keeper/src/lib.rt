@@ -6,6 +6,7 @@
 
 mod calls;
 mod file_source;
+mod interrupted;
 mod mem_sink;
 mod mem_source;
 mod sink;

@@ -62,6 +62,8 @@ impl Sink for MemSink {
 
     ghost faults = { λ sink. sink.faults };
 
+    /// Fails exactly at the calls that are to fail and where a piece with bytes meets no room; else takes as
+    /// much of the piece as fits.
     fn write(&mut self, bytes: &[u8]) -> Result<usize, Failed>
         ensures fails { IsErr result ↔ Refuses self.old bytes.now }
         ensures count { IfOk result (λ count. count ≡ min (length bytes.now) self.old.room) }

@@ -20,7 +20,6 @@ pub struct MemSource {
 
 impl Model for MemSource {
     ghost use Rattle.std.specs.Prelude.{◌<◌, ◌≤◌, length, drop};
-    ghost use Rattle.book_keeper.specs.Faults.{HasCause};
     ghost use Rattle.book_keeper.specs.SourceInMemory.{SourceInMemory};
 
     ghost Value = { SourceInMemory };
@@ -58,6 +57,8 @@ impl Source for MemSource {
 
     ghost faults = { λ source. source.faults };
 
+    /// Fails exactly at the calls that are to fail; else gives as many of the bytes left as the piece and the
+    /// buffer allow.
     fn read(&mut self, buffer: &mut [u8]) -> Result<usize, Failed>
         ensures fails { IsErr result ↔ FailsNext self.old.fail self.old.calls }
         ensures count { IfOk result (λ count. count ≡ min (min (length self.old.left) self.old.piece) (length buffer.old)) }

@@ -1,8 +1,9 @@
 ghost use Rattle.std.specs.Prelude.{◌≡◌, ◌<◌, ◌≤◌, None, IfOk, OnOk, OnErr, length};
 ghost use Rattle.book_keeper.specs.Faults.{HasCause, next_count};
 
+use crate::interrupted::{TRIES, is_interrupted};
 use crate::{Failed, Sink};
-use std::io::{Error, ErrorKind, Write};
+use std::io::Write;
 use std::marker::Model;
 
 /// A sink over a writer of std, such as a file or standard output. It tells its count of faults alone,
@@ -21,9 +22,6 @@ impl<W> Model for StreamSink<W> {
     ghost view = { λ s. s.faults };
 }
 
-/// How often a write that was interrupted is tried.
-const TRIES: u32 = 1_000_000;
-
 impl<W: Write> StreamSink<W> {
     /// A sink into the writer.
     pub fn new(writer: W) -> StreamSink<W>
@@ -38,6 +36,7 @@ impl<W: Write> Sink for StreamSink<W> {
 
     ghost faults = { λ sink. sink };
 
+    /// Counts a fault where the writer answers an error that is no interruption, or takes nothing of a piece.
     fn write(&mut self, bytes: &[u8]) -> Result<usize, Failed>
         ensures within { IfOk result (λ count. count ≤ length bytes.now) }
         ensures progress { IfOk result (λ count. 0 < length bytes.now → 0 < count) }
@@ -91,14 +90,11 @@ fn flush<W: Write>(writer: &mut W) -> Result<(), Failed> {
     Err(Failed)
 }
 
-fn is_interrupted(error: &Error) -> bool {
-    error.kind() == ErrorKind::Interrupted
-}
-
 #[cfg(test)]
 mod tests {
     use super::*;
     use std::io;
+    use std::io::ErrorKind;
     use std::test::Fail;
 
     /// A writer that keeps back what it takes until it is flushed; its calls are interrupted, take two bytes,
