@@ -10,7 +10,7 @@ use itoa::Buffer;
 use std::alloc::Global;
 use std::str;
 
-const MOST_SPLITS: u64 = 500;
+const MOST_SPLITS: usize = 500;
 
 const VALUE_BOUND: u64 = 1_000_000_000_000;
 
@@ -21,16 +21,18 @@ pub fn splits(alloc: Global, bytes: &[u8]) -> Result<Option<Many<GivenSplit>>, O
 {
     let mut splits = Many::new(alloc);
     let mut rest = bytes;
-    'splits: for _ in 0..MOST_SPLITS {
+    'splits: while splits.len() < MOST_SPLITS {
         let Some((next, behind)) = split(rest) else {
             return Ok(None);
         };
         splits.push(next)?;
-        match behind {
-            [b',', more @ ..] => rest = more,
-            [b']', b'}'] => return Ok(Some(splits)),
-            _ => return Ok(None),
+        if behind == b"]}".as_slice() {
+            return Ok(Some(splits));
         }
+        let Some(more) = after(behind, b",") else {
+            return Ok(None);
+        };
+        rest = more;
     }
     Ok(None)
 }

@@ -1,4 +1,4 @@
-ghost use Rattle.std.specs.Prelude.{◌≡◌, ◌++◌, ◌∷◌, ◌≢◌, ℕ, List, All, IfSome, IsSomeAnd};
+ghost use Rattle.std.specs.Prelude.{◌≡◌, ◌++◌, ◌∷◌, ◌≢◌, ℕ, List, All, IfSome, IsSomeAnd, position, ◌==◌};
 
 /// What follows the word, where the bytes begin with it.
 pub fn after<'a>(bytes: &'a [u8], word: &[u8]) -> Option<&'a [u8]>
@@ -16,8 +16,14 @@ pub fn until(bytes: &[u8], byte: u8) -> Option<(&[u8], &[u8])>
         → IsSomeAnd result (λ r. (r.0.now ≡ front) × (r.1.now ≡ byte ∷ more))
     }
 {
-    let Some(end) = bytes.iter().position(|other| *other == byte) else {
+    let Some(end) = place_of(bytes, byte) else {
         return None;
     };
     Some(bytes.split_at(end))
+}
+
+fn place_of(bytes: &[u8], byte: u8) -> Option<usize>
+    ensures { result ≡ position (λ b. b == byte) bytes.now }
+{
+    bytes.iter().position(|other| *other == byte)
 }

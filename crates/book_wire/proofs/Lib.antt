@@ -1,0 +1,5 @@
+pub mod JoinLemmas
+pub mod NumberLemmas
+pub mod PieceLemmas
+pub mod SplitLemmas
+pub mod TextLemmas
