@@ -1,3 +1,4 @@
+pub mod DayLemmas
 pub mod JoinLemmas
 pub mod NumberLemmas
 pub mod PieceLemmas

@@ -41,3 +41,7 @@ minus-apart byte digits high apart (suc k) d within is = apart k d (omega arith)
 pub signed_decimal-apart : (value : ℤ) (byte : ℕ) → mag value < 2 ^ 63 → 57 < byte → All (λ b. b ≢ byte) (signed_decimal value)
 signed_decimal-apart (pos n) byte small high = digits-apart n byte (omega arith) high
 signed_decimal-apart (negsuc n) byte small high = minus-apart byte (decimal (suc n)) high (digits-apart (suc n) byte (omega arith) high)
+
+-- The currency of the form is spelled by one digit.
+pub decimal-one : decimal 1 ≡ 49 ∷ []
+decimal-one = decimal_digit 1 (lit< tt)

@@ -1,15 +1,29 @@
-use Rattle.std.proofs.Common.{◌≡◌, ◌++◌, ◌∷◌, ◌≢◌, ◌⊎◌, ◌∙◌, ℕ, ℤ, List, Some, None, IfOk, IfSome, IfNone, IsSomeAnd, MatchOption, All, codes, decimal, ◌+◌, ◌-◌, ◌*◌, ◌<◌, ◌≤◌, length, Bool, true, false, nat_eq, nat_lt, [], slice_index_or, ap, sym, subst, refl, append_assoc, arith, take, drop, pos, ◌≤ℤ◌, FitsSigned, w64, rules, string_bytes, inl, inr}
+use Rattle.book_wire.proofs.DayLemmas.{day_text-injective, length-day_text}
 use Rattle.book_wire.proofs.line_form.day.Goals as goal
+use Rattle.book_wire.specs.LineForm.{IsDay, day_text}
+use Rattle.std.proofs.Common.{◌+◌, ◌++◌, ◌<◌, ◌≡◌, ◌∙◌, List, ap, arith, drop, length, length-append, sym, take, ℕ, ℤ}
+use Rattle.std.proofs.lemmas.List.{drop_at, take_at}
+
+-- Bytes that begin with a day's text have at least its ten bytes.
+too_short : (rest more : List ℕ) (day : ℤ) → IsDay day → rest ≡ day_text day ++ more → length rest < 10 → ⊥
+too_short rest more day is e short = omega (arith, ap length e, length-append (day_text day) more, length-day_text day is)
+
+front_is : (rest more text : List ℕ) (day : ℤ) → IsDay day → rest ≡ day_text day ++ more → text ≡ take 10 rest → text ≡ day_text day
+front_is rest more text day is e front = front ∙ ap (take 10) e ∙ take_at (day_text day) more 10 (length-day_text day is)
 
 pub returns-in_err-rest-clause-reads : goal.returns-in_err-rest-clause-reads
-returns-in_err-rest-clause-reads c = ?
+returns-in_err-rest-clause-reads c day more is e = absurd (c.in_err-rest.ensures.reads (day_text day ++ more) e)
 
 pub returns-in_err-text-clause-reads : goal.returns-in_err-text-clause-reads
-returns-in_err-text-clause-reads c = ?
+returns-in_err-text-clause-reads c day more is e =
+    absurd (too_short c.in_ok-rest.rest.now more day is (c.in_ok-rest.ensures.reads (day_text day ++ more) e) c.in_err-text.ensures.cases)
 
 pub returns-in_err-day-clause-reads : goal.returns-in_err-day-clause-reads
-returns-in_err-day-clause-reads c = ?
+returns-in_err-day-clause-reads c day more is e =
+    let begins = c.in_ok-rest.ensures.reads (day_text day ++ more) e in
+    ?
 
 pub returns-clause-reads : goal.returns-clause-reads
-returns-clause-reads c = ?
-
+returns-clause-reads c day more is e =
+    let begins = c.in_ok-rest.ensures.reads (day_text day ++ more) e in
+    ?
