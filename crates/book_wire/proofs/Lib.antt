@@ -1,5 +1,5 @@
-pub mod DayLemmas
 pub mod JoinLemmas
+pub mod LineLemmas
 pub mod NumberLemmas
 pub mod PieceLemmas
 pub mod SplitLemmas

@@ -1,3 +1,4 @@
+use Rattle.book_commodity.specs.Day.{IsDay, day_text}
 use Rattle.book_step.specs.declared.Command.TheVariants.{Post}
 use Rattle.book_step.specs.declared.Command.{Command}
 use Rattle.book_step.specs.declared.GivenSplit.{GivenSplit}
@@ -5,7 +6,6 @@ use Rattle.std.specs.Fmt.{signed_decimal}
 use Rattle.std.specs.List.{join_with_byte}
 use Rattle.std.specs.Prelude.{
   ◌++◌,
-  ◌<◌,
   ◌≡◌,
   ◌≢◌,
   ◌≤ℤ◌,
@@ -25,14 +25,6 @@ use Rattle.std.specs.Prelude.{
   ℕ,
   ℤ,
 }
-
--- A day is spelled YYYY-MM-DD.
-unfoldable pub day_text : ℤ → List ℕ
-day_text day = signed_decimal day
-
--- A day of the book is one from 1900-01-01 to 2199-12-31.
-abbrev pub IsDay : ℤ → Type 0
-IsDay day = (negsuc 25566 ≤ℤ day) × (day ≤ℤ pos 84005)
 
 -- A split is spelled by its account and its value, as {"account":3,"value":-250000}.
 abbrev pub split_spelling : GivenSplit → List ℕ

@@ -1,5 +1,6 @@
-ghost use Rattle.book_wire.specs.LineForm.{IsCommand, IsDay, IsDescription, day_text};
-ghost use Rattle.std.specs.Prelude.{◌≡◌, ◌++◌, ◌∷◌, ℕ, ℤ, List, IfOk, IfSome, IfNone, IsSomeAnd, codes, decimal};
+ghost use Rattle.book_commodity.specs.Day.{IsDay, day_text};
+ghost use Rattle.book_wire.specs.LineForm.{IsCommand, IsDescription};
+ghost use Rattle.std.specs.Prelude.{◌≡◌, ◌++◌, ◌∷◌, ℕ, ℤ, List, IfOk, IfSome, IsSomeAnd, codes, decimal};
 
 use crate::descriptions::description;
 use crate::pieces::after;
@@ -12,9 +13,10 @@ use std::alloc::Global;
 pub fn command_of(alloc: Global, line: &[u8]) -> Result<Option<Command>, OutOfMemory>
     ensures exact { IfOk result (IsCommand line.now) }
 {
-    let Some((day, rest)) = day(line) else {
+    let Some(dated) = day(line) else {
         return Ok(None);
     };
+    let (day, rest) = dated;
     let Some((description, rest)) = described(rest) else {
         return Ok(None);
     };
@@ -42,7 +44,7 @@ fn day(line: &[u8]) -> Option<(Day, &[u8])>
 {
     let rest = after(line, b"{\"do\":\"post\",\"day\":\"")?;
     let (text, rest) = rest.split_at_checked(10)?;
-    let day = day_of_text(text)?;
+    let day = Day::of_text(text)?;
     Some((day, rest))
 }
 
@@ -61,11 +63,4 @@ fn described(bytes: &[u8]) -> Option<(&str, &[u8])>
         return None;
     };
     description(rest)
-}
-
-fn day_of_text(text: &[u8]) -> Option<Day>
-    ensures day { IfSome result (λ day. IsDay day × (text.now ≡ day_text day)) }
-    ensures none { IfNone result ((day : ℤ) → IsDay day → text.now ≡ day_text day → ⊥) }
-{
-    None
 }
