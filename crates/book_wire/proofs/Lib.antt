@@ -4,3 +4,4 @@ pub mod NumberLemmas
 pub mod PieceLemmas
 pub mod SplitLemmas
 pub mod TextLemmas
+pub mod ToldLemmas

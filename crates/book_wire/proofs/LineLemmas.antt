@@ -34,7 +34,7 @@ OnlyDescription bytes found rest = (text more : List ℕ) → IsDescription text
 
 pub no_description : (line found : List ℕ) (at : ℤ) → OnlyDay line at found
     → ((text more : List ℕ) → IsDescription text
-      → found ≡ codes "\",\"currency\":" ++ (decimal 1 ++ (codes ",\"description\":\"" ++ (text ++ 34 ∷ more))) → ⊥)
+    → found ≡ codes "\",\"currency\":" ++ (decimal 1 ++ (codes ",\"description\":\"" ++ (text ++ 34 ∷ more))) → ⊥)
     → (command : Command) → Fits command → line ≡ spelling command → ⊥
 no_description line found at only none (Post day currency description splits) fits e =
     none description (codes ",\"splits\":[" ++ splits_spelling splits) fits.description_is
@@ -45,7 +45,7 @@ behind_description : (line found rest text : List ℕ) (at : ℤ) → OnlyDay li
     → line ≡ spelling (Post day currency description splits) → rest ≡ codes "\",\"splits\":[" ++ splits_spelling splits
 behind_description line found rest text at only_day only day currency description splits fits e =
     (only description (codes ",\"splits\":[" ++ splits_spelling splits) fits.description_is
-      (behind_day line found at only_day day currency description splits fits e)).1
+    (behind_day line found at only_day day currency description splits fits e)).1
 
 pub no_list : (line found rest text : List ℕ) (at : ℤ) → OnlyDay line at found → OnlyDescription found text rest
     → ((more : List ℕ) → rest ≡ codes "\",\"splits\":[" ++ more → ⊥)
@@ -76,7 +76,7 @@ is_spelled line found rest list given text day splits of_day of_text opens of_sp
       splits_are = of_splits.0;
     } in
     let behind : found ≡ from_day 1 given splits =
-      of_text.1 ∙ ap (λ l. codes "\",\"currency\":" ++ (decimal 1 ++ (codes ",\"description\":\"" ++ (given ++ l)))) (opens ∙ ap (λ l. codes "\",\"splits\":[" ++ l) of_splits.1) in
+    of_text.1 ∙ ap (λ l. codes "\",\"currency\":" ++ (decimal 1 ++ (codes ",\"description\":\"" ++ (given ++ l)))) (opens ∙ ap (λ l. codes "\",\"splits\":[" ++ l) of_splits.1) in
     subst P (sym same) (fits, of_day.1 ∙ ap (λ l. codes "{\"do\":\"post\",\"day\":\"" ++ (day_text day ++ l)) behind)
 
 -- What holds of the splits, if any were found, holds of these.

@@ -34,7 +34,7 @@ split-at : (read : List GivenSplit) (split : GivenSplit) (more all : List GivenS
     → all ≡ read ++ split ∷ more → All IsSplit all → IsSplit split
 split-at read split more all is each =
     let at : get_or all (length read) split ≡ split =
-      ap (λ l. get_or l (length read) split) is ∙ get_or_at read split more split (length read) refl in
+    ap (λ l. get_or l (length read) split) is ∙ get_or_at read split more split (length read) refl in
     let within : length read < length all = omega (arith, ap length is, length-append read (split ∷ more)) in
     let P : GivenSplit → Type 0 = IsSplit in
     subst P at (each (length read) split within)
@@ -46,7 +46,7 @@ found-more : (bytes rest behind after : List ℕ) (read : List GivenSplit) (spli
 found-more bytes rest behind after read split so_far e comma [] some is = absurd (omega arith)
 found-more bytes rest behind after read split so_far e comma (next ∷ more) some is =
     let spelled : rest ≡ splits_spelling (split ∷ next ∷ more) =
-      e ∙ ap (λ l. split_spelling split ++ l) (comma ∙ ap (λ l. 44 ∷ l) is) ∙ sym (splits_spelling-cons split next more) in
+    e ∙ ap (λ l. split_spelling split ++ l) (comma ∙ ap (λ l. 44 ∷ l) is) ∙ sym (splits_spelling-cons split next more) in
     so_far.found (split ∷ next ∷ more) (omega arith) spelled
     ∙ ap splits_spelling (sym (append_assoc read (split ∷ []) (next ∷ more)))
 
@@ -68,7 +68,7 @@ reads-more rest behind after read split only comma all are (first ∷ next ∷ m
     let same = only first (44 ∷ splits_spelling (next ∷ more)) (split-at read first (next ∷ more) all is are.each) (e ∙ splits_spelling-cons first next more) in
     let spelled : after ≡ splits_spelling (next ∷ more) = ap (drop 1) (sym comma ∙ same.1) in
     let goes_on : read ++ first ∷ next ∷ more ≡ (read ++ split ∷ []) ++ next ∷ more =
-      ap (λ s. read ++ s ∷ next ∷ more) (sym same.0) ∙ sym (append_assoc read (split ∷ []) (next ∷ more)) in
+    ap (λ s. read ++ s ∷ next ∷ more) (sym same.0) ∙ sym (append_assoc read (split ∷ []) (next ∷ more)) in
     (next ∷ more, is ∙ goes_on, one-le-cons next more, spelled)
 
 pub HasRead-more : (bytes rest behind after : List ℕ) (read : List GivenSplit) (split : GivenSplit)

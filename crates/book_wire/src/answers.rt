@@ -32,11 +32,15 @@ pub fn rule_text(alloc: Global, rule: &Rule, version: u64) -> Result<Bytes, OutO
 {
     let text = match rule {
         Rule::Unbalanced { sum } => {
-            format!(in alloc; "{{\"broken\":\"Unbalanced\",\"sum\":\"{sum}\",\"version\":{version}}}")?
+            format!(in alloc;
+                "{{\"broken\":\"Unbalanced\",\"sum\":\"{sum}\",\"version\":{version}}}"
+            )?
         }
         Rule::Limit { which, at } => {
             let word = counted_text(*which);
-            format!(in alloc; "{{\"at\":{at},\"broken\":\"Limit\",\"version\":{version},\"which\":\"{word}\"}}")?
+            format!(in alloc;
+                "{{\"at\":{at},\"broken\":\"Limit\",\"version\":{version},\"which\":\"{word}\"}}"
+            )?
         }
     };
     Ok(Bytes::of(text.into_bytes()))
@@ -63,7 +67,10 @@ fn post_text(
     push_sums(&mut text, balances)?;
     text.push_str("],\"ok\":\"post\",\"splits\":[")?;
     push_numbers(&mut text, splits)?;
-    write!(text, "],\"transaction\":{transaction},\"version\":{version}}}")?;
+    write!(
+        text,
+        "],\"transaction\":{transaction},\"version\":{version}}}"
+    )?;
     Ok(text)
 }
 

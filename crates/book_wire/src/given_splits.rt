@@ -39,10 +39,8 @@ pub fn splits(alloc: Global, bytes: &[u8]) -> Result<Option<Many<GivenSplit>>, O
 
 fn split(bytes: &[u8]) -> Option<(GivenSplit, &[u8])>
     ensures found { IfSome result (λ r. IsSplit r.0 × (bytes.now ≡ split_spelling r.0 ++ r.1.now)) }
-    ensures reads {
-        (split : GivenSplit) (more : List ℕ) → IsSplit split → bytes.now ≡ split_spelling split ++ more
-        → IsSomeAnd result (λ r. (r.0 ≡ split) × (r.1.now ≡ more))
-    }
+    ensures reads { (split : GivenSplit) (more : List ℕ) → IsSplit split → bytes.now ≡ split_spelling split ++ more
+        → IsSomeAnd result (λ r. (r.0 ≡ split) × (r.1.now ≡ more)) }
 {
     let rest = after(bytes, b"{\"account\":")?;
     let (account, rest) = account(rest)?;
@@ -54,10 +52,8 @@ fn split(bytes: &[u8]) -> Option<(GivenSplit, &[u8])>
 
 fn account(bytes: &[u8]) -> Option<(u64, &[u8])>
     ensures found { IfSome result (λ r. ((r.0 ≡ 3) ⊎ (r.0 ≡ 4)) × (bytes.now ≡ decimal r.0 ++ r.1.now)) }
-    ensures reads {
-        (account : ℕ) (more : List ℕ) → (account ≡ 3) ⊎ (account ≡ 4) → bytes.now ≡ decimal account ++ more
-        → IsSomeAnd result (λ r. (r.0 ≡ account) × (r.1.now ≡ more))
-    }
+    ensures reads { (account : ℕ) (more : List ℕ) → (account ≡ 3) ⊎ (account ≡ 4) → bytes.now ≡ decimal account ++ more
+        → IsSomeAnd result (λ r. (r.0 ≡ account) × (r.1.now ≡ more)) }
 {
     let (digit, rest) = bytes.split_first()?;
     match *digit {
@@ -69,10 +65,8 @@ fn account(bytes: &[u8]) -> Option<(u64, &[u8])>
 
 fn value(bytes: &[u8]) -> Option<(i64, &[u8])>
     ensures found { IfSome result (λ r. IsValue r.0 × (bytes.now ≡ signed_decimal r.0 ++ r.1.now)) }
-    ensures reads {
-        (value : ℤ) (more : List ℕ) → IsValue value → bytes.now ≡ signed_decimal value ++ 125 ∷ more
-        → IsSomeAnd result (λ r. (r.0 ≡ value) × (r.1.now ≡ 125 ∷ more))
-    }
+    ensures reads { (value : ℤ) (more : List ℕ) → IsValue value → bytes.now ≡ signed_decimal value ++ 125 ∷ more
+        → IsSomeAnd result (λ r. (r.0 ≡ value) × (r.1.now ≡ 125 ∷ more)) }
 {
     let (digits, rest) = until(bytes, b'}')?;
     let value = number(digits)?;

@@ -5,9 +5,12 @@
 
 mod answers;
 mod descriptions;
+mod given_splits;
 mod line_form;
 mod pieces;
-mod given_splits;
 
 pub use answers::{answer_text, not_built_text, rule_text};
 pub use line_form::command_of;
+
+#[cfg(test)]
+mod tests;

@@ -3,8 +3,8 @@ ghost use Rattle.book_wire.specs.LineForm.{IsCommand, IsDescription};
 ghost use Rattle.std.specs.Prelude.{◌≡◌, ◌++◌, ◌∷◌, ℕ, ℤ, List, IfOk, IfSome, IsSomeAnd, codes, decimal};
 
 use crate::descriptions::description;
-use crate::pieces::after;
 use crate::given_splits::splits;
+use crate::pieces::after;
 use book_commodity::{Day, OutOfMemory, Text};
 use book_step::Command;
 use std::alloc::Global;
@@ -37,10 +37,8 @@ pub fn command_of(alloc: Global, line: &[u8]) -> Result<Option<Command>, OutOfMe
 
 fn day(line: &[u8]) -> Option<(Day, &[u8])>
     ensures found { IfSome result (λ r. IsDay r.0 × (line.now ≡ codes "{\"do\":\"post\",\"day\":\"" ++ (day_text r.0 ++ r.1.now))) }
-    ensures reads {
-        (day : ℤ) (more : List ℕ) → IsDay day → line.now ≡ codes "{\"do\":\"post\",\"day\":\"" ++ (day_text day ++ more)
-        → IsSomeAnd result (λ r. (r.0 ≡ day) × (r.1.now ≡ more))
-    }
+    ensures reads { (day : ℤ) (more : List ℕ) → IsDay day → line.now ≡ codes "{\"do\":\"post\",\"day\":\"" ++ (day_text day ++ more)
+        → IsSomeAnd result (λ r. (r.0 ≡ day) × (r.1.now ≡ more)) }
 {
     let rest = after(line, b"{\"do\":\"post\",\"day\":\"")?;
     let (text, rest) = rest.split_at_checked(10)?;
@@ -49,15 +47,11 @@ fn day(line: &[u8]) -> Option<(Day, &[u8])>
 }
 
 fn described(bytes: &[u8]) -> Option<(&str, &[u8])>
-    ensures found {
-        IfSome result (λ r. IsDescription r.0.now
-            × (bytes.now ≡ codes "\",\"currency\":" ++ (decimal 1 ++ (codes ",\"description\":\"" ++ (r.0.now ++ r.1.now)))))
-    }
-    ensures reads {
-        (text more : List ℕ) → IsDescription text
+    ensures found { IfSome result (λ r. IsDescription r.0.now
+        × (bytes.now ≡ codes "\",\"currency\":" ++ (decimal 1 ++ (codes ",\"description\":\"" ++ (r.0.now ++ r.1.now))))) }
+    ensures reads { (text more : List ℕ) → IsDescription text
         → bytes.now ≡ codes "\",\"currency\":" ++ (decimal 1 ++ (codes ",\"description\":\"" ++ (text ++ 34 ∷ more)))
-        → IsSomeAnd result (λ r. (r.0.now ≡ text) × (r.1.now ≡ 34 ∷ more))
-    }
+        → IsSomeAnd result (λ r. (r.0.now ≡ text) × (r.1.now ≡ 34 ∷ more)) }
 {
     let Some(rest) = after(bytes, b"\",\"currency\":1,\"description\":\"") else {
         return None;

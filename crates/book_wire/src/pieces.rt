@@ -11,10 +11,8 @@ pub fn after<'a>(bytes: &'a [u8], word: &[u8]) -> Option<&'a [u8]>
 /// The bytes before the first such byte, and the rest from it on.
 pub fn until(bytes: &[u8], byte: u8) -> Option<(&[u8], &[u8])>
     ensures found { IfSome result (λ r. bytes.now ≡ r.0.now ++ r.1.now) }
-    ensures reads {
-        (front more : List ℕ) → All (λ b. b ≢ byte) front → bytes.now ≡ front ++ byte ∷ more
-        → IsSomeAnd result (λ r. (r.0.now ≡ front) × (r.1.now ≡ byte ∷ more))
-    }
+    ensures reads { (front more : List ℕ) → All (λ b. b ≢ byte) front → bytes.now ≡ front ++ byte ∷ more
+        → IsSomeAnd result (λ r. (r.0.now ≡ front) × (r.1.now ≡ byte ∷ more)) }
 {
     let Some(end) = place_of(bytes, byte) else {
         return None;

@@ -18,9 +18,11 @@ returns-in_err-digit-clause-reads c account more is e =
     absurd (omega (arith, c.in_err-digit.ensures.cases, ap length (digit_of c.args.bytes.now more account is e)))
 
 pub returns-in-51-clause-found : goal.returns-in-51-clause-found
-returns-in-51-clause-found c =
-    (inl refl, c.in_ok-digit.ensures.cases.0 ∙ ap (λ d. d ∷ c.in_ok-digit.rest.now) c.in-51.is
-      ∙ ap (λ l. l ++ c.in_ok-digit.rest.now) (sym (decimal-account 3 (inl refl))))
+returns-in-51-clause-found c = (
+  inl refl,
+  c.in_ok-digit.ensures.cases.0 ∙ ap (λ d. d ∷ c.in_ok-digit.rest.now) c.in-51.is
+      ∙ ap (λ l. l ++ c.in_ok-digit.rest.now) (sym (decimal-account 3 (inl refl))),
+)
 
 pub returns-in-51-clause-reads : goal.returns-in-51-clause-reads
 returns-in-51-clause-reads c account more is e =
@@ -28,9 +30,11 @@ returns-in-51-clause-reads c account more is e =
     (omega (arith, same.0, c.in-51.is), same.1)
 
 pub returns-in-52-clause-found : goal.returns-in-52-clause-found
-returns-in-52-clause-found c =
-    (inr refl, c.in_ok-digit.ensures.cases.0 ∙ ap (λ d. d ∷ c.in_ok-digit.rest.now) c.in-52.is
-      ∙ ap (λ l. l ++ c.in_ok-digit.rest.now) (sym (decimal-account 4 (inr refl))))
+returns-in-52-clause-found c = (
+  inr refl,
+  c.in_ok-digit.ensures.cases.0 ∙ ap (λ d. d ∷ c.in_ok-digit.rest.now) c.in-52.is
+      ∙ ap (λ l. l ++ c.in_ok-digit.rest.now) (sym (decimal-account 4 (inr refl))),
+)
 
 pub returns-in-52-clause-reads : goal.returns-in-52-clause-reads
 returns-in-52-clause-reads c account more is e =

@@ -28,7 +28,7 @@ too_large : (value found : ℤ) (size : ℕ) → IsValue value → found ≡ val
 too_large value found size is same e large =
     let small : nat_abs value < 1000000000000 = IsValue-abs value is in
     let wrapped : to_z w64 (of_z w64 found) ≡ value =
-      ap (λ z. to_z w64 (of_z w64 z)) same ∙ to_z-of_z w64 value (IsValue-fits value is) in
+    ap (λ z. to_z w64 (of_z w64 z)) same ∙ to_z-of_z w64 value (IsValue-fits value is) in
     omega (arith, e ∙ ap nat_abs wrapped)
 
 apart : false ≡ true → ⊥
@@ -45,21 +45,21 @@ returns-in_default-parse-clause-reads c value is e =
 pub returns-then-unsigned_abs-ge-VALUE_BOUND-clause-reads : goal.returns-then-unsigned_abs-ge-VALUE_BOUND-clause-reads
 returns-then-unsigned_abs-ge-VALUE_BOUND-clause-reads c value is e =
     absurd (too_large value c.in-Ok-parse.value c.unsigned_abs.result is (same_value c.parse.result value c.in-Ok-parse.value
-      (read_back c.args.digits.now c.in-Ok.text.now value c.parse.result is e c.in-Ok.ensures.cases.0 c.parse.ensures.value.0) c.in-Ok-parse.is)
-      c.unsigned_abs.ensures.value c.if-unsigned_abs-ge-VALUE_BOUND.true)
+    (read_back c.args.digits.now c.in-Ok.text.now value c.parse.result is e c.in-Ok.ensures.cases.0 c.parse.ensures.value.0) c.in-Ok-parse.is)
+    c.unsigned_abs.ensures.value c.if-unsigned_abs-ge-VALUE_BOUND.true)
 
 pub returns-then-eq-clause-reads : goal.returns-then-eq-clause-reads
 returns-then-eq-clause-reads c value is e =
     let same : c.in-Ok-parse.value ≡ value = same_value c.parse.result value c.in-Ok-parse.value
-      (read_back c.args.digits.now c.in-Ok.text.now value c.parse.result is e c.in-Ok.ensures.cases.0 c.parse.ensures.value.0) c.in-Ok-parse.is in
+    (read_back c.args.digits.now c.in-Ok.text.now value c.parse.result is e c.in-Ok.ensures.cases.0 c.parse.ensures.value.0) c.in-Ok-parse.is in
     ap Some (ap (λ z. to_z w64 (of_z w64 z)) same ∙ to_z-of_z w64 value (IsValue-fits value is))
 
 pub returns-else-eq-clause-reads : goal.returns-else-eq-clause-reads
 returns-else-eq-clause-reads c value is e =
     let same : c.in-Ok-parse.value ≡ value = same_value c.parse.result value c.in-Ok-parse.value
-      (read_back c.args.digits.now c.in-Ok.text.now value c.parse.result is e c.in-Ok.ensures.cases.0 c.parse.ensures.value.0) c.in-Ok-parse.is in
+    (read_back c.args.digits.now c.in-Ok.text.now value c.parse.result is e c.in-Ok.ensures.cases.0 c.parse.ensures.value.0) c.in-Ok-parse.is in
     let wrapped : to_z w64 (of_z w64 c.in-Ok-parse.value) ≡ value =
-      ap (λ z. to_z w64 (of_z w64 z)) same ∙ to_z-of_z w64 value (IsValue-fits value is) in
+    ap (λ z. to_z w64 (of_z w64 z)) same ∙ to_z-of_z w64 value (IsValue-fits value is) in
     let spelled : c.as_bytes.result.now ≡ c.args.digits.now =
-      c.as_bytes.ensures.value ∙ c.format.ensures.text ∙ ap signed_decimal wrapped ∙ sym e in
+    c.as_bytes.ensures.value ∙ c.format.ensures.text ∙ ap signed_decimal wrapped ∙ sym e in
     absurd (apart ((slice_eq-Decides Decides-eqb c.as_bytes.result.now c.args.digits.now false c.if-eq.ensures).1 spelled))

@@ -18,7 +18,7 @@ returns-then-eq-clause-found c =
     let few : length c.splits.splits < 500 = omega (arith, c.splits-test.true) in
     let P : List GivenSplit → Type 0 = λ s. AreSplits s × (c.args.bytes.now ≡ splits_spelling s) in
     subst P (sym c.in_ok-push.ensures.added) (HasRead-end _ _ _ _ c.in-Some.next c.splits.invariant.read few
-      c.in-Some.ensures.found.0 c.in-Some.ensures.found.1 (ends ∙ c.as_slice.ensures))
+    c.in-Some.ensures.found.0 c.in-Some.ensures.found.1 (ends ∙ c.as_slice.ensures))
 
 pub returns-in_default-after-clause-none : goal.returns-in_default-after-clause-none
 returns-in_default-after-clause-none c =
@@ -30,5 +30,5 @@ splits-preserved c =
     let P : List GivenSplit → Type 0 = λ s. HasRead c.args.bytes.now c.in-Some-after.more.now s in record {
       few = omega (arith, ap length c.in_ok-push.ensures.added, length-append c.splits.splits (c.in-Some.next ∷ []));
       read = subst P (sym c.in_ok-push.ensures.added) (HasRead-more _ _ c.in-Some.behind.now _ _ c.in-Some.next c.splits.invariant.read
-        c.in-Some.ensures.found.0 c.in-Some.ensures.found.1 c.in-Some.ensures.reads c.in-Some-after.ensures.found);
+          c.in-Some.ensures.found.0 c.in-Some.ensures.found.1 c.in-Some.ensures.reads c.in-Some-after.ensures.found);
     }

@@ -21,13 +21,13 @@ returns-in_err-text-clause-reads c day more is e =
 pub returns-in_err-day-clause-reads : goal.returns-in_err-day-clause-reads
 returns-in_err-day-clause-reads c day more is e =
     absurd (c.in_err-day.ensures.none day is (front_is c.in_ok-rest.rest.now more c.in_ok-text.text.now day is
-      (c.in_ok-rest.ensures.reads (day_text day ++ more) e) c.in_ok-text.ensures.cases.1))
+    (c.in_ok-rest.ensures.reads (day_text day ++ more) e) c.in_ok-text.ensures.cases.1))
 
 pub returns-clause-reads : goal.returns-clause-reads
 returns-clause-reads c day more is e =
     let begins = c.in_ok-rest.ensures.reads (day_text day ++ more) e in
     let front : c.in_ok-text.text.now ≡ day_text day =
-      front_is c.in_ok-rest.rest.now more c.in_ok-text.text.now day is begins c.in_ok-text.ensures.cases.1 in (
+    front_is c.in_ok-rest.rest.now more c.in_ok-text.text.now day is begins c.in_ok-text.ensures.cases.1 in (
       day_text_injective c.in_ok-day.day day c.in_ok-day.ensures.day.0 is (sym c.in_ok-day.ensures.day.1 ∙ front),
       c.in_ok-text.ensures.cases.2 ∙ ap (drop 10) begins ∙ drop_at (day_text day) more 10 (length-day_text day),
     )

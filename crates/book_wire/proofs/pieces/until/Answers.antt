@@ -17,7 +17,7 @@ returns-in_default-clause-reads c front more apart e =
 pub returns-clause-reads : goal.returns-clause-reads
 returns-clause-reads c front more apart e =
     let at = same_place c.in-Some.end (length front)
-      (c.in-Some.ensures ∙ ap (position (λ b. b == c.args.byte)) e ∙ position-at c.args.byte front more apart) in (
+    (c.in-Some.ensures ∙ ap (position (λ b. b == c.args.byte)) e ∙ position-at c.args.byte front more apart) in (
       c.split_at.ensures.front ∙ ap (take c.in-Some.end) e ∙ take_at front (c.args.byte ∷ more) c.in-Some.end at,
       c.split_at.ensures.back ∙ ap (drop c.in-Some.end) e ∙ drop_at front (c.args.byte ∷ more) c.in-Some.end at,
     )
