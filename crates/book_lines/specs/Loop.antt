@@ -1,15 +1,15 @@
 -- What the parts of the line loop do.
 use Rattle.std.specs.Prelude.{◌≡◌, ℕ, ◌+◌, ◌<◌, ◌≤◌, true, List, [], ◌∷◌, ◌++◌, length, Option, Result, Ok, Err}
-use Rattle.book_keeper.specs.Stream.{Took, Wrote}
+use Rattle.book_keeper.specs.Stream.{Wrote}
 use Rattle.book_lines.specs.Lines.{ended, left_over, rest_line, last_piece, sent}
 use Rattle.book_lines.specs.Marks.{Mark, mark_of, marks, is_one_line, RoseForEach, memory_answer, keeper_answer}
 use Rattle.book_lines.specs.Transcript.{Run}
 use Rattle.book_lines.specs.Room.{Seen, seen}
 use Rattle.book_lines.specs.Table.{Moment, IsAnswered, IsBroken}
-use Rattle.book_lines.specs.declared.Unanswered.{Unanswered}
-use Rattle.book_lines.specs.declared.Unanswered.TheVariants.{Memory as NoMemory, Keeper as NotKept}
-use Rattle.book_lines.specs.declared.RunEnd.{RunEnd}
-use Rattle.book_lines.specs.declared.RunEnd.TheVariants.{Done, InputLimit, InputFault, OutputFault}
+use Rattle.book_lines.specs.declared.machine.Unanswered.{Unanswered}
+use Rattle.book_lines.specs.declared.machine.Unanswered.TheVariants.{Memory as NoMemory, Keeper as NotKept}
+use Rattle.book_lines.specs.declared.running.RunEnd.{RunEnd}
+use Rattle.book_lines.specs.declared.running.RunEnd.TheVariants.{Done, InputLimit, InputFault, OutputFault}
 
 -- the text that answers a line, whether the machine told it or not
 abbrev pub answer_of : Result (List ℕ) Unanswered → List ℕ
@@ -22,14 +22,6 @@ pub record GaveAnswer {S : Type 0} (answers : S → List ℕ → Mark → List �
   pub answered : answers old line (mark_of answer) answer new
   pub one_line : is_one_line answer ≡ true
   pub kept : RoseForEach faults_before faults_after (mark_of answer ∷ [])
-
--- a part of the bytes was written, and not all
-pub record WrotePart (old new : Option (List ℕ)) (bytes : List ℕ) : Type 0 where
-  pub part : List ℕ
-  pub rest : List ℕ
-  pub parts : bytes ≡ part ++ rest
-  pub some : 0 < length rest
-  pub wrote : Wrote old new part
 
 -- these lines were answered and the answers written
 pub record HasAnswered {S : Type 0} (answers : S → List ℕ → Mark → List ℕ → S → Type 0) (old : Moment S) (all : List (List ℕ)) (new : Moment S) : Type 0 where
@@ -66,3 +58,10 @@ HasStopped answers begun bytes old new count OutputFault = (part : List ℕ) × 
     × (count + length (ended begun part) ≤ 1000000)
 HasStopped answers begun bytes old new count Done = ⊥
 HasStopped answers begun bytes old new count InputFault = ⊥
+
+-- How the end of the input leaves the lines that were still to be answered.
+abbrev pub HasEnded : {S : Type 0} → (S → List ℕ → Mark → List ℕ → S → Type 0) → Moment S → List (List ℕ) → Moment S → RunEnd → Type 0
+HasEnded answers old all new Done = HasAnswered answers old all new
+HasEnded answers old all new OutputFault = HasBroken answers old all new
+HasEnded answers old all new InputLimit = ⊥
+HasEnded answers old all new InputFault = ⊥

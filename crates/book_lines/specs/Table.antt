@@ -4,8 +4,8 @@ use Rattle.book_keeper.specs.Stream.{Are, Wrote}
 use Rattle.book_lines.specs.Lines.{lines, whole_lines, AreAll, AreNotAll}
 use Rattle.book_lines.specs.Marks.{Mark, marks, RoseForEach}
 use Rattle.book_lines.specs.Transcript.{IsTranscript, IsCutShort}
-use Rattle.book_lines.specs.declared.RunEnd.{RunEnd}
-use Rattle.book_lines.specs.declared.RunEnd.TheVariants.{Done, InputLimit, InputFault, OutputFault}
+use Rattle.book_lines.specs.declared.running.RunEnd.{RunEnd}
+use Rattle.book_lines.specs.declared.running.RunEnd.TheVariants.{Done, InputLimit, InputFault, OutputFault}
 
 -- what is seen at one moment: the machine's state, what the output tells as written, and the faults of what is kept
 pub record Moment (S : Type 0) : Type 0 where

@@ -1,8 +1,7 @@
 -- The transcript of a machine that answers lines, over any type of states.
 use Rattle.std.specs.Prelude.{◌≡◌, ℕ, ◌+◌, ◌<◌, ◌^◌, nat_lt, List, [], ◌∷◌, ◌++◌, length, take, MatchBool}
 use Rattle.book_lines.specs.Lines.{sent}
-use Rattle.book_lines.specs.Marks.{Mark, marks, memory_answer, keeper_answer}
-use Rattle.book_lines.specs.Marks.Mark.{Told, Memory, Keeper}
+use Rattle.book_lines.specs.Marks.{Mark, Told, Memory, Keeper, marks, memory_answer, keeper_answer}
 
 -- From the state `old` the lines are answered in turn, with one mark each: the text is the answers, a line feed behind
 -- each, and `new` is the state after the last.

@@ -1,9 +1,9 @@
 ghost use Rattle.std.specs.Prelude.{◌≡◌, ◌∷◌, [], ℕ, List, ◌++◌, OnOk, OnErr};
 ghost use Rattle.book_keeper.specs.Faults.{HasCause};
-ghost use Rattle.book_keeper.specs.Stream.{Wrote};
+ghost use Rattle.book_keeper.specs.Stream.{Wrote, WrotePart};
 ghost use Rattle.book_lines.specs.Room.{seen};
 ghost use Rattle.book_lines.specs.Table.{at};
-ghost use Rattle.book_lines.specs.Loop.{answer_of, GaveAnswer, WrotePart, HasAnswered, HasBroken};
+ghost use Rattle.book_lines.specs.Loop.{answer_of, GaveAnswer, HasAnswered, HasBroken};
 
 use crate::line::{Line, MAX_LINE};
 use crate::{Machine, Unanswered, KEEPER, MEMORY};

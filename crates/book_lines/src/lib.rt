@@ -9,8 +9,8 @@ mod line;
 mod machine;
 mod piece;
 mod room;
-mod run;
+mod running;
 
 pub use machine::{Machine, Unanswered, KEEPER, MEMORY};
 pub use room::LineRoom;
-pub use run::{run, RunEnd};
+pub use running::{run, RunEnd};

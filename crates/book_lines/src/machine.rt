@@ -1,7 +1,6 @@
 ghost use Rattle.std.specs.Prelude.{◌≡◌, ℕ, ◌^◌, ◌<◌, ◌≤◌, List, length, Err, IfOk, OnErr};
 ghost use Rattle.book_keeper.specs.Faults.{Rose};
-ghost use Rattle.book_lines.specs.Marks.{Mark, IsTold, memory_answer, keeper_answer};
-ghost use Rattle.book_lines.specs.Marks.Mark as mark;
+ghost use Rattle.book_lines.specs.Marks.{Mark, Told, Memory, Keeper, IsTold, memory_answer, keeper_answer};
 
 use book_commodity::{Bytes, OutOfMemory};
 use std::alloc::Global;
@@ -35,14 +34,14 @@ pub trait Machine<W, K> {
     fn answer(&mut self, alloc: Global, keeper: &mut K, line: &[u8]) -> Result<Bytes, Unanswered>
         requires stands { stands self.old keeper.old }
         requires short { length line.now ≤ 2 ^ 23 }
-        ensures told { IfOk result (λ text. IsTold text × answers self.old line.now mark.Told text self.new) }
-        ensures memory { result ≡ Err Unanswered.Memory → answers self.old line.now mark.Memory memory_answer self.new }
-        ensures keeper { result ≡ Err Unanswered.Keeper → answers self.old line.now mark.Keeper keeper_answer self.new × Rose (faults keeper.old) (faults keeper.new) }
+        ensures told { IfOk result (λ text. IsTold text × answers self.old line.now Told text self.new) }
+        ensures memory { result ≡ Err Unanswered.Memory → answers self.old line.now Memory memory_answer self.new }
+        ensures keeper { result ≡ Err Unanswered.Keeper → answers self.old line.now Keeper keeper_answer self.new × Rose (faults keeper.old) (faults keeper.new) }
         ensures later { faults keeper.old ≤ faults keeper.new }
         ensures stands { stands self.new keeper.new };
 
     /// Answers a line of more than 8 MiB, of which only the length is known. The state stays.
     fn too_long(&self, alloc: Global, size: u64) -> Result<Bytes, OutOfMemory>
-        ensures told { IfOk result (λ text. IsTold text × ((line : List ℕ) → length line ≡ size → 2 ^ 23 < length line → answers self.now line mark.Told text self.now)) }
-        ensures memory { OnErr result ((line : List ℕ) → length line ≡ size → 2 ^ 23 < length line → answers self.now line mark.Memory memory_answer self.now) };
+        ensures told { IfOk result (λ text. IsTold text × ((line : List ℕ) → length line ≡ size → 2 ^ 23 < length line → answers self.now line Told text self.now)) }
+        ensures memory { OnErr result ((line : List ℕ) → length line ≡ size → 2 ^ 23 < length line → answers self.now line Memory memory_answer self.now) };
 }

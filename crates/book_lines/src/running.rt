@@ -1,6 +1,9 @@
 ghost use Rattle.std.specs.Prelude.{◌≡◌, ◌∷◌, [], ℕ, List, ◌+◌, ◌^◌, ◌<◌, ◌≤◌};
 ghost use Rattle.book_keeper.specs.Faults.{Rose};
+ghost use Rattle.book_lines.specs.Lines.{rest_line};
+ghost use Rattle.book_lines.specs.Room.{seen};
 ghost use Rattle.book_lines.specs.Table.{at, IsRun};
+ghost use Rattle.book_lines.specs.Loop.{HasEnded};
 
 use crate::answer::answer_line;
 use crate::line::Line;
@@ -32,6 +35,22 @@ fn wanted(taken: u64, size: usize) -> usize
     ensures one { taken ≡ 2 ^ 33 → result ≡ 1 }
 {
     (MAX_BYTES - taken).max(1).min(size as u64) as usize
+}
+
+// Answers a rest without line feed at the end of the input: Done, or OutputFault.
+fn end_input<W, K, M: Machine<W, K>, O: Sink>(alloc: Global, machine: &mut M, keeper: &mut K, output: &mut O, line: &Line) -> RunEnd
+    requires { M.stands machine.old keeper.old }
+    ensures ended { (begun : List ℕ) → line.now ≡ seen begun → HasEnded M.answers (at machine.old (O.written output.old) (M.faults keeper.old)) (rest_line begun) (at machine.new (O.written output.new) (M.faults keeper.new)) result }
+    ensures output_fault { result ≡ RunEnd.OutputFault → Rose (O.faults output.old) (O.faults output.new) }
+    ensures stands { M.stands machine.new keeper.new }
+{
+    if line.size() == 0 {
+        return RunEnd::Done;
+    }
+    match answer_line(alloc, machine, keeper, output, line) {
+        Ok(()) => RunEnd::Done,
+        Err(Failed) => RunEnd::OutputFault,
+    }
 }
 
 /// Answers the lines of the input on the output, one answer line for each line that is not blank, and says how it
