@@ -50,8 +50,8 @@ pub record HasTaken {S : Type 0} (answers : S → List ℕ → Mark → List ℕ
 -- Why the taking of these bytes stopped before their end: a byte stands behind the last line that may be taken, or the
 -- output failed.
 abbrev pub HasStopped : {S : Type 0} → (S → List ℕ → Mark → List ℕ → S → Type 0) → List ℕ → List ℕ → Moment S → Moment S → ℕ → RunEnd → Type 0
-HasStopped answers begun bytes old new count InputLimit = (part : List ℕ) × (byte : ℕ) × (rest : List ℕ)
-    × (bytes ≡ part ++ byte ∷ rest) × HasAnswered answers old (ended begun part) new
+HasStopped answers begun bytes old new count InputLimit = (part : List ℕ) × (rest : List ℕ)
+    × (bytes ≡ part ++ rest) × (0 < length rest) × HasAnswered answers old (ended begun part) new
     × (left_over begun part ≡ []) × (count + length (ended begun part) ≡ 1000000)
 HasStopped answers begun bytes old new count OutputFault = (part : List ℕ) × (rest : List ℕ)
     × (bytes ≡ part ++ rest) × HasBroken answers old (ended begun part) new

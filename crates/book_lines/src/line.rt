@@ -56,7 +56,7 @@ impl Line {
         requires { self.old.size + length segment.now < 2 ^ 64 }
         ensures { (line : List ℕ) → self.old ≡ seen line → self.new ≡ seen (line ++ segment.now) }
     {
-        let kept = segment.len().min(MAX_LINE - self.bytes.len());
+        let kept = (MAX_LINE - self.bytes.len()).min(segment.len());
         let Ok(()) = self.bytes.extend_from_slice(&segment[..kept]) else {
             unreachable!()
         };

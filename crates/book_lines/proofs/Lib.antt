@@ -1,0 +1,7 @@
+pub mod LineLemmas
+pub mod MarkLemmas
+pub mod RunLemmas
+pub mod RoomLemmas
+pub mod LoopLemmas
+pub mod LinesLemmas
+pub mod TableLemmas
