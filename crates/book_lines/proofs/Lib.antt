@@ -5,3 +5,4 @@ pub mod RoomLemmas
 pub mod LoopLemmas
 pub mod LinesLemmas
 pub mod TableLemmas
+pub mod AnswerLemmas

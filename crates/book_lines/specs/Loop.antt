@@ -11,11 +11,15 @@ use Rattle.book_lines.specs.declared.machine.Unanswered.TheVariants.{Memory as N
 use Rattle.book_lines.specs.declared.running.RunEnd.{RunEnd}
 use Rattle.book_lines.specs.declared.running.RunEnd.TheVariants.{Done, InputLimit, InputFault, OutputFault}
 
+-- the answer that says why the machine gave none
+abbrev pub text_of : Unanswered → List ℕ
+text_of NoMemory = memory_answer
+text_of NotKept = keeper_answer
+
 -- the text that answers a line, whether the machine told it or not
 abbrev pub answer_of : Result (List ℕ) Unanswered → List ℕ
 answer_of (Ok text) = text
-answer_of (Err NoMemory) = memory_answer
-answer_of (Err NotKept) = keeper_answer
+answer_of (Err unanswered) = text_of unanswered
 
 -- the machine, or the loop in its place, gave this answer to the line
 pub record GaveAnswer {S : Type 0} (answers : S → List ℕ → Mark → List ℕ → S → Type 0) (old : S) (line answer : List ℕ) (new : S) (faults_before faults_after : ℕ) : Type 0 where

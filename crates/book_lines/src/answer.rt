@@ -6,7 +6,7 @@ ghost use Rattle.book_lines.specs.Table.{at};
 ghost use Rattle.book_lines.specs.Loop.{answer_of, GaveAnswer, HasAnswered, HasBroken};
 
 use crate::line::{Line, MAX_LINE};
-use crate::{Machine, Unanswered, KEEPER, MEMORY};
+use crate::{Machine, Unanswered};
 use book_commodity::{Bytes, OutOfMemory};
 use book_keeper::{write_all, Failed, Sink};
 use std::alloc::Global;
@@ -58,8 +58,7 @@ fn write_answer<O: Sink>(output: &mut O, answered: Result<Bytes, Unanswered>) ->
 {
     match answered {
         Ok(answer) => write_told(output, answer),
-        Err(Unanswered::Memory) => write_line(output, MEMORY),
-        Err(Unanswered::Keeper) => write_line(output, KEEPER),
+        Err(unanswered) => write_line(output, unanswered.text()),
     }
 }
 

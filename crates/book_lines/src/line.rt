@@ -1,4 +1,4 @@
-ghost use Rattle.std.specs.Prelude.{◌≡◌, ◌↔◌, ◌+◌, ◌==◌, ◌^◌, ◌<◌, ◌++◌, ℕ, List, [], length, IfOk, IsTrue};
+ghost use Rattle.std.specs.Prelude.{◌≡◌, ◌↔◌, ◌+◌, ◌==◌, ◌^◌, ◌<◌, ◌≤◌, ◌++◌, ℕ, List, [], length, IfOk, IsTrue};
 ghost use Rattle.book_lines.specs.Lines.{is_blank};
 ghost use Rattle.book_lines.specs.Room.{seen};
 
@@ -66,7 +66,8 @@ impl Line {
 
     /// The bytes that are kept.
     pub fn bytes(&self) -> &[u8]
-        ensures { result.now ≡ self.now.front }
+        ensures value { result.now ≡ self.now.front }
+        ensures short { length result.now ≤ 2 ^ 23 }
     {
         self.bytes.as_slice()
     }

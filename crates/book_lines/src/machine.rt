@@ -1,5 +1,6 @@
 ghost use Rattle.std.specs.Prelude.{◌≡◌, ℕ, ◌^◌, ◌<◌, ◌≤◌, List, length, Err, IfOk, OnErr};
 ghost use Rattle.book_keeper.specs.Faults.{Rose};
+ghost use Rattle.book_lines.specs.Loop.{text_of};
 ghost use Rattle.book_lines.specs.Marks.{Mark, Told, Memory, Keeper, IsTold, memory_answer, keeper_answer};
 
 use book_commodity::{Bytes, OutOfMemory};
@@ -16,6 +17,18 @@ pub const KEEPER: &[u8] = b"{\"refused\":\"keeper\"}";
 pub enum Unanswered {
     Memory,
     Keeper,
+}
+
+impl Unanswered {
+    /// The answer in place of the machine's.
+    pub fn text(self) -> &'static [u8]
+        ensures { result.now ≡ text_of self }
+    {
+        match self {
+            Unanswered::Memory => MEMORY,
+            Unanswered::Keeper => KEEPER,
+        }
+    }
 }
 
 /// A machine that answers lines over what `K` keeps. `W` is a marker by which a crate above both may join them.
