@@ -1,7 +1,10 @@
 -- How the lines of joined bytes follow from the lines of the parts.
-use Rattle.std.proofs.Common.{◌≡◌, ℕ, zero, suc, ◌+◌, ◌<◌, ◌≤◌, Bool, true, false, not, ◌&&◌, cond, eqb, List, [], ◌∷◌, ◌++◌, length, take, get_or, refl, sym, ap, ◌∙◌, subst, arith, append_assoc, append-nil, length-append}
+use Rattle.std.proofs.Common.{◌≡◌, ℕ, zero, suc, ◌+◌, ◌<◌, ◌≤◌, Bool, true, false, not, ◌&&◌, cond, eqb, List, [], ◌∷◌, ◌++◌, length, take, drop, ◌-◌, get_or, refl, sym, ap, ◌∙◌, subst, arith, append_assoc, append-nil, length-append, length-drop, take-append-drop}
 use Rattle.std.specs.List.{list_all}
 use Rattle.std.proofs.lemmas.List.Elements.{filter-append}
+use Rattle.std.proofs.lemmas.Bool.{eqb-true}
+use Rattle.std.proofs.lemmas.List.{take_all, drop_more}
+use Rattle.memchr.specs.Find.{Passes, is_byte, NoneBefore}
 use Rattle.book_lines.specs.Lines.{ended, left_over, whole_lines, last_piece, rest_line, all_lines, sent, is_blank}
 use Rattle.book_lines.specs.Marks.{is_one_line}
 
@@ -103,3 +106,24 @@ all_lines-append xs ys h =
 -- the lines that are answered, of joined lists of lines
 pub sent-append : (xs ys : List (List ℕ)) → sent (xs ++ ys) ≡ sent xs ++ sent ys
 sent-append xs ys = filter-append (λ line. not (is_blank line)) xs ys
+
+-- bytes in which no place holds a line feed
+pub one_line-none : (bytes : List ℕ) → ((k : ℕ) → 0 ≤ k → k < length bytes → Passes (is_byte 10) bytes k → ⊥) → is_one_line bytes ≡ true
+one_line-none bytes h =
+    subst (λ l. is_one_line l ≡ true) (take_all (length bytes) bytes (omega arith))
+    (is_one_line-take bytes (length bytes) (λ k l. h k (omega arith) l))
+
+-- the bytes before the first line feed
+pub one_line-before : (bytes : List ℕ) (end : ℕ) → NoneBefore (Passes (is_byte 10) bytes) 0 (length bytes) end → is_one_line (take end bytes) ≡ true
+one_line-before bytes end h = is_one_line-take bytes end (λ k l. h.before k (omega arith) l)
+
+-- a piece is the part before a rest, the bytes of the rest up to a line feed, that line feed, and the bytes behind it
+pub line_parts : (piece part rest : List ℕ) (end k : ℕ) → piece ≡ part ++ rest → Passes (is_byte 10) rest end → end < length rest → k ≡ length rest
+    → piece ≡ (part ++ (take end rest ++ 10 ∷ [])) ++ take (k - (end + 1)) (drop (end + 1) rest)
+line_parts piece part rest end k parts feed within long =
+    let front = take end rest in
+    let behind = drop (end + 1) rest in
+    let whole : take (k - (end + 1)) behind ≡ behind = take_all (k - (end + 1)) behind (omega (arith, length-drop (end + 1) rest)) in
+    let at : drop end rest ≡ 10 ∷ behind = drop_more rest end 0 within ∙ ap (λ b. b ∷ behind) (eqb-true (get_or rest end 0) 10 feed) in
+    let cut : rest ≡ (front ++ 10 ∷ []) ++ behind = sym (take-append-drop end rest) ∙ ap (λ l. front ++ l) at ∙ sym (append_assoc front (10 ∷ []) behind) in
+    parts ∙ ap (λ l. part ++ l) cut ∙ sym (append_assoc part (front ++ 10 ∷ []) behind) ∙ ap (λ l. (part ++ (front ++ 10 ∷ [])) ++ l) (sym whole)

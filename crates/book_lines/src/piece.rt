@@ -52,10 +52,10 @@ pub fn take_piece<W, K, M: Machine<W, K>, O: Sink>(alloc: Global, machine: &mut 
             return Ok(());
         };
         line.extend(&rest[..end]);
-        if end_line(alloc, machine, keeper, output, line, count).is_err() {
-            return Err(RunEnd::OutputFault);
+        match end_line(alloc, machine, keeper, output, line, count) {
+            Ok(()) => rest = &rest[end + 1..],
+            Err(Failed) => return Err(RunEnd::OutputFault),
         }
-        rest = &rest[end + 1..];
     }
     Ok(())
 }
