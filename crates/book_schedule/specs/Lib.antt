@@ -1,0 +1,3 @@
+pub mod DueDays
+pub mod NextDay
+pub mod Recurrence
