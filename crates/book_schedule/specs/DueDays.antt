@@ -39,7 +39,7 @@ IsUpTo (After count) day = ⊤
 
 -- A day is not later than the given one and the days in advance, nor than the end.
 abbrev pub IsWithin : Timing → ℤ → ℤ → Type 0
-IsWithin timing upto day = (day ≤ℤ upto +ℤ pos timing.advance) × IsUpTo timing.end day
+IsWithin timing upto day = (day ≤ℤ (upto +ℤ pos timing.advance)) × IsUpTo timing.end day
 
 -- A day of the recurrences, made or not, up to a day and the days in advance.
 abbrev pub IsPlanned : Timing → ℤ → ℤ → Type 0

@@ -14,9 +14,9 @@ const DAYS: u32 = 109_573;
 
 /// The first planned day after a given one, or the first of all where none is given; `None` where there is none up to
 /// the day and the days in advance.
-pub(crate) fn next_planned(timing: &Timing, upto: Day, after: Option<Day>) -> Option<Day>
+pub(crate) fn next_planned(timing: &Timing, upto: Day, after: &Option<Day>) -> Option<Day>
     requires { All (λ recurrence. IsInRange 1 10_000 recurrence.every) timing.now.recurrences }
-    ensures { IsNext (IsPlanned timing.now upto) after result }
+    ensures { IsNext (IsPlanned timing.now upto) after.now result }
 {
     let next = next_on_some(timing.recurrences.as_slice(), after)?;
     if is_within(timing, upto, next) {
@@ -40,9 +40,9 @@ fn is_within(timing: &Timing, upto: Day, day: Day) -> bool
 }
 
 /// The first day after a given one on which some of the recurrences has an occurrence.
-fn next_on_some(recurrences: &[Recurrence], after: Option<Day>) -> Option<Day>
+fn next_on_some(recurrences: &[Recurrence], after: &Option<Day>) -> Option<Day>
     requires { All (λ recurrence. IsInRange 1 10_000 recurrence.every) recurrences.now }
-    ensures { IsNext (IsOnSome recurrences.now) after result }
+    ensures { IsNext (IsOnSome recurrences.now) after.now result }
 {
     let mut next = None;
     for recurrence in recurrences {
@@ -66,9 +66,9 @@ fn earlier(one: Option<Day>, other: Option<Day>) -> Option<Day>
 
 /// The day of the recurrence's first occurrence after a given one: each occurrence is counted from the start, and
 /// those that months or days show to be passed are left out.
-fn next_occurrence(recurrence: &Recurrence, after: Option<Day>) -> Option<Day>
+fn next_occurrence(recurrence: &Recurrence, after: &Option<Day>) -> Option<Day>
     requires { IsInRange 1 10_000 recurrence.now.every }
-    ensures { IsNext (OccursOn recurrence.now) after result }
+    ensures { IsNext (OccursOn recurrence.now) after.now result }
 {
     for k in passed(recurrence, after)..DAYS {
         let day = occurrence(recurrence, k)?;
@@ -80,21 +80,21 @@ fn next_occurrence(recurrence: &Recurrence, after: Option<Day>) -> Option<Day>
 }
 
 /// Whether the day lies after the given one.
-fn is_after(given: Option<Day>, day: Day) -> bool
-    ensures { IsTrue result ↔ IsAfter given day }
+fn is_after(given: &Option<Day>, day: Day) -> bool
+    ensures { IsTrue result ↔ IsAfter given.now day }
 {
     match given {
-        Some(given) => given < day,
+        Some(given) => *given < day,
         None => true,
     }
 }
 
 /// So many occurrences from the first on that are not later than the day, and at most a few less than all of them.
-fn passed(recurrence: &Recurrence, after: Option<Day>) -> u32
+fn passed(recurrence: &Recurrence, after: &Option<Day>) -> u32
     requires { IsInRange 1 10_000 recurrence.now.every }
-    ensures { (k : ℕ) → k < result → IsAfter after (nth_day recurrence.now k) → ⊥ }
+    ensures { (k : ℕ) → k < result → IsAfter after.now (nth_day recurrence.now k) → ⊥ }
 {
-    let Some(after) = after else {
+    let Some(after) = *after else {
         return 0;
     };
     let every = recurrence.every;
