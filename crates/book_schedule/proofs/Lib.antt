@@ -1,0 +1,2 @@
+pub mod MonthLemmas
+pub mod OccurrenceLemmas
