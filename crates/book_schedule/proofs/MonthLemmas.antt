@@ -1,5 +1,6 @@
 -- Months follow one another: where each begins and ends, and which days lie in it.
-use Rattle.std.proofs.Common.{◌≡◌, ℕ, zero, suc, ◌+◌, ◌-◌, ◌*◌, ◌/◌, ◌%◌, ◌<◌, ◌≤◌, min, inl, inr, refl, sym, ap, ◌∙◌, subst, arith, ℤ, pos, negsuc, ◌+ℤ◌, ◌-ℤ◌, ◌<ℤ◌, ◌≤ℤ◌, unsigned_abs}
+use Rattle.std.specs.Prelude.{IsSome}
+use Rattle.std.proofs.Common.{Option, None, true, false, ◌≡◌, ℕ, zero, suc, ◌+◌, ◌-◌, ◌*◌, ◌/◌, ◌%◌, ◌<◌, ◌≤◌, min, inl, inr, refl, sym, ap, ◌∙◌, subst, arith, ℤ, pos, negsuc, ◌+ℤ◌, ◌-ℤ◌, ◌<ℤ◌, ◌≤ℤ◌, unsigned_abs}
 use Rattle.std.proofs.lemmas.Bool.{cases_lt}
 use Rattle.std.proofs.lemmas.Int.{ints}
 use Rattle.jiff_core.specs.Calendar.{days_from_civil, day_count, days_of_years, days_of_months, days_in_month, weekday_number}
@@ -145,3 +146,12 @@ pub numbered_day-parts : (day wide narrow : ℤ) (month number place cast last l
 unfolding numbered_day clipped_day
 numbered_day-parts day wide narrow month number place cast last least is end low w n p k =
     is ∙ (rw (w, p, low, end, n, k) refl)
+
+-- where a month lies past the range, none of its days is one of the book
+pub no_day_past : {A : Type 0} (result : Option A) (first months month : ℕ) (day : ℤ) → result ≡ None → (first + months < 26400 → false ≡ true) → month ≡ first + months → IsIn month day → (IsSome result → IsDay day) × (IsDay day → IsSome result)
+no_day_past result first months month day none early e h =
+    let late : first + months < 26400 → ⊥ = λ lt. absurd (cc (early lt)) in
+    (λ some. (let e : false ≡ true = rw none at some in absurd cc), λ is. absurd (day_past_range month day (omega arith) h is))
+
+pub some_along : {A : Type 0} (result : Option A) (found day : ℤ) → (IsSome result → IsDay found) × (IsDay found → IsSome result) → found ≡ day → (IsSome result → IsDay day) × (IsDay day → IsSome result)
+some_along result found day h e = subst (λ d. (IsSome result → IsDay d) × (IsDay d → IsSome result)) e h

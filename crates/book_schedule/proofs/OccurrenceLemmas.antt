@@ -1,5 +1,6 @@
 -- Occurrences come in order, and those past the range come last.
-use Rattle.std.proofs.Common.{◌≡◌, ℕ, zero, suc, ◌+◌, ◌-◌, ◌*◌, ◌/◌, ◌%◌, ◌<◌, ◌≤◌, nat_le, nat_lt, cond, Bool, true, false, min, inl, inr, refl, sym, ap, ◌∙◌, subst, arith, rules, ℤ, pos, negsuc, ◌+ℤ◌, ◌-ℤ◌, ◌<ℤ◌, ◌≤ℤ◌, unsigned_abs, mul-le-mul}
+use Rattle.std.specs.Prelude.{IsSome, IfSome}
+use Rattle.std.proofs.Common.{Option, None, ◌≡◌, ℕ, zero, suc, ◌+◌, ◌-◌, ◌*◌, ◌/◌, ◌%◌, ◌<◌, ◌≤◌, nat_le, nat_lt, cond, Bool, true, false, min, inl, inr, refl, sym, ap, ◌∙◌, subst, arith, rules, ℤ, pos, negsuc, ◌+ℤ◌, ◌-ℤ◌, ◌<ℤ◌, ◌≤ℤ◌, unsigned_abs, mul-le-mul}
 use Rattle.std.proofs.lemmas.Bool.{cases_lt}
 use Rattle.std.proofs.lemmas.Bool.Decides.{nat_tests}
 use Rattle.std.proofs.lemmas.Int.{ints, by_lt_z}
@@ -96,6 +97,10 @@ last_weekday_in start month =
 
 ordinal_in : (start first day last : ℤ) → day_of_month start ≤ 28 → (first +ℤ pos 27) ≤ℤ last → first ≤ℤ day → day ≤ℤ (first +ℤ pos 6) → (first ≤ℤ (day +ℤ pos (7 * (ordinal start - 1)))) × ((day +ℤ pos (7 * (ordinal start - 1))) ≤ℤ last)
 ordinal_in start first day last h size low high = (omega (arith, signed_arith), omega (arith, signed_arith))
+
+-- a day up to the 28th
+pub early_day : (start : ℤ) (number : ℕ) → number ≡ day_of_month start → number ≤ 28 → nat_le (day_of_month start) 28 ≡ true
+early_day start number e h = grind arith
 
 pub nth_weekday_in : (start : ℤ) (month : ℕ) → IsIn month (nth_weekday start month)
 nth_weekday_in start month =
@@ -228,3 +233,45 @@ occurrence_bound r k day some has =
         let grown = day_grows r.kind r.adjust r.start k (k * r.every) has.0 many day (omega arith) in
         omega (arith, signed_arith, has.1.1, day.0)
     ]
+
+-- where no day lies so many steps on, there is no occurrence
+pub no_occurrence : {A : Type 0} (result : Option A) (r : Recurrence) (k steps : ℕ) → result ≡ None → IsDay r.start → steps ≡ k * r.every → (IsDay (day_after r.kind r.start steps) → false ≡ true) → (IsSome result → HasOccurrence r k) × (HasOccurrence r k → IsSome result)
+unfolding nth_day
+no_occurrence result r k steps none day e early =
+    let past : IsDay (adjusted (adjustment r.kind r.adjust) (day_after r.kind r.start steps)) → ⊥ =
+    λ moved. by_lt_z (pos 84005) (day_after r.kind r.start steps)
+    (λ lt. let high = adjusted_past_end (adjustment r.kind r.adjust) (day_after r.kind r.start steps) lt in let low = moved.1 in omega (arith, signed_arith))
+    (λ le. let is : false ≡ true = early (day_after_from_first r.kind r.start steps day, le) in cc) in
+    (λ some. (let is : false ≡ true = rw none at some in absurd cc), λ has. absurd (past (rw e has.1)))
+
+-- where one does, there is an occurrence if its day, moved, is one of the book
+pub some_occurrence : {A : Type 0} (result : Option A) (r : Recurrence) (k steps : ℕ) (adjust : Adjust) (day : ℤ) → Repeats r.kind k → steps ≡ k * r.every → day ≡ day_after r.kind r.start steps → adjust ≡ adjustment r.kind r.adjust → (IsSome result → IsDay (adjusted adjust day)) × (IsDay (adjusted adjust day) → IsSome result) → (IsSome result → HasOccurrence r k) × (HasOccurrence r k → IsSome result)
+unfolding nth_day
+some_occurrence result r k steps adjust day repeats e is by h =
+    let same : adjusted adjust day ≡ nth_day r k = rw (is, by, e) refl in
+    (λ some. (repeats, subst (λ d. IsDay d) same (h.0 some)), λ has. h.1 (subst (λ d. IsDay d) (sym same) has.1))
+
+pub nth_day-parts : (r : Recurrence) (k steps : ℕ) (adjust : Adjust) (day : ℤ) → steps ≡ k * r.every → day ≡ day_after r.kind r.start steps → adjust ≡ adjustment r.kind r.adjust → adjusted adjust day ≡ nth_day r k
+unfolding nth_day
+nth_day-parts r k steps adjust day e is by = rw (is, by, e) refl
+
+-- occurrence 0 is there for every kind, and the later ones for all that come again
+pub repeats_first : (kind : RecurrenceKind) (k : ℕ) → k ≡ 0 → Repeats kind k
+repeats_first Once k e = e
+repeats_first Daily k e = tt
+repeats_first Weekly k e = tt
+repeats_first Monthly k e = tt
+repeats_first EndOfMonth k e = tt
+repeats_first NthWeekday k e = tt
+repeats_first LastWeekday k e = tt
+repeats_first Yearly k e = tt
+
+pub repeats_other : (kind : RecurrenceKind) (k : ℕ) → (kind ≡ Once → ⊥) → Repeats kind k
+repeats_other Once k h = absurd (h refl)
+repeats_other Daily k h = tt
+repeats_other Weekly k h = tt
+repeats_other Monthly k h = tt
+repeats_other EndOfMonth k h = tt
+repeats_other NthWeekday k h = tt
+repeats_other LastWeekday k h = tt
+repeats_other Yearly k h = tt

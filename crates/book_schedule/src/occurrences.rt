@@ -25,6 +25,7 @@ pub fn occurrence(recurrence: &Recurrence, k: u32) -> Option<Day>
 /// The day so many steps of the kind after the start; `None` past the range.
 fn day_after(kind: RecurrenceKind, start: Day, steps: u64) -> Option<Day>
     requires { steps < 2 ^ 48 }
+    ensures start { IsDay start }
     ensures some { IsSome result ↔ IsDay (day_after kind start steps) }
     ensures day { IfSome result (λ day. day ≡ day_after kind start steps) }
 {
@@ -63,6 +64,7 @@ fn end_of_month(start: Day, months: u64) -> Option<Day>
 
 /// The day with the start's weekday and ordinal so many months later, the last such weekday for a start after the
 /// 28th; `None` past the range.
+#[tactic(auto, using(jiff_core::proofs::CalendarLemmas::weekday_number_bound), unfolding(crate::specs::Recurrence::weekday_from))]
 fn nth_weekday(start: Day, months: u64) -> Option<Day>
     requires { months < 2 ^ 63 }
     ensures some { IsSome result ↔ IsDay (nth_weekday start (month_count start months)) }
@@ -79,6 +81,7 @@ fn nth_weekday(start: Day, months: u64) -> Option<Day>
 }
 
 /// The last day with the start's weekday in the month so many months later; `None` past the range.
+#[tactic(auto, using(jiff_core::proofs::CalendarLemmas::weekday_number_bound), unfolding(crate::specs::Recurrence::weekday_up_to))]
 fn last_weekday(start: Day, months: u64) -> Option<Day>
     requires { months < 2 ^ 63 }
     ensures some { IsSome result ↔ IsDay (last_weekday start (month_count start months)) }
@@ -102,6 +105,7 @@ fn adjustment(recurrence: &Recurrence) -> Adjust
 }
 
 /// The day, moved from the weekend to the Friday before or to the Monday after; `None` past the range.
+#[tactic(auto, using(jiff_core::proofs::CalendarLemmas::weekday_number_bound), unfolding(crate::specs::Recurrence::adjusted))]
 fn moved(adjust: Adjust, day: Day) -> Option<Day>
     ensures some { IsSome result ↔ IsDay (adjusted adjust day) }
     ensures day { IfSome result (λ moved. moved ≡ adjusted adjust day) }
