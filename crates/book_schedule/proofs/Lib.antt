@@ -1,2 +1,3 @@
 pub mod MonthLemmas
+pub mod NextLemmas
 pub mod OccurrenceLemmas

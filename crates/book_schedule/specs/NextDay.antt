@@ -1,7 +1,9 @@
 -- The next day of a set, by which sets of days are gone through.
-use Rattle.std.specs.Prelude.{ℕ, ◌≡◌, ◌-◌, ◌≤◌, ◌⊎◌, min, List, [], ◌∷◌, length, Option, Some, None, ℤ, ◌≤ℤ◌}
+use Rattle.std.specs.Prelude.{ℕ, ◌≡◌, ◌-◌, ◌<◌, ◌≤◌, ◌⊎◌, min, List, [], ◌∷◌, length, Option, Some, None, ℤ, ◌≤ℤ◌}
 use Rattle.std.specs.Int.{int_min}
 use Rattle.book_schedule.specs.DueDays.{IsAfter}
+use Rattle.book_schedule.specs.Recurrence.{nth_day}
+use Rattle.book_schedule.specs.declared.recurrence.Recurrence.{Recurrence}
 use Rattle.book_schedule.specs.declared.timing.End.{End}
 use Rattle.book_schedule.specs.declared.timing.End.TheVariants.{Never, Until, After}
 
@@ -10,6 +12,10 @@ abbrev pub IsNext : (ℤ → Type 0) → Option ℤ → Option ℤ → Type 0
 IsNext set after None = (day : ℤ) → set day → IsAfter after day → ⊥
 IsNext set after (Some next) =
     set next × IsAfter after next × ((day : ℤ) → set day → IsAfter after day → next ≤ℤ day)
+
+-- The occurrences before number k are not later than a given day.
+pub record ArePassed (recurrence : Recurrence) (given : Option ℤ) (k : ℕ) : Type 0 where
+  pub before : (j : ℕ) → j < k → IsAfter given (nth_day recurrence j) → ⊥
 
 -- The earlier of two days, where both are given.
 abbrev pub earlier_of : Option ℤ → Option ℤ → Option ℤ

@@ -60,7 +60,7 @@ fn first_open(alloc: Global, timing: &Timing, upto: Day, most: usize) -> Result<
 {
     let mut days = Vec::new(alloc);
     let mut last = timing.last;
-    for _ in 0..most {
+    while days.len() < most {
         let Some(day) = next_planned(timing, upto, &last) else {
             return Ok(days);
         };

@@ -1,9 +1,9 @@
-ghost use Rattle.std.specs.Prelude.{◌≡◌, ℕ, ◌+◌, ◌*◌, ◌/◌, ◌-◌, ◌<◌, ◌≤◌, ◌↔◌, ℤ, pos, ◌+ℤ◌, All, IsTrue};
+ghost use Rattle.std.specs.Prelude.{◌≡◌, ℕ, ◌+◌, ◌*◌, ◌/◌, ◌-◌, ◌<◌, ◌≤◌, ◌↔◌, ℤ, pos, ◌+ℤ◌, All, IsTrue, MatchOption};
 ghost use Rattle.std.specs.Int.{IsInRange};
-ghost use Rattle.book_commodity.specs.Day.{month_count};
-ghost use Rattle.book_schedule.specs.DueDays.{IsAfter, IsOnSome, IsPlanned, IsWithin};
-ghost use Rattle.book_schedule.specs.NextDay.{IsNext, earlier_of};
-ghost use Rattle.book_schedule.specs.Recurrence.{nth_day, OccursOn};
+ghost use Rattle.book_commodity.specs.Day.{IsDay, month_count};
+ghost use Rattle.book_schedule.specs.DueDays.{IsAfter, IsOnSome, IsPlanned, IsUpTo, IsWithin};
+ghost use Rattle.book_schedule.specs.NextDay.{ArePassed, IsNext, earlier_of};
+ghost use Rattle.book_schedule.specs.Recurrence.{OccursOn};
 
 use crate::month::Month;
 use crate::{End, Recurrence, RecurrenceKind, Timing, occurrence};
@@ -30,11 +30,16 @@ pub(crate) fn next_planned(timing: &Timing, upto: Day, after: &Option<Day>) -> O
 fn is_within(timing: &Timing, upto: Day, day: Day) -> bool
     ensures { IsTrue result ↔ IsWithin timing.now upto day }
 {
-    if i64::from(day.number()) > i64::from(upto.number()) + i64::from(timing.advance) {
-        return false;
-    }
-    match timing.end {
-        End::Until(last) => day <= last,
+    i64::from(day.number()) <= i64::from(upto.number()) + i64::from(timing.advance)
+        && is_up_to(&timing.end, day)
+}
+
+/// Whether an end by date comes no earlier than the day.
+fn is_up_to(end: &End, day: Day) -> bool
+    ensures { IsTrue result ↔ IsUpTo end.now day }
+{
+    match end {
+        End::Until(last) => day <= *last,
         End::Never | End::After(_) => true,
     }
 }
@@ -89,34 +94,40 @@ fn is_after(given: &Option<Day>, day: Day) -> bool
     }
 }
 
-/// So many occurrences from the first on that are not later than the day, and at most a few less than all of them.
+/// So many occurrences from the first on that are not later than the day, at most a few less than all of them.
 fn passed(recurrence: &Recurrence, after: &Option<Day>) -> u32
     requires { IsInRange 1 10_000 recurrence.now.every }
-    ensures { (k : ℕ) → k < result → IsAfter after.now (nth_day recurrence.now k) → ⊥ }
+    ensures start { IsDay recurrence.now.start }
+    ensures passed { ArePassed recurrence.now after.now result }
 {
-    let Some(after) = *after else {
-        return 0;
-    };
-    let every = recurrence.every;
+    let days = days_before(recurrence.start, after);
+    let months = months_before(recurrence.start, after);
     match recurrence.kind {
         RecurrenceKind::Once => 0,
-        RecurrenceKind::Daily => days_before(recurrence.start, after) / every,
-        RecurrenceKind::Weekly => days_before(recurrence.start, after) / (7 * every),
-        RecurrenceKind::Yearly => months_before(recurrence.start, after) / (12 * every),
-        _ => months_before(recurrence.start, after) / every,
+        RecurrenceKind::Daily => days / recurrence.every,
+        RecurrenceKind::Weekly => days / (7 * recurrence.every),
+        RecurrenceKind::Yearly => months / (12 * recurrence.every),
+        _ => months / recurrence.every,
     }
 }
 
-/// How many days the first day lies before the second, and 0 where it does not.
-fn days_before(day: Day, later: Day) -> u32
-    ensures { 0 < result → day +ℤ pos result ≡ later }
+/// How many days the start lies before a given day, and 0 where it does not or none is given.
+fn days_before(start: Day, given: &Option<Day>) -> u32
+    ensures start { IsDay start }
+    ensures days { MatchOption given.now (result ≡ 0) (λ day. 0 < result → start +ℤ pos result ≡ day) }
 {
-    (later.number() - day.number()).max(0) as u32
+    match given {
+        Some(day) => (day.number() - start.number()).max(0) as u32,
+        None => 0,
+    }
 }
 
-/// How many months lie wholly between the two days, and 0 where the first is not of an earlier month.
-fn months_before(day: Day, later: Day) -> u32
-    ensures { result ≡ month_count later 0 - (month_count day 0 + 1) }
+/// How many months lie wholly between the start and a given day, and 0 where none is given.
+fn months_before(start: Day, given: &Option<Day>) -> u32
+    ensures { MatchOption given.now (result ≡ 0) (λ day. IsDay day × (result ≡ month_count day 0 - (month_count start 0 + 1))) }
 {
-    Month::of(day).months_before(Month::of(later))
+    match given {
+        Some(day) => Month::of(start).months_before(Month::of(*day)),
+        None => 0,
+    }
 }
