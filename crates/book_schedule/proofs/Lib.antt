@@ -1,3 +1,4 @@
+pub mod DueLemmas
 pub mod MonthLemmas
 pub mod NextLemmas
 pub mod OccurrenceLemmas

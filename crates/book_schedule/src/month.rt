@@ -33,7 +33,8 @@ impl Model for Month {
 impl Month {
     /// The month of a day.
     pub(crate) fn of(day: Day) -> Month
-        ensures { result ≡ month_count day 0 }
+        ensures day { IsDay day }
+        ensures month { result ≡ month_count day 0 }
     {
         let (year, month, _) = day.parts();
         Month {
