@@ -2,7 +2,6 @@ ghost use Rattle.std.specs.Prelude.{◌≡◌, ℕ, ◌+◌, ◌≤◌, All, IfO
 ghost use Rattle.std.specs.Int.{IsInRange};
 ghost use Rattle.book_schedule.specs.DueDays.{HasAtLeast, IsDue, IsPlanned, Lists};
 ghost use Rattle.book_schedule.specs.NextDay.{AreFirst, kept_at_most};
-ghost use Rattle.book_schedule.specs.declared.due_days.DueError.TheVariants.{Limit};
 
 use crate::next_day::next_planned;
 use crate::{End, Timing};
@@ -22,6 +21,10 @@ pub enum DueError {
 }
 
 impl From<OutOfMemory> for DueError {
+    ghost use Rattle.book_schedule.specs.declared.due_days.DueError.TheVariants.{OutOfMemory};
+
+    ghost from_gives = { λ _ given. given ≡ OutOfMemory };
+
     fn from(_error: OutOfMemory) -> DueError {
         DueError::OutOfMemory
     }
@@ -34,7 +37,7 @@ pub fn due(alloc: Global, timing: &Timing, upto: Day) -> Result<Many<Day>, DueEr
     requires { All (λ recurrence. IsInRange 1 10_000 recurrence.every) timing.now.recurrences }
     ensures days { IfOk result (Lists (IsDue timing.now upto)) }
     ensures at_most { IfOk result (λ days. length days ≤ 1000) }
-    ensures limit { result ≡ Err Limit → HasAtLeast 1001 (IsDue timing.now upto) }
+    ensures limit { result ≡ Err DueError.Limit → HasAtLeast 1001 (IsDue timing.now upto) }
 {
     let days = first_open(alloc, timing, upto, kept_at_most(timing))?;
     if days.len() > MOST_DAYS {

@@ -16,5 +16,5 @@ loop-recurrence-preserved c =
 
 pub returns : goal.returns
 returns c =
-    let all : take c.loop-recurrence.recurrence-index c.args.recurrences.now ≡ c.args.recurrences.now = take_all c.args.recurrences.now c.loop-recurrence.recurrence-index c.loop-recurrence-test.false in
+    let all : take c.loop-recurrence.recurrence-index c.args.recurrences.now ≡ c.args.recurrences.now = take_all c.loop-recurrence.recurrence-index c.args.recurrences.now c.loop-recurrence-test.false in
     subst (λ recurrences. IsNext (IsOnSome recurrences) c.args.after.now c.loop-recurrence.next) all c.loop-recurrence.invariant
