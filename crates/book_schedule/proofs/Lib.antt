@@ -2,3 +2,4 @@ pub mod DueLemmas
 pub mod MonthLemmas
 pub mod NextLemmas
 pub mod OccurrenceLemmas
+mod WorkedRows

@@ -118,3 +118,6 @@ fn moved(adjust: Adjust, day: Day) -> Option<Day>
         Adjust::Forward => Some(day),
     }
 }
+
+#[cfg(test)]
+mod tests;
