@@ -38,8 +38,8 @@ follow_member set after last (d ∷ ds) x (h, rest) there =
     elim (contains_cases d ds x there) [
       | inl e ↦ (subst set e h.0, subst (IsAfter after) e h.1)
       | inr later ↦ let member = follow_member set (Some d) last ds x rest later in
-        let lt : d <ℤ x = member.1 in
-        (member.0, after_later after d x h.1 (omega (arith, signed_arith)))
+          let lt : d <ℤ x = member.1 in
+          (member.0, after_later after d x h.1 (omega (arith, signed_arith)))
     ]
 
 follow_before : (set : ℤ → Type 0) (early from : ℤ) (last : Option ℤ) (days : List ℤ) → early ≤ℤ from → Follow set (Some from) days last → IsBeforeAll early days
@@ -85,8 +85,8 @@ few_before set after last (d ∷ ds) x (e ∷ es) (h, rest) there rises all =
     elim (contains_cases d ds x there) [
       | inl same ↦ absurd (omega (arith, signed_arith, first.1))
       | inr later ↦
-        let rest_all = above_first set after d x e es low rises.0 (All-tail (IsEarlier set after x) e es all) in
-        omega (arith, few_before set (Some d) last ds x es rest later rises.1 rest_all)
+          let rest_all = above_first set after d x e es low rises.0 (All-tail (IsEarlier set after x) e es all) in
+          omega (arith, few_before set (Some d) last ds x es rest later rises.1 rest_all)
     ]
 
 before_all : (set : ℤ → Type 0) (d x : ℤ) (es : List ℤ) → All (IsEarlier set (Some d) x) es → IsBeforeAll d es

@@ -38,11 +38,11 @@ unfolding nth_day adjusted
 passed_daily r None days kind some none = record { before = λ k h later. none_in_nothing k days r.every some none h }
 passed_daily r (Some after) days kind some e = record {
   before = λ k h later.
-    let here : nth_day r k ≡ r.start +ℤ pos (k * r.every) = rw kind refl in
-    let round = rounds k days r.every h in
-    let reached : r.start +ℤ pos days ≡ after = e (omega arith) in
-    let late : after <ℤ nth_day r k = later in
-    omega (arith, signed_arith);
+      let here : nth_day r k ≡ r.start +ℤ pos (k * r.every) = rw kind refl in
+      let round = rounds k days r.every h in
+      let reached : r.start +ℤ pos days ≡ after = e (omega arith) in
+      let late : after <ℤ nth_day r k = later in
+      omega (arith, signed_arith);
 }
 
 pub passed_weekly : (r : Recurrence) (given : Option ℤ) (days : ℕ) → r.kind ≡ Weekly → 1 ≤ r.every → MatchOption given (days ≡ 0) (λ day. 0 < days → r.start +ℤ pos days ≡ day) → ArePassed r given (days / (7 * r.every))
@@ -50,11 +50,11 @@ unfolding nth_day adjusted
 passed_weekly r None days kind some none = record { before = λ k h later. none_in_nothing k days (7 * r.every) (omega arith) none h }
 passed_weekly r (Some after) days kind some e = record {
   before = λ k h later.
-    let here : nth_day r k ≡ r.start +ℤ pos (7 * (k * r.every)) = rw kind refl in
-    let round = rounds k days (7 * r.every) h in
-    let reached : r.start +ℤ pos days ≡ after = e (omega arith) in
-    let late : after <ℤ nth_day r k = later in
-    omega (arith, signed_arith);
+      let here : nth_day r k ≡ r.start +ℤ pos (7 * (k * r.every)) = rw kind refl in
+      let round = rounds k days (7 * r.every) h in
+      let reached : r.start +ℤ pos days ≡ after = e (omega arith) in
+      let late : after <ℤ nth_day r k = later in
+      omega (arith, signed_arith);
 }
 
 -- a day of a month before the last one is not moved past a day
@@ -85,8 +85,8 @@ unfolding nth_day
 passed_monthly r None months day some once daily weekly yearly none = record { before = λ k h later. none_in_nothing k months r.every some none h }
 passed_monthly r (Some after) months day some once daily weekly yearly (within, e) = record {
   before = λ k h later.
-    let round = rounds k months r.every h in
-    month_passed (adjustment r.kind r.adjust) _ _ after (monthly_in r.kind r.start (k * r.every) day once daily weekly yearly) within (omega arith) later;
+      let round = rounds k months r.every h in
+      month_passed (adjustment r.kind r.adjust) _ _ after (monthly_in r.kind r.start (k * r.every) day once daily weekly yearly) within (omega arith) later;
 }
 
 pub passed_yearly : (r : Recurrence) (given : Option ℤ) (months : ℕ) → IsDay r.start → 1 ≤ r.every → r.kind ≡ Yearly → AreMonthsBefore given r.start months → ArePassed r given (months / (12 * r.every))
@@ -94,21 +94,24 @@ unfolding nth_day
 passed_yearly r None months day some kind none = record { before = λ k h later. none_in_nothing k months (12 * r.every) (omega arith) none h }
 passed_yearly r (Some after) months day some kind (within, e) = record {
   before = λ k h later.
-    let round = rounds k months (12 * r.every) h in
-    let inside : IsIn (month_count r.start (12 * (k * r.every))) (day_after r.kind r.start (k * r.every)) = rw kind (same_day_in r.start _ day) in
-    month_passed (adjustment r.kind r.adjust) _ _ after inside within (omega arith) later;
+      let round = rounds k months (12 * r.every) h in
+      let inside : IsIn (month_count r.start (12 * (k * r.every))) (day_after r.kind r.start (k * r.every)) = rw kind (same_day_in r.start _ day) in
+      month_passed (adjustment r.kind r.adjust) _ _ after inside within (omega arith) later;
 }
 
 pub nothing_passed : (r : Recurrence) (given : Option ℤ) → ArePassed r given 0
 nothing_passed r given = record { before = λ j lt later. absurd (omega arith) }
 
 pub first_not_passed : (r : Recurrence) (after : Option ℤ) (k : ℕ) (day : ℤ) → IsDay r.start → ArePassed r after k → HasOccurrence r k → day ≡ nth_day r k → IsAfter after day → IsNext (OccursOn r) after (Some day)
-first_not_passed r after k day start passed has e later =
-    ((k, has, e), later, λ other (j, occurs, is) after_it.
-    elim (cases_lt j k) [
-      | inl lt ↦ absurd (passed.before j lt (subst (λ d. IsAfter after d) is after_it))
-      | inr ge ↦ rw (e, is) (nth_day_rises r k j start ge)
-    ])
+first_not_passed r after k day start passed has e later = (
+  (k, has, e),
+  later,
+  λ other (j, occurs, is) after_it.
+      elim (cases_lt j k) [
+        | inl lt ↦ absurd (passed.before j lt (subst (λ d. IsAfter after d) is after_it))
+        | inr ge ↦ rw (e, is) (nth_day_rises r k j start ge)
+      ],
+)
 
 pub none_not_passed : (r : Recurrence) (after : Option ℤ) (k : ℕ) → IsDay r.start → ArePassed r after k → (HasOccurrence r k → ⊥) → IsNext (OccursOn r) after None
 none_not_passed r after k start passed never other (j, occurs, is) after_it =

@@ -107,11 +107,11 @@ nth_weekday_in start month =
     elim (cases_lt 28 (day_of_month start)) [
       | inl lt ↦ let test : nat_le (day_of_month start) 28 ≡ false = grind arith in rw test (last_weekday_in start month)
       | inr le ↦
-        let test : nat_le (day_of_month start) 28 ≡ true = grind arith in
-        let bounds = last_of_month_bounds month in
-        let found = weekday_from_bounds (first_of_month month) (weekday_number start) in
-        let here = ordinal_in start (first_of_month month) (weekday_from (first_of_month month) (weekday_number start)) (last_of_month month) le bounds.0 found.0 found.1 in
-        rw test record { begun = here.0; ended = here.1 }
+          let test : nat_le (day_of_month start) 28 ≡ true = grind arith in
+          let bounds = last_of_month_bounds month in
+          let found = weekday_from_bounds (first_of_month month) (weekday_number start) in
+          let here = ordinal_in start (first_of_month month) (weekday_from (first_of_month month) (weekday_number start)) (last_of_month month) le bounds.0 found.0 found.1 in
+          rw test record { begun = here.0; ended = here.1 }
     ]
 
 -- so many months on, the month's number is so much greater
@@ -229,9 +229,9 @@ occurrence_bound r k day some has =
     elim (cases_lt k 2) [
       | inl lt ↦ omega arith
       | inr many ↦
-        let steps : k * 1 ≤ k * r.every = mul-le-mul (omega arith) some in
-        let grown = day_grows r.kind r.adjust r.start k (k * r.every) has.0 many day (omega arith) in
-        omega (arith, signed_arith, has.1.1, day.0)
+          let steps : k * 1 ≤ k * r.every = mul-le-mul (omega arith) some in
+          let grown = day_grows r.kind r.adjust r.start k (k * r.every) has.0 many day (omega arith) in
+          omega (arith, signed_arith, has.1.1, day.0)
     ]
 
 -- where no day lies so many steps on, there is no occurrence

@@ -57,7 +57,12 @@ fn kept_at_most(timing: &Timing) -> usize
 }
 
 /// The first days that are still to be made, so many at most.
-fn first_open(alloc: Global, timing: &Timing, upto: Day, most: usize) -> Result<Vec<Day>, OutOfMemory>
+fn first_open(
+    alloc: Global,
+    timing: &Timing,
+    upto: Day,
+    most: usize,
+) -> Result<Vec<Day>, OutOfMemory>
     requires { All (λ recurrence. IsInRange 1 10_000 recurrence.every) timing.now.recurrences }
     ensures { IfOk result (λ days. AreFirst (IsPlanned timing.now upto) timing.now.last most days.items) }
 {
@@ -72,3 +77,6 @@ fn first_open(alloc: Global, timing: &Timing, upto: Day, most: usize) -> Result<
     }
     Ok(days)
 }
+
+#[cfg(test)]
+mod tests;
