@@ -1,12 +1,11 @@
 -- Days that follow one another list a set: what stands in the list, and how many of the set come before a day.
-use Rattle.std.proofs.Common.{Option, Some, None, ◌≡◌, ℕ, zero, suc, ◌+◌, ◌-◌, ◌<◌, ◌≤◌, ◌⊎◌, min, List, [], ◌∷◌, ◌++◌, length, get_or, inl, inr, refl, sym, ap, ◌∙◌, subst, arith, rules, ℤ, pos, ◌<ℤ◌, ◌≤ℤ◌}
+use Rattle.std.proofs.Common.{Option, Some, None, ◌≡◌, ℕ, zero, suc, ◌-◌, ◌<◌, ◌≤◌, ◌⊎◌, List, [], ◌∷◌, ◌++◌, length, get_or, inl, inr, refl, sym, subst, arith, ℤ, ◌<ℤ◌, ◌≤ℤ◌}
 use Rattle.std.specs.Prelude.{All}
 use Rattle.std.specs.List.{Contains}
-use Rattle.std.proofs.lemmas.Bool.{cases_lt}
-use Rattle.std.proofs.lemmas.Int.{ints, by_lt_z}
+use Rattle.std.proofs.lemmas.Int.{by_lt_z}
 use Rattle.std.proofs.lemmas.List.Elements.{All-nil, All-cons, All-head, All-tail, All-weaker, Contains-get_or}
 use Rattle.jiff_core.proofs.SignedLemmas.{signed_arith}
-use Rattle.book_schedule.specs.DueDays.{IsBeforeAll, Rises, HasAtLeast, IsAfter, IsPlanned, IsOpen, IsAllowed, IsDue, Lists}
+use Rattle.book_schedule.specs.DueDays.{IsBeforeAll, Rises, HasAtLeast, IsAfter, IsPlanned, IsAllowed, IsDue, Lists}
 use Rattle.book_schedule.specs.NextDay.{IsNext, Follow, AreFirst, kept_at_most}
 use Rattle.book_schedule.specs.declared.timing.End.{End}
 use Rattle.book_schedule.specs.declared.timing.End.TheVariants.{Never, Until, After}

@@ -1,8 +1,7 @@
 -- The next day of a set: what is passed over, and the earlier of two next days.
-use Rattle.std.specs.Prelude.{IsSome, IfSome, MatchOption}
-use Rattle.std.proofs.Common.{Option, Some, None, ◌≡◌, ℕ, zero, suc, ◌+◌, ◌-◌, ◌*◌, ◌/◌, ◌%◌, ◌<◌, ◌≤◌, ◌⊎◌, List, [], ◌∷◌, ◌++◌, length, take, get_or, Bool, true, false, inl, inr, refl, sym, ap, ◌∙◌, subst, arith, rules, ℤ, pos, negsuc, ◌+ℤ◌, ◌-ℤ◌, ◌<ℤ◌, ◌≤ℤ◌, mul-le-mul}
+use Rattle.std.specs.Prelude.{MatchOption}
+use Rattle.std.proofs.Common.{Option, Some, None, ◌≡◌, ℕ, ◌+◌, ◌-◌, ◌*◌, ◌/◌, ◌<◌, ◌≤◌, ◌⊎◌, List, [], ◌∷◌, ◌++◌, length, take, get_or, inl, inr, refl, sym, ap, ◌∙◌, subst, arith, ℤ, pos, ◌+ℤ◌, ◌<ℤ◌, ◌≤ℤ◌, mul-le-mul}
 use Rattle.std.proofs.Math.Nat.{div-mul-le_self}
-use Rattle.std.specs.List.{Any, Contains}
 use Rattle.std.proofs.lemmas.List.{take_more}
 use Rattle.std.proofs.lemmas.List.Elements.{Contains-push_cases, Contains-append_left}
 use Rattle.std.proofs.lemmas.List.Quantifiers.{Any-push}
@@ -10,10 +9,10 @@ use Rattle.std.proofs.lemmas.Bool.{cases_lt}
 use Rattle.std.proofs.lemmas.Int.{ints, by_lt_z}
 use Rattle.std.specs.Int.{int_min}
 use Rattle.jiff_core.proofs.SignedLemmas.{signed_arith}
-use Rattle.book_commodity.specs.Day.{IsDay, day_of_month, month_count}
+use Rattle.book_commodity.specs.Day.{IsDay, month_count}
 use Rattle.book_schedule.specs.DueDays.{IsAfter, IsOnSome, IsUpTo, IsWithin, IsPlanned}
 use Rattle.book_schedule.specs.NextDay.{ArePassed, IsNext, earlier_of}
-use Rattle.book_schedule.specs.Recurrence.{first_of_month, last_of_month, day_after, adjusted, adjustment, nth_day, HasOccurrence, OccursOn}
+use Rattle.book_schedule.specs.Recurrence.{day_after, adjusted, adjustment, nth_day, HasOccurrence, OccursOn}
 use Rattle.book_schedule.specs.declared.recurrence.Adjust.{Adjust}
 use Rattle.book_schedule.specs.declared.recurrence.Recurrence.{Recurrence}
 use Rattle.book_schedule.specs.declared.recurrence.RecurrenceKind.{RecurrenceKind}

@@ -1,21 +1,20 @@
 -- Occurrences come in order, and those past the range come last.
-use Rattle.std.specs.Prelude.{IsSome, IfSome}
-use Rattle.std.proofs.Common.{Option, None, ◌≡◌, ℕ, zero, suc, ◌+◌, ◌-◌, ◌*◌, ◌/◌, ◌%◌, ◌<◌, ◌≤◌, nat_le, nat_lt, cond, Bool, true, false, min, inl, inr, refl, sym, ap, ◌∙◌, subst, arith, rules, ℤ, pos, negsuc, ◌+ℤ◌, ◌-ℤ◌, ◌<ℤ◌, ◌≤ℤ◌, unsigned_abs, mul-le-mul}
+use Rattle.std.specs.Prelude.{IsSome}
+use Rattle.std.proofs.Common.{Option, None, ◌≡◌, ℕ, ◌+◌, ◌-◌, ◌*◌, ◌<◌, ◌≤◌, nat_le, nat_lt, true, false, inl, inr, refl, sym, subst, arith, ℤ, pos, negsuc, ◌+ℤ◌, ◌<ℤ◌, ◌≤ℤ◌, mul-le-mul}
 use Rattle.std.proofs.lemmas.Bool.{cases_lt}
-use Rattle.std.proofs.lemmas.Bool.Decides.{nat_tests}
-use Rattle.std.proofs.lemmas.Int.{ints, by_lt_z}
+use Rattle.std.proofs.lemmas.Int.{by_lt_z}
 use Rattle.jiff_core.specs.Calendar.{weekday_number}
 use Rattle.jiff_core.proofs.SignedLemmas.{signed_arith}
 use Rattle.jiff_core.proofs.CalendarLemmas.{weekday_number_bound, weekday_number-add}
 use Rattle.book_commodity.specs.Day.{IsDay, day_of_month, month_count}
 use Rattle.book_commodity.proofs.DayLemmas.{date_of_day}
-use Rattle.book_schedule.specs.Recurrence.{first_of_month, last_of_month, numbered_day, weekday_from, weekday_up_to, last_weekday, nth_weekday, ordinal, day_after, adjusted, adjustment, nth_day, Repeats, HasOccurrence, OccursOn}
+use Rattle.book_schedule.specs.Recurrence.{first_of_month, last_of_month, numbered_day, weekday_from, last_weekday, nth_weekday, ordinal, day_after, adjusted, adjustment, nth_day, Repeats, HasOccurrence}
 use Rattle.book_schedule.specs.declared.recurrence.Adjust.{Adjust}
 use Rattle.book_schedule.specs.declared.recurrence.Adjust.TheVariants.{Nothing, Back, Forward}
 use Rattle.book_schedule.specs.declared.recurrence.Recurrence.{Recurrence}
 use Rattle.book_schedule.specs.declared.recurrence.RecurrenceKind.{RecurrenceKind}
 use Rattle.book_schedule.specs.declared.recurrence.RecurrenceKind.TheVariants.{Once, Daily, Weekly, Monthly, EndOfMonth, NthWeekday, LastWeekday, Yearly}
-use Rattle.book_schedule.proofs.MonthLemmas.{IsIn, last_of_month_bounds, first_of_month_later, last_of_month_before, day_in_range, day_past_range, month_of_day, month_of_day_range, numbered_day_in, weekday_up_to_bounds, weekday_from_bounds}
+use Rattle.book_schedule.proofs.MonthLemmas.{IsIn, last_of_month_bounds, first_of_month_later, last_of_month_before, day_in_range, month_of_day, month_of_day_range, numbered_day_in, weekday_up_to_bounds, weekday_from_bounds}
 use borrow.Author.Differences.{up, down}
 
 -- a day is moved by two days at most

@@ -1,4 +1,4 @@
-use Rattle.std.proofs.Common.{refl, sym, subst, ◌∙◌, ap, arith}
+use Rattle.std.proofs.Common.{sym, subst, arith}
 use Rattle.book_schedule.specs.DueDays.{IsDue, Lists}
 use Rattle.book_schedule.proofs.DueLemmas.{due_days, too_many}
 use Rattle.book_schedule.proofs.due_days.due.Goals as goal

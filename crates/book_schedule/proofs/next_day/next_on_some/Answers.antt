@@ -1,4 +1,4 @@
-use Rattle.std.proofs.Common.{◌+◌, ◌≡◌, take, sym, subst, arith}
+use Rattle.std.proofs.Common.{◌+◌, ◌≡◌, take, sym, subst}
 use Rattle.std.proofs.lemmas.List.{take_all}
 use Rattle.book_schedule.specs.DueDays.{IsOnSome}
 use Rattle.book_schedule.specs.NextDay.{IsNext}

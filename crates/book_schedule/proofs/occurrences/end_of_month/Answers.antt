@@ -1,6 +1,6 @@
-use Rattle.std.proofs.Common.{◌+◌, arith, rules}
+use Rattle.std.proofs.Common.{arith, rules}
 use Rattle.book_commodity.specs.Day.{IsDay, month_count}
-use Rattle.book_schedule.proofs.MonthLemmas.{no_day_past, some_along}
+use Rattle.book_schedule.proofs.MonthLemmas.{no_day_past}
 use Rattle.book_schedule.proofs.OccurrenceLemmas.{end_of_month_in}
 use Rattle.book_schedule.proofs.occurrences.end_of_month.Goals as goal
 

@@ -1,4 +1,4 @@
-use Rattle.std.proofs.Common.{◌≡◌, ◌+◌, true, nat_le, ap, ◌∙◌, arith, rules}
+use Rattle.std.proofs.Common.{◌≡◌, ap, ◌∙◌, arith, rules}
 use Rattle.std.proofs.lemmas.Int.{ints}
 use Rattle.jiff_core.proofs.CalendarLemmas.{weekday_number_bound}
 use Rattle.book_commodity.specs.Day.{IsDay, month_count}

@@ -1,7 +1,7 @@
-use Rattle.std.proofs.Common.{◌≡◌, ◌+◌, true, nat_le, ap, ◌∙◌, arith, rules}
+use Rattle.std.proofs.Common.{◌≡◌, ap, ◌∙◌, arith, rules}
 use Rattle.std.proofs.lemmas.Int.{ints}
 use Rattle.jiff_core.proofs.CalendarLemmas.{weekday_number_bound}
-use Rattle.book_commodity.specs.Day.{IsDay, day_of_month, month_count}
+use Rattle.book_commodity.specs.Day.{IsDay, month_count}
 use Rattle.book_schedule.specs.Recurrence.{first_of_month, weekday_from}
 use Rattle.book_schedule.proofs.MonthLemmas.{no_day_past, some_along}
 use Rattle.book_schedule.proofs.OccurrenceLemmas.{early_day, nth_weekday_in}

@@ -1,6 +1,6 @@
-use Rattle.std.proofs.Common.{◌≡◌, ◌*◌, ℤ, true, false, refl, subst, arith}
+use Rattle.std.proofs.Common.{◌≡◌, ℤ, true, false, refl, subst, arith}
 use Rattle.std.specs.Prelude.{IfSome}
-use Rattle.book_schedule.specs.Recurrence.{nth_day, Repeats}
+use Rattle.book_schedule.specs.Recurrence.{Repeats}
 use Rattle.book_schedule.proofs.OccurrenceLemmas.{no_occurrence, some_occurrence, nth_day-parts, repeats_first, repeats_other}
 use Rattle.book_schedule.proofs.occurrences.occurrence.Goals as goal
 use Rattle.book_schedule.proofs.occurrences.occurrence.Goals.{else-k-gt0-via-then-k-gt0+else-eq, else-k-gt0-via-else-k-gt0}

@@ -1,6 +1,6 @@
-use Rattle.std.proofs.Common.{◌+◌, arith, rules}
+use Rattle.std.proofs.Common.{arith, rules}
 use Rattle.book_commodity.specs.Day.{IsDay, month_count}
-use Rattle.book_schedule.proofs.MonthLemmas.{no_day_past, some_along}
+use Rattle.book_schedule.proofs.MonthLemmas.{no_day_past}
 use Rattle.book_schedule.proofs.OccurrenceLemmas.{same_day_in}
 use Rattle.book_schedule.proofs.occurrences.same_day.Goals as goal
 
