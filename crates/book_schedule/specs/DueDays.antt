@@ -49,7 +49,8 @@ IsPlanned timing upto day = IsOnSome timing.recurrences day × IsWithin timing u
 abbrev pub IsOpen : Timing → ℤ → ℤ → Type 0
 IsOpen timing upto day = IsPlanned timing upto day × IsAfter timing.last day
 
--- An end after n occurrences keeps the first n of the set, less the number already made: so many lie not all before the day.
+-- An end after n occurrences keeps the first n less the number already made: fewer than so many of the set lie before
+-- the day.
 abbrev pub IsAllowed : End → ℕ → (ℤ → Type 0) → ℤ → Type 0
 IsAllowed Never made set day = ⊤
 IsAllowed (Until last) made set day = ⊤

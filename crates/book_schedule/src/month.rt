@@ -6,10 +6,7 @@ use book_commodity::Day;
 use jiff_core::civil;
 use std::marker::Model;
 
-/// The number of January 1900, with twelve months a year.
-const FIRST: u32 = 22_800;
-
-/// The number of January 2200.
+/// The number of January 2200, with twelve months a year.
 const END: u32 = 26_400;
 
 /// A month of the years 1900 to 2199, which contracts see as its number: twelve times the year, and 0 for January.
