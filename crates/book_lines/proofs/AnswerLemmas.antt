@@ -117,14 +117,3 @@ HasBroken-line answers old line answer new f g w v p h cut =
           (answer, new, [], p.answered, sym cut.parts, (refl, refl)));
       kept = subst (λ m. RoseForEach f g m) (sym none) p.kept;
     }
-
--- a part of some bytes is a part of more bytes
-pub WrotePart-more : (w v : Option (List ℕ)) (xs ys : List ℕ) → WrotePart w v xs → WrotePart w v (xs ++ ys)
-WrotePart-more w v xs ys p =
-    record {
-      part = p.part;
-      rest = p.rest ++ ys;
-      parts = ap (λ l. l ++ ys) p.parts ∙ append_assoc p.part p.rest ys;
-      short = omega (arith, p.short, length-append p.rest ys);
-      wrote = p.wrote;
-    }

@@ -10,6 +10,8 @@ mod machine;
 mod piece;
 mod room;
 mod running;
+#[cfg(test)]
+mod tests;
 
 pub use machine::{Machine, Unanswered, KEEPER, MEMORY};
 pub use room::LineRoom;
