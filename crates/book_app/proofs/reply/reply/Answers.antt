@@ -1,10 +1,12 @@
 use Rattle.std.proofs.Common.{◌≡◌, ℕ, List, refl, sym, ap, subst, ◌∙◌}
+use Rattle.std.proofs.lemmas.Result.{IfOk-weaker}
 use Rattle.book_lines.specs.Marks.{IsTold}
 use Rattle.book_step.specs.Book.{State}
 use Rattle.book_step.specs.Step.{Outcome, Broken, Done, step}
 use Rattle.book_step.specs.declared.answer.Answer.{Answer}
+use Rattle.book_step.specs.declared.rule.Rule.{Rule}
 use Rattle.book_engine.specs.Kept.{Kept}
-use Rattle.book_engine.specs.Planned.{after}
+use Rattle.book_engine.specs.Planned.{after, IsRefusal}
 use Rattle.book_wire.specs.AnswerText.{answer_bytes, rule_bytes, not_built_bytes}
 use Rattle.book_wire.proofs.ToldLemmas.{answer-own_line, rule-own_line, not_built-own_line}
 use Rattle.book_app.specs.Machine.{IsOutcome, IsReply, Tells}
@@ -23,4 +25,16 @@ returns-in_ok-text-in-Ok-clause-told c =
     , subst (λ (o : Outcome). IsOutcome o old text c.finish.new.self.state) (sym c.in-Ok.ensures.planned) (is, new) )
 
 pub returns-in-Err-Broken-clause-told : goal.returns-in-Err-Broken-clause-told
-returns-in-Err-Broken-clause-told c = ?
+returns-in-Err-Broken-clause-told c =
+    let old : State = c.args.engine.now.state in
+    let version : c.version-in-Err-Broken.result ≡ old.version =
+        c.version-in-Err-Broken.ensures ∙ ap (λ (s : State). s.version) c.prepare.ensures.unchanged in
+    let rule : Rule = c.in-Err-Broken.rule in
+    let broken : step old c.args.command ≡ Broken rule =
+        subst (λ refusal. IsRefusal (step old c.args.command) refusal) c.in-Err-Broken.field-0-is c.in-Err-Broken.ensures.refused in
+    IfOk-weaker c.rule_text.result _ _
+        (λ text e.
+            let is : text ≡ rule_bytes rule old.version = e ∙ ap (rule_bytes rule) version in
+            ( IsTold-own_line text _ is (rule-own_line rule old.version)
+            , subst (λ (o : Outcome). IsOutcome o old text c.prepare.new.self.state) (sym broken) (is, c.prepare.ensures.unchanged) ))
+        c.rule_text.ensures
