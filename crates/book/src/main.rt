@@ -5,9 +5,8 @@
 use book_app::{Status, book_main};
 use book_commodity::Text;
 use book_keeper::{FileSource, StreamSink};
-use std::env;
-use std::io;
 use std::process::ExitCode;
+use std::{env, io};
 
 /// The words behind the program's name.
 fn words(rt: &HostRuntime) -> io::Result<Vec<Text>> {

@@ -31,7 +31,7 @@ IsBookRun-lines first input_before input_after output_before output_after last s
   left_are = run.left_are;
   wrote = run.wrote;
   table = subst (λ (s : Status). Table (at first output_before 0) run.bytes run.left run.text (at last output_after 0) s) (sym run.status_is)
-    (Table-end (at first output_before 0) run.bytes run.left run.text (at last output_after 0) run.ended run.table);
+      (Table-end (at first output_before 0) run.bytes run.left run.text (at last output_after 0) run.ended run.table);
 }
 
 untouched : (first : State) (input output : Option (List ℕ)) → IsUntouched (at first output 0) (Are-some input).0 (Are-some input).0 [] (at first output 0)

@@ -61,5 +61,5 @@ step-sound state (Post day currency description given) new answer sound made =
     let few : length state.book.transactions + 1 ≤ 200000 = ltb-false _ _ (not_broken _ _ none.1) in
     let few_splits : length (splits_of state.book.transactions) + length given ≤ 1000000 = ltb-false _ _ (not_broken _ _ none.2) in
     subst (λ (s : State). IsSound s) done.1
-        (sound-added state entry sound (values-new_splits (state.next + 1) given ∙ even) few
-            (omega (arith, length-new_splits (state.next + 1) given)))
+    (sound-added state entry sound (values-new_splits (state.next + 1) given ∙ even) few
+    (omega (arith, length-new_splits (state.next + 1) given)))

@@ -32,14 +32,17 @@ split_of number account value = record {
 abbrev pub after_salary : State
 after_salary = record {
   book = record {
-    transactions = (5, record {
-      currency = 1;
-      day = pos 19727;
-      num = [];
-      description = codes "Pay";
-      splits = split_of 6 3 (pos 250000) ∷ split_of 7 4 (negsuc 249999) ∷ [];
-    })
-    ∷ [];
+    transactions = (
+      5,
+      record {
+        currency = 1;
+        day = pos 19727;
+        num = [];
+        description = codes "Pay";
+        splits = split_of 6 3 (pos 250000) ∷ split_of 7 4 (negsuc 249999) ∷ [];
+      },
+    )
+        ∷ [];
   };
   next = 8;
   version = 3;

@@ -73,8 +73,8 @@ post_rules book splits = unbalanced splits ∷ too_many_transactions book ∷ to
 -- the transaction of a post: it has the day, the currency and the description given, and no number text
 abbrev pub new_transaction : ℕ → ℤ → ℕ → List ℕ → List GivenSplit → ℕ × Txn
 new_transaction number day currency description splits = (
-    number,
-    record { currency = currency; day = day; num = []; description = description; splits = new_splits (number + 1) splits },
+  number,
+  record { currency = currency; day = day; num = []; description = description; splits = new_splits (number + 1) splits },
 )
 
 -- the state after a transaction is added: it took the next number, its splits those that follow

@@ -16,6 +16,6 @@ returns-in_default-begin-clause-table g c = IsBookRun-memory first_state _ _
 pub returns-clause-table : goal.returns-clause-table
 returns-clause-table g c =
     subst (λ (s : State). IsBookRun s (g.S.Source.left c.args.input.now) (g.S.Source.left c.run_lines.new.input)
-            (g.O.Sink.written c.args.output.now) (g.O.Sink.written c.run_lines.new.output) c.run_lines.result)
-        c.in-Ok-begin.ensures
-        (IsBookRun-lines _ _ _ _ _ _ _ c.run_lines.ensures.table)
+    (g.O.Sink.written c.args.output.now) (g.O.Sink.written c.run_lines.new.output) c.run_lines.result)
+    c.in-Ok-begin.ensures
+    (IsBookRun-lines _ _ _ _ _ _ _ c.run_lines.ensures.table)

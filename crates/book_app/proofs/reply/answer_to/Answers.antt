@@ -18,5 +18,5 @@ pub returns-in-None-clause-told : goal.returns-in-None-clause-told
 returns-in-None-clause-told c =
     let none : IsCommand c.args.line.now None = subst (λ (read : Option Command). IsCommand c.args.line.now read) c.in-None.is c.in_ok-command_of.ensures.exact in
     IfOk-weaker c.not_built_text.result _ _
-        (λ text is. (IsTold-own_line text _ is not_built-own_line, record { command = None; read = none; reply = (is, refl) }))
-        c.not_built_text.ensures
+    (λ text is. (IsTold-own_line text _ is not_built-own_line, record { command = None; read = none; reply = (is, refl) }))
+    c.not_built_text.ensures

@@ -10,7 +10,7 @@ pub loop-split-preserved : goal.loop-split-preserved
 loop-split-preserved c =
     let d : GivenSplit = record { account = 0; value = pos 0 } in
     let more : given_sum (take (c.loop-split.split-index + 1) c.args.given.now) ≡ given_sum (take c.loop-split.split-index c.args.given.now) +ℤ (get_or c.args.given.now c.loop-split.split-index d).value =
-        given_sum-take c.args.given.now c.loop-split.split-index d c.loop-split-test.true in
+    given_sum-take c.args.given.now c.loop-split.split-index d c.loop-split-test.true in
     record {
       sums = omega (arith, ints);
       within = (omega (arith, ints), omega (arith, ints));

@@ -16,9 +16,10 @@ use Rattle.book_app.proofs.reply.EngineMachineWireNothing.too_long.Goals as goal
 pub returns-clause-told : goal.returns-clause-told
 returns-clause-told c =
     IfOk-weaker c.not_built_text.result _ _
-        (λ text is.
-            ( IsTold-own_line text _ is not_built-own_line
-            , λ line size long.
-                subst (λ (t : Bool). MatchBool t ((text ≡ not_built_bytes) × (c.args.self.now.state ≡ c.args.self.now.state)) (Tells c.args.self.now.state line text c.args.self.now.state))
-                    (sym (lt-ltb (2 ^ 23) (length line) long)) (is, refl) ))
-        c.not_built_text.ensures
+    (λ text is. (
+      IsTold-own_line text _ is not_built-own_line,
+      λ line size long.
+          subst (λ (t : Bool). MatchBool t ((text ≡ not_built_bytes) × (c.args.self.now.state ≡ c.args.self.now.state)) (Tells c.args.self.now.state line text c.args.self.now.state))
+          (sym (lt-ltb (2 ^ 23) (length line) long)) (is, refl),
+    ))
+    c.not_built_text.ensures
