@@ -158,6 +158,9 @@ gap_without n es zero h = above_without_entry n es h
 gap_without n [] (suc place) h = absurd h
 gap_without n (e ∷ es) (suc place) h = grind (arith, nat_tests, h.0, gap_without n es place h.1)
 
+-- what a place tells of the values and of the entries with a value put or taken
+pub ruleset places = (at_below, at_number, at_value, at_with, at_without, gap_below, gap_value, gap_with, gap_without, rises_with, rises_without)
+
 -- ---- what a binary search finds
 above_at : {T : Type 0} (n : ℕ) (es : List (ℕ × T)) (i : ℕ) (x : ℕ × T) → AllAbove n es → i < length es → n < (get_or es i x).0
 above_at n [] i x a lt = absurd (omega arith)
