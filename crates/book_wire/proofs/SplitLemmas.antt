@@ -1,6 +1,6 @@
 use Rattle.book_step.specs.declared.GivenSplit.{GivenSplit}
 use Rattle.book_wire.specs.LineForm.{AreSplits, IsSplit, split_spelling, splits_spelling}
-use Rattle.std.proofs.Common.{◌++◌, ◌+◌, ◌<◌, ◌≡◌, ◌≢◌, ◌≤◌, ◌∙◌, ◌∷◌, All, List, [], ap, append_assoc, arith, codes, drop, get_or, length, length-append, map, refl, subst, suc, sym, ℕ}
+use Rattle.std.proofs.Common.{◌++◌, ◌+◌, ◌<◌, ◌≡◌, ◌≤◌, ◌∙◌, ◌∷◌, All, List, [], ap, append_assoc, arith, codes, drop, get_or, length, length-append, map, refl, subst, sym, ℕ}
 use Rattle.std.proofs.lemmas.List.Elements.{All-push}
 use Rattle.std.proofs.lemmas.List.{get_or_at}
 use Rattle.std.specs.List.{join_with_byte}

@@ -2,7 +2,7 @@ use Rattle.book_step.specs.declared.GivenSplit.{GivenSplit}
 use Rattle.book_wire.proofs.SplitLemmas.{HasRead, HasRead-end, HasRead-more, HasRead-no_split, HasRead-stopped}
 use Rattle.book_wire.proofs.given_splits.splits.Goals as goal
 use Rattle.book_wire.specs.LineForm.{AreSplits, splits_spelling}
-use Rattle.std.proofs.Common.{◌+◌, ◌<◌, ◌≡◌, ◌∙◌, ◌∷◌, List, [], ap, arith, codes, false, length, length-append, refl, subst, sym, true, ℕ}
+use Rattle.std.proofs.Common.{◌<◌, ◌≡◌, ◌∙◌, ◌∷◌, List, [], ap, arith, false, length, length-append, refl, subst, sym, true}
 use Rattle.std.proofs.lemmas.Bool.Decides.{Decides-eqb}
 use Rattle.std.proofs.lemmas.Slice.Eq.{slice_eq-Decides}
 

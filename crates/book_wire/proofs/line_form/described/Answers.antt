@@ -1,7 +1,7 @@
 use Rattle.book_wire.proofs.NumberLemmas.{decimal-one}
 use Rattle.book_wire.proofs.line_form.described.Goals as goal
 use Rattle.book_wire.specs.LineForm.{IsDescription}
-use Rattle.std.proofs.Common.{◌++◌, ◌≡◌, ◌∙◌, ◌∷◌, Bor, IfSome, IsSomeAnd, List, None, Option, Some, ap, codes, decimal, subst, sym, ℕ}
+use Rattle.std.proofs.Common.{◌++◌, ◌≡◌, ◌∙◌, ◌∷◌, Bor, IfSome, List, None, Option, Some, ap, codes, decimal, sym, ℕ}
 
 -- The currency of the form is spelled by one digit.
 currency_spelled : (more : List ℕ)
