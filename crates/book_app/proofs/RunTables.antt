@@ -1,5 +1,5 @@
 -- From the table of a run of lines to that of the program's work.
-use Rattle.std.proofs.Common.{◌≡◌, ℕ, List, [], Option, refl, sym, subst}
+use Rattle.std.proofs.Common.{ℕ, List, [], Option, refl, sym, subst}
 use Rattle.book_keeper.proofs.StreamLemmas.{Are-some, Wrote-nil}
 use Rattle.book_lines.specs.Table.{Moment, at, TableTo}
 use Rattle.book_lines.specs.declared.running.RunEnd.{RunEnd}

@@ -1,8 +1,8 @@
 -- For callers: what a run says, said over another type of states.
-use Rattle.std.proofs.Common.{◌≡◌, ℕ, List, Option}
+use Rattle.std.proofs.Common.{ℕ, List, Option}
 use Rattle.book_lines.specs.Lines.{lines, sent}
 use Rattle.book_lines.specs.Marks.{Mark, marks}
-use Rattle.book_lines.specs.Transcript.{Run, IsTranscript, IsCutShort}
+use Rattle.book_lines.specs.Transcript.{IsCutShort}
 use Rattle.book_lines.specs.Table.{Moment, at, IsAnswered, IsBroken, TableTo, IsRun}
 use Rattle.book_lines.specs.declared.running.RunEnd.{RunEnd}
 use Rattle.book_lines.specs.declared.running.RunEnd.TheVariants.{Done, InputLimit, InputFault, OutputFault}

@@ -1,9 +1,9 @@
 -- Worked rows of the definitions.
-use Rattle.std.proofs.Common.{◌≡◌, ℕ, ◌+◌, ◌<◌, List, [], ◌∷◌, ◌++◌, refl, arith}
+use Rattle.std.proofs.Common.{◌≡◌, ℕ, ◌+◌, List, [], ◌∷◌, refl, arith}
 use Rattle.std.specs.Prelude.{codes}
-use Rattle.book_lines.specs.Lines.{whole_lines, last_piece, all_lines, lines_within, sent}
+use Rattle.book_lines.specs.Lines.{whole_lines, all_lines, lines_within, sent}
 use Rattle.book_lines.specs.Marks.{Mark, Told, Memory, Keeper, memory_answer, keeper_answer, marks}
-use Rattle.book_lines.specs.Transcript.{IsTranscript, IsCutShort, Answers}
+use Rattle.book_lines.specs.Transcript.{IsTranscript, IsCutShort}
 
 -- an empty line is a line, and so is a rest
 three : all_lines (codes "ab\n\nc") ≡ codes "ab" ∷ [] ∷ codes "c" ∷ []

@@ -16,7 +16,14 @@ use std::alloc::Global;
 const MAX_LINES: u64 = 1_000_000;
 
 // Ends the line in the room: answers it, counts it and begins a new one; Failed where the output failed.
-fn end_line<W, K, M: Machine<W, K>, O: Sink>(alloc: Global, machine: &mut M, keeper: &mut K, output: &mut O, line: &mut Line, count: &mut u64) -> Result<(), Failed>
+fn end_line<W, K, M: Machine<W, K>, O: Sink>(
+    alloc: Global,
+    machine: &mut M,
+    keeper: &mut K,
+    output: &mut O,
+    line: &mut Line,
+    count: &mut u64,
+) -> Result<(), Failed>
     requires stands { M.stands machine.old keeper.old }
     requires open { count.old < 1000000 }
     ensures taken { OnOk result ((begun : List ℕ) → line.old ≡ seen begun → HasTaken M.answers begun (10 ∷ []) (at machine.old (O.written output.old) (M.faults keeper.old)) (at machine.new (O.written output.new) (M.faults keeper.new)) line.new count.old count.new) }
@@ -33,7 +40,15 @@ fn end_line<W, K, M: Machine<W, K>, O: Sink>(alloc: Global, machine: &mut M, kee
 
 /// Takes a piece of the input, from line feed to line feed. InputLimit where a byte stands behind the last line that
 /// may be taken, OutputFault where the output failed.
-pub fn take_piece<W, K, M: Machine<W, K>, O: Sink>(alloc: Global, machine: &mut M, keeper: &mut K, output: &mut O, line: &mut Line, count: &mut u64, piece: &[u8]) -> Result<(), RunEnd>
+pub fn take_piece<W, K, M: Machine<W, K>, O: Sink>(
+    alloc: Global,
+    machine: &mut M,
+    keeper: &mut K,
+    output: &mut O,
+    line: &mut Line,
+    count: &mut u64,
+    piece: &[u8],
+) -> Result<(), RunEnd>
     requires stands { M.stands machine.old keeper.old }
     requires fits { line.old.size + length piece.now < 2 ^ 64 }
     ensures taken { OnOk result ((begun : List ℕ) → line.old ≡ seen begun → count.old + length (rest_line begun) ≤ 1000000 → HasTaken M.answers begun piece.now (at machine.old (O.written output.old) (M.faults keeper.old)) (at machine.new (O.written output.new) (M.faults keeper.new)) line.new count.old count.new) }

@@ -44,7 +44,12 @@ impl Machine<Turns, Forgetful> for Alternating {
 
     ghost faults = { λ kept. kept.faults };
 
-    fn answer(&mut self, alloc: Global, keeper: &mut Forgetful, line: &[u8]) -> Result<Bytes, Unanswered> {
+    fn answer(
+        &mut self,
+        alloc: Global,
+        keeper: &mut Forgetful,
+        line: &[u8],
+    ) -> Result<Bytes, Unanswered> {
         match line.first() {
             Some(b'm') => Err(Unanswered::Memory),
             Some(b'k') => {
@@ -67,15 +72,32 @@ impl Machine<Turns, Forgetful> for Alternating {
 }
 
 /// How a run over the input ended, with the failing calls of the source and of the sink, and what was written.
-fn run_over(alloc: Global, input: &[u8], piece: usize, read: &[u64], write: &[u64]) -> Result<(RunEnd, Bytes), Fail>
+fn run_over(
+    alloc: Global,
+    input: &[u8],
+    piece: usize,
+    read: &[u64],
+    write: &[u64],
+) -> Result<(RunEnd, Bytes), Fail>
     requires { 0 < piece }
 {
-    let mut source = MemSource::new(bytes_of(alloc, input)?, piece, Many::of(Vec::from_slice(alloc, read)?));
+    let mut source = MemSource::new(
+        bytes_of(alloc, input)?,
+        piece,
+        Many::of(Vec::from_slice(alloc, read)?),
+    );
     let mut sink = MemSink::new(alloc, 100, Many::of(Vec::from_slice(alloc, write)?))?;
     let mut room = LineRoom::new(alloc)?;
     let mut machine = Alternating { odd: false };
     let mut keeper = Forgetful { faults: 0 };
-    let end = run::<Turns, Forgetful, Alternating, MemSource, MemSink>(alloc, &mut machine, &mut keeper, &mut source, &mut sink, &mut room);
+    let end = run::<Turns, Forgetful, Alternating, MemSource, MemSink>(
+        alloc,
+        &mut machine,
+        &mut keeper,
+        &mut source,
+        &mut sink,
+        &mut room,
+    );
     Ok((end, bytes_of(alloc, sink.written())?))
 }
 
@@ -84,10 +106,24 @@ fn lines_are_answered_in_turn(rt: HostRuntime) -> Result<(), Fail> {
     let rows: [(&[u8], usize, &[u64], &[u64], RunEnd, &[u8]); 6] = [
         (b"", 1, &[], &[], RunEnd::Done, b""),
         (b"a\n \t\r\n\nb", 1, &[], &[], RunEnd::Done, b"even\nodd\n"),
-        (b"a\nm\nk\nb\n", 3, &[], &[], RunEnd::Done, b"even\n{\"refused\":\"memory\"}\n{\"refused\":\"keeper\"}\nodd\n"),
+        (
+            b"a\nm\nk\nb\n",
+            3,
+            &[],
+            &[],
+            RunEnd::Done,
+            b"even\n{\"refused\":\"memory\"}\n{\"refused\":\"keeper\"}\nodd\n",
+        ),
         (b"a\nb", 2, &[2], &[], RunEnd::InputFault, b"even\n"),
         (b"a\nb\nc\n", 100, &[], &[2], RunEnd::OutputFault, b"even\n"),
-        (b"a\nm\nc\n", 100, &[], &[3], RunEnd::OutputFault, b"even\n{\"refused\":\"memory\"}"),
+        (
+            b"a\nm\nc\n",
+            100,
+            &[],
+            &[3],
+            RunEnd::OutputFault,
+            b"even\n{\"refused\":\"memory\"}",
+        ),
     ];
     for (input, piece, read, write, end, written) in rows {
         let (found, text) = run_over(rt.alloc(), input, piece, read, write)?;

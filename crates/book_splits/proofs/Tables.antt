@@ -1,5 +1,5 @@
 -- Laws of a table of balances into which splits are counted one after another.
-use Rattle.std.proofs.Common.{◌≡◌, ℕ, ◌+◌, ◌*◌, ◌^◌, ◌≤◌, ℤ, pos, ◌+ℤ◌, ◌-ℤ◌, ◌≤ℤ◌, ◌==◌, Bool, true, false, if◌then◌else◌, List, [], ◌∷◌, ◌++◌, Option, None, Some, IfSome, IsSome, option_map, refl, sym, ap, subst, ◌∙◌, arith, w64, length, take, drop, map, get_or, ◌<◌, All, append_assoc, IsTrue}
+use Rattle.std.proofs.Common.{◌≡◌, ℕ, ◌+◌, ◌≤◌, ℤ, pos, ◌+ℤ◌, ◌==◌, Bool, true, false, if◌then◌else◌, List, [], ◌∷◌, ◌++◌, Option, None, Some, IfSome, IsSome, option_map, refl, sym, ap, subst, ◌∙◌, arith, w64, length, take, drop, map, get_or, ◌<◌, IsTrue}
 use mir.Val.{SFits}
 use Rattle.std.proofs.Common.{eq-eqb}
 use Rattle.std.proofs.lemmas.Bool.{eqb-true}

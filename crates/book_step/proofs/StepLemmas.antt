@@ -1,5 +1,5 @@
 -- Laws of the splits that a post gives.
-use Rattle.std.proofs.Common.{◌≡◌, ℕ, ◌+◌, ◌<◌, ℤ, pos, ◌+ℤ◌, List, [], ◌∷◌, ◌++◌, length, map, take, get_or, suc, None, refl, sym, ap, ◌∙◌, arith}
+use Rattle.std.proofs.Common.{◌≡◌, ℕ, ◌+◌, ◌<◌, ℤ, ◌+ℤ◌, List, [], ◌∷◌, ◌++◌, length, map, take, get_or, suc, None, refl, sym, ap, ◌∙◌, arith}
 use Rattle.std.proofs.Math.IntN.{+ℤ_idr}
 use Rattle.std.proofs.lemmas.List.{map-append, take_more, length-take-le}
 use Rattle.std.proofs.Math.ListN.{length-append}
@@ -7,7 +7,7 @@ use Rattle.book_splits.proofs.BalanceLemmas.{total-append, splits_of-added}
 use Rattle.book_splits.specs.Balance.{total, balance, quantity_on, splits_of}
 use Rattle.book_splits.specs.declared.split.Split.{Split}
 use Rattle.book_splits.specs.declared.transaction.Txn.{Txn}
-use Rattle.book_step.specs.Book.{Book, State}
+use Rattle.book_step.specs.Book.{State}
 use Rattle.book_step.specs.declared.answer.Answer.TheVariants as answer
 use Rattle.book_step.specs.declared.command.Command.TheVariants.{Post}
 use Rattle.book_step.specs.Step.{Done, step, first_broken, post_rules, unless_broken, new_transaction, added, post_answer, given_sum, new_split, new_splits}

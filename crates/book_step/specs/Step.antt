@@ -1,5 +1,5 @@
 -- The step of a command: the first rule of its order that it breaks, or the state after it and its answer.
-use Rattle.std.specs.Prelude.{ℕ, ◌+◌, ℤ, pos, Bool, true, false, List, [], ◌∷◌, ◌++◌, Option, None, Some, map, length, nat_lt, not, if◌then◌else◌}
+use Rattle.std.specs.Prelude.{ℕ, ◌+◌, ℤ, pos, Bool, true, false, List, [], ◌∷◌, ◌++◌, Option, None, Some, map, length, nat_lt, not}
 use Rattle.std.specs.Ordering.{int_eq}
 use Rattle.book_commodity.specs.declared.counted.Counted.TheVariants.{Transactions, Splits}
 use Rattle.book_splits.specs.Balance.{total, splits_of, balance}

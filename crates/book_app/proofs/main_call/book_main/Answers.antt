@@ -1,6 +1,6 @@
-use Rattle.std.proofs.Common.{◌≡◌, refl, sym, subst}
+use Rattle.std.proofs.Common.{subst}
 use Rattle.book_step.specs.Book.{State, first_state}
-use Rattle.book_app.specs.Table.{IsBookRun, IsLineRun}
+use Rattle.book_app.specs.Table.{IsBookRun}
 use Rattle.book_app.proofs.RunTables.{IsBookRun-lines, IsBookRun-usage, IsBookRun-memory}
 use Rattle.book_app.proofs.main_call.book_main.Goals as goal
 

@@ -1,11 +1,8 @@
-use Rattle.std.proofs.Common.{◌≡◌, ℕ, List, refl, sym}
+use Rattle.std.proofs.Common.{ℕ, List}
 use Rattle.book_lines.specs.Marks.{Mark}
-use Rattle.book_lines.specs.Table.{at, IsRun}
 use Rattle.book_lines.proofs.CallerLemmas.{Maps, IsRun-map}
 use Rattle.book_engine.specs.Kept.{Kept}
-use Rattle.book_step.specs.Book.{State}
 use Rattle.book_app.specs.Machine.{answers}
-use Rattle.book_app.specs.Table.{IsLineRun}
 use Rattle.book_app.proofs.main_call.run_lines.Goals as goal
 
 -- the engine's answers are those of the machine of whole books on its state

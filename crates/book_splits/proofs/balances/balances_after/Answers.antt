@@ -1,12 +1,9 @@
-use Rattle.std.proofs.Common.{rules, ◌≡◌, ℕ, ◌+◌, ◌*◌, ◌≤◌, ◌^◌, ℤ, pos, ◌+ℤ◌, List, [], ◌∷◌, ◌++◌, ◌==◌, if◌then◌else◌, All, IfOk, OnOk, IfSome, IsSome, Option, Some, length, map, take, option_map, ◌-◌, ◌<◌, ◌/◌, ◌%◌, Bool, true, false, refl, sym, ap, subst, ◌∙◌, arith, get_or, append_assoc}
+use Rattle.std.proofs.Common.{[], ◌++◌, IsSome}
 use Rattle.std.proofs.lemmas.Result.{IfOk-weaker}
-use Rattle.std.proofs.lemmas.Grind.{common_steps}
-use Rattle.std.proofs.lemmas.List.{take_more, take_all, map-append}
-use Rattle.std.proofs.lemmas.List.Elements.{All-more, All-get_or, All-weaker}
-use Rattle.book_splits.specs.Balance.{IsWithin, quantity_on, splits_of}
-use Rattle.book_splits.specs.declared.split.Split.{Split}
-use Rattle.book_splits.specs.Balances.{balance_at, Adds, Counts, IsSmall, Puts}
-use Rattle.book_splits.proofs.Tables.{balances-more, take-item, Puts-here, Puts-keeps, Puts-zero, IsSmall-zero, balances-are, Counts-along, IsSmall-le}
+use Rattle.std.proofs.lemmas.List.Elements.{All-weaker}
+use Rattle.book_splits.specs.Balance.{splits_of}
+use Rattle.book_splits.specs.Balances.{balance_at, Counts}
+use Rattle.book_splits.proofs.Tables.{balances-are}
 use Rattle.book_splits.proofs.balances.balances_after.Goals as goal
 
 pub of_each-requires : goal.of_each-requires

@@ -1,9 +1,7 @@
-use Rattle.std.proofs.Common.{rules, ◌≡◌, ℕ, ◌+◌, ◌<◌, ◌^◌, None, Some, IfOk, MatchResult, length, take, get_or, ◌-◌, ◌*◌, ◌≤◌, List, [], ◌∷◌, ◌++◌, refl, sym, ap, ◌∙◌, arith, ℤ, pos, ◌+ℤ◌, ◌-ℤ◌, ◌≤ℤ◌}
-use Rattle.std.proofs.lemmas.Int.{ints}
-use Rattle.book_splits.specs.Balance.{IsWithin, splits_of}
-use Rattle.book_step.specs.Step.{given_sum, new_split, new_splits}
+use Rattle.std.proofs.Common.{◌≡◌, ◌+◌, take, get_or, [], ◌∷◌, ◌++◌, sym, ap, ◌∙◌, pos}
+use Rattle.book_step.specs.Step.{new_split, new_splits}
 use Rattle.book_step.specs.declared.command.GivenSplit.{GivenSplit}
-use Rattle.book_step.proofs.StepLemmas.{given_sum-take, new_splits-take}
+use Rattle.book_step.proofs.StepLemmas.{new_splits-take}
 use Rattle.book_step.proofs.post.splits_given.Goals as goal
 
 pub loop-place-preserved : goal.loop-place-preserved

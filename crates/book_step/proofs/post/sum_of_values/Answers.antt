@@ -1,9 +1,8 @@
-use Rattle.std.proofs.Common.{rules, ◌≡◌, ℕ, ◌+◌, ◌<◌, ◌^◌, None, Some, IfOk, MatchResult, length, take, get_or, ◌-◌, ◌*◌, ◌≤◌, List, [], ◌∷◌, ◌++◌, refl, sym, ap, ◌∙◌, arith, ℤ, pos, ◌+ℤ◌, ◌-ℤ◌, ◌≤ℤ◌}
+use Rattle.std.proofs.Common.{◌≡◌, ◌+◌, take, get_or, arith, pos, ◌+ℤ◌}
 use Rattle.std.proofs.lemmas.Int.{ints}
-use Rattle.book_splits.specs.Balance.{IsWithin, splits_of}
-use Rattle.book_step.specs.Step.{given_sum, new_split, new_splits}
+use Rattle.book_step.specs.Step.{given_sum}
 use Rattle.book_step.specs.declared.command.GivenSplit.{GivenSplit}
-use Rattle.book_step.proofs.StepLemmas.{given_sum-take, new_splits-take}
+use Rattle.book_step.proofs.StepLemmas.{given_sum-take}
 use Rattle.book_step.proofs.post.sum_of_values.Goals as goal
 
 pub loop-split-preserved : goal.loop-split-preserved

@@ -1,11 +1,10 @@
-use Rattle.std.proofs.Common.{◌≡◌, ℕ, ◌+◌, List, [], ◌∷◌, ◌++◌, length, refl, sym, ap, subst, ◌∙◌, arith}
+use Rattle.std.proofs.Common.{◌≡◌, ℕ, ◌+◌, List, length, sym, ap, subst, ◌∙◌, arith}
 use Rattle.book_splits.specs.Balance.{splits_of}
 use Rattle.book_splits.specs.declared.transaction.Txn.{Txn}
-use Rattle.book_step.specs.Book.{State}
 use Rattle.book_step.specs.Soundness.{IsSound}
 use Rattle.book_step.proofs.SoundStep.{step-sound}
 use Rattle.book_step.proofs.StepLemmas.{length-added}
-use Rattle.book_engine.specs.Kept.{Kept, IsKept, state_of}
+use Rattle.book_engine.specs.Kept.{Kept, state_of}
 use Rattle.book_engine.specs.Planned.{Planned, after}
 use Rattle.book_engine.proofs.engine.Engine.finish.Goals as goal
 

@@ -1,9 +1,9 @@
-use Rattle.std.proofs.Common.{◌≡◌, ℕ, ◌+◌, ℤ, List, [], ◌∷◌, ◌++◌, None, length, map, refl, sym, ap, subst, ◌∙◌}
+use Rattle.std.proofs.Common.{◌≡◌, ℕ, ◌+◌, ℤ, List, [], ◌++◌, None, map, refl, sym, ap, subst, ◌∙◌}
 use Rattle.book_splits.specs.Balance.{quantity_on, splits_of}
 use Rattle.book_splits.specs.declared.split.Split.{Split}
 use Rattle.book_splits.specs.declared.transaction.Txn.{Txn}
 use Rattle.book_step.specs.Book.{State}
-use Rattle.book_step.specs.Step.{Outcome, Done, step, first_broken, post_rules, new_splits}
+use Rattle.book_step.specs.Step.{Done, step, first_broken, post_rules, new_splits}
 use Rattle.book_step.specs.declared.answer.Answer.{Answer}
 use Rattle.book_step.specs.declared.answer.Answer.TheVariants as answer
 use Rattle.book_step.specs.declared.command.Command.{Command}

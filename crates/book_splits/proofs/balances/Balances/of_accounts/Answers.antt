@@ -1,11 +1,9 @@
-use Rattle.std.proofs.Common.{rules, ◌≡◌, ℕ, ◌+◌, ◌*◌, ◌≤◌, ◌^◌, ℤ, pos, ◌+ℤ◌, List, [], ◌∷◌, ◌++◌, ◌==◌, if◌then◌else◌, All, IfOk, OnOk, IfSome, IsSome, Option, Some, length, map, take, option_map, ◌-◌, ◌<◌, ◌/◌, ◌%◌, Bool, true, false, refl, sym, ap, subst, ◌∙◌, arith, get_or, append_assoc}
-use Rattle.std.proofs.lemmas.Grind.{common_steps}
-use Rattle.std.proofs.lemmas.List.{take_more, take_all, map-append}
-use Rattle.std.proofs.lemmas.List.Elements.{All-more, All-get_or, All-weaker}
-use Rattle.book_splits.specs.Balance.{IsWithin, quantity_on, splits_of}
+use Rattle.std.proofs.Common.{rules, pos, List, All, IsSome, subst}
+use Rattle.std.proofs.lemmas.List.{take_all}
+use Rattle.std.proofs.lemmas.List.Elements.{All-more, All-weaker}
 use Rattle.book_splits.specs.declared.split.Split.{Split}
-use Rattle.book_splits.specs.Balances.{balance_at, Adds, Counts, IsSmall, Puts}
-use Rattle.book_splits.proofs.Tables.{balances-more, take-item, Puts-here, Puts-keeps, Puts-zero, IsSmall-zero, balances-are, Counts-along, IsSmall-le}
+use Rattle.book_splits.specs.Balances.{balance_at, Puts}
+use Rattle.book_splits.proofs.Tables.{Puts-here, Puts-keeps, Puts-zero, IsSmall-zero}
 use Rattle.book_splits.proofs.balances.Balances.of_accounts.Goals as goal
 
 pub loop-split-preserved : goal.loop-split-preserved

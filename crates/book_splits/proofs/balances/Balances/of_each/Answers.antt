@@ -1,11 +1,8 @@
-use Rattle.std.proofs.Common.{rules, ◌≡◌, ℕ, ◌+◌, ◌*◌, ◌≤◌, ◌^◌, ℤ, pos, ◌+ℤ◌, List, [], ◌∷◌, ◌++◌, ◌==◌, if◌then◌else◌, All, IfOk, OnOk, IfSome, IsSome, Option, Some, None, length, map, take, option_map, ◌-◌, ◌<◌, ◌/◌, ◌%◌, Bool, true, false, refl, sym, ap, subst, ◌∙◌, arith, get_or, append_assoc}
-use Rattle.std.proofs.lemmas.Grind.{common_steps}
-use Rattle.std.proofs.lemmas.List.{take_more, take_all, map-append}
-use Rattle.std.proofs.lemmas.List.Elements.{All-more, All-get_or, All-weaker}
-use Rattle.book_splits.specs.Balance.{IsWithin, quantity_on, splits_of}
+use Rattle.std.proofs.Common.{rules, ◌≡◌, [], ◌∷◌, ◌++◌, IsSome, Some, map, sym, ap, subst, ◌∙◌, get_or}
+use Rattle.std.proofs.lemmas.List.Elements.{All-get_or}
 use Rattle.book_splits.specs.declared.split.Split.{Split}
-use Rattle.book_splits.specs.Balances.{balance_at, Adds, Counts, IsSmall, Puts}
-use Rattle.book_splits.proofs.Tables.{IsSome-None, balances-more, take-item, Puts-here, Puts-keeps, Puts-zero, IsSmall-zero, balances-are, Counts-along, IsSmall-le}
+use Rattle.book_splits.specs.Balances.{balance_at}
+use Rattle.book_splits.proofs.Tables.{IsSome-None, balances-more}
 use Rattle.book_splits.proofs.balances.Balances.of_each.Goals as goal
 
 pub unreachable-requires : goal.unreachable-requires
