@@ -19,7 +19,9 @@ fn ask<W, K, M: Machine<W, K>>(
     line: &Line,
 ) -> Result<Bytes, Unanswered>
     requires { M.stands machine.old keeper.old }
-    ensures gave { (this : List ℕ) → line.now ≡ seen this → GaveAnswer M.answers machine.old this (answer_of result) machine.new (M.faults keeper.old) (M.faults keeper.new) }
+    ensures gave { (this : List ℕ) → line.now ≡ seen this
+        → GaveAnswer M.answers machine.old this (answer_of result) machine.new
+        (M.faults keeper.old) (M.faults keeper.new) }
     ensures stands { M.stands machine.new keeper.new }
 {
     if line.size() <= MAX_LINE as u64 {
@@ -76,8 +78,14 @@ pub fn answer_line<W, K, M: Machine<W, K>, O: Sink>(
     line: &Line,
 ) -> Result<(), Failed>
     requires { M.stands machine.old keeper.old }
-    ensures answered { OnOk result ((this : List ℕ) → line.now ≡ seen this → HasAnswered M.answers (at machine.old (O.written output.old) (M.faults keeper.old)) (this ∷ []) (at machine.new (O.written output.new) (M.faults keeper.new))) }
-    ensures broken { OnErr result ((this : List ℕ) → line.now ≡ seen this → HasBroken M.answers (at machine.old (O.written output.old) (M.faults keeper.old)) (this ∷ []) (at machine.new (O.written output.new) (M.faults keeper.new))) }
+    ensures answered { let before = at machine.old (O.written output.old) (M.faults keeper.old) in
+        let after = at machine.new (O.written output.new) (M.faults keeper.new) in
+        OnOk result ((this : List ℕ) → line.now ≡ seen this
+        → HasAnswered M.answers before (this ∷ []) after) }
+    ensures broken { let before = at machine.old (O.written output.old) (M.faults keeper.old) in
+        let after = at machine.new (O.written output.new) (M.faults keeper.new) in
+        OnErr result ((this : List ℕ) → line.now ≡ seen this
+        → HasBroken M.answers before (this ∷ []) after) }
     ensures cause { HasCause (O.faults output.old) (O.faults output.new) result }
     ensures stands { M.stands machine.new keeper.new }
 {

@@ -54,7 +54,10 @@ fn end_input<W, K, M: Machine<W, K>, O: Sink>(
     line: &Line,
 ) -> RunEnd
     requires { M.stands machine.old keeper.old }
-    ensures ended { (begun : List ℕ) → line.now ≡ seen begun → HasEnded M.answers (at machine.old (O.written output.old) (M.faults keeper.old)) (rest_line begun) (at machine.new (O.written output.new) (M.faults keeper.new)) result }
+    ensures ended { let before = at machine.old (O.written output.old) (M.faults keeper.old) in
+        let after = at machine.new (O.written output.new) (M.faults keeper.new) in
+        (begun : List ℕ) → line.now ≡ seen begun
+        → HasEnded M.answers before (rest_line begun) after result }
     ensures output_fault { result ≡ RunEnd.OutputFault → Rose (O.faults output.old) (O.faults output.new) }
     ensures stands { M.stands machine.new keeper.new }
 {
@@ -79,7 +82,9 @@ fn run_pieces<W, K, M: Machine<W, K>, S: Source, O: Sink>(
 ) -> RunEnd
     requires stands { M.stands machine.old keeper.old }
     requires empty { line.old ≡ seen [] }
-    ensures table { IsRun M.answers (S.left input.old) (S.left input.new) (at machine.old (O.written output.old) (M.faults keeper.old)) (at machine.new (O.written output.new) (M.faults keeper.new)) result }
+    ensures table { let before = at machine.old (O.written output.old) (M.faults keeper.old) in
+        let after = at machine.new (O.written output.new) (M.faults keeper.new) in
+        IsRun M.answers (S.left input.old) (S.left input.new) before after result }
     ensures input_fault { result ≡ RunEnd.InputFault → Rose (S.faults input.old) (S.faults input.new) }
     ensures output_fault { result ≡ RunEnd.OutputFault → Rose (O.faults output.old) (O.faults output.new) }
     ensures stands { M.stands machine.new keeper.new }
@@ -123,7 +128,9 @@ pub fn run<W, K, M: Machine<W, K>, S: Source, O: Sink>(
     room: &mut LineRoom,
 ) -> RunEnd
     requires { M.stands machine.old keeper.old }
-    ensures table { IsRun M.answers (S.left input.old) (S.left input.new) (at machine.old (O.written output.old) (M.faults keeper.old)) (at machine.new (O.written output.new) (M.faults keeper.new)) result }
+    ensures table { let before = at machine.old (O.written output.old) (M.faults keeper.old) in
+        let after = at machine.new (O.written output.new) (M.faults keeper.new) in
+        IsRun M.answers (S.left input.old) (S.left input.new) before after result }
     ensures input_fault { result ≡ RunEnd.InputFault → Rose (S.faults input.old) (S.faults input.new) }
     ensures output_fault { result ≡ RunEnd.OutputFault → Rose (O.faults output.old) (O.faults output.new) }
     ensures stands { M.stands machine.new keeper.new }
