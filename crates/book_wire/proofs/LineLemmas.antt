@@ -2,7 +2,7 @@ use Rattle.book_commodity.specs.Day.{IsDay, day_text}
 use Rattle.book_step.specs.declared.Command.TheVariants.{Post}
 use Rattle.book_step.specs.declared.Command.{Command}
 use Rattle.book_step.specs.declared.GivenSplit.{GivenSplit}
-use Rattle.book_wire.specs.LineForm.{AreSplits, Fits, IsDescription, IsPost, spelling, splits_spelling}
+use Rattle.book_wire.specs.LineForm.{AreSplits, Fits, IsDescription, IsPost, spelling, splits_spelling, through_day, through_description}
 use Rattle.std.proofs.Common.{◌++◌, ◌≡◌, ◌∙◌, ◌∷◌, IfNone, IfSome, List, None, Option, Some, ap, codes, decimal, refl, subst, sym, ℕ, ℤ}
 
 -- The parts of a line that spells a command, one behind the other.
@@ -12,13 +12,13 @@ from_day currency description splits =
 
 -- A line is no command's where it would have to begin with a day and doesn't.
 pub no_day : (line : List ℕ)
-    → ((day : ℤ) (more : List ℕ) → IsDay day → line ≡ codes "{\"do\":\"post\",\"day\":\"" ++ (day_text day ++ more) → ⊥)
+    → ((day : ℤ) (more : List ℕ) → IsDay day → line ≡ through_day day more → ⊥)
     → (command : Command) → Fits command → line ≡ spelling command → ⊥
 no_day line none (Post day currency description splits) fits e = none day (from_day currency description splits) fits.day_is e
 
 -- What follows the day is the rest of the command's spelling, in currency 1.
 pub behind_day : (line found : List ℕ) (at : ℤ)
-    → ((day : ℤ) (more : List ℕ) → IsDay day → line ≡ codes "{\"do\":\"post\",\"day\":\"" ++ (day_text day ++ more) → (at ≡ day) × (found ≡ more))
+    → ((day : ℤ) (more : List ℕ) → IsDay day → line ≡ through_day day more → (at ≡ day) × (found ≡ more))
     → (day : ℤ) (currency : ℕ) (description : List ℕ) (splits : List GivenSplit) → IsPost day currency description splits
     → line ≡ spelling (Post day currency description splits) → found ≡ from_day 1 description splits
 behind_day line found at reads day currency description splits is e =
@@ -26,15 +26,15 @@ behind_day line found at reads day currency description splits is e =
 
 -- The bytes begin with a day in one way at most, and the rest with a description in one way at most.
 abbrev pub OnlyDay : List ℕ → ℤ → List ℕ → Type 0
-OnlyDay line at found = (day : ℤ) (more : List ℕ) → IsDay day → line ≡ codes "{\"do\":\"post\",\"day\":\"" ++ (day_text day ++ more) → (at ≡ day) × (found ≡ more)
+OnlyDay line at found = (day : ℤ) (more : List ℕ) → IsDay day → line ≡ through_day day more → (at ≡ day) × (found ≡ more)
 
 abbrev pub OnlyDescription : List ℕ → List ℕ → List ℕ → Type 0
 OnlyDescription bytes found rest = (text more : List ℕ) → IsDescription text
-    → bytes ≡ codes "\",\"currency\":" ++ (decimal 1 ++ (codes ",\"description\":\"" ++ (text ++ 34 ∷ more))) → (found ≡ text) × (rest ≡ 34 ∷ more)
+    → bytes ≡ through_description text (34 ∷ more) → (found ≡ text) × (rest ≡ 34 ∷ more)
 
 pub no_description : (line found : List ℕ) (at : ℤ) → OnlyDay line at found
     → ((text more : List ℕ) → IsDescription text
-    → found ≡ codes "\",\"currency\":" ++ (decimal 1 ++ (codes ",\"description\":\"" ++ (text ++ 34 ∷ more))) → ⊥)
+    → found ≡ through_description text (34 ∷ more) → ⊥)
     → (command : Command) → Fits command → line ≡ spelling command → ⊥
 no_description line found at only none (Post day currency description splits) fits e =
     none description (codes ",\"splits\":[" ++ splits_spelling splits) fits.description_is
@@ -63,8 +63,8 @@ no_splits line found rest text list at only_day only opens none (Post day curren
 
 -- What was read part by part is spelled by the line.
 pub is_spelled : (line found rest list given text : List ℕ) (day : ℤ) (splits : List GivenSplit)
-    → IsDay day × (line ≡ codes "{\"do\":\"post\",\"day\":\"" ++ (day_text day ++ found))
-    → IsDescription given × (found ≡ codes "\",\"currency\":" ++ (decimal 1 ++ (codes ",\"description\":\"" ++ (given ++ rest))))
+    → IsDay day × (line ≡ through_day day found)
+    → IsDescription given × (found ≡ through_description given rest)
     → rest ≡ codes "\",\"splits\":[" ++ list → AreSplits splits × (list ≡ splits_spelling splits) → text ≡ given
     → IsPost day 1 text splits × (line ≡ spelling (Post day 1 text splits))
 is_spelled line found rest list given text day splits of_day of_text opens of_splits same =
