@@ -1,2 +1,4 @@
+pub mod AmountLemmas
 pub mod DayLemmas
 pub mod DayTextLemmas
+pub mod TableLemmas

@@ -1,1 +1,3 @@
+pub mod Amount
 pub mod Day
+pub mod Table

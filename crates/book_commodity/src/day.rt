@@ -6,6 +6,12 @@ ghost use Rattle.book_commodity.specs.Day.{IsDay, IsBookDate, year_of, month_of,
 use jiff_core::civil::{self, Date};
 use std::marker::Model;
 
+/// The number of 1900-01-01.
+const FIRST: i32 = -25_567;
+
+/// The number of 2199-12-31.
+const LAST: i32 = 84_005;
+
 /// A day from 1900-01-01 to 2199-12-31, which contracts see as the number of days since 1970-01-01.
 #[derive(Clone, Copy, Debug, PartialEq, Eq, PartialOrd, Ord)]
 pub struct Day {
@@ -31,7 +37,7 @@ impl Day {
         ensures some { IsSome result ↔ IsDay number }
         ensures day { IfSome result (λ day. day ≡ number) }
     {
-        if number < -25_567 || number > 84_005 {
+        if number < FIRST || number > LAST {
             return None;
         }
         Some(Day { number })
@@ -108,12 +114,10 @@ impl Day {
         ensures day { IfSome result (λ day. day ≡ self +ℤ days) }
     {
         let number = (self.number as i64).checked_add(days)?;
-        if number < -25_567 || number > 84_005 {
-            return None;
+        match i32::try_from(number) {
+            Ok(number) => Day::of_number(number),
+            Err(_) => None,
         }
-        Some(Day {
-            number: number as i32,
-        })
     }
 
     /// The day of the same number in the month that is so many months later, or the last of a shorter month;

@@ -1,9 +1,13 @@
 -- Counts of faults. Each object of the outside has one; it begins at 0, never falls, and stays at 2 ^ 64 - 1.
-use Rattle.std.specs.Prelude.{◌≡◌, ℕ, ◌+◌, ◌-◌, ◌^◌, ◌≤◌, min, Result, OnErr}
+use Rattle.std.specs.Prelude.{ℕ, ◌+◌, ◌-◌, ◌^◌, ◌≤◌, min, Result, OnErr}
+
+-- the count after one more; the last value of a counter is 2 ^ 64 - 1, and there it stays
+abbrev pub next_count : ℕ → ℕ
+next_count count = min (count + 1) (2 ^ 64 - 1)
 
 -- the count rose by at least one, or stands at its last value
 abbrev pub Rose : ℕ → ℕ → Type 0
-Rose before now = min (before + 1) (2 ^ 64 - 1) ≤ now
+Rose before now = next_count before ≤ now
 
 -- a call left the count at least where it was, and an error comes only where the count rose
 pub record HasCause {T E : Type 0} (before now : ℕ) (result : Result T E) : Type 0 where

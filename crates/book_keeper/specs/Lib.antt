@@ -1,2 +1,5 @@
+pub mod Calls
 pub mod Faults
+pub mod SinkInMemory
+pub mod SourceInMemory
 pub mod Stream

@@ -1,10 +1,25 @@
 //! The outside as the book meets it: a source of bytes, a sink of bytes, and what can go wrong with them.
 //! Each tells by ghost members what it has left, what it was given and how often it failed, so that
-//! contracts above speak of the bytes themselves; adapters join these to real files and streams.
+//! contracts above speak of the bytes themselves. `MemSource` and `MemSink` tell all of it and fail where
+//! they are told to; `FileSource` and `StreamSink` join std's readers and writers and tell their faults alone.
 #![tactic(auto)]
 
+mod calls;
+mod file_source;
+mod interrupted;
+mod mem_sink;
+mod mem_source;
 mod sink;
 mod source;
+mod stream_sink;
+#[cfg(test)]
+mod tests;
+mod writing;
 
+pub use file_source::FileSource;
+pub use mem_sink::MemSink;
+pub use mem_source::MemSource;
 pub use sink::Sink;
 pub use source::{Failed, Source};
+pub use stream_sink::StreamSink;
+pub use writing::write_all;

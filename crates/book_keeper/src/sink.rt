@@ -1,4 +1,4 @@
-ghost use Rattle.std.specs.Prelude.{◌≡◌, ℕ, ◌<◌, ◌≤◌, List, [], Option, IfOk, OnErr, length, take};
+ghost use Rattle.std.specs.Prelude.{ℕ, ◌<◌, ◌≤◌, List, [], Option, IfOk, OnErr, length, take};
 ghost use Rattle.book_keeper.specs.Faults.{HasCause};
 ghost use Rattle.book_keeper.specs.Stream.{Wrote};
 
@@ -13,7 +13,7 @@ pub trait Sink {
     ghost faults: { Self → ℕ };
 
     /// Takes bytes from the front of the piece and says how many: at least one of a piece that is not empty.
-    /// A failed call takes nothing.
+    /// A failed call takes nothing, where the sink tells.
     fn write(&mut self, bytes: &[u8]) -> Result<usize, Failed>
         ensures within { IfOk result (λ count. count ≤ length bytes.now) }
         ensures progress { IfOk result (λ count. 0 < length bytes.now → 0 < count) }

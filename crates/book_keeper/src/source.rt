@@ -15,11 +15,11 @@ pub trait Source {
     ghost faults: { Self → ℕ };
 
     /// Reads the next bytes into the front of the buffer and says how many. Where the buffer is not empty,
-    /// 0 is the end of the input and comes exactly there. A failed call takes nothing.
+    /// 0 is the end of the input and comes exactly there. A failed call takes nothing, where the source tells.
     fn read(&mut self, buffer: &mut [u8]) -> Result<usize, Failed>
         ensures within { IfOk result (λ count. count ≤ length buffer.old) }
         ensures taken { IfOk result (λ count. Took (left self.old) (left self.new) (take count buffer.new)) }
-        ensures end { result ≡ Ok 0 → 0 < length buffer.old → Are (left self.old) [] }
+        ensures end { result ≡ Ok 0 → 0 < length buffer.old → Are (left self.new) [] }
         ensures unchanged { OnErr result (Took (left self.old) (left self.new) []) }
         ensures cause { HasCause (faults self.old) (faults self.new) result };
 }

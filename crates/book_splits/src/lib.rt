@@ -3,8 +3,10 @@
 //! a transaction sum to zero (GnuCash Concepts Guide, the accounting equation and double entry).
 #![tactic(auto)]
 
+mod balances;
 mod split;
 mod transaction;
 
+pub use balances::balances_after;
 pub use split::{Mark, Split};
 pub use transaction::Txn;

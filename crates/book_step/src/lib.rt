@@ -4,8 +4,12 @@
 
 mod answer;
 mod command;
+mod post;
+mod refusal;
 mod rule;
 
 pub use answer::Answer;
 pub use command::{Command, GivenSplit};
+pub use post::{answer_given, check_post, splits_given};
+pub use refusal::Refusal;
 pub use rule::Rule;

@@ -1,0 +1,63 @@
+ghost use Rattle.std.specs.Prelude.{◌≡◌, ℕ, ◌↔◌, false};
+ghost use Rattle.book_keeper.specs.Faults.{Rose};
+ghost use Rattle.book_step.specs.Book.{first_state};
+ghost use Rattle.book_app.specs.Table.{IsBookRun, IsLineRun};
+ghost use Rattle.book_app.specs.Words.{is_run};
+
+use crate::reply::{Nothing, Wire};
+use crate::status::{Status, status_after};
+use crate::words::are_run;
+use book_commodity::Text;
+use book_engine::Engine;
+use book_keeper::{Sink, Source};
+use book_lines::{LineRoom, run};
+use std::alloc::Global;
+
+/// Answers the lines of the input on the output, from the engine's state on. It ends by Done, InputLimit,
+/// InputFault or OutputFault alone.
+pub fn run_lines<S: Source, O: Sink>(
+    alloc: Global,
+    engine: &mut Engine,
+    input: &mut S,
+    output: &mut O,
+    room: &mut LineRoom,
+) -> Status
+    ensures table { IsLineRun engine.old.state (S.left input.old) (S.left input.new) (O.written output.old) (O.written output.new) engine.new.state result }
+    ensures input_fault { result ≡ Status.InputFault → Rose (S.faults input.old) (S.faults input.new) }
+    ensures output_fault { result ≡ Status.OutputFault → Rose (O.faults output.old) (O.faults output.new) }
+{
+    let mut nothing = Nothing;
+    status_after(run::<Wire, Nothing, Engine, S, O>(
+        alloc,
+        engine,
+        &mut nothing,
+        input,
+        output,
+        room,
+    ))
+}
+
+/// Does what the words ask: `run BOOK` answers the lines of the input, from the first book on. Usage comes
+/// exactly where the words are not these; Memory where memory was refused before the first line.
+pub fn book_main<S: Source, O: Sink>(
+    alloc: Global,
+    words: &[Text],
+    input: &mut S,
+    output: &mut O,
+) -> Status
+    ensures table { IsBookRun first_state (S.left input.old) (S.left input.new) (O.written output.old) (O.written output.new) result }
+    ensures usage { (result ≡ Status.Usage) ↔ (is_run words.now ≡ false) }
+    ensures input_fault { result ≡ Status.InputFault → Rose (S.faults input.old) (S.faults input.new) }
+    ensures output_fault { result ≡ Status.OutputFault → Rose (O.faults output.old) (O.faults output.new) }
+{
+    if !are_run(words) {
+        return Status::Usage;
+    }
+    let Ok(mut room) = LineRoom::new(alloc) else {
+        return Status::Memory;
+    };
+    let Ok(mut engine) = Engine::begin(alloc) else {
+        return Status::Memory;
+    };
+    run_lines(alloc, &mut engine, input, output, &mut room)
+}

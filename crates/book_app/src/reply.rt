@@ -1,0 +1,74 @@
+ghost use Rattle.std.specs.Prelude.{◌≡◌, ℕ, ◌^◌, ◌<◌, ◌≤◌, List, length, Err, IfOk, OnErr};
+ghost use Rattle.book_keeper.specs.Faults.{Rose};
+ghost use Rattle.book_lines.specs.Marks.{Mark, Told, Memory, Keeper, IsTold, memory_answer, keeper_answer};
+ghost use Rattle.book_step.specs.Step.{step};
+ghost use Rattle.book_app.specs.Machine.{IsOutcome, Tells};
+
+use book_commodity::{Bytes, OutOfMemory};
+use book_engine::Engine;
+use book_lines::{Machine, Unanswered};
+use book_step::{Command, Refusal};
+use book_wire::{answer_text, command_of, not_built_text, rule_text};
+use std::alloc::Global;
+
+/// The way in which this crate joins an engine to the lines.
+#[derive(Clone, Copy, Debug)]
+pub struct Wire;
+
+/// What an engine keeps outside of memory: nothing.
+#[derive(Clone, Copy, Debug)]
+pub struct Nothing;
+
+/// The text of a command's outcome. The text is made before the change, so that no answered change is lost for memory.
+fn reply(alloc: Global, engine: &mut Engine, command: Command) -> Result<Bytes, OutOfMemory>
+    ensures told { IfOk result (λ text. IsTold text × IsOutcome (step engine.old.state command) engine.old.state text engine.new.state) }
+    ensures kept { OnErr result (engine.new.state ≡ engine.old.state) }
+{
+    match engine.prepare(alloc, command) {
+        Ok(plan) => {
+            let text = answer_text(alloc, plan.answer(), plan.version())?;
+            let _ = engine.finish(plan);
+            Ok(text)
+        }
+        Err(Refusal::Broken(rule)) => rule_text(alloc, &rule, engine.version()),
+        Err(Refusal::OutOfMemory) => Err(OutOfMemory),
+    }
+}
+
+/// The answer to a line, whatever its bytes are.
+fn answer_to(alloc: Global, engine: &mut Engine, line: &[u8]) -> Result<Bytes, OutOfMemory>
+    ensures told { IfOk result (λ text. IsTold text × Tells engine.old.state line.now text engine.new.state) }
+    ensures kept { OnErr result (engine.new.state ≡ engine.old.state) }
+{
+    match command_of(alloc, line)? {
+        None => not_built_text(alloc),
+        Some(command) => reply(alloc, engine, command),
+    }
+}
+
+impl Machine<Wire, Nothing> for Engine {
+    ghost use Rattle.std.specs.Prelude.{ℕ};
+    ghost use Rattle.book_app.specs.Machine.{answers as line_answers};
+
+    ghost answers = { λ old line mark text new. line_answers old.state line mark text new.state };
+
+    ghost stands = { λ _ _. Unit {0} };
+
+    ghost faults = { λ _. 0 };
+
+    fn answer(
+        &mut self,
+        alloc: Global,
+        _keeper: &mut Nothing,
+        line: &[u8],
+    ) -> Result<Bytes, Unanswered> {
+        match answer_to(alloc, self, line) {
+            Ok(text) => Ok(text),
+            Err(OutOfMemory) => Err(Unanswered::Memory),
+        }
+    }
+
+    fn too_long(&self, alloc: Global, _size: u64) -> Result<Bytes, OutOfMemory> {
+        not_built_text(alloc)
+    }
+}

@@ -1,0 +1,49 @@
+ghost use Rattle.std.specs.Prelude.{◌≡◌};
+ghost use Rattle.book_app.specs.Numbers.{number_of, status_of};
+
+use book_lines::RunEnd;
+
+/// How the program's work ended.
+#[derive(Clone, Copy, Debug, PartialEq, Eq)]
+pub enum Status {
+    /// The input was read to its end and all was written.
+    Done,
+    /// The words are not those of a command of the program.
+    Usage,
+    /// Memory was refused before the first line.
+    Memory,
+    /// The input failed.
+    InputFault,
+    /// The output failed.
+    OutputFault,
+    /// A byte follows 1,000,000 lines or 2^33 bytes.
+    InputLimit,
+}
+
+impl Status {
+    /// The number with which the program ends.
+    pub fn number(self) -> u8
+        ensures { result ≡ number_of self }
+    {
+        match self {
+            Status::Done => 0,
+            Status::Usage => 2,
+            Status::Memory => 3,
+            Status::InputFault => 4,
+            Status::OutputFault => 5,
+            Status::InputLimit => 9,
+        }
+    }
+}
+
+/// The status that a run of lines ends with.
+pub(crate) fn status_after(end: RunEnd) -> Status
+    ensures { result ≡ status_of end }
+{
+    match end {
+        RunEnd::Done => Status::Done,
+        RunEnd::InputLimit => Status::InputLimit,
+        RunEnd::InputFault => Status::InputFault,
+        RunEnd::OutputFault => Status::OutputFault,
+    }
+}

@@ -1,0 +1,38 @@
+ghost use Rattle.std.specs.Prelude.{◌≡◌};
+
+use book_splits::Txn;
+use book_step::Answer;
+use std::marker::Model;
+
+/// A command that breaks no rule, ready to be finished: the transaction to add and the answer.
+#[derive(Drop)]
+pub struct Plan {
+    pub(crate) entry: (u64, Txn),
+    pub(crate) next: u64,
+    pub(crate) version: u64,
+    pub(crate) answer: Answer,
+}
+
+impl Model for Plan {
+    ghost use Rattle.book_engine.specs.Planned.{Planned};
+
+    ghost Value = { Planned };
+
+    ghost view = { λ p. record { entry = p.entry; next = p.next; version = p.version; answer = p.answer } };
+}
+
+impl Plan {
+    /// The answer to the command.
+    pub fn answer(&self) -> &Answer
+        ensures { result.now ≡ self.now.answer }
+    {
+        &self.answer
+    }
+
+    /// The version after the command.
+    pub fn version(&self) -> u64
+        ensures { result ≡ self.now.version }
+    {
+        self.version
+    }
+}

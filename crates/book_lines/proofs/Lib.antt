@@ -1,0 +1,10 @@
+pub mod LineLemmas
+pub mod MarkLemmas
+pub mod RunLemmas
+pub mod RoomLemmas
+pub mod LoopLemmas
+pub mod LinesLemmas
+pub mod TableLemmas
+pub mod AnswerLemmas
+pub mod CallerLemmas
+mod Worked

@@ -1,0 +1,46 @@
+-- How each answer of a text came about, read from the text itself.
+use Rattle.std.specs.Prelude.{◌≡◌, ℕ, ◌+◌, ◌-◌, ◌^◌, ◌≤◌, ◌==◌, min, Bool, true, false, not, List, [], ◌∷◌, map, count_by, if◌then◌else◌, codes}
+use Rattle.std.specs.List.{list_all}
+use Rattle.std.specs.Str.{bytes_eq}
+use Rattle.book_lines.specs.Lines.{whole_lines}
+
+-- how a line was answered: by the machine, or not, since memory was refused or what is kept could not be changed
+pub data Mark : Type 0 where
+  Told : Mark
+  Memory : Mark
+  Keeper : Mark
+
+-- the answer to a line for which memory was refused
+unfoldable pub memory_answer : List ℕ
+memory_answer = codes "{\"refused\":\"memory\"}"
+
+-- the answer to a line whose change could not be kept
+unfoldable pub keeper_answer : List ℕ
+keeper_answer = codes "{\"refused\":\"keeper\"}"
+
+-- the mark of an answer
+abbrev pub mark_of : List ℕ → Mark
+mark_of answer = if bytes_eq answer memory_answer then Memory else (if bytes_eq answer keeper_answer then Keeper else Told)
+
+-- the marks of a text of answers, one for each line feed
+abbrev pub marks : List ℕ → List Mark
+marks text = map mark_of (whole_lines text)
+
+-- no line feed stands in the text
+abbrev pub is_one_line : List ℕ → Bool
+is_one_line text = list_all (λ byte. not (byte == 10)) text
+
+-- an answer that the machine may give: one line, and neither of the two texts that say why it gave none
+pub record IsTold (answer : List ℕ) : Type 0 where
+  pub one_line : is_one_line answer ≡ true
+  pub mark : mark_of answer ≡ Told
+
+-- whether a mark says that what is kept could not be changed
+abbrev pub is_keeper : Mark → Bool
+is_keeper Told = false
+is_keeper Memory = false
+is_keeper Keeper = true
+
+-- a count of faults rose at least once for each mark that says so, or stands at its last value
+abbrev pub RoseForEach : ℕ → ℕ → List Mark → Type 0
+RoseForEach before now all = min (before + count_by is_keeper all) (2 ^ 64 - 1) ≤ now

@@ -1,0 +1,22 @@
+use crate::line::Line;
+use book_commodity::OutOfMemory;
+use std::alloc::Global;
+
+/// How many bytes are read at a time.
+pub const PIECE: usize = 65_536;
+
+/// The memory that reading lines takes: room for one line of 8 MiB, and for the piece that is read at a time.
+#[derive(Drop)]
+pub struct LineRoom {
+    pub(crate) line: Line,
+    pub(crate) piece: Box<[u8; PIECE]>,
+}
+
+impl LineRoom {
+    /// Takes the memory once; OutOfMemory where it is refused.
+    pub fn new(alloc: Global) -> Result<LineRoom, OutOfMemory> {
+        let line = Line::new(alloc)?;
+        let piece = Box::new(alloc, [0u8; PIECE])?;
+        Ok(LineRoom { line, piece })
+    }
+}

@@ -1,0 +1,29 @@
+-- What a table of balances says of the splits that were counted into it.
+use Rattle.std.specs.Prelude.{◌≡◌, ℕ, ◌*◌, ◌^◌, ◌==◌, ℤ, pos, ◌+ℤ◌, ◌-ℤ◌, ◌≤ℤ◌, List, Option, Some, IfSome, option_map, if◌then◌else◌}
+use Rattle.std.specs.BTreeMap.{BTreeMap, get}
+use Rattle.std.specs.Ordering.{nat_cmp}
+use Rattle.book_splits.specs.Balance.{quantity_on, IsWithin}
+use Rattle.book_splits.specs.declared.balances.Balances.{Balances}
+use Rattle.book_splits.specs.declared.split.Split.{Split}
+
+-- the balance that stands in the table for an account, where the table has that account
+abbrev pub balance_at : Balances → ℕ → Option ℤ
+balance_at balances account = get nat_cmp balances.sums account
+
+-- each balance in the table is the sum of the quantities of these splits on its account
+pub record Counts (balances : Balances) (splits : List Split) : Type 0 where
+  pub sums : (account : ℕ) → IfSome (balance_at balances account) (λ sum. sum ≡ quantity_on account splits)
+
+-- each balance in the table is small enough to be the sum of so many amounts of 64 bits
+pub record IsSmall (balances : Balances) (count : ℕ) : Type 0 where
+  pub sums : (account : ℕ) → IfSome (balance_at balances account) (IsWithin count)
+
+-- the new table has one quantity more on an account, where it has that account
+pub record Adds (old new : Balances) (account : ℕ) (quantity : ℤ) : Type 0 where
+  pub sums :
+      (a : ℕ)
+      → balance_at new a ≡ (if account == a then option_map (λ sum. sum +ℤ quantity) (balance_at old a) else balance_at old a)
+
+-- the new table has this balance on an account, and every other balance as before
+pub record Puts (old new : Balances) (account : ℕ) (balance : ℤ) : Type 0 where
+  pub sums : (a : ℕ) → balance_at new a ≡ (if account == a then Some balance else balance_at old a)

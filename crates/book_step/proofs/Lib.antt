@@ -1,0 +1,3 @@
+pub mod SoundStep
+pub mod StepLemmas
+pub mod Worked

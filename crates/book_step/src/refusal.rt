@@ -1,0 +1,42 @@
+ghost use Rattle.std.specs.Prelude.{◌≡◌};
+
+use crate::Rule;
+use book_commodity::OutOfMemory;
+use std::alloc::AllocError;
+
+/// Why a command was not accepted: a rule that it breaks, or memory that was refused. Nothing was changed.
+#[derive(Clone, Copy, Debug, PartialEq, Eq)]
+pub enum Refusal {
+    Broken(Rule),
+    OutOfMemory,
+}
+
+impl From<Rule> for Refusal {
+    ghost use Rattle.book_step.specs.declared.refusal.Refusal.TheVariants.{Broken};
+
+    ghost from_gives = { λ rule refusal. refusal ≡ Broken rule };
+
+    fn from(rule: Rule) -> Refusal {
+        Refusal::Broken(rule)
+    }
+}
+
+impl From<OutOfMemory> for Refusal {
+    ghost use Rattle.book_step.specs.declared.refusal.Refusal.TheVariants as refusal;
+
+    ghost from_gives = { λ memory given. given ≡ refusal.OutOfMemory };
+
+    fn from(_memory: OutOfMemory) -> Refusal {
+        Refusal::OutOfMemory
+    }
+}
+
+impl From<AllocError> for Refusal {
+    ghost use Rattle.book_step.specs.declared.refusal.Refusal.TheVariants as refusal;
+
+    ghost from_gives = { λ memory given. given ≡ refusal.OutOfMemory };
+
+    fn from(_memory: AllocError) -> Refusal {
+        Refusal::OutOfMemory
+    }
+}
