@@ -79,6 +79,20 @@ is_spelled line found rest list given text day splits of_day of_text opens of_sp
     of_text.1 ∙ ap (λ l. codes "\",\"currency\":" ++ (decimal 1 ++ (codes ",\"description\":\"" ++ (given ++ l)))) (opens ∙ ap (λ l. codes "\",\"splits\":[" ++ l) of_splits.1) in
     subst P (sym same) (fits, of_day.1 ∙ ap (λ l. codes "{\"do\":\"post\",\"day\":\"" ++ (day_text day ++ l)) behind)
 
+-- No other command has the spelling of the one that was read part by part.
+pub is_only : (line found rest list given text : List ℕ) (at : ℤ) (read : List GivenSplit)
+    → OnlyDay line at found → OnlyDescription found given rest → ((more : List ℕ) → rest ≡ codes "\",\"splits\":[" ++ more → list ≡ more)
+    → ((all : List GivenSplit) → AreSplits all → list ≡ splits_spelling all → read ≡ all) → text ≡ given
+    → (command : Command) → Fits command × (line ≡ spelling command) → Post at 1 text read ≡ command
+is_only line found rest list given text at read only_day only opens only_splits same (Post day currency description splits) (fits, e) =
+    let of_day = only_day day (from_day currency description splits) fits.day_is e in
+    let of_text = only description (codes ",\"splits\":[" ++ splits_spelling splits) fits.description_is
+    (behind_day line found at only_day day currency description splits fits e) in
+    let of_splits = only_splits splits fits.splits_are (opens (splits_spelling splits)
+    (behind_description line found rest given at only_day only day currency description splits fits e)) in
+    ap (λ d. Post d 1 text read) of_day.0 ∙ ap (λ n. Post day n text read) (sym fits.currency_is)
+    ∙ ap (λ t. Post day currency t read) (same ∙ of_text.0) ∙ ap (λ s. Post day currency description s) of_splits
+
 -- What holds of the splits, if any were found, holds of these.
 pub found_splits : (list : List ℕ) (r : Option (List GivenSplit)) (splits : List GivenSplit) → r ≡ Some splits
     → IfSome r (λ s. AreSplits s × (list ≡ splits_spelling s)) → AreSplits splits × (list ≡ splits_spelling splits)
@@ -91,3 +105,9 @@ pub found_none : (list : List ℕ) (r : Option (List GivenSplit)) → r ≡ None
 found_none list r is none =
     let P : Option (List GivenSplit) → Type 0 = λ o. IfNone o ((splits : List GivenSplit) → AreSplits splits → list ≡ splits_spelling splits → ⊥) in
     subst P is none
+
+pub found_only : (list : List ℕ) (r : Option (List GivenSplit)) (splits : List GivenSplit) → r ≡ Some splits
+    → ((all : List GivenSplit) → AreSplits all → list ≡ splits_spelling all → IfSome r (λ s. s ≡ all))
+    → (all : List GivenSplit) → AreSplits all → list ≡ splits_spelling all → splits ≡ all
+found_only list r splits is only all fits e =
+    let P : Option (List GivenSplit) → Type 0 = λ o. IfSome o (λ s. s ≡ all) in subst P is (only all fits e)

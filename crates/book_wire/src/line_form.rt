@@ -1,6 +1,7 @@
 ghost use Rattle.book_commodity.specs.Day.{IsDay};
+ghost use Rattle.book_step.specs.declared.Command.{Command};
 ghost use Rattle.book_wire.specs.LineForm.{IsCommand, IsDescription, through_day, through_description};
-ghost use Rattle.std.specs.Prelude.{◌≡◌, ◌∷◌, ℕ, ℤ, List, IfOk, IfSome, IsSomeAnd};
+ghost use Rattle.std.specs.Prelude.{◌≡◌, ◌∷◌, ℕ, ℤ, List, Some, IfOk, IfSome, IsSomeAnd};
 
 use crate::descriptions::description;
 use crate::given_splits::splits;
@@ -13,6 +14,7 @@ use std::alloc::Global;
 /// an error only where memory is refused.
 pub fn command_of(alloc: Global, line: &[u8]) -> Result<Option<Command>, OutOfMemory>
     ensures exact { IfOk result (IsCommand line.now) }
+    ensures only { (command : Command) → IsCommand line.now (Some command) → IfOk result (λ found. IfSome found (λ c. c ≡ command)) }
 {
     let Some(dated) = day(line) else {
         return Ok(None);
