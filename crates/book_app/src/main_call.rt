@@ -1,4 +1,4 @@
-ghost use Rattle.std.specs.Prelude.{◌≡◌, ℕ, ◌×◌, ◌↔◌, false};
+ghost use Rattle.std.specs.Prelude.{◌≡◌, ℕ, ◌↔◌, false};
 ghost use Rattle.book_keeper.specs.Faults.{Rose};
 ghost use Rattle.book_step.specs.Book.{first_state};
 ghost use Rattle.book_app.specs.Table.{IsBookRun, IsLineRun};
@@ -15,18 +15,36 @@ use std::alloc::Global;
 
 /// Answers the lines of the input on the output, from the engine's state on. It ends by Done, InputLimit,
 /// InputFault or OutputFault alone.
-pub fn run_lines<S: Source, O: Sink>(alloc: Global, engine: &mut Engine, input: &mut S, output: &mut O, room: &mut LineRoom) -> Status
+pub fn run_lines<S: Source, O: Sink>(
+    alloc: Global,
+    engine: &mut Engine,
+    input: &mut S,
+    output: &mut O,
+    room: &mut LineRoom,
+) -> Status
     ensures table { IsLineRun engine.old.state (S.left input.old) (S.left input.new) (O.written output.old) (O.written output.new) engine.new.state result }
     ensures input_fault { result ≡ Status.InputFault → Rose (S.faults input.old) (S.faults input.new) }
     ensures output_fault { result ≡ Status.OutputFault → Rose (O.faults output.old) (O.faults output.new) }
 {
     let mut nothing = Nothing;
-    status_after(run::<Wire, Nothing, Engine, S, O>(alloc, engine, &mut nothing, input, output, room))
+    status_after(run::<Wire, Nothing, Engine, S, O>(
+        alloc,
+        engine,
+        &mut nothing,
+        input,
+        output,
+        room,
+    ))
 }
 
 /// Does what the words ask: `run BOOK` answers the lines of the input, from the first book on. Usage comes
 /// exactly where the words are not these; Memory where memory was refused before the first line.
-pub fn book_main<S: Source, O: Sink>(alloc: Global, words: &[Text], input: &mut S, output: &mut O) -> Status
+pub fn book_main<S: Source, O: Sink>(
+    alloc: Global,
+    words: &[Text],
+    input: &mut S,
+    output: &mut O,
+) -> Status
     ensures table { IsBookRun first_state (S.left input.old) (S.left input.new) (O.written output.old) (O.written output.new) result }
     ensures usage { (result ≡ Status.Usage) ↔ (is_run words.now ≡ false) }
     ensures input_fault { result ≡ Status.InputFault → Rose (S.faults input.old) (S.faults input.new) }

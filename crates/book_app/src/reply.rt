@@ -12,9 +12,11 @@ use book_wire::{answer_text, command_of, not_built_text, rule_text};
 use std::alloc::Global;
 
 /// The way in which this crate joins an engine to the lines.
+#[derive(Clone, Copy, Debug)]
 pub struct Wire;
 
 /// What an engine keeps outside of memory: nothing.
+#[derive(Clone, Copy, Debug)]
 pub struct Nothing;
 
 /// The text of a command's outcome. The text is made before the change, so that no answered change is lost for memory.
@@ -54,7 +56,12 @@ impl Machine<Wire, Nothing> for Engine {
 
     ghost faults = { λ _. 0 };
 
-    fn answer(&mut self, alloc: Global, _keeper: &mut Nothing, line: &[u8]) -> Result<Bytes, Unanswered> {
+    fn answer(
+        &mut self,
+        alloc: Global,
+        _keeper: &mut Nothing,
+        line: &[u8],
+    ) -> Result<Bytes, Unanswered> {
         match answer_to(alloc, self, line) {
             Ok(text) => Ok(text),
             Err(OutOfMemory) => Err(Unanswered::Memory),

@@ -1,7 +1,7 @@
 -- The size of a scaled amount, and the powers of ten.
-use Rattle.std.proofs.Common.{◌≡◌, ℕ, zero, suc, ◌+◌, ◌*◌, ◌^◌, ◌<◌, ◌≤◌, Bool, true, ◌&&◌, eqb, List, [], ◌∷◌, ◌++◌, length, get_or, refl, sym, ap, ◌∙◌, arith, ℤ, pos, negsuc, neg_ℤ, unsigned_abs}
+use Rattle.std.proofs.Common.{◌≡◌, ℕ, zero, suc, ◌+◌, ◌^◌, ◌<◌, Bool, true, ◌&&◌, eqb, List, [], ◌∷◌, length, get_or, refl, arith, ℤ, pos, negsuc, unsigned_abs}
 use Rattle.std.proofs.lemmas.Bool.Decides.{nat_tests}
-use Rattle.book_commodity.specs.Amount.{with_sign_of, powers_of_ten, lowest_digits}
+use Rattle.book_commodity.specs.Amount.{with_sign_of, powers_of_ten}
 
 -- the sign leaves the size
 pub size_with_sign : (amount : ℤ) (size : ℕ) → unsigned_abs (with_sign_of amount size) ≡ size

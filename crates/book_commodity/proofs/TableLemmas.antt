@@ -1,6 +1,6 @@
 -- Rising entries are a finite map: what is found in them, also after a value is put or taken, and at which place.
-use Rattle.std.proofs.Common.{◌≡◌, ℕ, zero, suc, ◌+◌, ◌-◌, ◌<◌, ◌≤◌, eqb, nat_lt, ◌==◌, Bool, true, false, if◌then◌else◌, is_none, is_some, List, [], ◌∷◌, ◌++◌, length, get_or, set, take, drop, Option, Some, None, Result, Ok, Err, IfOk, IfErr, slice_get, inl, inr, refl, sym, ap, ◌∙◌, subst, arith}
-use Rattle.std.specs.List.{insert, remove, AllWithin}
+use Rattle.std.proofs.Common.{◌≡◌, ℕ, zero, suc, ◌+◌, ◌<◌, ◌≤◌, eqb, nat_lt, ◌==◌, Bool, true, false, if◌then◌else◌, is_none, is_some, List, [], ◌∷◌, length, get_or, set, Some, None, Result, Ok, Err, IfOk, IfErr, slice_get, inl, inr, refl, sym, ap, ◌∙◌, subst, arith}
+use Rattle.std.specs.List.{insert, remove}
 use Rattle.std.specs.List.Sorted.{IsSearchInRange, IsBinarySearchResult, IsNonDecreasingBy}
 use Rattle.std.specs.Ordering.{nat_cmp, ordering_index}
 use Rattle.std.proofs.lemmas.Cmp.{ranked}
@@ -157,6 +157,9 @@ pub gap_without : {T : Type 0} (n : ℕ) (es : List (ℕ × T)) (place : ℕ) �
 gap_without n es zero h = above_without_entry n es h
 gap_without n [] (suc place) h = absurd h
 gap_without n (e ∷ es) (suc place) h = grind (arith, nat_tests, h.0, gap_without n es place h.1)
+
+-- what a place tells of the values and of the entries with a value put or taken
+pub ruleset places = (at_below, at_number, at_value, at_with, at_without, gap_below, gap_value, gap_with, gap_without, rises_with, rises_without)
 
 -- ---- what a binary search finds
 above_at : {T : Type 0} (n : ℕ) (es : List (ℕ × T)) (i : ℕ) (x : ℕ × T) → AllAbove n es → i < length es → n < (get_or es i x).0

@@ -1,7 +1,7 @@
-//! The small values that every other crate of the book stands on: text, bytes and lists with a plain
-//! meaning, days of the calendar, and the words for kinds of things and for limits.
-//! Contracts see a `Text` and a `Bytes` as the list of its bytes, a `Many` as the list of its items.
-//! Amounts are whole counts of the smallest unit of their commodity.
+//! The values that every other crate of the book stands on: text, bytes and lists with a plain meaning, days of the
+//! calendar, commodities with their amounts and rates, tables of numbered values, and the words for kinds and limits.
+//! Contracts see a `Text` and a `Bytes` as the list of its bytes, a `Many` as the list of its items, a `Day` as its
+//! number and a `Table` as its entries by rising number. Amounts are whole counts of the smallest unit of a commodity.
 #![tactic(auto)]
 
 mod amount;
@@ -13,7 +13,10 @@ mod kind;
 mod many;
 mod memory;
 mod rate;
+mod steps;
 mod table;
+#[cfg(test)]
+mod tests;
 mod text;
 
 pub use amount::amount_text;
@@ -25,5 +28,6 @@ pub use kind::Kind;
 pub use many::Many;
 pub use memory::OutOfMemory;
 pub use rate::{Rate, scale};
+pub use steps::Steps;
 pub use table::Table;
 pub use text::Text;

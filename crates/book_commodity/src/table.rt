@@ -1,4 +1,4 @@
-ghost use Rattle.std.specs.Prelude.{◌≡◌, ◌+◌, ◌-◌, ◌<◌, ◌≤◌, [], length, if◌then◌else◌, is_none, is_some, IsNone, Some, OnOk, IfOk, IfErr, slice_get};
+ghost use Rattle.std.specs.Prelude.{◌≡◌, ◌+◌, ◌-◌, ◌<◌, ◌≤◌, [], length, if◌then◌else◌, is_none, is_some, IsNone, Some, OnOk, OnErr, IfOk, IfErr, slice_get};
 ghost use Rattle.std.specs.Option.{option_copied, option_map};
 ghost use Rattle.book_commodity.specs.Table.{Rises, value_of, with_entry, without_entry, IsAt, IsGapFor};
 
@@ -44,7 +44,7 @@ impl<T> Table<T> {
     }
 
     /// The value under this number; `None` where there is none.
-    #[tactic(auto, using(crate::proofs::TableLemmas::at_below, crate::proofs::TableLemmas::at_value, crate::proofs::TableLemmas::gap_value))]
+    #[tactic(auto, using(crate::proofs::TableLemmas::places))]
     pub fn find(&self, number: u64) -> Option<&T>
         ensures { option_copied result ≡ value_of number self.now.entries }
     {
@@ -70,9 +70,10 @@ impl<T> Table<T> {
         &self.rows[place].1
     }
 
-    /// Makes room for so many more entries; the entries stay, and where memory is refused the room is as it was.
+    /// Makes room for so many more entries; the entries stay, and no room is lost where memory is refused.
     pub fn reserve(&mut self, extra: usize) -> Result<(), OutOfMemory>
         ensures room { OnOk result (extra ≤ self.new.spare) }
+        ensures full { OnErr result (self.old.spare < extra) }
         ensures entries { self.new.entries ≡ self.old.entries }
         ensures spare { self.old.spare ≤ self.new.spare }
     {
@@ -81,7 +82,7 @@ impl<T> Table<T> {
     }
 
     /// Takes the value under the number out of the table; `None` where there is none. It takes no memory.
-    #[tactic(auto, using(crate::proofs::TableLemmas::at_below, crate::proofs::TableLemmas::at_value, crate::proofs::TableLemmas::at_without, crate::proofs::TableLemmas::gap_value, crate::proofs::TableLemmas::gap_without, crate::proofs::TableLemmas::rises_without))]
+    #[tactic(auto, using(crate::proofs::TableLemmas::places))]
     pub fn take(&mut self, number: u64) -> Option<T>
         ensures entries { self.new.entries ≡ without_entry number self.old.entries }
         ensures old { result ≡ value_of number self.old.entries }
@@ -108,7 +109,7 @@ impl<T> Table<T> {
 
 impl<T: Drop> Table<T> {
     /// Puts the value under the number, and hands back the one that stood there. It takes no memory.
-    #[tactic(auto, using(crate::proofs::TableLemmas::at_below, crate::proofs::TableLemmas::at_number, crate::proofs::TableLemmas::at_value, crate::proofs::TableLemmas::at_with, crate::proofs::TableLemmas::gap_below, crate::proofs::TableLemmas::gap_value, crate::proofs::TableLemmas::gap_with, crate::proofs::TableLemmas::rises_with))]
+    #[tactic(auto, using(crate::proofs::TableLemmas::places))]
     pub fn put(&mut self, number: u64, value: T) -> Option<T>
         requires { IsNone (value_of number self.old.entries) → 1 ≤ self.old.spare }
         ensures entries { self.new.entries ≡ with_entry number value self.old.entries }

@@ -1,5 +1,5 @@
 -- What an engine keeps, seen as the state of the machine of whole books.
-use Rattle.std.specs.Prelude.{◌≡◌, ℕ, ◌+◌, ◌-◌, length, vec_len, vec_capacity}
+use Rattle.std.specs.Prelude.{◌≡◌, ℕ, ◌-◌, length, vec_len, vec_capacity}
 use Rattle.book_splits.specs.Balance.{splits_of}
 use Rattle.book_step.specs.Book.{State}
 use Rattle.book_step.specs.Soundness.{IsSound}

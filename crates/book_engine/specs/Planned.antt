@@ -1,5 +1,5 @@
 -- A plan: what finishing it makes of the state, and the answer.
-use Rattle.std.specs.Prelude.{◌≡◌, ℕ, List, [], ◌∷◌, ◌++◌}
+use Rattle.std.specs.Prelude.{◌≡◌, ℕ, [], ◌∷◌, ◌++◌}
 use Rattle.book_splits.specs.declared.transaction.Txn.{Txn}
 use Rattle.book_step.specs.Book.{State}
 use Rattle.book_step.specs.Step.{Outcome, Broken, Done, step}

@@ -106,11 +106,20 @@ impl Engine {
         ensures refused { IfErr result (IsRefusal (step self.old.state (Command.Post day currency description splits))) }
         ensures unchanged { self.new.state ≡ self.old.state }
     {
-        check_post(self.transactions.len() as u64, self.splits, splits.as_slice())?;
+        check_post(
+            self.transactions.len() as u64,
+            self.splits,
+            splits.as_slice(),
+        )?;
         let number = self.next;
         let splits = splits_given(alloc, number + 1, splits.as_slice())?;
         let next = number + 1 + splits.len() as u64;
-        let answer = answer_given(alloc, number, self.transactions.as_slice(), splits.as_slice())?;
+        let answer = answer_given(
+            alloc,
+            number,
+            self.transactions.as_slice(),
+            splits.as_slice(),
+        )?;
         self.transactions.reserve(1)?;
         let transaction = Txn {
             currency,

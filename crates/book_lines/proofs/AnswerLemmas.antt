@@ -1,5 +1,5 @@
 -- One line answered, and its answer written.
-use Rattle.std.proofs.Common.{◌≡◌, ℕ, ◌+◌, ◌^◌, ◌<◌, ◌≤◌, Bool, true, false, not, cond, List, [], ◌∷◌, ◌++◌, length, take, drop, Option, Result, Ok, Err, refl, sym, ap, ◌∙◌, subst, arith, append_assoc, length-append, take-append-drop}
+use Rattle.std.proofs.Common.{◌≡◌, ℕ, ◌<◌, ◌≤◌, true, false, not, cond, List, [], ◌∷◌, ◌++◌, length, take, drop, Option, Result, Ok, Err, refl, sym, ap, ◌∙◌, subst, arith, length-append, take-append-drop}
 use Rattle.std.specs.Prelude.{IfOk}
 use Rattle.std.proofs.lemmas.List.{take_at, take-append-le}
 use Rattle.book_keeper.specs.Faults.{Rose}
@@ -116,15 +116,4 @@ HasBroken-line answers old line answer new f g w v p h cut =
           (subst (λ m. Run answers old (line ∷ []) m (cut.part ++ cut.rest) new) (sym none)
           (answer, new, [], p.answered, sym cut.parts, (refl, refl)));
       kept = subst (λ m. RoseForEach f g m) (sym none) p.kept;
-    }
-
--- a part of some bytes is a part of more bytes
-pub WrotePart-more : (w v : Option (List ℕ)) (xs ys : List ℕ) → WrotePart w v xs → WrotePart w v (xs ++ ys)
-WrotePart-more w v xs ys p =
-    record {
-      part = p.part;
-      rest = p.rest ++ ys;
-      parts = ap (λ l. l ++ ys) p.parts ∙ append_assoc p.part p.rest ys;
-      short = omega (arith, p.short, length-append p.rest ys);
-      wrote = p.wrote;
     }

@@ -6,3 +6,5 @@ pub mod LoopLemmas
 pub mod LinesLemmas
 pub mod TableLemmas
 pub mod AnswerLemmas
+pub mod CallerLemmas
+mod Worked

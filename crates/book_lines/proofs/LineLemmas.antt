@@ -1,6 +1,5 @@
 -- How the lines of joined bytes follow from the lines of the parts.
 use Rattle.std.proofs.Common.{◌≡◌, ℕ, zero, suc, ◌+◌, ◌<◌, ◌≤◌, Bool, true, false, not, ◌&&◌, cond, eqb, List, [], ◌∷◌, ◌++◌, length, take, drop, ◌-◌, get_or, refl, sym, ap, ◌∙◌, subst, arith, append_assoc, append-nil, length-append, length-drop, take-append-drop}
-use Rattle.std.specs.List.{list_all}
 use Rattle.std.proofs.lemmas.List.Elements.{filter-append}
 use Rattle.std.proofs.lemmas.Bool.{eqb-true}
 use Rattle.std.proofs.lemmas.List.{take_all, drop_more}
@@ -13,9 +12,9 @@ pub ended-append : (begun xs ys : List ℕ) → ended begun (xs ++ ys) ≡ ended
 ended-append begun [] ys = refl
 ended-append begun (b ∷ xs) ys =
     elim (eqb b 10) as (λ t. cond t (begun ∷ ended [] (xs ++ ys)) (ended (begun ++ b ∷ []) (xs ++ ys))
-        ≡ cond t (begun ∷ ended [] xs) (ended (begun ++ b ∷ []) xs) ++ ended (cond t (left_over [] xs) (left_over (begun ++ b ∷ []) xs)) ys) [
-      true ↦ ap (λ l. begun ∷ l) (ended-append [] xs ys)
-    | false ↦ ended-append (begun ++ b ∷ []) xs ys
+    ≡ cond t (begun ∷ ended [] xs) (ended (begun ++ b ∷ []) xs) ++ ended (cond t (left_over [] xs) (left_over (begun ++ b ∷ []) xs)) ys) [
+      | true ↦ ap (λ l. begun ∷ l) (ended-append [] xs ys)
+      | false ↦ ended-append (begun ++ b ∷ []) xs ys
     ]
 
 -- what joined bytes leave over
@@ -23,9 +22,9 @@ pub left_over-append : (begun xs ys : List ℕ) → left_over begun (xs ++ ys) �
 left_over-append begun [] ys = refl
 left_over-append begun (b ∷ xs) ys =
     elim (eqb b 10) as (λ t. cond t (left_over [] (xs ++ ys)) (left_over (begun ++ b ∷ []) (xs ++ ys))
-        ≡ left_over (cond t (left_over [] xs) (left_over (begun ++ b ∷ []) xs)) ys) [
-      true ↦ left_over-append [] xs ys
-    | false ↦ left_over-append (begun ++ b ∷ []) xs ys
+    ≡ left_over (cond t (left_over [] xs) (left_over (begun ++ b ∷ []) xs)) ys) [
+      | true ↦ left_over-append [] xs ys
+      | false ↦ left_over-append (begun ++ b ∷ []) xs ys
     ]
 
 -- bytes without a line feed end no line
@@ -41,8 +40,8 @@ left_over-one_line begun [] h = sym (append-nil begun)
 left_over-one_line begun (b ∷ xs) h =
     let P : Bool → Type 0 = λ t. (not t && is_one_line xs) ≡ true → cond t (left_over [] xs) (left_over (begun ++ b ∷ []) xs) ≡ begun ++ b ∷ xs in
     (elim (eqb b 10) as P [
-      true ↦ λ k. cc
-    | false ↦ λ k. left_over-one_line (begun ++ b ∷ []) xs k ∙ append_assoc begun (b ∷ []) xs
+      | true ↦ λ k. cc
+      | false ↦ λ k. left_over-one_line (begun ++ b ∷ []) xs k ∙ append_assoc begun (b ∷ []) xs
     ]) h
 
 -- where the first places hold no line feed, the bytes at them are one line
@@ -67,8 +66,8 @@ pub length-left_over : (begun xs : List ℕ) → length (left_over begun xs) ≤
 length-left_over begun [] = omega arith
 length-left_over begun (b ∷ xs) =
     elim (eqb b 10) as (λ t. length (cond t (left_over [] xs) (left_over (begun ++ b ∷ []) xs)) ≤ length begun + suc (length xs)) [
-      true ↦ omega (arith, length-left_over [] xs)
-    | false ↦ omega (arith, length-left_over (begun ++ b ∷ []) xs, length-append begun (b ∷ []))
+      | true ↦ omega (arith, length-left_over [] xs)
+      | false ↦ omega (arith, length-left_over (begun ++ b ∷ []) xs, length-append begun (b ∷ []))
     ]
 
 -- bytes, or a line that has begun, have a line
@@ -77,8 +76,8 @@ some_line [] [] h = absurd (omega arith)
 some_line (c ∷ cs) [] h = omega arith
 some_line begun (b ∷ xs) h =
     elim (eqb b 10) as (λ t. 0 < length (cond t (begun ∷ ended [] xs) (ended (begun ++ b ∷ []) xs) ++ rest_line (cond t (left_over [] xs) (left_over (begun ++ b ∷ []) xs)))) [
-      true ↦ omega arith
-    | false ↦ some_line (begun ++ b ∷ []) xs (omega (arith, length-append begun (b ∷ [])))
+      | true ↦ omega arith
+      | false ↦ some_line (begun ++ b ∷ []) xs (omega (arith, length-append begun (b ∷ [])))
     ]
 
 -- a rest is at most one line

@@ -1,10 +1,10 @@
 -- The lines that a run takes, from bytes of which the first are known.
-use Rattle.std.proofs.Common.{◌≡◌, ℕ, ◌+◌, ◌-◌, ◌^◌, ◌<◌, ◌≤◌, Bool, true, false, cond, List, [], ◌∷◌, ◌++◌, length, take, refl, sym, ap, ◌∙◌, subst, arith, append_assoc, append-nil, length-append, length-take}
+use Rattle.std.proofs.Common.{◌≡◌, ℕ, ◌+◌, ◌-◌, ◌^◌, ◌<◌, ◌≤◌, true, false, cond, List, [], ◌++◌, length, take, ap, ◌∙◌, arith, append_assoc, append-nil, length-append, length-take}
 use Rattle.std.specs.Prelude.{nat_le}
 use Rattle.std.proofs.Math.Seq.{take-append-add}
 use Rattle.std.proofs.lemmas.Bool.{le-leb, lt-leb}
-use Rattle.std.proofs.lemmas.List.{take_all, take-append-le, take_at, nil_from_length}
-use Rattle.book_lines.specs.Lines.{ended, left_over, whole_lines, last_piece, rest_line, all_lines, lines_within, lines, AreAll, AreNotAll}
+use Rattle.std.proofs.lemmas.List.{take_all, take_at, nil_from_length}
+use Rattle.book_lines.specs.Lines.{ended, whole_lines, last_piece, rest_line, all_lines, lines_within, lines, AreAll}
 use Rattle.book_lines.proofs.LineLemmas.{ended-append}
 
 -- the front of a list that begins with xs
@@ -27,10 +27,10 @@ lines_within-begins count room known more fit few =
     let open' = last_piece known in
     let front = take (room - length known) more in
     elim (nat_le (length (known ++ more)) room) as (λ t. (later : List (List ℕ)) × (take count (cond t (all_lines (known ++ more)) (whole_lines (take room (known ++ more)))) ≡ whole_lines known ++ later)) [
-      true ↦ take-begins count _ (whole_lines known) (ended open' more ++ rest_line (last_piece (known ++ more)))
-        (ap (λ l. l ++ rest_line (last_piece (known ++ more))) (ended-append [] known more) ∙ append_assoc (whole_lines known) (ended open' more) (rest_line (last_piece (known ++ more)))) few
-    | false ↦ take-begins count _ (whole_lines known) (ended open' front)
-        (ap whole_lines (take-behind room known more fit) ∙ ended-append [] known front) few
+      | true ↦ take-begins count _ (whole_lines known) (ended open' more ++ rest_line (last_piece (known ++ more)))
+          (ap (λ l. l ++ rest_line (last_piece (known ++ more))) (ended-append [] known more) ∙ append_assoc (whole_lines known) (ended open' more) (rest_line (last_piece (known ++ more)))) few
+      | false ↦ take-begins count _ (whole_lines known) (ended open' front)
+          (ap whole_lines (take-behind room known more fit) ∙ ended-append [] known front) few
     ]
 
 -- where all is within the limits, the lines are all of it
@@ -77,5 +77,5 @@ pub lines-count : (known more : List ℕ) → length known ≤ 2 ^ 33 → length
 lines-count known more fit full =
     let begins = lines-begins known more fit (omega arith) in
     let none : begins.0 ≡ [] = nil_from_length begins.0
-        (omega (arith, length-lines (known ++ more), ap length begins.1, length-append (whole_lines known) begins.0)) in
+    (omega (arith, length-lines (known ++ more), ap length begins.1, length-append (whole_lines known) begins.0)) in
     begins.1 ∙ ap (λ l. whole_lines known ++ l) none ∙ append-nil (whole_lines known)

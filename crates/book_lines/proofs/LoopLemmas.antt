@@ -1,12 +1,11 @@
 -- The parts of the loop one after another.
-use Rattle.std.proofs.Common.{◌≡◌, ℕ, suc, ◌+◌, ◌<◌, ◌≤◌, true, List, [], ◌∷◌, ◌++◌, length, take, drop, Option, Some, None, refl, sym, ap, ◌∙◌, subst, arith, append_assoc, length-append}
-use Rattle.book_keeper.specs.Stream.{Wrote}
+use Rattle.std.proofs.Common.{◌≡◌, ℕ, ◌+◌, ◌<◌, ◌≤◌, true, List, [], ◌∷◌, ◌++◌, length, refl, sym, ap, ◌∙◌, subst, arith, append_assoc, length-append}
 use Rattle.book_keeper.proofs.StreamLemmas.{Wrote-nil, Wrote-append}
-use Rattle.book_lines.specs.Lines.{ended, left_over, rest_line, last_piece, sent}
+use Rattle.book_lines.specs.Lines.{ended, left_over, rest_line, sent}
 use Rattle.book_lines.specs.Marks.{Mark, marks, is_one_line, RoseForEach}
 use Rattle.book_lines.specs.Transcript.{Run}
 use Rattle.book_lines.specs.Room.{Seen, seen}
-use Rattle.book_lines.specs.Table.{Moment, at, IsAnswered}
+use Rattle.book_lines.specs.Table.{Moment}
 use Rattle.book_lines.specs.Loop.{HasAnswered, HasBroken, HasTaken, HasStopped}
 use Rattle.book_lines.specs.declared.running.RunEnd.TheVariants.{InputLimit, OutputFault}
 use Rattle.book_lines.proofs.LineLemmas.{ended-append, left_over-append, ended-one_line, left_over-one_line, length-rest_line, rest_line-nil, sent-append}
@@ -121,11 +120,14 @@ pub HasStopped-output : {S : Type 0} (answers : S → List ℕ → Mark → List
 HasStopped-output answers begun piece part xs rest a b c r s k m parts p open' alone grows breaks =
     let line = left_over begun part in
     let is = grows line p.room_is ∙ ap seen (sym (left_over-one_line line xs alone)) in
-    let all = ended-append begun part (xs ++ 10 ∷ []) ∙ ap (λ l. ended begun part ++ l) (ended-line line xs alone) in
-    (part ++ (xs ++ 10 ∷ []), rest, parts,
+    let all = ended-append begun part (xs ++ 10 ∷ []) ∙ ap (λ l. ended begun part ++ l) (ended-line line xs alone) in (
+      part ++ (xs ++ 10 ∷ []),
+      rest,
+      parts,
       subst (λ l. HasBroken answers a l c) (sym all)
-      (HasBroken-append answers a b c (ended begun part) (left_over line xs ∷ []) p.answered (breaks (left_over line xs) is)),
-      omega (arith, p.count_is, ap length all, length-append (ended begun part) (left_over line xs ∷ [])))
+          (HasBroken-append answers a b c (ended begun part) (left_over line xs ∷ []) p.answered (breaks (left_over line xs) is)),
+      omega (arith, p.count_is, ap length all, length-append (ended begun part) (left_over line xs ∷ [])),
+    )
 
 -- a byte stands behind the last line that may be taken
 pub HasStopped-input : {S : Type 0} (answers : S → List ℕ → Mark → List ℕ → S → Type 0) (begun piece part rest : List ℕ) (a b : Moment S) (r : Seen) (k m : ℕ)

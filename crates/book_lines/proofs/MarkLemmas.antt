@@ -1,10 +1,10 @@
 -- The marks of texts, and the faults that go with them.
-use Rattle.std.proofs.Common.{◌≡◌, ℕ, ◌+◌, ◌≤◌, true, List, [], ◌∷◌, ◌++◌, map, refl, sym, ap, ◌∙◌, arith}
+use Rattle.std.proofs.Common.{◌≡◌, ℕ, true, List, [], ◌∷◌, ◌++◌, map, refl, ap, ◌∙◌, arith}
 use Rattle.std.proofs.lemmas.List.{map-append}
 use Rattle.std.proofs.lemmas.List.Sums.{sum_by-append}
-use Rattle.std.specs.Prelude.{count_by, cond}
+use Rattle.std.specs.Prelude.{cond}
 use Rattle.book_lines.specs.Lines.{ended, left_over, whole_lines, last_piece}
-use Rattle.book_lines.specs.Marks.{Mark, Told, Memory, Keeper, memory_answer, keeper_answer, mark_of, marks, is_one_line, is_keeper, RoseForEach}
+use Rattle.book_lines.specs.Marks.{Mark, Memory, Keeper, memory_answer, keeper_answer, mark_of, marks, is_one_line, is_keeper, RoseForEach}
 use Rattle.book_lines.proofs.LineLemmas.{ended-append, left_over-append, ended-one_line, left_over-one_line}
 
 -- the marks of joined texts of which the first ends a line

@@ -11,13 +11,13 @@ Run-append answers a [] [] t b ys ns u c p q =
 Run-append answers a [] (m ∷ ms) t b ys ns u c p q = absurd p
 Run-append answers a (x ∷ xs) [] t b ys ns u c p q = absurd p
 Run-append answers a (x ∷ xs) (m ∷ ms) t b ys ns u c p q = (
-      p.0,
-      p.1,
-      p.2 ++ u,
-      p.3,
-      ap (λ l. l ++ u) p.4 ∙ append_assoc p.0 (10 ∷ p.2) u,
-      Run-append answers p.1 xs ms p.2 b ys ns u c p.5 q,
-    )
+  p.0,
+  p.1,
+  p.2 ++ u,
+  p.3,
+  ap (λ l. l ++ u) p.4 ∙ append_assoc p.0 (10 ∷ p.2) u,
+  Run-append answers p.1 xs ms p.2 b ys ns u c p.5 q,
+)
 
 -- each line has one mark
 pub Run-length : {S : Type 0} (answers : S → List ℕ → Mark → List ℕ → S → Type 0) (a : S) (xs : List (List ℕ)) (ms : List Mark) (t : List ℕ) (b : S) → Run answers a xs ms t b → length xs ≡ length ms

@@ -1,18 +1,18 @@
 -- What a run's parts say of it at each of its ends.
 use Rattle.std.proofs.Common.{◌≡◌, ℕ, ◌+◌, ◌^◌, ◌<◌, ◌≤◌, List, [], ◌∷◌, ◌++◌, length, take, Option, refl, sym, ap, ◌∙◌, subst, arith, append_assoc, append-nil, length-append, inl, inr}
 use Rattle.std.proofs.lemmas.List.{take_at}
-use Rattle.book_keeper.specs.Stream.{Are, Took, Wrote}
-use Rattle.book_keeper.proofs.StreamLemmas.{Took-append, Are-some, Are-Took}
-use Rattle.book_lines.specs.Lines.{ended, left_over, whole_lines, last_piece, rest_line, all_lines, sent, lines, AreAll, AreNotAll}
-use Rattle.book_lines.specs.Marks.{Mark, marks, RoseForEach}
-use Rattle.book_lines.specs.Transcript.{Run, IsTranscript, IsCutShort}
+use Rattle.book_keeper.specs.Stream.{Are, Took}
+use Rattle.book_keeper.proofs.StreamLemmas.{Are-some, Are-Took}
+use Rattle.book_lines.specs.Lines.{ended, whole_lines, last_piece, rest_line, all_lines, sent, lines, AreAll}
+use Rattle.book_lines.specs.Marks.{Mark, marks}
+use Rattle.book_lines.specs.Transcript.{Run}
 use Rattle.book_lines.specs.Room.{Seen}
-use Rattle.book_lines.specs.Table.{Moment, IsAnswered, IsBroken, IsRun, TableTo}
+use Rattle.book_lines.specs.Table.{Moment, IsAnswered, IsBroken, IsRun}
 use Rattle.book_lines.specs.Loop.{HasAnswered, HasBroken, HasTaken, HasStopped, HasEnded}
 use Rattle.book_lines.specs.declared.running.RunEnd.{RunEnd}
 use Rattle.book_lines.specs.declared.running.RunEnd.TheVariants.{Done, InputLimit, InputFault, OutputFault}
 use Rattle.book_lines.proofs.LineLemmas.{ended-append, left_over-append, some_line, all_lines-append, sent-append}
-use Rattle.book_lines.proofs.RunLemmas.{Run-length, Run-map}
+use Rattle.book_lines.proofs.RunLemmas.{Run-length}
 use Rattle.book_lines.proofs.LinesLemmas.{lines-begins, lines-all, lines-room, lines-count}
 use Rattle.book_lines.proofs.LoopLemmas.{HasAnswered-append, HasBroken-append}
 
@@ -21,9 +21,9 @@ cut_among : {S : Type 0} (answers : S → List ℕ → Mark → List ℕ → S �
     → (h : HasBroken answers a known b) → all ≡ known ++ later → IsBroken answers a all h.text b
 cut_among answers a b all known later h e =
     let long : length (sent known) ≡ length (marks h.text) + 1 =
-        Run-length answers a.machine (sent known) (marks h.text ++ h.mark ∷ []) (h.text ++ h.more) b.machine h.run ∙ length-append (marks h.text) (h.mark ∷ []) in
+    Run-length answers a.machine (sent known) (marks h.text ++ h.mark ∷ []) (h.text ++ h.more) b.machine h.run ∙ length-append (marks h.text) (h.mark ∷ []) in
     let front : take (length (marks h.text) + 1) (sent all) ≡ sent known =
-        ap (λ l. take (length (marks h.text) + 1) l) (ap sent e ∙ sent-append known later) ∙ take_at (sent known) (sent later) (length (marks h.text) + 1) long in
+    ap (λ l. take (length (marks h.text) + 1) l) (ap sent e ∙ sent-append known later) ∙ take_at (sent known) (sent later) (length (marks h.text) + 1) long in
     record {
       mark = h.mark;
       cut = record {
@@ -62,7 +62,7 @@ IsRun-room answers before after read one a b room count took full some p =
     let left = Are-some after in
     let parts = append_assoc read one left.0 in
     let is : lines ((read ++ one) ++ left.0) ≡ whole_lines read =
-        ap lines parts ∙ lines-room read (one ++ left.0) full (omega (arith, length-append one left.0)) (omega (arith, p.count_is, p.few)) in
+    ap lines parts ∙ lines-room read (one ++ left.0) full (omega (arith, length-append one left.0)) (omega (arith, p.count_is, p.few)) in
     record {
       bytes = (read ++ one) ++ left.0;
       left = left.0;
@@ -70,8 +70,10 @@ IsRun-room answers before after read one a b room count took full some p =
       bytes_are = Are-Took before after (read ++ one) left.0 took left.1;
       left_are = left.1;
       wrote = p.answered.wrote;
-      table = (inl (omega (arith, length-append (read ++ one) left.0, length-append read one)),
-        subst (λ l. IsAnswered answers a l p.answered.text b) (sym is) p.answered.answered);
+      table = (
+        inl (omega (arith, length-append (read ++ one) left.0, length-append read one)),
+        subst (λ l. IsAnswered answers a l p.answered.text b) (sym is) p.answered.answered,
+      );
     }
 
 -- a byte follows where all the lines that may be taken are
@@ -85,7 +87,7 @@ run_count answers before after known rest a b took fit some ends full p =
     let is : lines ((known ++ rest) ++ left.0) ≡ whole_lines known = ap lines parts ∙ lines-count known more fit full in
     let one : 0 < length (all_lines more) = some_line [] more (omega (arith, length-append rest left.0)) in
     let past : 1000000 < length (all_lines ((known ++ rest) ++ left.0)) =
-        omega (arith, one, full, ap (λ l. length (all_lines l)) parts, ap length (all_lines-append known more ends), length-append (whole_lines known) (all_lines more)) in
+    omega (arith, one, full, ap (λ l. length (all_lines l)) parts, ap length (all_lines-append known more ends), length-append (whole_lines known) (all_lines more)) in
     record {
       bytes = (known ++ rest) ++ left.0;
       left = left.0;

@@ -1,11 +1,11 @@
 -- What the parts of the line loop do.
-use Rattle.std.specs.Prelude.{◌≡◌, ℕ, ◌+◌, ◌<◌, ◌≤◌, true, List, [], ◌∷◌, ◌++◌, length, Option, Result, Ok, Err}
+use Rattle.std.specs.Prelude.{◌≡◌, ℕ, ◌+◌, ◌<◌, ◌≤◌, true, List, [], ◌∷◌, ◌++◌, length, Result, Ok, Err}
 use Rattle.book_keeper.specs.Stream.{Wrote}
 use Rattle.book_lines.specs.Lines.{ended, left_over, rest_line, last_piece, sent}
 use Rattle.book_lines.specs.Marks.{Mark, mark_of, marks, is_one_line, RoseForEach, memory_answer, keeper_answer}
 use Rattle.book_lines.specs.Transcript.{Run}
 use Rattle.book_lines.specs.Room.{Seen, seen}
-use Rattle.book_lines.specs.Table.{Moment, IsAnswered, IsBroken}
+use Rattle.book_lines.specs.Table.{Moment, IsAnswered}
 use Rattle.book_lines.specs.declared.machine.Unanswered.{Unanswered}
 use Rattle.book_lines.specs.declared.machine.Unanswered.TheVariants.{Memory as NoMemory, Keeper as NotKept}
 use Rattle.book_lines.specs.declared.running.RunEnd.{RunEnd}

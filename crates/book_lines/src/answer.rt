@@ -8,13 +8,20 @@ ghost use Rattle.book_lines.specs.Loop.{answer_of, GaveAnswer, HasAnswered, HasB
 use crate::line::{Line, MAX_LINE};
 use crate::{Machine, Unanswered};
 use book_commodity::{Bytes, OutOfMemory};
-use book_keeper::{write_all, Failed, Sink};
+use book_keeper::{Failed, Sink, write_all};
 use std::alloc::Global;
 
 // Has the machine answer the line, by its length alone where it is too long.
-fn ask<W, K, M: Machine<W, K>>(alloc: Global, machine: &mut M, keeper: &mut K, line: &Line) -> Result<Bytes, Unanswered>
+fn ask<W, K, M: Machine<W, K>>(
+    alloc: Global,
+    machine: &mut M,
+    keeper: &mut K,
+    line: &Line,
+) -> Result<Bytes, Unanswered>
     requires { M.stands machine.old keeper.old }
-    ensures gave { (this : List ℕ) → line.now ≡ seen this → GaveAnswer M.answers machine.old this (answer_of result) machine.new (M.faults keeper.old) (M.faults keeper.new) }
+    ensures gave { (this : List ℕ) → line.now ≡ seen this
+        → GaveAnswer M.answers machine.old this (answer_of result) machine.new
+        (M.faults keeper.old) (M.faults keeper.new) }
     ensures stands { M.stands machine.new keeper.new }
 {
     if line.size() <= MAX_LINE as u64 {
@@ -63,10 +70,22 @@ fn write_answer<O: Sink>(output: &mut O, answered: Result<Bytes, Unanswered>) ->
 }
 
 /// Answers the line in the room unless it is blank; Failed where the output failed.
-pub fn answer_line<W, K, M: Machine<W, K>, O: Sink>(alloc: Global, machine: &mut M, keeper: &mut K, output: &mut O, line: &Line) -> Result<(), Failed>
+pub fn answer_line<W, K, M: Machine<W, K>, O: Sink>(
+    alloc: Global,
+    machine: &mut M,
+    keeper: &mut K,
+    output: &mut O,
+    line: &Line,
+) -> Result<(), Failed>
     requires { M.stands machine.old keeper.old }
-    ensures answered { OnOk result ((this : List ℕ) → line.now ≡ seen this → HasAnswered M.answers (at machine.old (O.written output.old) (M.faults keeper.old)) (this ∷ []) (at machine.new (O.written output.new) (M.faults keeper.new))) }
-    ensures broken { OnErr result ((this : List ℕ) → line.now ≡ seen this → HasBroken M.answers (at machine.old (O.written output.old) (M.faults keeper.old)) (this ∷ []) (at machine.new (O.written output.new) (M.faults keeper.new))) }
+    ensures answered { let before = at machine.old (O.written output.old) (M.faults keeper.old) in
+        let after = at machine.new (O.written output.new) (M.faults keeper.new) in
+        OnOk result ((this : List ℕ) → line.now ≡ seen this
+        → HasAnswered M.answers before (this ∷ []) after) }
+    ensures broken { let before = at machine.old (O.written output.old) (M.faults keeper.old) in
+        let after = at machine.new (O.written output.new) (M.faults keeper.new) in
+        OnErr result ((this : List ℕ) → line.now ≡ seen this
+        → HasBroken M.answers before (this ∷ []) after) }
     ensures cause { HasCause (O.faults output.old) (O.faults output.new) result }
     ensures stands { M.stands machine.new keeper.new }
 {

@@ -10,7 +10,9 @@ mod machine;
 mod piece;
 mod room;
 mod running;
+#[cfg(test)]
+mod tests;
 
-pub use machine::{Machine, Unanswered, KEEPER, MEMORY};
+pub use machine::{KEEPER, MEMORY, Machine, Unanswered};
 pub use room::LineRoom;
-pub use running::{run, RunEnd};
+pub use running::{RunEnd, run};

@@ -90,5 +90,7 @@ impl Line {
 fn are_blank(bytes: &[u8]) -> bool
     ensures { result ≡ is_blank bytes.now }
 {
-    bytes.iter().all(|byte| matches!(*byte, b' ' | b'\t' | b'\r'))
+    bytes
+        .iter()
+        .all(|byte| matches!(*byte, b' ' | b'\t' | b'\r'))
 }

@@ -49,12 +49,17 @@ pub trait Machine<W, K> {
         requires short { length line.now ≤ 2 ^ 23 }
         ensures told { IfOk result (λ text. IsTold text × answers self.old line.now Told text self.new) }
         ensures memory { result ≡ Err Unanswered.Memory → answers self.old line.now Memory memory_answer self.new }
-        ensures keeper { result ≡ Err Unanswered.Keeper → answers self.old line.now Keeper keeper_answer self.new × Rose (faults keeper.old) (faults keeper.new) }
+        ensures keeper { result ≡ Err Unanswered.Keeper
+            → answers self.old line.now Keeper keeper_answer self.new
+            × Rose (faults keeper.old) (faults keeper.new) }
         ensures later { faults keeper.old ≤ faults keeper.new }
         ensures stands { stands self.new keeper.new };
 
     /// Answers a line of more than 8 MiB, of which only the length is known. The state stays.
     fn too_long(&self, alloc: Global, size: u64) -> Result<Bytes, OutOfMemory>
-        ensures told { IfOk result (λ text. IsTold text × ((line : List ℕ) → length line ≡ size → 2 ^ 23 < length line → answers self.now line Told text self.now)) }
-        ensures memory { OnErr result ((line : List ℕ) → length line ≡ size → 2 ^ 23 < length line → answers self.now line Memory memory_answer self.now) };
+        ensures told { IfOk result (λ text. IsTold text
+            × ((line : List ℕ) → length line ≡ size → 2 ^ 23 < length line
+            → answers self.now line Told text self.now)) }
+        ensures memory { OnErr result ((line : List ℕ) → length line ≡ size → 2 ^ 23 < length line
+            → answers self.now line Memory memory_answer self.now) };
 }

@@ -16,11 +16,24 @@ use std::alloc::Global;
 const MAX_LINES: u64 = 1_000_000;
 
 // Ends the line in the room: answers it, counts it and begins a new one; Failed where the output failed.
-fn end_line<W, K, M: Machine<W, K>, O: Sink>(alloc: Global, machine: &mut M, keeper: &mut K, output: &mut O, line: &mut Line, count: &mut u64) -> Result<(), Failed>
+fn end_line<W, K, M: Machine<W, K>, O: Sink>(
+    alloc: Global,
+    machine: &mut M,
+    keeper: &mut K,
+    output: &mut O,
+    line: &mut Line,
+    count: &mut u64,
+) -> Result<(), Failed>
     requires stands { M.stands machine.old keeper.old }
     requires open { count.old < 1000000 }
-    ensures taken { OnOk result ((begun : List ℕ) → line.old ≡ seen begun → HasTaken M.answers begun (10 ∷ []) (at machine.old (O.written output.old) (M.faults keeper.old)) (at machine.new (O.written output.new) (M.faults keeper.new)) line.new count.old count.new) }
-    ensures broken { OnErr result ((begun : List ℕ) → line.old ≡ seen begun → HasBroken M.answers (at machine.old (O.written output.old) (M.faults keeper.old)) (begun ∷ []) (at machine.new (O.written output.new) (M.faults keeper.new))) }
+    ensures taken { let before = at machine.old (O.written output.old) (M.faults keeper.old) in
+        let after = at machine.new (O.written output.new) (M.faults keeper.new) in
+        OnOk result ((begun : List ℕ) → line.old ≡ seen begun
+        → HasTaken M.answers begun (10 ∷ []) before after line.new count.old count.new) }
+    ensures broken { let before = at machine.old (O.written output.old) (M.faults keeper.old) in
+        let after = at machine.new (O.written output.new) (M.faults keeper.new) in
+        OnErr result ((begun : List ℕ) → line.old ≡ seen begun
+        → HasBroken M.answers before (begun ∷ []) after) }
     ensures cause { HasCause (O.faults output.old) (O.faults output.new) result }
     ensures stands { M.stands machine.new keeper.new }
     ensures empty { line.new.size ≡ 0 }
@@ -33,11 +46,27 @@ fn end_line<W, K, M: Machine<W, K>, O: Sink>(alloc: Global, machine: &mut M, kee
 
 /// Takes a piece of the input, from line feed to line feed. InputLimit where a byte stands behind the last line that
 /// may be taken, OutputFault where the output failed.
-pub fn take_piece<W, K, M: Machine<W, K>, O: Sink>(alloc: Global, machine: &mut M, keeper: &mut K, output: &mut O, line: &mut Line, count: &mut u64, piece: &[u8]) -> Result<(), RunEnd>
+pub fn take_piece<W, K, M: Machine<W, K>, O: Sink>(
+    alloc: Global,
+    machine: &mut M,
+    keeper: &mut K,
+    output: &mut O,
+    line: &mut Line,
+    count: &mut u64,
+    piece: &[u8],
+) -> Result<(), RunEnd>
     requires stands { M.stands machine.old keeper.old }
     requires fits { line.old.size + length piece.now < 2 ^ 64 }
-    ensures taken { OnOk result ((begun : List ℕ) → line.old ≡ seen begun → count.old + length (rest_line begun) ≤ 1000000 → HasTaken M.answers begun piece.now (at machine.old (O.written output.old) (M.faults keeper.old)) (at machine.new (O.written output.new) (M.faults keeper.new)) line.new count.old count.new) }
-    ensures stopped { IfErr result (λ end. (begun : List ℕ) → line.old ≡ seen begun → count.old + length (rest_line begun) ≤ 1000000 → HasStopped M.answers begun piece.now (at machine.old (O.written output.old) (M.faults keeper.old)) (at machine.new (O.written output.new) (M.faults keeper.new)) count.old end) }
+    ensures taken { let before = at machine.old (O.written output.old) (M.faults keeper.old) in
+        let after = at machine.new (O.written output.new) (M.faults keeper.new) in
+        OnOk result ((begun : List ℕ) → line.old ≡ seen begun
+        → count.old + length (rest_line begun) ≤ 1000000
+        → HasTaken M.answers begun piece.now before after line.new count.old count.new) }
+    ensures stopped { let before = at machine.old (O.written output.old) (M.faults keeper.old) in
+        let after = at machine.new (O.written output.new) (M.faults keeper.new) in
+        IfErr result (λ end. (begun : List ℕ) → line.old ≡ seen begun
+        → count.old + length (rest_line begun) ≤ 1000000
+        → HasStopped M.answers begun piece.now before after count.old end) }
     ensures output_fault { result ≡ Err RunEnd.OutputFault → Rose (O.faults output.old) (O.faults output.new) }
     ensures later { O.faults output.old ≤ O.faults output.new }
     ensures stands { M.stands machine.new keeper.new }

@@ -28,7 +28,11 @@ pub enum RunEnd {
 }
 
 // Reads the next bytes behind `taken`: at most as many as the limit allows, or one to see whether a byte follows.
-fn read_piece<S: Source>(input: &mut S, taken: u64, piece: &mut [u8; PIECE]) -> Result<usize, Failed>
+fn read_piece<S: Source>(
+    input: &mut S,
+    taken: u64,
+    piece: &mut [u8; PIECE],
+) -> Result<usize, Failed>
     requires { taken ≤ 2 ^ 33 }
     ensures within { IfOk result (λ count. count ≤ 65536) }
     ensures limit { IfOk result (λ count. taken < 2 ^ 33 → taken + count ≤ 2 ^ 33) }
@@ -42,9 +46,18 @@ fn read_piece<S: Source>(input: &mut S, taken: u64, piece: &mut [u8; PIECE]) -> 
 }
 
 // Answers a rest without line feed at the end of the input: Done, or OutputFault.
-fn end_input<W, K, M: Machine<W, K>, O: Sink>(alloc: Global, machine: &mut M, keeper: &mut K, output: &mut O, line: &Line) -> RunEnd
+fn end_input<W, K, M: Machine<W, K>, O: Sink>(
+    alloc: Global,
+    machine: &mut M,
+    keeper: &mut K,
+    output: &mut O,
+    line: &Line,
+) -> RunEnd
     requires { M.stands machine.old keeper.old }
-    ensures ended { (begun : List ℕ) → line.now ≡ seen begun → HasEnded M.answers (at machine.old (O.written output.old) (M.faults keeper.old)) (rest_line begun) (at machine.new (O.written output.new) (M.faults keeper.new)) result }
+    ensures ended { let before = at machine.old (O.written output.old) (M.faults keeper.old) in
+        let after = at machine.new (O.written output.new) (M.faults keeper.new) in
+        (begun : List ℕ) → line.now ≡ seen begun
+        → HasEnded M.answers before (rest_line begun) after result }
     ensures output_fault { result ≡ RunEnd.OutputFault → Rose (O.faults output.old) (O.faults output.new) }
     ensures stands { M.stands machine.new keeper.new }
 {
@@ -58,10 +71,20 @@ fn end_input<W, K, M: Machine<W, K>, O: Sink>(alloc: Global, machine: &mut M, ke
 }
 
 // Answers the lines of the input, a piece at a time.
-fn run_pieces<W, K, M: Machine<W, K>, S: Source, O: Sink>(alloc: Global, machine: &mut M, keeper: &mut K, input: &mut S, output: &mut O, line: &mut Line, piece: &mut [u8; PIECE]) -> RunEnd
+fn run_pieces<W, K, M: Machine<W, K>, S: Source, O: Sink>(
+    alloc: Global,
+    machine: &mut M,
+    keeper: &mut K,
+    input: &mut S,
+    output: &mut O,
+    line: &mut Line,
+    piece: &mut [u8; PIECE],
+) -> RunEnd
     requires stands { M.stands machine.old keeper.old }
     requires empty { line.old ≡ seen [] }
-    ensures table { IsRun M.answers (S.left input.old) (S.left input.new) (at machine.old (O.written output.old) (M.faults keeper.old)) (at machine.new (O.written output.new) (M.faults keeper.new)) result }
+    ensures table { let before = at machine.old (O.written output.old) (M.faults keeper.old) in
+        let after = at machine.new (O.written output.new) (M.faults keeper.new) in
+        IsRun M.answers (S.left input.old) (S.left input.new) before after result }
     ensures input_fault { result ≡ RunEnd.InputFault → Rose (S.faults input.old) (S.faults input.new) }
     ensures output_fault { result ≡ RunEnd.OutputFault → Rose (O.faults output.old) (O.faults output.new) }
     ensures stands { M.stands machine.new keeper.new }
@@ -79,7 +102,15 @@ fn run_pieces<W, K, M: Machine<W, K>, S: Source, O: Sink>(alloc: Global, machine
         if taken == MAX_BYTES {
             return RunEnd::InputLimit;
         }
-        if let Err(end) = take_piece(alloc, machine, keeper, output, line, &mut count, &piece[..read]) {
+        if let Err(end) = take_piece(
+            alloc,
+            machine,
+            keeper,
+            output,
+            line,
+            &mut count,
+            &piece[..read],
+        ) {
             return end;
         }
         taken += read as u64;
@@ -88,13 +119,30 @@ fn run_pieces<W, K, M: Machine<W, K>, S: Source, O: Sink>(alloc: Global, machine
 
 /// Answers the lines of the input on the output, one answer line for each line that is not blank, and says how it
 /// ended. A rest without line feed at the end is a line; one at InputLimit, InputFault or OutputFault is not run.
-pub fn run<W, K, M: Machine<W, K>, S: Source, O: Sink>(alloc: Global, machine: &mut M, keeper: &mut K, input: &mut S, output: &mut O, room: &mut LineRoom) -> RunEnd
+pub fn run<W, K, M: Machine<W, K>, S: Source, O: Sink>(
+    alloc: Global,
+    machine: &mut M,
+    keeper: &mut K,
+    input: &mut S,
+    output: &mut O,
+    room: &mut LineRoom,
+) -> RunEnd
     requires { M.stands machine.old keeper.old }
-    ensures table { IsRun M.answers (S.left input.old) (S.left input.new) (at machine.old (O.written output.old) (M.faults keeper.old)) (at machine.new (O.written output.new) (M.faults keeper.new)) result }
+    ensures table { let before = at machine.old (O.written output.old) (M.faults keeper.old) in
+        let after = at machine.new (O.written output.new) (M.faults keeper.new) in
+        IsRun M.answers (S.left input.old) (S.left input.new) before after result }
     ensures input_fault { result ≡ RunEnd.InputFault → Rose (S.faults input.old) (S.faults input.new) }
     ensures output_fault { result ≡ RunEnd.OutputFault → Rose (O.faults output.old) (O.faults output.new) }
     ensures stands { M.stands machine.new keeper.new }
 {
     room.line.clear();
-    run_pieces(alloc, machine, keeper, input, output, &mut room.line, &mut room.piece)
+    run_pieces(
+        alloc,
+        machine,
+        keeper,
+        input,
+        output,
+        &mut room.line,
+        &mut room.piece,
+    )
 }

@@ -1,5 +1,5 @@
 -- Laws of sums over splits.
-use Rattle.std.proofs.Common.{◌≡◌, ℕ, ◌+◌, ℤ, pos, ◌+ℤ◌, ◌==◌, Bool, true, false, cond, if◌then◌else◌, List, [], ◌∷◌, ◌++◌, map, refl, sym, ap, ◌∙◌, append_assoc, filter}
+use Rattle.std.proofs.Common.{◌≡◌, ℕ, ℤ, pos, ◌+ℤ◌, ◌==◌, Bool, true, false, if◌then◌else◌, List, [], ◌∷◌, ◌++◌, map, refl, sym, ap, ◌∙◌, append_assoc, filter}
 use Rattle.std.proofs.lemmas.List.{append-nil}
 use Rattle.std.proofs.Math.IntN.{+ℤ_assoc, +ℤ_idl, +ℤ_idr}
 use Rattle.book_splits.specs.Balance.{total, quantity_on, splits_of}
@@ -14,11 +14,12 @@ pub quantity_on-append : (account : ℕ) (xs ys : List Split) → quantity_on ac
 quantity_on-append account [] ys = sym (+ℤ_idl (quantity_on account ys))
 quantity_on-append account (x ∷ xs) ys =
     let P : Bool → Type 0 = λ t.
-        total (map (λ split. split.quantity) (if t then x ∷ filter (λ split. split.account == account) (xs ++ ys) else filter (λ split. split.account == account) (xs ++ ys)))
-        ≡ total (map (λ split. split.quantity) (if t then x ∷ filter (λ split. split.account == account) xs else filter (λ split. split.account == account) xs)) +ℤ quantity_on account ys in
+    total (map (λ split. split.quantity) (if t then x ∷ filter (λ split. split.account == account) (xs ++ ys) else filter (λ split. split.account == account) (xs ++ ys)))
+    ≡ total (map (λ split. split.quantity) (if t then x ∷ filter (λ split. split.account == account) xs else filter (λ split. split.account == account) xs)) +ℤ quantity_on account ys in
     elim (x.account == account) as P [
-        true ↦ ap (λ z. x.quantity +ℤ z) (quantity_on-append account xs ys) ∙ sym (+ℤ_assoc x.quantity (quantity_on account xs) (quantity_on account ys))
-      | false ↦ quantity_on-append account xs ys ]
+      | true ↦ ap (λ z. x.quantity +ℤ z) (quantity_on-append account xs ys) ∙ sym (+ℤ_assoc x.quantity (quantity_on account xs) (quantity_on account ys))
+      | false ↦ quantity_on-append account xs ys
+    ]
 
 pub quantity_on-one : (account : ℕ) (split : Split) → quantity_on account (split ∷ []) ≡ (if split.account == account then split.quantity else pos 0)
 quantity_on-one account split =

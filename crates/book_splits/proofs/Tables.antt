@@ -1,5 +1,5 @@
 -- Laws of a table of balances into which splits are counted one after another.
-use Rattle.std.proofs.Common.{◌≡◌, ℕ, ◌+◌, ◌*◌, ◌^◌, ◌≤◌, ℤ, pos, ◌+ℤ◌, ◌-ℤ◌, ◌≤ℤ◌, ◌==◌, Bool, true, false, if◌then◌else◌, List, [], ◌∷◌, ◌++◌, Option, None, Some, IfSome, IsSome, option_map, refl, sym, ap, subst, ◌∙◌, arith, w64, length, take, drop, map, get_or, ◌<◌, All, append_assoc, IsTrue}
+use Rattle.std.proofs.Common.{◌≡◌, ℕ, ◌+◌, ◌≤◌, ℤ, pos, ◌+ℤ◌, ◌==◌, Bool, true, false, if◌then◌else◌, List, [], ◌∷◌, ◌++◌, Option, None, Some, IfSome, IsSome, option_map, refl, sym, ap, subst, ◌∙◌, arith, w64, length, take, drop, map, get_or, ◌<◌, IsTrue}
 use mir.Val.{SFits}
 use Rattle.std.proofs.Common.{eq-eqb}
 use Rattle.std.proofs.lemmas.Bool.{eqb-true}
@@ -24,13 +24,15 @@ within-same count (Some sum) h = (omega (arith, ints), omega (arith, ints))
 
 pub IsSmall-more : (old new : Balances) (account : ℕ) (quantity : ℤ) (count : ℕ) → SFits w64 quantity → Adds old new account quantity → IsSmall old count → IsSmall new (count + 1)
 IsSmall-more old new account quantity count fits adds small = record {
-    sums = λ a.
-        let Q : Option ℤ → Type 0 = λ o. IfSome o (IsWithin (count + 1)) in
-        let P : Bool → Type 0 = λ t. Q (if t then option_map (λ sum. sum +ℤ quantity) (balance_at old a) else balance_at old a) in
-        subst Q (sym (adds.sums a))
-            (elim (account == a) as P [
-                true ↦ within-more count quantity fits (balance_at old a) (small.sums a)
-              | false ↦ within-same count (balance_at old a) (small.sums a) ]) }
+  sums = λ a.
+      let Q : Option ℤ → Type 0 = λ o. IfSome o (IsWithin (count + 1)) in
+      let P : Bool → Type 0 = λ t. Q (if t then option_map (λ sum. sum +ℤ quantity) (balance_at old a) else balance_at old a) in
+      subst Q (sym (adds.sums a))
+      (elim (account == a) as P [
+        | true ↦ within-more count quantity fits (balance_at old a) (small.sums a)
+        | false ↦ within-same count (balance_at old a) (small.sums a)
+      ]);
+}
 
 sum-more : (before after quantity : ℤ) → after ≡ before +ℤ quantity → (o : Option ℤ) → IfSome o (λ sum. sum ≡ before) → IfSome (option_map (λ sum. sum +ℤ quantity) o) (λ sum. sum ≡ after)
 sum-more before after quantity e None h = tt
@@ -42,16 +44,18 @@ sum-same before after e (Some sum) h = h ∙ sym e
 
 pub Counts-more : (old new : Balances) (before : List Split) (split : Split) → Adds old new split.account split.quantity → Counts old before → Counts new (before ++ split ∷ [])
 Counts-more old new before split adds counts = record {
-    sums = λ a.
-        let sum : quantity_on a (before ++ split ∷ []) ≡ quantity_on a before +ℤ (if split.account == a then split.quantity else pos 0) =
-            quantity_on-append a before (split ∷ []) ∙ ap (λ z. quantity_on a before +ℤ z) (quantity_on-one a split) in
-        let Q : Option ℤ → Type 0 = λ o. IfSome o (λ sum. sum ≡ quantity_on a (before ++ split ∷ [])) in
-        let P : Bool → Type 0 = λ t. quantity_on a (before ++ split ∷ []) ≡ quantity_on a before +ℤ (if t then split.quantity else pos 0)
-            → Q (if t then option_map (λ sum. sum +ℤ split.quantity) (balance_at old a) else balance_at old a) in
-        subst Q (sym (adds.sums a))
-            (elim (split.account == a) as P [
-                true ↦ λ e. sum-more (quantity_on a before) (quantity_on a (before ++ split ∷ [])) split.quantity e (balance_at old a) (counts.sums a)
-              | false ↦ λ e. sum-same (quantity_on a before) (quantity_on a (before ++ split ∷ [])) (e ∙ +ℤ_idr (quantity_on a before)) (balance_at old a) (counts.sums a) ] sum) }
+  sums = λ a.
+      let sum : quantity_on a (before ++ split ∷ []) ≡ quantity_on a before +ℤ (if split.account == a then split.quantity else pos 0) =
+      quantity_on-append a before (split ∷ []) ∙ ap (λ z. quantity_on a before +ℤ z) (quantity_on-one a split) in
+      let Q : Option ℤ → Type 0 = λ o. IfSome o (λ sum. sum ≡ quantity_on a (before ++ split ∷ [])) in
+      let P : Bool → Type 0 = λ t. quantity_on a (before ++ split ∷ []) ≡ quantity_on a before +ℤ (if t then split.quantity else pos 0)
+      → Q (if t then option_map (λ sum. sum +ℤ split.quantity) (balance_at old a) else balance_at old a) in
+      subst Q (sym (adds.sums a))
+      (elim (split.account == a) as P [
+        | true ↦ λ e. sum-more (quantity_on a before) (quantity_on a (before ++ split ∷ [])) split.quantity e (balance_at old a) (counts.sums a)
+        | false ↦ λ e. sum-same (quantity_on a before) (quantity_on a (before ++ split ∷ [])) (e ∙ +ℤ_idr (quantity_on a before)) (balance_at old a) (counts.sums a)
+      ] sum);
+}
 
 some-mapped : (f : ℤ → ℤ) (o : Option ℤ) → IsSome o → IsSome (option_map f o)
 some-mapped f None h = h
@@ -61,7 +65,7 @@ pub Adds-keeps : (old new : Balances) (account : ℕ) (quantity : ℤ) → Adds 
 Adds-keeps old new account quantity adds a h =
     let P : Bool → Type 0 = λ t. IsSome (if t then option_map (λ sum. sum +ℤ quantity) (balance_at old a) else balance_at old a) in
     subst (λ (o : Option ℤ). IsSome o) (sym (adds.sums a))
-        (elim (account == a) as P [ true ↦ some-mapped (λ sum. sum +ℤ quantity) (balance_at old a) h | false ↦ h ])
+    (elim (account == a) as P [ true ↦ some-mapped (λ sum. sum +ℤ quantity) (balance_at old a) h | false ↦ h ])
 
 within-le : (few many : ℕ) → few ≤ many → (o : Option ℤ) → IfSome o (IsWithin few) → IfSome o (IsWithin many)
 within-le few many le None h = tt
@@ -69,7 +73,8 @@ within-le few many le (Some sum) h = (omega (arith, ints), omega (arith, ints))
 
 pub IsSmall-le : (balances : Balances) (few many : ℕ) → few ≤ many → IsSmall balances few → IsSmall balances many
 IsSmall-le balances few many le small = record {
-    sums = λ a. within-le few many le (balance_at balances a) (small.sums a) }
+  sums = λ a. within-le few many le (balance_at balances a) (small.sums a);
+}
 
 pub Counts-along : (balances : Balances) (before after : List Split) → before ≡ after → Counts balances before → Counts balances after
 Counts-along balances before after e counts = subst (λ (splits : List Split). Counts balances splits) e counts
@@ -89,7 +94,7 @@ splits_of-item transactions i entry below is =
 pub length-splits_of-take : (transactions : List (ℕ × Txn)) (i : ℕ) → length (splits_of (take i transactions)) ≤ length (splits_of transactions)
 length-splits_of-take transactions i =
     let e : splits_of (take i transactions) ++ splits_of (drop i transactions) ≡ splits_of transactions =
-        sym (splits_of-append (take i transactions) (drop i transactions)) ∙ ap splits_of (take-append-drop i transactions) in
+    sym (splits_of-append (take i transactions) (drop i transactions)) ∙ ap splits_of (take-append-drop i transactions) in
     omega (arith, length-append (splits_of (take i transactions)) (splits_of (drop i transactions)), ap length e)
 
 -- a balance that is put is there, and the others stay
@@ -153,13 +158,15 @@ pub Adds-put :
     (old new : Balances) (account : ℕ) (balance quantity : ℤ) → balance_at old account ≡ Some balance → Puts old new account (balance +ℤ quantity)
     → Adds old new account quantity
 Adds-put old new account balance quantity had puts = record {
-    sums = λ a.
-        let P : Bool → Type 0 = λ t. (account == a) ≡ t
-            → (if t then Some (balance +ℤ quantity) else balance_at old a) ≡ (if t then option_map (λ sum. sum +ℤ quantity) (balance_at old a) else balance_at old a) in
-        puts.sums a
-        ∙ elim (account == a) as P [
-            true ↦ λ e. sym (ap (option_map (λ sum. sum +ℤ quantity)) (ap (balance_at old) (sym (eqb-true account a e)) ∙ had))
-          | false ↦ λ e. refl ] refl }
+  sums = λ a.
+      let P : Bool → Type 0 = λ t. (account == a) ≡ t
+      → (if t then Some (balance +ℤ quantity) else balance_at old a) ≡ (if t then option_map (λ sum. sum +ℤ quantity) (balance_at old a) else balance_at old a) in
+      puts.sums a
+      ∙ elim (account == a) as P [
+        | true ↦ λ e. sym (ap (option_map (λ sum. sum +ℤ quantity)) (ap (balance_at old) (sym (eqb-true account a e)) ∙ had))
+        | false ↦ λ e. refl
+      ] refl;
+}
 
 pub IsSome-None : (o : Option ℤ) → IsSome o → o ≡ None → ⊥
 IsSome-None None h e = cc

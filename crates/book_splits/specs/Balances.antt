@@ -1,6 +1,6 @@
 -- What a table of balances says of the splits that were counted into it.
-use Rattle.std.specs.Prelude.{◌≡◌, ℕ, ◌*◌, ◌^◌, ◌==◌, ℤ, pos, ◌+ℤ◌, ◌-ℤ◌, ◌≤ℤ◌, List, Option, Some, IfSome, option_map, if◌then◌else◌}
-use Rattle.std.specs.BTreeMap.{BTreeMap, get}
+use Rattle.std.specs.Prelude.{◌≡◌, ℕ, ◌==◌, ℤ, ◌+ℤ◌, List, Option, Some, IfSome, option_map, if◌then◌else◌}
+use Rattle.std.specs.BTreeMap.{get}
 use Rattle.std.specs.Ordering.{nat_cmp}
 use Rattle.book_splits.specs.Balance.{quantity_on, IsWithin}
 use Rattle.book_splits.specs.declared.balances.Balances.{Balances}

@@ -103,7 +103,11 @@ impl Balances {
 
 /// For each of the splits, by place, the balance of its account over all days once they stand behind the
 /// transactions, in smallest units of the account's commodity.
-pub fn balances_after(alloc: Global, transactions: &[(u64, Txn)], splits: &[Split]) -> Result<Many<i128>, OutOfMemory>
+pub fn balances_after(
+    alloc: Global,
+    transactions: &[(u64, Txn)],
+    splits: &[Split],
+) -> Result<Many<i128>, OutOfMemory>
     requires few { length (splits_of transactions.now) ≤ 2 ^ 61 }
     ensures { IfOk result (λ balances. balances ≡ map (λ split. quantity_on split.account (splits_of transactions.now ++ splits.now)) splits.now) }
 {

@@ -1,6 +1,5 @@
 -- Every step from a sound state gives a sound state.
-use Rattle.std.proofs.Common.{◌≡◌, ℕ, ◌+◌, ◌<◌, ◌≤◌, Bool, true, false, not, ℤ, pos, ◌+ℤ◌, List, [], ◌∷◌, ◌++◌, length, map, All, Option, None, Some, suc, refl, sym, ap, subst, ◌∙◌, arith, nat_lt}
-use Rattle.std.specs.Ordering.{int_eq}
+use Rattle.std.proofs.Common.{◌≡◌, ℕ, ◌+◌, ◌≤◌, Bool, true, false, pos, ◌+ℤ◌, List, [], ◌∷◌, ◌++◌, length, Option, None, Some, refl, ap, subst, ◌∙◌, arith}
 use Rattle.std.proofs.lemmas.Bool.{ltb-false, not-false}
 use Rattle.std.proofs.lemmas.Bool.Decides.{Decides-int_eq}
 use Rattle.std.proofs.lemmas.List.Elements.{All-push}
@@ -9,7 +8,7 @@ use Rattle.book_splits.specs.Balance.{sum_of_values, splits_of}
 use Rattle.book_splits.specs.declared.transaction.Txn.{Txn}
 use Rattle.book_step.specs.Book.{State}
 use Rattle.book_step.specs.Soundness.{IsSound}
-use Rattle.book_step.specs.Step.{Outcome, Broken, Done, step, first_broken, broken_where, post_rules, unless_broken, new_transaction, added, post_answer, given_sum, new_splits, unbalanced, too_many_transactions, too_many_splits}
+use Rattle.book_step.specs.Step.{Done, step, first_broken, broken_where, post_rules, unless_broken, new_transaction, added, given_sum, new_splits, unbalanced, too_many_transactions, too_many_splits}
 use Rattle.book_step.specs.declared.answer.Answer.{Answer}
 use Rattle.book_step.specs.declared.command.Command.{Command}
 use Rattle.book_step.specs.declared.command.Command.TheVariants.{Post}
@@ -61,5 +60,5 @@ step-sound state (Post day currency description given) new answer sound made =
     let few : length state.book.transactions + 1 ≤ 200000 = ltb-false _ _ (not_broken _ _ none.1) in
     let few_splits : length (splits_of state.book.transactions) + length given ≤ 1000000 = ltb-false _ _ (not_broken _ _ none.2) in
     subst (λ (s : State). IsSound s) done.1
-        (sound-added state entry sound (values-new_splits (state.next + 1) given ∙ even) few
-            (omega (arith, length-new_splits (state.next + 1) given)))
+    (sound-added state entry sound (values-new_splits (state.next + 1) given ∙ even) few
+    (omega (arith, length-new_splits (state.next + 1) given)))

@@ -1,5 +1,5 @@
 -- Laws of the splits that a post gives.
-use Rattle.std.proofs.Common.{◌≡◌, ℕ, ◌+◌, ◌<◌, ℤ, pos, ◌+ℤ◌, List, [], ◌∷◌, ◌++◌, length, map, take, get_or, suc, None, refl, sym, ap, ◌∙◌, arith}
+use Rattle.std.proofs.Common.{◌≡◌, ℕ, ◌+◌, ◌<◌, ℤ, ◌+ℤ◌, List, [], ◌∷◌, ◌++◌, length, map, take, get_or, suc, None, refl, sym, ap, ◌∙◌, arith}
 use Rattle.std.proofs.Math.IntN.{+ℤ_idr}
 use Rattle.std.proofs.lemmas.List.{map-append, take_more, length-take-le}
 use Rattle.std.proofs.Math.ListN.{length-append}
@@ -7,7 +7,7 @@ use Rattle.book_splits.proofs.BalanceLemmas.{total-append, splits_of-added}
 use Rattle.book_splits.specs.Balance.{total, balance, quantity_on, splits_of}
 use Rattle.book_splits.specs.declared.split.Split.{Split}
 use Rattle.book_splits.specs.declared.transaction.Txn.{Txn}
-use Rattle.book_step.specs.Book.{Book, State}
+use Rattle.book_step.specs.Book.{State}
 use Rattle.book_step.specs.declared.answer.Answer.TheVariants as answer
 use Rattle.book_step.specs.declared.command.Command.TheVariants.{Post}
 use Rattle.book_step.specs.Step.{Done, step, first_broken, post_rules, unless_broken, new_transaction, added, post_answer, given_sum, new_split, new_splits}
@@ -24,7 +24,7 @@ pub new_splits-append : (number : ℕ) (xs : List GivenSplit) (split : GivenSpli
 new_splits-append number [] split = ap (λ n. new_split n split ∷ []) (omega arith)
 new_splits-append number (x ∷ xs) split =
     ap (λ splits. new_split number x ∷ splits)
-        (new_splits-append (number + 1) xs split ∙ ap (λ n. new_splits (number + 1) xs ++ new_split n split ∷ []) (omega arith))
+    (new_splits-append (number + 1) xs split ∙ ap (λ n. new_splits (number + 1) xs ++ new_split n split ∷ []) (omega arith))
 
 pub new_splits-take : (number : ℕ) (given : List GivenSplit) (i : ℕ) (d : GivenSplit) → i < length given → new_splits number (take (i + 1) given) ≡ new_splits number (take i given) ++ new_split (number + i) (get_or given i d) ∷ []
 new_splits-take number given i d below =
@@ -51,31 +51,31 @@ pub step-is_done :
     → version ≡ state.version + 1
     → step state (Post day currency description given)
     ≡ Done
-        (record {
-          book = record {
-            transactions = state.book.transactions
-                ++ (state.next, record { currency = currency; day = day; num = []; description = description; splits = splits }) ∷ [];
-          };
-          next = next;
-          version = version;
-        })
-        (answer.Post state.next numbers balances)
+    (record {
+      book = record {
+        transactions = state.book.transactions
+            ++ (state.next, record { currency = currency; day = day; num = []; description = description; splits = splits }) ∷ [];
+      };
+      next = next;
+      version = version;
+    })
+    (answer.Post state.next numbers balances)
 step-is_done state day currency description given splits numbers balances next version unbroken splits_are numbers_are balances_are next_is version_is =
     let entry : ℕ × Txn = (state.next, record { currency = currency; day = day; num = []; description = description; splits = splits }) in
     let given_entry : ℕ × Txn = new_transaction state.next day currency description given in
     let same : given_entry ≡ entry =
-        ap (λ (splits : List Split). let e : ℕ × Txn = (state.next, record { currency = currency; day = day; num = []; description = description; splits = splits }) in e) (sym splits_are) in
+    ap (λ (splits : List Split). let e : ℕ × Txn = (state.next, record { currency = currency; day = day; num = []; description = description; splits = splits }) in e) (sym splits_are) in
     let done : (e : ℕ × Txn) → unless_broken (first_broken (post_rules state.book given)) (added state e) (post_answer (added state e) e) ≡ Done (added state e) (post_answer (added state e) e) =
-        λ e. ap (λ broken. unless_broken broken (added state e) (post_answer (added state e) e)) unbroken in
+    λ e. ap (λ broken. unless_broken broken (added state e) (post_answer (added state e) e)) unbroken in
     let sums : map (λ split. balance (state.book.transactions ++ entry ∷ []) split.account) splits ≡ balances =
-        ap (λ (all : List Split). map (λ split. quantity_on split.account all) splits) (splits_of-added state.book.transactions entry) ∙ sym balances_are in
+    ap (λ (all : List Split). map (λ split. quantity_on split.account all) splits) (splits_of-added state.book.transactions entry) ∙ sym balances_are in
     done given_entry
     ∙ ap (λ e. Done (added state e) (post_answer (added state e) e)) same
     ∙ ap (λ n. Done (record { book = record { transactions = state.book.transactions ++ entry ∷ [] }; next = n; version = state.version + 1 })
-            (answer.Post state.next (map (λ split. split.id) splits) (map (λ split. balance (state.book.transactions ++ entry ∷ []) split.account) splits))) (sym next_is)
+    (answer.Post state.next (map (λ split. split.id) splits) (map (λ split. balance (state.book.transactions ++ entry ∷ []) split.account) splits))) (sym next_is)
     ∙ ap (λ v. Done (record { book = record { transactions = state.book.transactions ++ entry ∷ [] }; next = next; version = v })
-            (answer.Post state.next (map (λ split. split.id) splits) (map (λ split. balance (state.book.transactions ++ entry ∷ []) split.account) splits))) (sym version_is)
+    (answer.Post state.next (map (λ split. split.id) splits) (map (λ split. balance (state.book.transactions ++ entry ∷ []) split.account) splits))) (sym version_is)
     ∙ ap (λ ns. Done (record { book = record { transactions = state.book.transactions ++ entry ∷ [] }; next = next; version = version })
-            (answer.Post state.next ns (map (λ split. balance (state.book.transactions ++ entry ∷ []) split.account) splits))) (sym numbers_are)
+    (answer.Post state.next ns (map (λ split. balance (state.book.transactions ++ entry ∷ []) split.account) splits))) (sym numbers_are)
     ∙ ap (λ bs. Done (record { book = record { transactions = state.book.transactions ++ entry ∷ [] }; next = next; version = version })
-            (answer.Post state.next numbers bs)) sums
+    (answer.Post state.next numbers bs)) sums

@@ -1,9 +1,9 @@
 -- The definition of the step, computed on examples: a salary of 2,500.00 euro, and a post that does not balance.
-use Rattle.std.specs.Prelude.{◌≡◌, ℕ, ℤ, pos, negsuc, List, [], ◌∷◌, codes, None, refl}
+use Rattle.std.specs.Prelude.{◌≡◌, ℕ, ℤ, pos, negsuc, [], ◌∷◌, codes, None, refl}
 use Rattle.book_splits.specs.declared.split.Split.{Split}
 use Rattle.book_splits.specs.declared.split.Mark.TheVariants.{New}
 use Rattle.book_step.specs.Book.{State, first_state}
-use Rattle.book_step.specs.Step.{Outcome, Broken, Done, step}
+use Rattle.book_step.specs.Step.{Broken, Done, step}
 use Rattle.book_step.specs.declared.answer.Answer.TheVariants as answer
 use Rattle.book_step.specs.declared.command.Command.{Command}
 use Rattle.book_step.specs.declared.command.Command.TheVariants.{Post}
@@ -32,14 +32,17 @@ split_of number account value = record {
 abbrev pub after_salary : State
 after_salary = record {
   book = record {
-    transactions = (5, record {
-      currency = 1;
-      day = pos 19727;
-      num = [];
-      description = codes "Pay";
-      splits = split_of 6 3 (pos 250000) ∷ split_of 7 4 (negsuc 249999) ∷ [];
-    })
-    ∷ [];
+    transactions = (
+      5,
+      record {
+        currency = 1;
+        day = pos 19727;
+        num = [];
+        description = codes "Pay";
+        splits = split_of 6 3 (pos 250000) ∷ split_of 7 4 (negsuc 249999) ∷ [];
+      },
+    )
+        ∷ [];
   };
   next = 8;
   version = 3;

@@ -1,5 +1,5 @@
 -- What holds in every state that the machine reaches.
-use Rattle.std.specs.Prelude.{◌≡◌, ℕ, ◌+◌, ◌≤◌, ℤ, pos, All, length}
+use Rattle.std.specs.Prelude.{◌≡◌, ◌+◌, ◌≤◌, pos, All, length}
 use Rattle.book_splits.specs.Balance.{sum_of_values, splits_of}
 use Rattle.book_step.specs.Book.{State}
 

@@ -1,5 +1,5 @@
 -- The step of a command: the first rule of its order that it breaks, or the state after it and its answer.
-use Rattle.std.specs.Prelude.{ℕ, ◌+◌, ℤ, pos, Bool, true, false, List, [], ◌∷◌, ◌++◌, Option, None, Some, map, length, nat_lt, not, if◌then◌else◌}
+use Rattle.std.specs.Prelude.{ℕ, ◌+◌, ℤ, pos, Bool, true, false, List, [], ◌∷◌, ◌++◌, Option, None, Some, map, length, nat_lt, not}
 use Rattle.std.specs.Ordering.{int_eq}
 use Rattle.book_commodity.specs.declared.counted.Counted.TheVariants.{Transactions, Splits}
 use Rattle.book_splits.specs.Balance.{total, splits_of, balance}
@@ -73,8 +73,8 @@ post_rules book splits = unbalanced splits ∷ too_many_transactions book ∷ to
 -- the transaction of a post: it has the day, the currency and the description given, and no number text
 abbrev pub new_transaction : ℕ → ℤ → ℕ → List ℕ → List GivenSplit → ℕ × Txn
 new_transaction number day currency description splits = (
-    number,
-    record { currency = currency; day = day; num = []; description = description; splits = new_splits (number + 1) splits },
+  number,
+  record { currency = currency; day = day; num = []; description = description; splits = new_splits (number + 1) splits },
 )
 
 -- the state after a transaction is added: it took the next number, its splits those that follow

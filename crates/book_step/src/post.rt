@@ -9,6 +9,7 @@ use book_splits::{Mark, Split, Txn, balances_after};
 use std::alloc::Global;
 
 const MAX_TRANSACTIONS: u64 = 200_000;
+
 const MAX_SPLITS: u64 = 1_000_000;
 
 /// The sum of the values given, in smallest units of the transaction's currency.
@@ -66,7 +67,11 @@ fn split_given(alloc: Global, number: u64, given: &GivenSplit) -> Split
 }
 
 /// The splits of a post, of which the first gets the number.
-pub fn splits_given(alloc: Global, number: u64, given: &[GivenSplit]) -> Result<Many<Split>, OutOfMemory>
+pub fn splits_given(
+    alloc: Global,
+    number: u64,
+    given: &[GivenSplit],
+) -> Result<Many<Split>, OutOfMemory>
     requires { number + length given.now < 2 ^ 64 }
     ensures { IfOk result (λ splits. splits ≡ new_splits number given.now) }
 {
@@ -87,7 +92,12 @@ fn numbers_of(alloc: Global, splits: &[Split]) -> Result<Many<u64>, OutOfMemory>
 
 /// The answer to a post that took the number and has these splits, behind the transactions that were there:
 /// the numbers it drew, and for each split the balance of its account after the post.
-pub fn answer_given(alloc: Global, number: u64, transactions: &[(u64, Txn)], splits: &[Split]) -> Result<Answer, OutOfMemory>
+pub fn answer_given(
+    alloc: Global,
+    number: u64,
+    transactions: &[(u64, Txn)],
+    splits: &[Split],
+) -> Result<Answer, OutOfMemory>
     requires few { length (splits_of transactions.now) ≤ 2 ^ 61 }
     ensures { IfOk result (λ given. given ≡ Answer.Post number (map (λ split. split.id) splits.now) (map (λ split. quantity_on split.account (splits_of transactions.now ++ splits.now)) splits.now)) }
 {

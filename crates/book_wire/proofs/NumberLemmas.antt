@@ -1,5 +1,5 @@
 use Rattle.book_wire.specs.LineForm.{IsValue}
-use Rattle.std.proofs.Common.{◌++◌, ◌+◌, ◌<◌, ◌≡◌, ◌≢◌, ◌≤◌, ◌⊎◌, ◌∙◌, ◌∷◌, ◌^◌, All, FitsSigned, List, [], ap, arith, codes, decimal, get_or, inl, inr, length, lit<, negsuc, pos, refl, suc, sym, w64, zero, ℕ, ℤ}
+use Rattle.std.proofs.Common.{◌+◌, ◌<◌, ◌≡◌, ◌≢◌, ◌⊎◌, ◌∷◌, ◌^◌, All, FitsSigned, List, [], arith, decimal, get_or, inl, inr, lit<, negsuc, pos, suc, w64, zero, ℕ, ℤ}
 use Rattle.std.proofs.Math.IntN.{nat_abs}
 use Rattle.std.specs.Int.Signed.{mag}
 use Rattle.std.proofs.lemmas.Int.{ints}

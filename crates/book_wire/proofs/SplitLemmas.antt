@@ -1,6 +1,6 @@
 use Rattle.book_step.specs.declared.GivenSplit.{GivenSplit}
 use Rattle.book_wire.specs.LineForm.{AreSplits, IsSplit, split_spelling, splits_spelling}
-use Rattle.std.proofs.Common.{◌++◌, ◌+◌, ◌<◌, ◌≡◌, ◌≢◌, ◌≤◌, ◌∙◌, ◌∷◌, All, List, [], ap, append_assoc, arith, codes, drop, get_or, length, length-append, map, refl, subst, suc, sym, ℕ}
+use Rattle.std.proofs.Common.{◌++◌, ◌+◌, ◌<◌, ◌≡◌, ◌≤◌, ◌∙◌, ◌∷◌, All, List, [], ap, append_assoc, arith, codes, drop, get_or, length, length-append, map, refl, subst, sym, ℕ}
 use Rattle.std.proofs.lemmas.List.Elements.{All-push}
 use Rattle.std.proofs.lemmas.List.{get_or_at}
 use Rattle.std.specs.List.{join_with_byte}
@@ -127,6 +127,24 @@ pub HasRead-stopped : (bytes rest behind : List ℕ) (read : List GivenSplit) (s
     → (all : List GivenSplit) → AreSplits all → bytes ≡ splits_spelling all → ⊥
 HasRead-stopped bytes rest behind read split so_far only no_comma no_end all fits e =
     none-goes_on rest behind read split only no_comma no_end all fits (so_far.reads all fits e)
+
+only-more : (rest behind : List ℕ) (read : List GivenSplit) (split : GivenSplit) → Only rest split behind → behind ≡ 93 ∷ 125 ∷ []
+    → (all : List GivenSplit) → AreSplits all
+    → (more : List GivenSplit) × (all ≡ read ++ more) × (1 ≤ length more) × (rest ≡ splits_spelling more) → read ++ split ∷ [] ≡ all
+only-more rest behind read split only ends all are ([], is, some, e) = absurd (omega arith)
+only-more rest behind read split only ends all are (last ∷ [], is, some, e) =
+    let same = only last (codes "]}") (split-at read last [] all is are.each) e in
+    ap (λ s. read ++ s ∷ []) same.0 ∙ sym is
+only-more rest behind read split only ends all are (first ∷ next ∷ more, is, some, e) =
+    let same = only first (44 ∷ splits_spelling (next ∷ more)) (split-at read first (next ∷ more) all is are.each) (e ∙ splits_spelling-cons first next more) in
+    absurd (comma_is_no_bracket (splits_spelling (next ∷ more)) (sym same.1 ∙ ends))
+
+-- No other splits have the spelling of those that were read to the end.
+pub HasRead-only : (bytes rest behind : List ℕ) (read : List GivenSplit) (split : GivenSplit)
+    → HasRead bytes rest read → Only rest split behind → behind ≡ 93 ∷ 125 ∷ []
+    → (all : List GivenSplit) → AreSplits all → bytes ≡ splits_spelling all → read ++ split ∷ [] ≡ all
+HasRead-only bytes rest behind read split so_far only ends all fits e =
+    only-more rest behind read split only ends all fits (so_far.reads all fits e)
 
 -- There are no more than 500.
 pub HasRead-full : (bytes rest : List ℕ) (read : List GivenSplit) → HasRead bytes rest read → 500 ≤ length read

@@ -1,5 +1,5 @@
 use Rattle.book_wire.specs.LineForm.{IsDescription, IsPlain}
-use Rattle.std.proofs.Common.{◌<◌, ◌≡◌, ◌≢◌, ◌≤◌, All, List, arith, get_or, inl, inr, length, ℕ}
+use Rattle.std.proofs.Common.{◌≢◌, All, List, arith, inl, inr, length, ℕ}
 use Rattle.std.proofs.lemmas.Bool.{cases_lt}
 use Rattle.std.proofs.lemmas.List.{get_or_past}
 use Rattle.std.proofs.lemmas.Str.{IsUtf8-from_ascii}

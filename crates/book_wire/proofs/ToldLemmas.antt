@@ -20,7 +20,7 @@ use Rattle.book_step.specs.declared.Answer.{Answer}
 use Rattle.book_step.specs.declared.Rule.TheVariants.{Limit, Unbalanced}
 use Rattle.book_step.specs.declared.Rule.{Rule}
 use Rattle.book_wire.specs.AnswerText.{answer_bytes, counted_word, not_built_bytes, numbers_text, quoted_sum, rule_bytes, sums_text}
-use Rattle.std.proofs.Common.{◌&&◌, ◌+◌, ◌++◌, ◌/◌, ◌%◌, ◌<◌, ◌==◌, ◌≡◌, ◌≤◌, ◌∙◌, ◌∷◌, Bool, List, [], arith, codes, cond, decimal, false, inl, inr, length, map, nat_lt, negsuc, not, pos, refl, suc, true, zero, ℕ, ℤ}
+use Rattle.std.proofs.Common.{◌&&◌, ◌+◌, ◌++◌, ◌/◌, ◌%◌, ◌<◌, ◌==◌, ◌≡◌, ◌∙◌, ◌∷◌, Bool, List, [], arith, codes, cond, decimal, false, inl, inr, map, nat_lt, negsuc, not, pos, refl, suc, true, zero, ℕ, ℤ}
 use Rattle.std.proofs.lemmas.Bool.Decides.{eqb_tells}
 use Rattle.std.proofs.lemmas.List.Folds.{list_all-append}
 use Rattle.std.specs.Fmt.{digit_glyph, digits, digits_onto, signed_decimal}

@@ -40,6 +40,14 @@ spelling (Post day currency description splits) = codes "{\"do\":\"post\",\"day\
     ++ (day_text day ++ (codes "\",\"currency\":" ++ (decimal currency
     ++ (codes ",\"description\":\"" ++ (description ++ (codes "\",\"splits\":[" ++ splits_spelling splits))))))
 
+-- A line that spells a command runs through its day, then through currency 1 and its description, and then goes on.
+abbrev pub through_day : ℤ → List ℕ → List ℕ
+through_day day rest = codes "{\"do\":\"post\",\"day\":\"" ++ (day_text day ++ rest)
+
+abbrev pub through_description : List ℕ → List ℕ → List ℕ
+through_description description rest =
+    codes "\",\"currency\":" ++ (decimal 1 ++ (codes ",\"description\":\"" ++ (description ++ rest)))
+
 -- A byte of a description is a printable one of ASCII, and neither a quote nor a backslash.
 abbrev pub IsPlain : ℕ → Type 0
 IsPlain byte = (32 ≤ byte) × (byte ≤ 126) × (byte ≢ 34) × (byte ≢ 92)
@@ -71,6 +79,7 @@ pub record IsPost (day : ℤ) (currency : ℕ) (description : List ℕ) (splits 
   pub description_is : IsDescription description
   pub splits_are : AreSplits splits
 
+-- A command fits the form where it is such a post.
 abbrev pub Fits : Command → Type 0
 Fits (Post day currency description splits) = IsPost day currency description splits
 

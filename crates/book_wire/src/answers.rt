@@ -7,6 +7,7 @@ use std::alloc::{AllocError, Global};
 use std::fmt::Write;
 
 /// The line that answers an accepted command, without its line feed; `version` is the one after the command.
+/// An error only where memory is refused.
 pub fn answer_text(alloc: Global, answer: &Answer, version: u64) -> Result<Bytes, OutOfMemory>
     ensures { IfOk result (λ text. text ≡ answer_bytes answer.now version) }
 {
@@ -27,6 +28,7 @@ pub fn answer_text(alloc: Global, answer: &Answer, version: u64) -> Result<Bytes
 }
 
 /// The line that answers a command which would break the rule; `version` is the one that stays.
+/// An error only where memory is refused.
 pub fn rule_text(alloc: Global, rule: &Rule, version: u64) -> Result<Bytes, OutOfMemory>
     ensures { IfOk result (λ text. text ≡ rule_bytes rule.now version) }
 {
@@ -46,7 +48,7 @@ pub fn rule_text(alloc: Global, rule: &Rule, version: u64) -> Result<Bytes, OutO
     Ok(Bytes::of(text.into_bytes()))
 }
 
-/// The line that answers a line which is no command that the program takes yet.
+/// The line that answers a line which is no command that the program takes yet; an error only where memory is refused.
 pub fn not_built_text(alloc: Global) -> Result<Bytes, OutOfMemory>
     ensures { IfOk result (λ text. text ≡ not_built_bytes) }
 {

@@ -18,6 +18,8 @@ const VALUE_BOUND: u64 = 1_000_000_000_000;
 pub fn splits(alloc: Global, bytes: &[u8]) -> Result<Option<Many<GivenSplit>>, OutOfMemory>
     ensures found { IfOk result (λ found. IfSome found (λ splits. AreSplits splits × (bytes.now ≡ splits_spelling splits))) }
     ensures none { IfOk result (λ found. IfNone found ((splits : List GivenSplit) → AreSplits splits → bytes.now ≡ splits_spelling splits → ⊥)) }
+    ensures only { (all : List GivenSplit) → AreSplits all → bytes.now ≡ splits_spelling all
+        → IfOk result (λ found. IfSome found (λ splits. splits ≡ all)) }
 {
     let mut splits = Many::new(alloc);
     let mut rest = bytes;

@@ -1,14 +1,16 @@
-//! Lines and answers written by hand, beside those that the form must refuse.
+//! Lines and answers written by hand, beside lines that the form must refuse.
 use crate::{answer_text, command_of, not_built_text, rule_text};
 use book_commodity::{Counted, Many, OutOfMemory};
 use book_step::{Answer, Command, Rule};
-use std::alloc::{AllocError, Global};
+use std::alloc::Global;
 
 const SALARY: &str =
     r#"{"do":"post","day":"2024-01-05","currency":1,"description":"Pay","splits":[{"account":3,"value":250000},{"account":4,"value":-250000}]}"#;
 
-/// Days, descriptions and lists of splits, and whether a line of them is of the form.
-const LINES: [(&str, &str, &str, bool); 28] = [
+/// The day, the description and the splits of a line, and whether it is of the form.
+type Row = (&'static str, &'static str, &'static str, bool);
+
+static ROWS: [Row; 28] = [
     ("2024-01-05", "Pay", r#"{"account":3,"value":0}"#, true),
     (
         "2024-02-29",
@@ -69,22 +71,39 @@ const LINES: [(&str, &str, &str, bool); 28] = [
     ),
 ];
 
-fn line(alloc: Global, day: &str, description: &str, splits: &str) -> Result<String, AllocError> {
-    format!(in alloc;
-        "{{\"do\":\"post\",\"day\":\"{day}\",\"currency\":1,\"description\":\"{description}\",\"splits\":[{splits}]}}"
-    )
+fn rows() -> &'static [Row] {
+    &ROWS
 }
 
-/// Whether the line is a command.
-fn is_command(alloc: Global, line: &str) -> Result<bool, OutOfMemory> {
+/// Whether the line of these parts is a command.
+fn takes(alloc: Global, day: &str, description: &str, splits: &str) -> Result<bool, OutOfMemory> {
+    let line = format!(in alloc;
+        "{{\"do\":\"post\",\"day\":\"{day}\",\"currency\":1,\"description\":\"{description}\",\"splits\":[{splits}]}}"
+    )?;
     Ok(command_of(alloc, line.as_bytes())?.is_some())
 }
 
-#[test]
-fn reads_a_salary(rt: HostRuntime) -> Result<(), OutOfMemory> {
-    let Some(command) = command_of(rt.alloc(), SALARY.as_bytes())? else {
-        assert!(rt; false, "the salary is a command");
-        return Ok(());
+/// The piece so many times, with the separator between.
+fn repeated(
+    alloc: Global,
+    piece: &str,
+    separator: &str,
+    count: u32,
+) -> Result<String, OutOfMemory> {
+    let mut text = String::new(alloc);
+    for place in 0..count {
+        if place > 0 {
+            text.push_str(separator)?;
+        }
+        text.push_str(piece)?;
+    }
+    Ok(text)
+}
+
+/// Whether the salary is read as what it spells.
+fn salary_is_read(alloc: Global) -> Result<bool, OutOfMemory> {
+    let Some(command) = command_of(alloc, SALARY.as_bytes())? else {
+        return Ok(false);
     };
     let Command::Post {
         day,
@@ -92,59 +111,50 @@ fn reads_a_salary(rt: HostRuntime) -> Result<(), OutOfMemory> {
         description,
         splits,
     } = command;
-    assert_eq!(rt; day.number(), 19_727);
-    assert_eq!(rt; currency, 1);
-    assert_eq!(rt; description.as_str(), "Pay");
-    let given: Vec<(u64, i64)> = splits
-        .as_slice()
-        .iter()
-        .map(|split| (split.account, split.value))
-        .collect(rt.alloc())?;
-    assert_eq!(rt; given.as_slice(), [(3, 250_000), (4, -250_000)].as_slice());
-    Ok(())
+    let [bank, income] = splits.as_slice() else {
+        return Ok(false);
+    };
+    Ok(
+        day.number() == 19_727
+            && currency == 1
+            && description.as_str() == "Pay"
+            && (bank.account, bank.value) == (3, 250_000)
+            && (income.account, income.value) == (4, -250_000),
+    )
+}
+
+fn answered(alloc: Global, answer: &Answer, version: u64, text: &str) -> Result<bool, OutOfMemory> {
+    Ok(answer_text(alloc, answer, version)?.as_slice() == text.as_bytes())
+}
+
+fn refused(alloc: Global, rule: Rule, version: u64, text: &str) -> Result<bool, OutOfMemory> {
+    Ok(rule_text(alloc, &rule, version)?.as_slice() == text.as_bytes())
+}
+
+/// The splits of the first row that is read otherwise than expected.
+fn misread(alloc: Global) -> Result<Option<&'static str>, OutOfMemory> {
+    for (day, description, splits, expected) in rows() {
+        if takes(alloc, day, description, splits)? != *expected {
+            return Ok(Some(*splits));
+        }
+    }
+    Ok(None)
+}
+
+/// Whether a line with a description of so many bytes and with so many splits is a command.
+fn takes_long(alloc: Global, bytes: u32, count: u32) -> Result<bool, OutOfMemory> {
+    let description = repeated(alloc, "a", "", bytes)?;
+    let splits = repeated(alloc, r#"{"account":4,"value":1}"#, ",", count)?;
+    takes(alloc, "2024-01-05", description.as_str(), splits.as_str())
 }
 
 #[test]
-fn tells_lines_of_the_form(rt: HostRuntime) -> Result<(), OutOfMemory> {
-    for (day, description, splits, expected) in LINES {
-        let text = line(rt.alloc(), day, description, splits)?;
-        assert_eq!(rt; is_command(rt.alloc(), text.as_str())?, expected, "{text}");
-    }
-    for behind in [" ", "\r", "}", "{}"] {
-        let text = format!(in rt.alloc(); "{SALARY}{behind}")?;
-        assert!(rt; !is_command(rt.alloc(), text.as_str())?, "{text}");
-    }
-    Ok(())
-}
-
-#[test]
-fn keeps_to_the_lengths(rt: HostRuntime) -> Result<(), OutOfMemory> {
-    let split = r#"{"account":4,"value":1}"#;
-    for (count, expected) in [(1, true), (500, true), (501, false)] {
-        let mut splits = String::from_str(rt.alloc(), split)?;
-        for _ in 1..count {
-            splits.push_str(",")?;
-            splits.push_str(split)?;
-        }
-        let text = line(rt.alloc(), "2024-01-05", "Pay", splits.as_str())?;
-        assert_eq!(rt;
-            is_command(rt.alloc(), text.as_str())?,
-            expected,
-            "{count} splits"
-        );
-    }
-    for (count, expected) in [(1_000, true), (1_001, false)] {
-        let mut description = String::new(rt.alloc());
-        for _ in 0..count {
-            description.push_str("a")?;
-        }
-        let text = line(rt.alloc(), "2024-01-05", description.as_str(), split)?;
-        assert_eq!(rt;
-            is_command(rt.alloc(), text.as_str())?,
-            expected,
-            "{count} bytes"
-        );
-    }
+fn reads_lines(rt: HostRuntime) -> Result<(), OutOfMemory> {
+    assert!(rt; salary_is_read(rt.alloc())?);
+    assert_eq!(rt; misread(rt.alloc())?, None);
+    assert!(rt; takes_long(rt.alloc(), 1_000, 500)?);
+    assert!(rt; !takes_long(rt.alloc(), 1_001, 500)?);
+    assert!(rt; !takes_long(rt.alloc(), 1_000, 501)?);
     Ok(())
 }
 
@@ -155,25 +165,17 @@ fn writes_answers(rt: HostRuntime) -> Result<(), OutOfMemory> {
         splits: Many::of(vec![in rt.alloc(); 6, 7]?),
         balances: Many::of(vec![in rt.alloc(); 250_000, -250_000]?),
     };
-    let posted = answer_text(rt.alloc(), &answer, 3)?;
-    let wanted =
+    let posted =
         r#"{"balances":["250000","-250000"],"ok":"post","splits":[6,7],"transaction":5,"version":3}"#;
-    assert_eq!(rt; posted.as_slice(), wanted.as_bytes());
-    let unbalanced = rule_text(rt.alloc(), &Rule::Unbalanced { sum: 1 }, 2)?;
+    assert!(rt; answered(rt.alloc(), &answer, 3, posted)?);
+    let unbalanced = r#"{"broken":"Unbalanced","sum":"1","version":2}"#;
+    assert!(rt; refused(rt.alloc(), Rule::Unbalanced { sum: 1 }, 2, unbalanced)?);
+    let full = r#"{"at":200000,"broken":"Limit","version":7,"which":"transactions"}"#;
+    let which = Counted::Transactions;
+    assert!(rt; refused(rt.alloc(), Rule::Limit { which, at: 200_000 }, 7, full)?);
     assert_eq!(rt;
-        unbalanced.as_slice(),
-        r#"{"broken":"Unbalanced","sum":"1","version":2}"#.as_bytes()
+        not_built_text(rt.alloc())?.as_slice(),
+        r#"{"refused":"not built"}"#.as_bytes()
     );
-    let limit = Rule::Limit {
-        which: Counted::Transactions,
-        at: 200_000,
-    };
-    let full = rule_text(rt.alloc(), &limit, 7)?;
-    assert_eq!(rt;
-        full.as_slice(),
-        r#"{"at":200000,"broken":"Limit","version":7,"which":"transactions"}"#.as_bytes()
-    );
-    let refused = not_built_text(rt.alloc())?;
-    assert_eq!(rt; refused.as_slice(), r#"{"refused":"not built"}"#.as_bytes());
     Ok(())
 }

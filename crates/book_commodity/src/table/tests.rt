@@ -1,6 +1,4 @@
 use super::Table;
-use crate::{Commodities, Commodity, Text};
-use std::test::Fail;
 
 #[test]
 fn entries_stand_by_rising_numbers(rt: HostRuntime) {
@@ -13,26 +11,4 @@ fn entries_stand_by_rising_numbers(rt: HostRuntime) {
     assert!(rt; table.len() == 2);
     assert!(rt; table.number_at(0) == 7 && *table.value_at(0) == 4 && table.number_at(1) == 9);
     assert!(rt; table.find(9).copied() == Some(3) && table.find(8).is_none());
-}
-
-#[test]
-fn commodities_are_copied_and_kept(rt: HostRuntime) -> Result<(), Fail> {
-    let euro = Commodity {
-        space: Text::of(String::from_str(rt.alloc(), "CURRENCY")?),
-        name: Text::of(String::from_str(rt.alloc(), "EUR")?),
-        full_name: Text::of(String::from_str(rt.alloc(), "Euro")?),
-        fraction: 100,
-    };
-    let mut commodities = Commodities::new(rt.alloc());
-    assert!(rt; commodities.reserve(1).is_ok());
-    let copy = euro.copy();
-    assert!(rt; copy.is_ok());
-    if let Ok(copy) = copy {
-        assert!(rt; commodities.put(1, copy).is_none());
-    }
-    assert!(rt;
-        commodities.find(1).is_some_and(|found| found.name.as_str() == "EUR"
-            && found.fraction == 100)
-    );
-    Ok(())
 }

@@ -1,4 +1,4 @@
-use Rattle.std.proofs.Common.{◌≡◌, ◌^◌, ◌<◌, ◌≤◌, ◌∙◌, ap, sym, subst, length, arith}
+use Rattle.std.proofs.Common.{◌≡◌, ◌^◌, ◌<◌, ◌≤◌, ◌∙◌, sym, subst, length, arith}
 use Rattle.book_lines.specs.Loop.{answer_of, GaveAnswer}
 use Rattle.book_lines.proofs.RoomLemmas.{front_is, size_is, front_of-short}
 use Rattle.book_lines.proofs.AnswerLemmas.{gave, gave-memory}

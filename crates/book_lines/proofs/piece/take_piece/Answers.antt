@@ -1,8 +1,7 @@
-use Rattle.std.proofs.Common.{◌≡◌, ◌∙◌, ℕ, sym, ap, subst, refl, List, [], ◌∷◌, ◌++◌, length, take, drop, ◌+◌, ◌-◌, ◌<◌, ◌^◌, arith, append-nil, length-take, length-drop}
+use Rattle.std.proofs.Common.{sym, subst, refl, [], ◌∷◌, ◌++◌, length, take, drop, ◌+◌, ◌-◌, ◌<◌, ◌^◌, arith, length-take, length-drop}
 use Rattle.book_lines.specs.Lines.{left_over}
-use Rattle.book_lines.specs.Room.{Seen, seen}
 use Rattle.book_lines.specs.Table.{at}
-use Rattle.book_lines.specs.Loop.{HasTaken, HasStopped, HasBroken}
+use Rattle.book_lines.specs.Loop.{HasTaken}
 use Rattle.book_lines.proofs.LineLemmas.{one_line-none, one_line-before, line_parts}
 use Rattle.book_lines.proofs.LoopLemmas.{HasTaken-nil, HasTaken-append, HasTaken-segment, HasTaken-more, HasStopped-output}
 use Rattle.book_lines.proofs.piece.take_piece.Goals as goal
@@ -56,15 +55,15 @@ lines-preserved g c =
     let end = c.in-Some.end in
     let first = c.in-Some.ensures in
     let fits : c.end_line.new.line.size + length (take (length rest - (end + 1)) (drop (end + 1) rest)) < 2 ^ 64 =
-        omega (arith, c.end_line.ensures.empty, c.lines.invariant.fits, length-take (length rest - (end + 1)) (drop (end + 1) rest), length-drop (end + 1) rest) in
+    omega (arith, c.end_line.ensures.empty, c.lines.invariant.fits, length-take (length rest - (end + 1)) (drop (end + 1) rest), length-drop (end + 1) rest) in
     record {
       taken = (
         taken.0 ++ (take end rest ++ 10 ∷ []),
         line_parts c.args.piece.now taken.0 rest end (length rest) taken.1 first.1 first.0.high refl,
         λ begun is few.
-        HasTaken-more g.M.Machine.answers begun taken.0 (take end rest) start now then' c.lines.line c.extend-in-lines.new.self c.end_line.new.line
-        c.args.count.now c.lines.count c.end_line.new.count
-        (taken.2 begun is few) (omega (arith, c.if-count-ge-MAX_LINES.false)) (one_line-before rest end first.0) c.extend-in-lines.ensures c.in-Ok.ensures.taken,
+            HasTaken-more g.M.Machine.answers begun taken.0 (take end rest) start now then' c.lines.line c.extend-in-lines.new.self c.end_line.new.line
+            c.args.count.now c.lines.count c.end_line.new.count
+            (taken.2 begun is few) (omega (arith, c.if-count-ge-MAX_LINES.false)) (one_line-before rest end first.0) c.extend-in-lines.ensures c.in-Ok.ensures.taken,
       );
       fits = fits;
       later = omega (arith, c.lines.invariant.later, c.end_line.ensures.cause.later);

@@ -15,7 +15,7 @@ invariant-lines g l = record {
       (at l.machine (g.O.Sink.written l.output) (g.M.Machine.faults l.keeper)) l.line l.fn.count l.count);
   fits : l.line.size + length l.rest < 2 ^ 64;
   later : g.O.Sink.faults l.fn.output ≤ g.O.Sink.faults l.output;
-  stands : g.M.Machine.stands l.machine l.keeper
+  stands : g.M.Machine.stands l.machine l.keeper;
 }
 
 abbrev pub decreases-lines : goal.decreases-lines

@@ -1,4 +1,4 @@
-use Rattle.std.proofs.Common.{◌≡◌, ◌∙◌, ℕ, sym, ap, subst, refl, List, [], ◌++◌, length, take, ◌+◌, ◌<◌, ◌≤◌, ◌^◌, arith, append-nil, length-append, Ok}
+use Rattle.std.proofs.Common.{◌≡◌, sym, ap, subst, refl, [], ◌++◌, length, take, ◌+◌, ◌≤◌, ◌^◌, arith, append-nil, length-append, Ok}
 use Rattle.std.proofs.lemmas.List.{length-take-le}
 use Rattle.book_keeper.specs.Stream.{Took}
 use Rattle.book_keeper.proofs.StreamLemmas.{Took-nil, Took-append}
@@ -30,7 +30,7 @@ returns-in-Err-clause-table g c =
     let after = g.S.Source.left c.read_piece.new.input in
     let taken = c.pieces.invariant.taken in
     let took : Took before after taken.0 =
-        subst (λ l. Took before after l) (append-nil taken.0) (Took-append before mid after taken.0 [] taken.1 c.in-Err.ensures.unchanged) in
+    subst (λ l. Took before after l) (append-nil taken.0) (Took-append before mid after taken.0 [] taken.1 c.in-Err.ensures.unchanged) in
     IsRun-input g.M.Machine.answers before after taken.0 start now c.pieces.line c.pieces.count took (omega (arith, taken.2, c.pieces.invariant.fits)) taken.3
 
 pub returns-then-read-eq0-clause-table : goal.returns-then-read-eq0-clause-table
@@ -44,7 +44,7 @@ returns-then-read-eq0-clause-table g c =
     let taken = c.pieces.invariant.taken in
     let none : Took mid after [] = subst (λ n. Took mid after (take n c.read_piece.new.piece)) c.if-read-eq0.true c.in-Ok.ensures.read in
     let took : Took before after taken.0 =
-        subst (λ l. Took before after l) (append-nil taken.0) (Took-append before mid after taken.0 [] taken.1 none) in
+    subst (λ l. Took before after l) (append-nil taken.0) (Took-append before mid after taken.0 [] taken.1 none) in
     IsRun-ended g.M.Machine.answers before after taken.0 start now then' c.pieces.line c.pieces.count c.end_input.result took
     (c.in-Ok.ensures.end (ap Ok c.if-read-eq0.true)) (omega (arith, taken.2, c.pieces.invariant.fits)) taken.3
     (c.end_input.ensures.ended (last_piece taken.0) taken.3.room_is)
@@ -71,7 +71,7 @@ pub take_piece-requires-clause-fits : goal.take_piece-requires-clause-fits
 take_piece-requires-clause-fits g c =
     let taken = c.pieces.invariant.taken in
     let long : length (take c.in-Ok.read c.read_piece.new.piece) ≡ c.in-Ok.read =
-        length-take-le c.in-Ok.read c.read_piece.new.piece (omega (arith, c.in-Ok.ensures.within, c.read_piece.array_long)) in
+    length-take-le c.in-Ok.read c.read_piece.new.piece (omega (arith, c.in-Ok.ensures.within, c.read_piece.array_long)) in
     omega (arith, long, taken.2, c.pieces.invariant.fits, c.in-Ok.ensures.within, size_is c.pieces.line (last_piece taken.0) taken.3.room_is, length-left_over [] taken.0)
 
 pub returns-in-Err-take_piece-clause-table : goal.returns-in-Err-take_piece-clause-table
@@ -107,7 +107,7 @@ pieces-preserved g c =
         Took-append before mid after taken.0 piece taken.1 c.in-Ok.ensures.read,
         omega (arith, long, taken.2, length-append taken.0 piece),
         HasTaken-append g.M.Machine.answers [] taken.0 piece start now then' c.pieces.line c.take_piece.new.line 0 c.pieces.count c.take_piece.new.count taken.3
-        (c.in_default.ensures.taken (last_piece taken.0) taken.3.room_is taken.3.few),
+            (c.in_default.ensures.taken (last_piece taken.0) taken.3.room_is taken.3.few),
       );
       fits = c.in-Ok.ensures.limit (omega (arith, c.pieces.invariant.fits, c.if-taken-eq-MAX_BYTES.false));
       input = omega (arith, c.pieces.invariant.input, c.in-Ok.ensures.cause.later);

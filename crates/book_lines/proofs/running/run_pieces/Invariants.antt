@@ -14,7 +14,7 @@ invariant-pieces g l = record {
   fits : l.taken ≤ 2 ^ 33;
   input : g.S.Source.faults l.fn.input ≤ g.S.Source.faults l.input;
   output : g.O.Sink.faults l.fn.output ≤ g.O.Sink.faults l.output;
-  stands : g.M.Machine.stands l.machine l.keeper
+  stands : g.M.Machine.stands l.machine l.keeper;
 }
 
 abbrev pub decreases-pieces : goal.decreases-pieces

@@ -1,24 +1,21 @@
-use Rattle.std.proofs.Common.{rules, ◌≡◌, ℕ, ◌+◌, ◌*◌, ◌≤◌, ◌^◌, ℤ, pos, ◌+ℤ◌, List, [], ◌∷◌, ◌++◌, ◌==◌, if◌then◌else◌, All, IfOk, OnOk, IfSome, IsSome, Option, Some, length, map, take, option_map, ◌-◌, ◌<◌, ◌/◌, ◌%◌, Bool, true, false, refl, sym, ap, subst, ◌∙◌, arith, get_or, append_assoc}
+use Rattle.std.proofs.Common.{[], ◌++◌, IsSome}
 use Rattle.std.proofs.lemmas.Result.{IfOk-weaker}
-use Rattle.std.proofs.lemmas.Grind.{common_steps}
-use Rattle.std.proofs.lemmas.List.{take_more, take_all, map-append}
-use Rattle.std.proofs.lemmas.List.Elements.{All-more, All-get_or, All-weaker}
-use Rattle.book_splits.specs.Balance.{IsWithin, quantity_on, splits_of}
-use Rattle.book_splits.specs.declared.split.Split.{Split}
-use Rattle.book_splits.specs.Balances.{balance_at, Adds, Counts, IsSmall, Puts}
-use Rattle.book_splits.proofs.Tables.{balances-more, take-item, Puts-here, Puts-keeps, Puts-zero, IsSmall-zero, balances-are, Counts-along, IsSmall-le}
+use Rattle.std.proofs.lemmas.List.Elements.{All-weaker}
+use Rattle.book_splits.specs.Balance.{splits_of}
+use Rattle.book_splits.specs.Balances.{balance_at, Counts}
+use Rattle.book_splits.proofs.Tables.{balances-are}
 use Rattle.book_splits.proofs.balances.balances_after.Goals as goal
 
 pub of_each-requires : goal.of_each-requires
 of_each-requires c =
     All-weaker (λ split. IsSome (balance_at c.in_ok-balances.balances split.account)) (λ split. IsSome (balance_at c.count.new.self split.account))
-        (λ split had. c.in_ok-count.ensures.kept split.account (c.in_ok-count_all.ensures.kept split.account had))
-        c.args.splits.now c.in_ok-balances.ensures.named
+    (λ split had. c.in_ok-count.ensures.kept split.account (c.in_ok-count_all.ensures.kept split.account had))
+    c.args.splits.now c.in_ok-balances.ensures.named
 
 pub returns : goal.returns
 returns c =
     let counts : Counts c.count.new.self (splits_of c.args.transactions.now ++ c.args.splits.now) =
-        c.in_ok-count.ensures.counted _ (c.in_ok-count_all.ensures.counted [] c.in_ok-balances.ensures.zero) in
+    c.in_ok-count.ensures.counted _ (c.in_ok-count_all.ensures.counted [] c.in_ok-balances.ensures.zero) in
     IfOk-weaker c.of_each.result _ _
-        (λ given e. balances-are c.count.new.self _ counts given c.args.splits.now e)
-        c.of_each.ensures
+    (λ given e. balances-are c.count.new.self _ counts given c.args.splits.now e)
+    c.of_each.ensures

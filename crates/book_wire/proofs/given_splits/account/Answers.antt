@@ -1,6 +1,6 @@
 use Rattle.book_wire.proofs.NumberLemmas.{decimal-account}
 use Rattle.book_wire.proofs.given_splits.account.Goals as goal
-use Rattle.std.proofs.Common.{◌+◌, ◌++◌, ◌≡◌, ◌⊎◌, ◌∙◌, ◌∷◌, List, [], ap, arith, decimal, drop, get_or, inl, inr, length, refl, sym, ℕ}
+use Rattle.std.proofs.Common.{◌+◌, ◌++◌, ◌≡◌, ◌⊎◌, ◌∙◌, ◌∷◌, List, ap, arith, decimal, drop, get_or, inl, inr, length, refl, sym, ℕ}
 
 -- Bytes that begin with an account begin with its digit.
 digit_of : (bytes more : List ℕ) (account : ℕ) → (account ≡ 3) ⊎ (account ≡ 4) → bytes ≡ decimal account ++ more

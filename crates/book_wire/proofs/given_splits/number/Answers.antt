@@ -1,7 +1,7 @@
 use Rattle.book_wire.proofs.NumberLemmas.{IsValue-abs, IsValue-fits, IsValue-mag}
 use Rattle.book_wire.proofs.given_splits.number.Goals as goal
 use Rattle.book_wire.specs.LineForm.{IsValue}
-use Rattle.std.proofs.Common.{◌<◌, ◌≡◌, ◌≤◌, ◌∙◌, Err, List, None, Ok, Result, Some, ap, arith, false, subst, sym, to_z, true, of_z, w64, ℕ, ℤ}
+use Rattle.std.proofs.Common.{◌<◌, ◌≡◌, ◌≤◌, ◌∙◌, Err, List, Ok, Result, Some, ap, arith, false, subst, sym, to_z, true, of_z, w64, ℕ, ℤ}
 use Rattle.std.proofs.Math.IntN.{nat_abs}
 use Rattle.std.proofs.lemmas.Bool.Decides.{Decides-eqb}
 use Rattle.std.proofs.lemmas.Slice.Eq.{slice_eq-Decides}

@@ -1,8 +1,8 @@
 use Rattle.book_step.specs.declared.GivenSplit.{GivenSplit}
-use Rattle.book_wire.proofs.SplitLemmas.{HasRead, HasRead-end, HasRead-more, HasRead-no_split, HasRead-stopped}
+use Rattle.book_wire.proofs.SplitLemmas.{HasRead, HasRead-end, HasRead-more, HasRead-no_split, HasRead-only, HasRead-stopped}
 use Rattle.book_wire.proofs.given_splits.splits.Goals as goal
 use Rattle.book_wire.specs.LineForm.{AreSplits, splits_spelling}
-use Rattle.std.proofs.Common.{◌+◌, ◌<◌, ◌≡◌, ◌∙◌, ◌∷◌, List, [], ap, arith, codes, false, length, length-append, refl, subst, sym, true, ℕ}
+use Rattle.std.proofs.Common.{◌<◌, ◌≡◌, ◌∙◌, ◌∷◌, List, [], ap, arith, false, length, length-append, refl, subst, sym, true}
 use Rattle.std.proofs.lemmas.Bool.Decides.{Decides-eqb}
 use Rattle.std.proofs.lemmas.Slice.Eq.{slice_eq-Decides}
 
@@ -19,6 +19,11 @@ returns-then-eq-clause-found c =
     let P : List GivenSplit → Type 0 = λ s. AreSplits s × (c.args.bytes.now ≡ splits_spelling s) in
     subst P (sym c.in_ok-push.ensures.added) (HasRead-end _ _ _ _ c.in-Some.next c.splits.invariant.read few
     c.in-Some.ensures.found.0 c.in-Some.ensures.found.1 (ends ∙ c.as_slice.ensures))
+
+pub returns-then-eq-clause-only : goal.returns-then-eq-clause-only
+returns-then-eq-clause-only c all fits e =
+    let ends = (slice_eq-Decides Decides-eqb c.in-Some.behind.now c.as_slice.result.now true c.if-eq.ensures).0 refl in
+    c.in_ok-push.ensures.added ∙ HasRead-only _ _ _ _ c.in-Some.next c.splits.invariant.read c.in-Some.ensures.reads (ends ∙ c.as_slice.ensures) all fits e
 
 pub returns-in_default-after-clause-none : goal.returns-in_default-after-clause-none
 returns-in_default-after-clause-none c =

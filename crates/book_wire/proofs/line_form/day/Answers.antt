@@ -1,7 +1,7 @@
 use Rattle.book_commodity.proofs.DayTextLemmas.{day_text_injective, length-day_text}
 use Rattle.book_commodity.specs.Day.{IsDay, day_text}
 use Rattle.book_wire.proofs.line_form.day.Goals as goal
-use Rattle.std.proofs.Common.{◌+◌, ◌++◌, ◌<◌, ◌≡◌, ◌∙◌, List, ap, arith, drop, length, length-append, sym, take, ℕ, ℤ}
+use Rattle.std.proofs.Common.{◌++◌, ◌<◌, ◌≡◌, ◌∙◌, List, ap, arith, drop, length, length-append, sym, take, ℕ, ℤ}
 use Rattle.std.proofs.lemmas.List.{drop_at, take_at}
 
 -- Bytes that begin with a day's text have at least its ten bytes.

@@ -1,7 +1,7 @@
 use Rattle.book_wire.proofs.NumberLemmas.{decimal-one}
 use Rattle.book_wire.proofs.line_form.described.Goals as goal
-use Rattle.book_wire.specs.LineForm.{IsDescription}
-use Rattle.std.proofs.Common.{◌++◌, ◌≡◌, ◌∙◌, ◌∷◌, Bor, IfSome, IsSomeAnd, List, None, Option, Some, ap, codes, decimal, subst, sym, ℕ}
+use Rattle.book_wire.specs.LineForm.{IsDescription, through_description}
+use Rattle.std.proofs.Common.{◌++◌, ◌≡◌, ◌∙◌, ◌∷◌, Bor, IfSome, List, None, Option, Some, ap, codes, decimal, sym, ℕ}
 
 -- The currency of the form is spelled by one digit.
 currency_spelled : (more : List ℕ)
@@ -11,7 +11,7 @@ currency_spelled more = ap (λ l. codes "\",\"currency\":" ++ (l ++ (codes ",\"d
 found_of : (bytes rest : List ℕ) (r : Option (Bor (List ℕ) × Bor (List ℕ)))
     → bytes ≡ codes "\",\"currency\":1,\"description\":\"" ++ rest
     → IfSome r (λ d. IsDescription d.0.now × (rest ≡ d.0.now ++ d.1.now))
-    → IfSome r (λ d. IsDescription d.0.now × (bytes ≡ codes "\",\"currency\":" ++ (decimal 1 ++ (codes ",\"description\":\"" ++ (d.0.now ++ d.1.now)))))
+    → IfSome r (λ d. IsDescription d.0.now × (bytes ≡ through_description d.0.now d.1.now))
 found_of bytes rest None e found = tt
 found_of bytes rest (Some d) e found =
     (found.0, e ∙ ap (λ l. codes "\",\"currency\":1,\"description\":\"" ++ l) found.1 ∙ sym (currency_spelled (d.0.now ++ d.1.now)))

@@ -1,6 +1,6 @@
 use Rattle.book_wire.proofs.PieceLemmas.{position-at}
 use Rattle.book_wire.proofs.pieces.until.Goals as goal
-use Rattle.std.proofs.Common.{◌==◌, ◌≡◌, ◌∙◌, ◌∷◌, None, Option, Some, ap, drop, length, sym, take, ℕ}
+use Rattle.std.proofs.Common.{◌==◌, ◌≡◌, ◌∙◌, ◌∷◌, None, Some, ap, drop, length, take, ℕ}
 use Rattle.std.proofs.lemmas.List.{drop_at, take_at}
 use Rattle.std.specs.List.{position}
 

@@ -1,12 +1,6 @@
-use Rattle.std.proofs.Common.{rules, ◌≡◌, ℕ, ◌+◌, ◌*◌, ◌≤◌, ◌^◌, ℤ, pos, ◌+ℤ◌, List, [], ◌∷◌, ◌++◌, ◌==◌, if◌then◌else◌, All, IfOk, OnOk, IfSome, IsSome, Option, Some, length, map, take, option_map, ◌-◌, ◌<◌, ◌/◌, ◌%◌, Bool, true, false, refl, sym, ap, subst, ◌∙◌, arith, get_or, append_assoc}
-use Rattle.std.proofs.lemmas.Grind.{common_steps}
-use Rattle.std.proofs.lemmas.List.{take_more, take_all, map-append}
-use Rattle.std.proofs.lemmas.List.Elements.{All-more, All-get_or, All-weaker}
-use Rattle.book_splits.specs.Balance.{IsWithin, quantity_on, splits_of}
-use Rattle.book_splits.specs.declared.split.Split.{Split}
-use Rattle.book_splits.specs.Balances.{balance_at, Adds, Counts, IsSmall, Puts}
-use Rattle.book_splits.proofs.BalanceLemmas.{quantity_on-append, splits_of-append}
-use Rattle.book_splits.proofs.Tables.{Adds-put, IsSmall-more, Counts-more, Adds-keeps, IsSmall-le, Counts-along, take-item, splits_of-item, length-splits_of-take, Puts-here, Puts-keeps, Puts-zero, IsSmall-zero, balances-are}
+use Rattle.std.proofs.Common.{rules, ◌+ℤ◌, sym, ◌∙◌}
+use Rattle.book_splits.specs.Balances.{Adds, Puts}
+use Rattle.book_splits.proofs.Tables.{Adds-put, IsSmall-more}
 use Rattle.book_splits.proofs.balances.Balances.add.Goals as goal
 
 added : (c : goal.In_ok-put) → Adds c.args.self.now c.put.new.self c.args.account c.args.quantity

@@ -1,13 +1,7 @@
-use Rattle.std.proofs.Common.{rules, ◌≡◌, ℕ, ◌+◌, ◌*◌, ◌≤◌, ◌^◌, ℤ, pos, ◌+ℤ◌, List, [], ◌∷◌, ◌++◌, ◌==◌, if◌then◌else◌, All, IfOk, OnOk, IfSome, IsSome, Option, Some, length, map, take, option_map, ◌-◌, ◌<◌, ◌/◌, ◌%◌, Bool, true, false, refl, sym, ap, subst, ◌∙◌, arith, get_or, append_assoc}
+use Rattle.std.proofs.Common.{◌≡◌, ℕ, ◌+◌, ◌++◌, length, take, ap, ◌∙◌, arith, append_assoc}
 use Rattle.std.proofs.Math.ListN.{length-append}
-use Rattle.std.proofs.lemmas.Grind.{common_steps}
-use Rattle.std.proofs.lemmas.List.{take_more, take_all, map-append}
-use Rattle.std.proofs.lemmas.List.Elements.{All-more, All-get_or, All-weaker}
-use Rattle.book_splits.specs.Balance.{IsWithin, quantity_on, splits_of}
-use Rattle.book_splits.specs.declared.split.Split.{Split}
-use Rattle.book_splits.specs.Balances.{balance_at, Adds, Counts, IsSmall, Puts}
-use Rattle.book_splits.proofs.BalanceLemmas.{quantity_on-append, splits_of-append}
-use Rattle.book_splits.proofs.Tables.{IsSmall-more, Counts-more, Adds-keeps, IsSmall-le, Counts-along, take-item, splits_of-item, length-splits_of-take, Puts-here, Puts-keeps, Puts-zero, IsSmall-zero, balances-are}
+use Rattle.book_splits.specs.Balance.{splits_of}
+use Rattle.book_splits.proofs.Tables.{IsSmall-le, Counts-along, splits_of-item, length-splits_of-take}
 use Rattle.book_splits.proofs.balances.Balances.count_all.Goals as goal
 
 pub count-requires : goal.count-requires
@@ -18,11 +12,11 @@ pub loop-transaction-preserved : goal.loop-transaction-preserved
 loop-transaction-preserved c =
     let i : ℕ = c.loop-transaction.transaction-index in
     let more : splits_of (take i c.args.transactions.now) ++ c.as_slice.result.now ≡ splits_of (take (i + 1) c.args.transactions.now) =
-        ap (λ splits. splits_of (take i c.args.transactions.now) ++ splits) c.as_slice.ensures
-        ∙ splits_of-item c.args.transactions.now i c.loop-transaction-item.result c.loop-transaction-test.true c.loop-transaction-item.is in
+    ap (λ splits. splits_of (take i c.args.transactions.now) ++ splits) c.as_slice.ensures
+    ∙ splits_of-item c.args.transactions.now i c.loop-transaction-item.result c.loop-transaction-test.true c.loop-transaction-item.is in
     record {
       counted = λ before counts. Counts-along _ _ _ (append_assoc before (splits_of (take i c.args.transactions.now)) c.as_slice.result.now ∙ ap (λ splits. before ++ splits) more)
-        (c.in_ok-count.ensures.counted _ (c.loop-transaction.invariant.counted before counts));
+          (c.in_ok-count.ensures.counted _ (c.loop-transaction.invariant.counted before counts));
       small = IsSmall-le _ _ _ (omega (arith, length-append (splits_of (take i c.args.transactions.now)) c.as_slice.result.now, ap length more)) (c.in_ok-count.ensures.small _ c.loop-transaction.invariant.small);
       kept = λ a had. c.in_ok-count.ensures.kept a (c.loop-transaction.invariant.kept a had);
     }

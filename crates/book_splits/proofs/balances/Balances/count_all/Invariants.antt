@@ -1,11 +1,7 @@
-use Rattle.std.proofs.Common.{rules, ◌≡◌, ℕ, ◌+◌, ◌*◌, ◌≤◌, ◌^◌, ℤ, pos, ◌+ℤ◌, List, [], ◌∷◌, ◌++◌, ◌==◌, if◌then◌else◌, All, IfOk, OnOk, IfSome, IsSome, Some, length, map, take, option_map, ◌-◌, ◌<◌, ◌/◌, ◌%◌, Bool, true, false, refl, sym, ap, subst, ◌∙◌, arith, get_or}
-use Rattle.std.proofs.lemmas.List.{take_more, take_all}
-use Rattle.std.proofs.lemmas.List.Elements.{All-more, All-get_or}
-use Rattle.book_splits.specs.Balance.{IsWithin, quantity_on, splits_of}
+use Rattle.std.proofs.Common.{ℕ, List, ◌++◌, IsSome, length, take}
+use Rattle.book_splits.specs.Balance.{splits_of}
 use Rattle.book_splits.specs.declared.split.Split.{Split}
-use Rattle.book_splits.specs.Balances.{balance_at, Adds, Counts, IsSmall}
-use Rattle.book_splits.proofs.BalanceLemmas.{quantity_on-append, splits_of-append}
-use Rattle.book_splits.proofs.Tables.{IsSmall-more, Counts-more, Adds-keeps}
+use Rattle.book_splits.specs.Balances.{balance_at, Counts, IsSmall}
 use Rattle.book_splits.proofs.balances.Balances.count_all.Given as goal
 
 abbrev pub invariant-loop-transaction : goal.invariant-loop-transaction

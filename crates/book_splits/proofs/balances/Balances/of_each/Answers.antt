@@ -1,19 +1,16 @@
-use Rattle.std.proofs.Common.{rules, ◌≡◌, ℕ, ◌+◌, ◌*◌, ◌≤◌, ◌^◌, ℤ, pos, ◌+ℤ◌, List, [], ◌∷◌, ◌++◌, ◌==◌, if◌then◌else◌, All, IfOk, OnOk, IfSome, IsSome, Option, Some, None, length, map, take, option_map, ◌-◌, ◌<◌, ◌/◌, ◌%◌, Bool, true, false, refl, sym, ap, subst, ◌∙◌, arith, get_or, append_assoc}
-use Rattle.std.proofs.lemmas.Grind.{common_steps}
-use Rattle.std.proofs.lemmas.List.{take_more, take_all, map-append}
-use Rattle.std.proofs.lemmas.List.Elements.{All-more, All-get_or, All-weaker}
-use Rattle.book_splits.specs.Balance.{IsWithin, quantity_on, splits_of}
+use Rattle.std.proofs.Common.{rules, ◌≡◌, [], ◌∷◌, ◌++◌, IsSome, Some, map, sym, ap, subst, ◌∙◌, get_or}
+use Rattle.std.proofs.lemmas.List.Elements.{All-get_or}
 use Rattle.book_splits.specs.declared.split.Split.{Split}
-use Rattle.book_splits.specs.Balances.{balance_at, Adds, Counts, IsSmall, Puts}
-use Rattle.book_splits.proofs.Tables.{IsSome-None, balances-more, take-item, Puts-here, Puts-keeps, Puts-zero, IsSmall-zero, balances-are, Counts-along, IsSmall-le}
+use Rattle.book_splits.specs.Balances.{balance_at}
+use Rattle.book_splits.proofs.Tables.{IsSome-None, balances-more}
 use Rattle.book_splits.proofs.balances.Balances.of_each.Goals as goal
 
 pub unreachable-requires : goal.unreachable-requires
 unreachable-requires c =
     let named : IsSome (balance_at c.args.self.now (get_or c.args.splits.now c.loop-split.split-index c.split-item.result).account) =
-        All-get_or (λ split. IsSome (balance_at c.args.self.now split.account)) c.args.splits.now c.loop-split.split-index c.split-item.result c.loop-split-test.true c.requires in
+    All-get_or (λ split. IsSome (balance_at c.args.self.now split.account)) c.args.splits.now c.loop-split.split-index c.split-item.result c.loop-split-test.true c.requires in
     let here : IsSome (balance_at c.args.self.now c.split-item.result.account) =
-        subst (λ (split : Split). IsSome (balance_at c.args.self.now split.account)) (sym c.split-item.is) named in
+    subst (λ (split : Split). IsSome (balance_at c.args.self.now split.account)) (sym c.split-item.is) named in
     IsSome-None (balance_at c.args.self.now c.split-item.result.account) here (sym c.at.ensures ∙ c.in_default.is)
 
 pub loop-split-preserved : goal.loop-split-preserved
@@ -21,4 +18,4 @@ loop-split-preserved c =
     let pushed : c.push.new.self.items ≡ c.loop-split.balances.items ++ c.in-Some.balance ∷ [] = search rules in
     ap (map (λ sum. Some sum)) pushed
     ∙ balances-more (λ split. balance_at c.args.self.now split.account) c.loop-split.balances.items c.in-Some.balance c.args.splits.now
-        c.loop-split.split-index c.split-item.result c.loop-split.invariant (sym c.in-Some.is ∙ c.at.ensures) c.loop-split-test.true c.split-item.is
+    c.loop-split.split-index c.split-item.result c.loop-split.invariant (sym c.in-Some.is ∙ c.at.ensures) c.loop-split-test.true c.split-item.is

@@ -1,0 +1,25 @@
+use Rattle.std.proofs.Common.{ℕ, List}
+use Rattle.book_lines.specs.Marks.{Mark}
+use Rattle.book_lines.proofs.CallerLemmas.{Maps, IsRun-map}
+use Rattle.book_engine.specs.Kept.{Kept}
+use Rattle.book_app.specs.Machine.{answers}
+use Rattle.book_app.proofs.main_call.run_lines.Goals as goal
+
+-- the engine's answers are those of the machine of whole books on its state
+machine : Maps (λ (old : Kept) (line : List ℕ) (mark : Mark) (text : List ℕ) (new : Kept). answers old.state line mark text new.state) answers (λ k. k.state)
+machine = record { each = λ old line mark text new h. h }
+
+pub returns-clause-table : goal.returns-clause-table
+returns-clause-table g c =
+    let run = IsRun-map _ answers (λ (k : Kept). k.state) machine _ _ _ _ _ c.run.ensures.table in
+    record {
+      bytes = run.bytes;
+      left = run.left;
+      text = run.text;
+      bytes_are = run.bytes_are;
+      left_are = run.left_are;
+      wrote = run.wrote;
+      ended = c.run.result;
+      status_is = c.status_after.ensures;
+      table = run.table;
+    }

@@ -1,0 +1,10 @@
+//! Tests alone: whole runs through `book_main`, over inputs and outputs in memory. What a run answers is proved;
+//! these show that it is answered at all, where memory is ample, and that inputs and outputs may fail at any call.
+#![tactic(auto)]
+
+#[cfg(test)]
+mod cases;
+#[cfg(test)]
+mod faults;
+#[cfg(test)]
+mod runs;

@@ -1,0 +1,37 @@
+use book_app::{Status, book_main};
+use book_commodity::{Bytes, Many, OutOfMemory, Text};
+use book_keeper::{MemSink, MemSource};
+use std::alloc::Global;
+
+pub const SALARY: &str =
+    "{\"do\":\"post\",\"day\":\"2024-01-05\",\"currency\":1,\"description\":\"Pay\",\"splits\":[{\"account\":3,\"value\":250000},{\"account\":4,\"value\":-250000}]}";
+
+pub const SALARY_ANSWER: &str =
+    "{\"balances\":[\"250000\",\"-250000\"],\"ok\":\"post\",\"splits\":[6,7],\"transaction\":5,\"version\":3}\n";
+
+/// How a run ended, and what it wrote.
+#[derive(Drop)]
+pub struct Ended {
+    pub status: Status,
+    pub output: MemSink,
+}
+
+/// Runs the words over the input, which is read in pieces of so many bytes; these reads and writes fail.
+pub fn ran(
+    alloc: Global,
+    words: &[&str],
+    input: &[u8],
+    piece: usize,
+    reads: &[u64],
+    writes: &[u64],
+) -> Result<Ended, OutOfMemory> {
+    let mut texts = Vec::new(alloc);
+    for word in words {
+        texts.push(Text::of(String::from_str(alloc, word)?))?;
+    }
+    let bytes = Bytes::of(input.to_vec(alloc)?);
+    let mut source = MemSource::new(bytes, piece.max(1), Many::of(reads.to_vec(alloc)?));
+    let mut output = MemSink::new(alloc, 4096, Many::of(writes.to_vec(alloc)?))?;
+    let status = book_main(alloc, texts.as_slice(), &mut source, &mut output);
+    Ok(Ended { status, output })
+}
