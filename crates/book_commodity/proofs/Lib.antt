@@ -1,4 +1,5 @@
 pub mod AmountLemmas
+pub mod CountLemmas
 pub mod DayLemmas
 pub mod DayTextLemmas
 pub mod TableLemmas

@@ -13,6 +13,7 @@ mod kind;
 mod many;
 mod memory;
 mod rate;
+mod steps;
 mod table;
 #[cfg(test)]
 mod tests;
@@ -27,5 +28,6 @@ pub use kind::Kind;
 pub use many::Many;
 pub use memory::OutOfMemory;
 pub use rate::{Rate, scale};
+pub use steps::Steps;
 pub use table::Table;
 pub use text::Text;
