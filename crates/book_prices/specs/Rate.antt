@@ -1,5 +1,5 @@
 -- The rate between two commodities on a day, from all prices (GnuCash Concepts Guide, the price database).
-use Rattle.std.specs.Prelude.{◌≡◌, ℕ, ◌≤◌, ◌==◌, ◌&&◌, ℤ, ◌≤ℤ◌, Bool, true, false, List, All, Contains, map, Option, Some, None, IsNone, IsSomeAnd, MatchBool, ◌⊎◌}
+use Rattle.std.specs.Prelude.{◌≡◌, ℕ, ◌==◌, ◌&&◌, ℤ, ◌≤ℤ◌, Bool, true, false, List, All, Contains, map, Option, Some, None, IsNone, IsSomeAnd, MatchBool, ◌⊎◌}
 use Rattle.std.specs.Ordering.{int_eq}
 use Rattle.std.specs.Int.{IsInRange}
 use Rattle.book_commodity.specs.Table.{value_of}
@@ -35,7 +35,7 @@ abbrev pub IsPairRate : List (ℕ × Price) → ℕ → ℕ → ℤ → Option R
 IsPairRate prices commodity currency day rate =
     ((price : Price) × IsLast prices commodity currency day price × IsSomeAnd rate (IsRatio price.num price.denom))
     ⊎ (((price : Price) × HasNone prices commodity currency day × IsLast prices currency commodity day price
-        × IsSomeAnd rate (IsRatio price.denom price.num))
+    × IsSomeAnd rate (IsRatio price.denom price.num))
     ⊎ (HasNone prices commodity currency day × HasNone prices currency commodity day × IsNone rate))
 
 -- the rate on a day: one to one between a commodity and itself, else that of the pair

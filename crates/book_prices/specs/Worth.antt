@@ -1,5 +1,5 @@
 -- What a balance is worth in another commodity (GnuCash Concepts Guide, the price database).
-use Rattle.std.specs.Prelude.{◌≡◌, ℕ, ◌^◌, ◌≤◌, nat_le, ℤ, pos, unsigned_abs, Bool, true, false, Option, Some, None, if◌then◌else◌}
+use Rattle.std.specs.Prelude.{ℕ, ◌^◌, nat_le, ℤ, pos, unsigned_abs, Option, Some, None, if◌then◌else◌}
 use Rattle.std.specs.Ordering.{int_eq}
 use Rattle.book_commodity.specs.Amount.{scaled}
 use Rattle.book_commodity.specs.declared.rate.Rate.{Rate}

@@ -5,7 +5,7 @@ ghost use Rattle.book_commodity.specs.Table.{Rises, value_of, with_entry, withou
 ghost use Rattle.book_prices.specs.Rate.{IsBest, IsRate, IsSame, IsSound};
 
 use crate::Price;
-use crate::price::{are_same, last_of};
+use crate::price::{are_same, last_of, rate_of, turned_rate_of};
 use book_commodity::{Day, OutOfMemory, Rate, Table};
 use std::alloc::Global;
 use std::marker::Model;
@@ -109,18 +109,14 @@ impl Prices {
         if commodity == currency {
             return Some(Rate { num: 1, denom: 1 });
         }
-        let last = self.last_prices(commodity, currency, day);
-        if let Some(price) = last.direct {
-            return Some(Rate {
-                num: price.num,
-                denom: price.denom,
-            });
+        let LastPrices { direct, swapped } = self.last_prices(commodity, currency, day);
+        if let Some(price) = direct {
+            return Some(rate_of(&price));
         }
-        let price = last.swapped?;
-        Some(Rate {
-            num: price.denom,
-            denom: price.num,
-        })
+        let Some(price) = swapped else {
+            return None;
+        };
+        Some(turned_rate_of(&price))
     }
 
     /// The number of the price that has this one's commodity, currency and day; `None` exactly where none has.
