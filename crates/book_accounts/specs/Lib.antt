@@ -1,0 +1,5 @@
+pub mod Group
+pub mod Order
+pub mod Path
+pub mod Rules
+pub mod Tree
