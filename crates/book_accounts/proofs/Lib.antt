@@ -1,0 +1,5 @@
+pub mod OrderLemmas
+pub mod PathLemmas
+pub mod RuleLemmas
+pub mod TreeLaws
+pub mod TreeLemmas

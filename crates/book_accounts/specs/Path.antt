@@ -8,7 +8,7 @@ use Rattle.book_accounts.specs.declared.account.Account.{Account}
 
 -- The name of the account with a number, empty where there is none.
 abbrev pub name_at : List (ℕ × Account) → ℕ → List ℕ
-name_at tree number = option_map_or (λ account. account.name) [] (value_of number tree)
+name_at tree number = option_map_or (λ account. account.name) (value_of number tree) []
 
 -- The accounts on the way down from the root to an account, which stands last; the root itself is left out.
 abbrev pub way_down : List (ℕ × Account) → ℕ → List ℕ

@@ -1,6 +1,6 @@
 -- The rules by which an account may be added to a tree, or moved and renamed in it. A broken rule is told with its
 -- fields, and of several the first in the order given.
-use Rattle.std.specs.Prelude.{ℕ, ◌==◌, nat_eq, Bool, true, false, ◌&&◌, not, if◌then◌else◌, List, [], ◌∷◌, Option, Some, None, is_none, option_map, find}
+use Rattle.std.specs.Prelude.{◌≡◌, ℕ, ◌==◌, nat_eq, Bool, true, false, ◌&&◌, not, if◌then◌else◌, List, [], ◌∷◌, Option, Some, None, is_none, option_map, find, Result, Ok, Err}
 use Rattle.std.specs.List.{list_any}
 use Rattle.std.specs.Option.{option_map_or}
 use lib.Pointwise.{pointwise}
@@ -68,3 +68,8 @@ abbrev pub move_rule : List (ℕ × Account) → ℕ → List ℕ → ℕ → Op
 move_rule tree number name parent =
     first_broken (unknown_account tree number ∷ unknown_account tree parent ∷ name_taken tree (Some number) parent name
     ∷ cycle tree number parent ∷ parent_kind (kind_at tree number) (kind_at tree parent) ∷ [])
+
+-- What a check answers: the rule that is broken, and Ok exactly where none is.
+abbrev pub IsAnswer : {T : Type 0} → Option TreeRule → Result T TreeRule → Type 0
+IsAnswer rule (Ok _) = rule ≡ None
+IsAnswer rule (Err broken) = rule ≡ Some broken

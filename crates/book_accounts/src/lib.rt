@@ -4,7 +4,11 @@
 #![tactic(auto)]
 
 mod account;
+mod check;
+mod children;
 mod kind;
+mod order;
+mod path;
 mod rule;
 mod tree;
 

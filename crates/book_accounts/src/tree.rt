@@ -16,12 +16,14 @@ pub struct Tree {
 }
 
 impl Model for Tree {
-    ghost use Rattle.book_commodity.specs.Table.{Entries};
+    ghost use Rattle.book_commodity.specs.Table.{Entries, Rises};
     ghost use Rattle.book_accounts.specs.declared.account.Account.{Account};
 
     ghost Value = { Entries Account };
 
     ghost view = { λ t. t.accounts };
+
+    ghost invariant = { λ t. Rises t.accounts.entries };
 }
 
 impl Tree {
@@ -76,6 +78,7 @@ impl Tree {
         self.accounts.reserve(extra)
     }
 
+    #[tactic(auto, using(crate::proofs::TreeLemmas::rises_with, crate::proofs::TreeLaws::rooted_without))]
     /// Puts the account under the number, and hands back the one that stood there. It takes no memory.
     pub fn put(&mut self, number: u64, account: Account) -> Option<Account>
         requires { IsNone (value_of number self.old.entries) → 1 ≤ self.old.spare }
@@ -86,6 +89,7 @@ impl Tree {
         self.accounts.put(number, account)
     }
 
+    #[tactic(auto, using(crate::proofs::TreeLemmas::rises_without))]
     /// Takes the account with the number out of the tree; `None` where there is none. It takes no memory.
     pub fn take(&mut self, number: u64) -> Option<Account>
         ensures entries { self.new.entries ≡ without_entry number self.old.entries }
