@@ -1,5 +1,7 @@
+pub mod ChildrenLemmas
 pub mod OrderLemmas
 pub mod PathLemmas
 pub mod RuleLemmas
 pub mod TreeLaws
 pub mod TreeLemmas
+pub mod Worked

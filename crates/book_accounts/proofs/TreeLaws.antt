@@ -1,14 +1,14 @@
 -- A tree stays rooted where an account is added under another, or moved to where it doesn't stand under itself, or
 -- taken out with nothing under it.
-use Rattle.std.proofs.Common.{◌≡◌, ℕ, ◌<◌, ◌==◌, eqb, ◌||◌, Bool, true, false, if◌then◌else◌, List, [], ◌∷◌, map, filter, Option, Some, None, IsSome, IsNone, refl, sym, ap, subst, ◌∙◌, eq-eqb, arith}
+use Rattle.std.proofs.Common.{◌≡◌, nat_eq, ℕ, ◌<◌, ◌==◌, eqb, ◌||◌, Bool, true, false, if◌then◌else◌, List, [], ◌∷◌, map, filter, Option, Some, None, IsSome, IsNone, refl, sym, ap, subst, ◌∙◌, eq-eqb, arith}
 use Rattle.std.specs.List.{list_any}
-use Rattle.std.specs.Option.{option_and_then}
+use Rattle.std.specs.Option.{option_and_then, option_eq}
 use Rattle.std.proofs.lemmas.Bool.{eqb-true}
 use Rattle.std.proofs.lemmas.Bool.Decides.{nat_tests}
 use Rattle.book_commodity.specs.Table.{Rises, value_of, with_entry, without_entry}
 use Rattle.book_commodity.proofs.TableLemmas as tables
 use Rattle.book_accounts.specs.Rules.{is_within}
-use Rattle.book_accounts.specs.Tree.{parent_of, IsWayUp, IsRooted, ancestors, is_parent, children_of}
+use Rattle.book_accounts.specs.Tree.{parent_of, IsWayUp, IsRooted, ancestors, children_of}
 use Rattle.book_accounts.specs.declared.account.Account.{Account}
 use Rattle.book_accounts.proofs.TreeLemmas.{way_from, way_kept, there_below, there_on_way, other_with, other_without, ancestors_are}
 
@@ -85,27 +85,27 @@ rooted_moved tree m account p r rooted under there apart =
     rooted_with tree m account p way.0 rooted under way.1
     (subst (λ (above : List ℕ). list_any (λ k. k == m) (p ∷ above) ≡ false) (ancestors_are tree p way.0 r way.1) apart)
 
-pub is_parent_same : (a : Option ℕ) → is_parent a a ≡ true
-is_parent_same None = refl
-is_parent_same (Some n) = eq-eqb n n refl
+pub option_eq-same : (a : Option ℕ) → option_eq nat_eq a a ≡ true
+option_eq-same None = refl
+option_eq-same (Some n) = eq-eqb n n refl
 
-pub is_parent_true : (a b : Option ℕ) → is_parent a b ≡ true → a ≡ b
-is_parent_true None None e = refl
-is_parent_true None (Some n) e = absurd cc
-is_parent_true (Some m) None e = absurd cc
-is_parent_true (Some m) (Some n) e = ap (λ (k : ℕ). Some k) (eqb-true m n e)
+pub option_eq-true : (a b : Option ℕ) → option_eq nat_eq a b ≡ true → a ≡ b
+option_eq-true None None e = refl
+option_eq-true None (Some n) e = absurd cc
+option_eq-true (Some m) None e = absurd cc
+option_eq-true (Some m) (Some n) e = ap (λ (k : ℕ). Some k) (eqb-true m n e)
 
 -- without children listed, no account has this parent
 no_child : (tree : List (ℕ × Account)) (m n : ℕ) → children_of tree (Some m) ≡ [] → parent_of tree n ≡ Some m → ⊥
 no_child [] m n none up = cc
 no_child (e ∷ es) m n none up =
-    let Kept : Bool → Type 0 = λ t. is_parent e.1.parent (Some m) ≡ t → ⊥ in
-    let Same : Bool → Type 0 = λ t. (n == e.0) ≡ t → is_parent e.1.parent (Some m) ≡ false → ⊥ in
-    elim (is_parent e.1.parent (Some m)) as Kept [
+    let Kept : Bool → Type 0 = λ t. option_eq nat_eq e.1.parent (Some m) ≡ t → ⊥ in
+    let Same : Bool → Type 0 = λ t. (n == e.0) ≡ t → option_eq nat_eq e.1.parent (Some m) ≡ false → ⊥ in
+    elim (option_eq nat_eq e.1.parent (Some m)) as Kept [
       | true ↦ λ kept. let listed : e.0 ∷ children_of es (Some m) ≡ [] = grind arith in cc
       | false ↦ λ kept. elim (n == e.0) as Same [
           | true ↦ λ same kept. let here : e.1.parent ≡ Some m = grind arith in
-              let test : is_parent e.1.parent (Some m) ≡ true = subst (λ (o : Option ℕ). is_parent o (Some m) ≡ true) (sym here) (is_parent_same (Some m)) in cc
+              let test : option_eq nat_eq e.1.parent (Some m) ≡ true = subst (λ (o : Option ℕ). option_eq nat_eq o (Some m) ≡ true) (sym here) (option_eq-same (Some m)) in cc
           | false ↦ λ same kept. no_child es m n (grind arith) (grind arith)
         ] refl kept
     ] refl

@@ -6,7 +6,7 @@ use Rattle.std.specs.Option.{option_and_then}
 use Rattle.std.proofs.lemmas.Bool.Decides.{nat_tests}
 use Rattle.book_commodity.specs.Table.{Rises, AllAbove, value_of, with_entry, without_entry}
 use Rattle.book_commodity.proofs.TableLemmas as tables
-use Rattle.book_accounts.specs.Tree.{parent_of, IsWayUp, IsRooted, nearest_parents, followed_up, ancestors, is_parent, children_of}
+use Rattle.book_accounts.specs.Tree.{parent_of, IsWayUp, IsRooted, nearest_parents, followed_up, ancestors, children_of}
 use Rattle.book_accounts.specs.declared.account.Account.{Account}
 
 pub rises_with : (number : ℕ) (account : Account) (tree : List (ℕ × Account)) → Rises tree → Rises (with_entry number account tree)
@@ -26,7 +26,7 @@ way_same tree n (p ∷ v) (q ∷ w) f g =
     let rest = way_same tree p v w f.1 there in cc
 
 -- from an account on a way goes a shorter way
-way_from : (tree : List (ℕ × Account)) (n m : ℕ) (way : List ℕ) → IsWayUp tree n way → list_any (λ k. k == m) way ≡ true → (rest : List ℕ) × IsWayUp tree m rest × (length rest < length way)
+pub way_from : (tree : List (ℕ × Account)) (n m : ℕ) (way : List ℕ) → IsWayUp tree n way → list_any (λ k. k == m) way ≡ true → (rest : List ℕ) × IsWayUp tree m rest × (length rest < length way)
 way_from tree n m [] w h = absurd cc
 way_from tree n m (p ∷ above) w h =
     let P : Bool → Type 0 = λ t. (p == m) ≡ t → (rest : List ℕ) × IsWayUp tree m rest × (length rest < length (p ∷ above)) in

@@ -1,8 +1,9 @@
 -- What the index of children says, by which a tree is listed depth first.
-use Rattle.std.specs.Prelude.{◌≡◌, ℕ, List, [], ◌∷◌, ◌++◌, reverse, Option, Some, None, unwrap_or, if◌then◌else◌}
+use Rattle.std.specs.Prelude.{◌≡◌, nat_eq, ℕ, List, [], ◌∷◌, ◌++◌, reverse, Option, Some, None, unwrap_or, if◌then◌else◌}
+use Rattle.std.specs.Option.{option_eq}
 use Rattle.std.specs.BTreeMap.{get}
 use Rattle.std.specs.Ordering.{nat_cmp}
-use Rattle.book_accounts.specs.Tree.{children_of, is_parent}
+use Rattle.book_accounts.specs.Tree.{children_of}
 use Rattle.book_accounts.specs.declared.account.Account.{Account}
 use Rattle.book_accounts.specs.declared.children.Children.{Children}
 
@@ -19,4 +20,4 @@ pub record IsIndexOf (tree : List (ℕ × Account)) (children : Children) : Type
 pub record Adds (old new : Children) (parent : Option ℕ) (child : ℕ) : Type 0 where
   pub lists :
       (other : Option ℕ)
-      → listed new other ≡ (if is_parent parent other then listed old other ++ child ∷ [] else listed old other)
+      → listed new other ≡ (if option_eq nat_eq parent other then listed old other ++ child ∷ [] else listed old other)

@@ -2,11 +2,11 @@
 -- fields, and of several the first in the order given.
 use Rattle.std.specs.Prelude.{◌≡◌, ℕ, ◌==◌, nat_eq, Bool, true, false, ◌&&◌, not, if◌then◌else◌, List, [], ◌∷◌, Option, Some, None, is_none, option_map, find, Result, Ok, Err}
 use Rattle.std.specs.List.{list_any}
-use Rattle.std.specs.Option.{option_map_or}
+use Rattle.std.specs.Option.{option_map_or, option_eq}
 use lib.Pointwise.{pointwise}
 use Rattle.book_commodity.specs.Table.{value_of}
 use Rattle.book_accounts.specs.Group.{fits_under}
-use Rattle.book_accounts.specs.Tree.{ancestors, is_parent}
+use Rattle.book_accounts.specs.Tree.{ancestors}
 use Rattle.book_accounts.specs.declared.account.Account.{Account}
 use Rattle.book_accounts.specs.declared.kind.AccountKind.{AccountKind}
 use Rattle.book_accounts.specs.declared.rule.TreeRule.{TreeRule}
@@ -24,11 +24,11 @@ unknown_account tree number = if is_none (value_of number tree) then Some (Unkno
 
 -- Whether an account has this parent and this name.
 abbrev pub is_named : ℕ → List ℕ → Account → Bool
-is_named parent name account = is_parent account.parent (Some parent) && pointwise nat_eq account.name name
+is_named parent name account = option_eq nat_eq account.parent (Some parent) && pointwise nat_eq account.name name
 
 -- Whether an account other than the one set apart has this parent and this name.
 abbrev pub is_namesake : Option ℕ → ℕ → List ℕ → ℕ × Account → Bool
-is_namesake apart parent name entry = not (is_parent apart (Some entry.0)) && is_named parent name entry.1
+is_namesake apart parent name entry = not (option_eq nat_eq apart (Some entry.0)) && is_named parent name entry.1
 
 -- The least number of an account that has this parent and this name, one account set apart.
 abbrev pub namesake : List (ℕ × Account) → Option ℕ → ℕ → List ℕ → Option ℕ

@@ -1,6 +1,6 @@
 -- The tree that accounts form by their parents. A tree is given as its accounts by rising numbers.
-use Rattle.std.specs.Prelude.{◌≡◌, ℕ, zero, suc, ◌==◌, Bool, true, false, List, [], ◌∷◌, length, map, filter, Option, Some, None, IsSome}
-use Rattle.std.specs.Option.{option_and_then}
+use Rattle.std.specs.Prelude.{◌≡◌, ℕ, zero, suc, nat_eq, List, [], ◌∷◌, length, map, filter, Option, Some, None, IsSome}
+use Rattle.std.specs.Option.{option_and_then, option_eq}
 use Rattle.book_commodity.specs.Table.{value_of}
 use Rattle.book_accounts.specs.declared.account.Account.{Account}
 
@@ -30,11 +30,6 @@ nearest_parents (suc most) tree number = followed_up (parent_of tree number) (ne
 abbrev pub ancestors : List (ℕ × Account) → ℕ → List ℕ
 ancestors tree number = nearest_parents (length tree) tree number
 
-abbrev pub is_parent : Option ℕ → Option ℕ → Bool
-is_parent None None = true
-is_parent (Some one) (Some other) = one == other
-is_parent _ _ = false
-
 -- The numbers of the accounts that have this parent, in rising order; without a parent, of those at the top.
 abbrev pub children_of : List (ℕ × Account) → Option ℕ → List ℕ
-children_of tree parent = map (λ entry. entry.0) (filter (λ entry. is_parent entry.1.parent parent) tree)
+children_of tree parent = map (λ entry. entry.0) (filter (λ entry. option_eq nat_eq entry.1.parent parent) tree)

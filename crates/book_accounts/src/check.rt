@@ -1,8 +1,8 @@
-ghost use Rattle.std.specs.Prelude.{◌≡◌, ℕ, ◌<◌, [], length, Some, IsNone, OnOk, MatchBool, IfOk, option_map, slice_get};
+ghost use Rattle.std.specs.Prelude.{◌≡◌, ℕ, ◌<◌, [], length, Some, IsNone, IsSome, OnOk, MatchBool, IfOk, option_map, slice_get};
 ghost use Rattle.std.specs.Bool.{OnFalse};
 ghost use Rattle.book_commodity.specs.Table.{value_of, with_entry, without_entry};
 ghost use Rattle.book_accounts.specs.Rules.{IsAnswer, add_rule, is_within, is_namesake, move_rule, name_taken, namesake, parent_kind, unknown_account};
-ghost use Rattle.book_accounts.specs.Tree.{IsRooted, children_of, parent_of};
+ghost use Rattle.book_accounts.specs.Tree.{IsRooted, children_of};
 ghost use Rattle.book_accounts.specs.declared.account.Account.{Account};
 
 use crate::{Account, AccountKind, Tree, TreeRule};
@@ -15,7 +15,6 @@ impl Tree {
         ensures first_rule { IsAnswer (add_rule self.now.entries account.now) result }
         ensures rooted { OnOk result (IsRooted self.now.entries → (number : ℕ) → IsNone (value_of number self.now.entries) → IsRooted (with_entry number account.now self.now.entries)) }
     {
-        let _ = self.len();
         let Some(parent) = account.parent else {
             return Err(TreeRule::ParentKind);
         };
@@ -52,16 +51,6 @@ impl Tree {
             }
         }
         false
-    }
-
-    /// The parent of the account with this number; `None` where it has none, or isn't there.
-    pub(crate) fn parent_of(&self, number: u64) -> Option<u64>
-        ensures { result ≡ parent_of self.now.entries number }
-    {
-        match self.find(number) {
-            Some(account) => account.parent,
-            None => None,
-        }
     }
 
     /// The account with this number, which has to be there.
@@ -108,7 +97,8 @@ impl Tree {
     /// Whether the account with this number is the upper one or stands under it.
     fn is_within(&self, upper: u64, number: u64) -> bool
         requires { IsRooted self.now.entries }
-        ensures { result ≡ is_within self.now.entries upper number }
+        ensures within { result ≡ is_within self.now.entries upper number }
+        ensures rooted { OnFalse result (IsSome (value_of number self.now.entries) → (account : Account) → account.parent ≡ Some number → IsRooted (with_entry upper account self.now.entries)) }
     {
         let mut current = number;
         while current != upper {

@@ -1,4 +1,5 @@
 ghost use Rattle.std.specs.Prelude.{◌≡◌, ℕ, [], Some, IfOk, OnOk};
+ghost use Rattle.book_commodity.specs.Table.{Rises};
 ghost use Rattle.book_accounts.specs.declared.children.Children.{Children};
 
 use crate::Tree;
@@ -19,7 +20,8 @@ impl Children {
 
     /// The index of the tree's accounts.
     pub(crate) fn of_tree(tree: &Tree) -> Result<Children, OutOfMemory>
-        ensures { IfOk result (IsIndexOf tree.now.entries) }
+        ensures index { IfOk result (IsIndexOf tree.now.entries) }
+        ensures rises { Rises tree.now.entries }
     {
         let mut children = Children {
             alloc: tree.alloc,

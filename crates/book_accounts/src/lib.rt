@@ -10,6 +10,8 @@ mod kind;
 mod order;
 mod path;
 mod rule;
+#[cfg(test)]
+mod tests;
 mod tree;
 
 pub use account::Account;

@@ -1,4 +1,4 @@
-ghost use Rattle.std.specs.Prelude.{◌≡◌, ◌∷◌, IfOk, IsSome, map, string_bytes};
+ghost use Rattle.std.specs.Prelude.{◌≡◌, ◌∷◌, ◌++◌, IfOk, OnOk, IsSome, map, string_bytes};
 ghost use Rattle.std.specs.List.{join_with_byte};
 ghost use Rattle.book_commodity.specs.Table.{value_of};
 ghost use Rattle.book_accounts.specs.Path.{name_at, path};
@@ -44,10 +44,19 @@ impl Tree {
             if place > 0 {
                 names.push(':')?;
             }
-            if let Some(account) = self.find(*number) {
-                names.push_str(account.name.as_str())?;
-            }
+            self.push_name(&mut names, *number)?;
         }
         Ok(names)
+    }
+
+    /// Writes the name of an account at the end of the names.
+    fn push_name(&self, names: &mut String, number: u64) -> Result<(), OutOfMemory>
+        ensures { OnOk result (string_bytes names.new ≡ string_bytes names.old ++ name_at self.now.entries number) }
+    {
+        let Some(account) = self.find(number) else {
+            return Ok(());
+        };
+        names.push_str(account.name.as_str())?;
+        Ok(())
     }
 }

@@ -1,5 +1,6 @@
 ghost use Rattle.std.specs.Prelude.{◌≡◌, ◌+◌, ◌<◌, ◌≤◌, [], length, if◌then◌else◌, is_none, is_some, IsNone, Some, OnOk, OnErr, slice_get, option_map};
 ghost use Rattle.std.specs.Option.{option_copied};
+ghost use Rattle.book_accounts.specs.Tree.{parent_of};
 ghost use Rattle.book_commodity.specs.Table.{Rises, value_of, with_entry, without_entry};
 
 use crate::Account;
@@ -52,6 +53,17 @@ impl Tree {
         self.accounts.find(number)
     }
 
+    /// The parent of the account with this number; `None` where it has none, or isn't there.
+    pub(crate) fn parent_of(&self, number: u64) -> Option<u64>
+        ensures parent { result ≡ parent_of self.now.entries number }
+        ensures rises { Rises self.now.entries }
+    {
+        match self.accounts.find(number) {
+            Some(account) => account.parent,
+            None => None,
+        }
+    }
+
     /// The number of the account at a place.
     pub fn number_at(&self, place: usize) -> u64
         requires { place < length self.now.entries }
@@ -78,7 +90,7 @@ impl Tree {
         self.accounts.reserve(extra)
     }
 
-    #[tactic(auto, using(crate::proofs::TreeLemmas::rises_with, crate::proofs::TreeLaws::rooted_without))]
+    #[tactic(auto, using(crate::proofs::TreeLemmas::rises_with))]
     /// Puts the account under the number, and hands back the one that stood there. It takes no memory.
     pub fn put(&mut self, number: u64, account: Account) -> Option<Account>
         requires { IsNone (value_of number self.old.entries) → 1 ≤ self.old.spare }
