@@ -60,7 +60,7 @@ same_generations (suc most) tree n way r w h =
     (all_children (λ c. with_generations most tree c ≡ with_generations (suc most) tree c) n tree r
     (λ c up. same_generations most tree c (n ∷ way) r (up, w) (omega (arith, h)))))
 
-some_below : (tree : List (ℕ × Account)) (c m : ℕ) (way : List ℕ) → IsWayUp tree c way → parent_of tree c ≡ Some m → (above : List ℕ) × IsWayUp tree m above
+pub some_below : (tree : List (ℕ × Account)) (c m : ℕ) (way : List ℕ) → IsWayUp tree c way → parent_of tree c ≡ Some m → (above : List ℕ) × IsWayUp tree m above
 some_below tree c m [] w up = absurd (let top = w.1 in cc)
 some_below tree c m (q ∷ above) w up =
     let first = w.0 in

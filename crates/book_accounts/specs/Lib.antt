@@ -3,4 +3,5 @@ pub mod Group
 pub mod Order
 pub mod Path
 pub mod Rules
+pub mod Soundness
 pub mod Tree

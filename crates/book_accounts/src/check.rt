@@ -2,6 +2,7 @@ ghost use Rattle.std.specs.Prelude.{◌≡◌, ℕ, ◌<◌, [], length, Some, I
 ghost use Rattle.std.specs.Bool.{OnFalse};
 ghost use Rattle.book_commodity.specs.Table.{value_of, with_entry, without_entry};
 ghost use Rattle.book_accounts.specs.Rules.{IsAnswer, add_rule, is_within, is_namesake, move_rule, name_taken, namesake, parent_kind, unknown_account};
+ghost use Rattle.book_accounts.specs.Soundness.{IsMoved, KeepsTree};
 ghost use Rattle.book_accounts.specs.Tree.{IsRooted, children_of};
 ghost use Rattle.book_accounts.specs.declared.account.Account.{Account};
 
@@ -13,7 +14,7 @@ impl Tree {
     /// or its parent is of another group. An account without a parent, whatever its name, breaks the rule of kinds.
     pub fn check_add(&self, account: &Account) -> Result<(), TreeRule>
         ensures first_rule { IsAnswer (add_rule self.now.entries account.now) result }
-        ensures rooted { OnOk result (IsRooted self.now.entries → (number : ℕ) → IsNone (value_of number self.now.entries) → IsRooted (with_entry number account.now self.now.entries)) }
+        ensures keeps { OnOk result ((number : ℕ) → IsNone (value_of number self.now.entries) → KeepsTree self.now.entries (with_entry number account.now self.now.entries)) }
     {
         let Some(parent) = account.parent else {
             return Err(TreeRule::ParentKind);
@@ -29,7 +30,7 @@ impl Tree {
     pub fn check_move(&self, number: u64, name: &Text, parent: u64) -> Result<(), TreeRule>
         requires { IsRooted self.now.entries }
         ensures first_rule { IsAnswer (move_rule self.now.entries number name.now parent) result }
-        ensures rooted { OnOk result ((account : Account) → account.parent ≡ Some parent → IsRooted (with_entry number account self.now.entries)) }
+        ensures keeps { OnOk result ((account : Account) → IsMoved self.now.entries number name.now parent account → KeepsTree self.now.entries (with_entry number account self.now.entries)) }
     {
         let account = self.known(number)?;
         let above = self.known(parent)?;
@@ -43,7 +44,7 @@ impl Tree {
     /// Whether an account stands right under the one with this number. One with none under it can be taken out.
     pub fn has_children(&self, number: u64) -> bool
         ensures children { MatchBool result (0 < length (children_of self.now.entries (Some number))) (children_of self.now.entries (Some number) ≡ []) }
-        ensures rooted { OnFalse result (IsRooted self.now.entries → IsRooted (without_entry number self.now.entries)) }
+        ensures keeps { OnFalse result (KeepsTree self.now.entries (without_entry number self.now.entries)) }
     {
         for place in 0..self.len() {
             if self.value_at(place).parent == Some(number) {

@@ -3,7 +3,7 @@ use Rattle.std.specs.Option.{option_eq}
 use Rattle.std.proofs.lemmas.List.{drop_all}
 use Rattle.book_accounts.specs.Tree.{children_of}
 use Rattle.book_accounts.proofs.RuleLemmas.{children_some, children_skip}
-use Rattle.book_accounts.proofs.TreeLaws.{rooted_without}
+use Rattle.book_accounts.proofs.SoundLaws.{keeps_without}
 use Rattle.book_accounts.proofs.tree.Tree.has_children.Goals as goal
 
 pub returns-then-eq-clause-children : goal.returns-then-eq-clause-children
@@ -17,8 +17,8 @@ loop-place-preserved c =
     let other : option_eq nat_eq c.value_at.result.now.parent (Some c.args.number) ≡ false = sym c.eq.ensures ∙ c.if-eq.false in
     sym (children_skip c.args.self.now.entries c.loop-place.place (Some c.args.number) c.value_at.result.now c.value_at.ensures other) ∙ c.loop-place.invariant
 
-pub returns-clause-rooted : goal.returns-clause-rooted
-returns-clause-rooted c =
+pub returns-clause-keeps : goal.returns-clause-keeps
+returns-clause-keeps c =
     let rest : drop c.loop-place.place c.args.self.now.entries ≡ [] = drop_all c.loop-place.place c.args.self.now.entries (omega arith) in
     let none : children_of c.args.self.now.entries (Some c.args.number) ≡ [] = sym c.loop-place.invariant ∙ ap (λ entries. children_of entries (Some c.args.number)) rest in
-    rooted_without c.args.self.now.entries c.args.number c.len-place-end.ensures.rises none
+    keeps_without c.args.self.now.entries c.args.number c.len-place-end.ensures.rises none
