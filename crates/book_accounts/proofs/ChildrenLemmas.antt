@@ -1,5 +1,5 @@
 -- An index of children that is filled from the last account of a tree to the first.
-use Rattle.std.proofs.Common.{◌≡◌, ℕ, ◌+◌, Bool, true, false, if◌then◌else◌, List, [], ◌∷◌, ◌++◌, reverse, drop, Option, Some, option_map, slice_get, nat_eq, refl, sym, ap, ◌∙◌}
+use Rattle.std.proofs.Common.{◌≡◌, ℕ, ◌+◌, Bool, true, false, if◌then◌else◌, List, [], ◌∷◌, ◌++◌, reverse, drop, Some, option_map, slice_get, nat_eq, refl, sym, ap, ◌∙◌}
 use Rattle.std.specs.Option.{option_eq}
 use Rattle.std.proofs.lemmas.List.{reverse-append}
 use Rattle.book_accounts.specs.Children.{Adds, IsIndexOf, listed}

@@ -1,14 +1,14 @@
 -- A rooted tree listed depth first: an account with all that stands under it is the account, then its children, each
 -- with all that stands under it.
-use Rattle.std.proofs.Common.{◌≡◌, nat_eq, ℕ, zero, suc, ◌+◌, ◌<◌, ◌≤◌, ◌==◌, eqb, Bool, true, false, List, [], ◌∷◌, ◌++◌, cond, length, map, filter, reverse, Option, Some, None, IsSome, refl, sym, ap, subst, ◌∙◌, append_assoc, arith}
+use Rattle.std.proofs.Common.{◌≡◌, nat_eq, ℕ, zero, suc, ◌+◌, ◌≤◌, ◌==◌, Bool, true, false, List, [], ◌∷◌, ◌++◌, cond, length, map, filter, reverse, Some, None, IsSome, refl, sym, ap, subst, ◌∙◌, append_assoc, arith}
 use Rattle.std.specs.List.{flat_map}
-use Rattle.std.specs.Option.{option_and_then, option_eq}
+use Rattle.std.specs.Option.{option_eq}
 use Rattle.std.proofs.lemmas.Bool.{eqb-true}
 use Rattle.std.proofs.lemmas.Bool.Decides.{nat_tests}
-use Rattle.std.proofs.lemmas.List.{append-nil, reverse-append, reverse-reverse, length-append}
-use Rattle.book_commodity.specs.Table.{AllAbove, Rises, value_of}
+use Rattle.std.proofs.lemmas.List.{reverse-append, reverse-reverse}
+use Rattle.book_commodity.specs.Table.{Rises, value_of}
 use Rattle.book_commodity.proofs.TableLemmas.{above_value}
-use Rattle.book_accounts.specs.Order.{with_generations, with_all_under, depth_first}
+use Rattle.book_accounts.specs.Order.{with_generations, with_all_under}
 use Rattle.book_accounts.specs.Tree.{parent_of, IsWayUp, IsRooted, children_of}
 use Rattle.book_accounts.specs.declared.account.Account.{Account}
 use Rattle.book_accounts.proofs.TreeLaws.{option_eq-true}
@@ -34,14 +34,14 @@ all_children P m (e ∷ es) r h =
     let rest : Each P (children_of es (Some m)) =
     all_children P m es r.1
     (λ c up.
-        let Same : Bool → Type 0 = λ t. (c == e.0) ≡ t → P c in
-        elim (c == e.0) as Same [
-          | true ↦ λ same. absurd
-              (let here : c ≡ e.0 = eqb-true c e.0 same in
-              let gone : value_of c es ≡ None = subst (λ (k : ℕ). value_of k es ≡ None) (sym here) (above_value e.0 es r.0) in
-              let some : IsSome (value_of c es) = there_below es c m up in cc)
-          | false ↦ λ other. h c (grind (arith, up, other))
-        ] refl) in
+    let Same : Bool → Type 0 = λ t. (c == e.0) ≡ t → P c in
+    elim (c == e.0) as Same [
+      | true ↦ λ same. absurd
+          (let here : c ≡ e.0 = eqb-true c e.0 same in
+          let gone : value_of c es ≡ None = subst (λ (k : ℕ). value_of k es ≡ None) (sym here) (above_value e.0 es r.0) in
+          let some : IsSome (value_of c es) = there_below es c m up in cc)
+      | false ↦ λ other. h c (grind (arith, up, other))
+    ] refl) in
     let Kept : Bool → Type 0 = λ t. option_eq nat_eq e.1.parent (Some m) ≡ t → Each P (map (λ entry. entry.0) (cond t (e ∷ filter (λ entry. option_eq nat_eq entry.1.parent (Some m)) es) (filter (λ entry. option_eq nat_eq entry.1.parent (Some m)) es))) in
     elim (option_eq nat_eq e.1.parent (Some m)) as Kept [
       | true ↦ λ kept. (h e.0 (let here : e.1.parent ≡ Some m = option_eq-true e.1.parent (Some m) kept in grind (arith, nat_tests)), rest)
@@ -77,9 +77,9 @@ whole (suc most) tree n r rooted e =
     (flat_map_same (with_generations most tree) (with_generations (suc most) tree) (children_of tree (Some n))
     (all_children (λ c. with_generations most tree c ≡ with_generations (suc most) tree c) n tree r
     (λ c up.
-        let way = rooted.up c (there_below tree c n up) in
-        let above = some_below tree c n way.0 way.1 up in
-        same_generations most tree c (n ∷ above.0) r (up, above.1) (omega (arith, e)))))
+    let way = rooted.up c (there_below tree c n up) in
+    let above = some_below tree c n way.0 way.1 up in
+    same_generations most tree c (n ∷ above.0) r (up, above.1) (omega (arith, e)))))
 
 pub whole_is : (tree : List (ℕ × Account)) (n : ℕ) → Rises tree → IsRooted tree → with_all_under tree n ≡ n ∷ flat_map (with_all_under tree) (children_of tree (Some n))
 whole_is tree n r rooted = whole (length tree) tree n r rooted refl

@@ -1,8 +1,8 @@
 -- How a tree's accounts are looked through place by place, and the accounts above an account one by one.
-use Rattle.std.proofs.Common.{◌≡◌, nat_eq, ℕ, zero, suc, ◌+◌, ◌<◌, ◌==◌, ◌||◌, Bool, true, false, cond, List, [], ◌∷◌, length, drop, map, filter, Option, Some, None, IsNone, option_map, find, slice_get, Result, Ok, Err, OnOk, refl, sym, ap, subst, ◌∙◌, add-one, arith}
+use Rattle.std.proofs.Common.{◌≡◌, nat_eq, ℕ, zero, suc, ◌+◌, ◌<◌, ◌==◌, ◌||◌, Bool, true, false, cond, List, [], ◌∷◌, length, drop, map, filter, Option, Some, None, option_map, find, slice_get, Result, Ok, Err, OnOk, refl, sym, ap, ◌∙◌, add-one, arith}
 use Rattle.std.specs.Option.{option_eq}
 use Rattle.std.specs.List.{list_any}
-use Rattle.book_commodity.specs.Table.{Rises, value_of}
+use Rattle.book_commodity.specs.Table.{Rises}
 use Rattle.book_accounts.specs.Rules.{is_within}
 use Rattle.book_accounts.specs.Tree.{parent_of, IsRooted, ancestors, children_of}
 use Rattle.book_accounts.specs.declared.account.Account.{Account}

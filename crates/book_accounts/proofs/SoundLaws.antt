@@ -1,5 +1,5 @@
 -- The accounts stay one tree where one is added or moved by the rules, or one without children is taken out.
-use Rattle.std.proofs.Common.{◌≡◌, ℕ, ◌==◌, nat_eq, ◌&&◌, not, ◌⊎◌, inl, inr, Bool, true, false, cond, if◌then◌else◌, IsTrue, List, [], ◌∷◌, Option, Some, None, IsSome, IsNone, option_map, find, Result, Ok, Err, OnOk, refl, sym, ap, subst, ◌∙◌, eq-eqb, arith}
+use Rattle.std.proofs.Common.{◌≡◌, ℕ, ◌==◌, nat_eq, ◌&&◌, not, ◌⊎◌, inl, inr, Bool, true, false, cond, if◌then◌else◌, List, [], ◌∷◌, Option, Some, None, IsSome, IsNone, option_map, find, Result, Ok, Err, OnOk, refl, sym, ap, subst, ◌∙◌, eq-eqb, arith}
 use Rattle.std.specs.List.{list_any}
 use Rattle.std.specs.Option.{option_and_then, option_eq}
 use lib.Pointwise.{pointwise}
@@ -8,7 +8,7 @@ use Rattle.std.proofs.lemmas.Bool.Decides.{nat_tests}
 use Rattle.book_commodity.specs.Table.{Rises, value_of, with_entry, without_entry}
 use Rattle.book_commodity.proofs.TableLemmas as tables
 use Rattle.book_accounts.specs.Group.{fits_under}
-use Rattle.book_accounts.specs.Rules.{IsAnswer, is_namesake, is_within, kind_at, name_taken, parent_kind}
+use Rattle.book_accounts.specs.Rules.{IsAnswer, is_namesake, is_within, name_taken, parent_kind}
 use Rattle.book_accounts.specs.Soundness.{IsTree, KeepsTree, IsMoved}
 use Rattle.book_accounts.specs.Tree.{ancestors, parent_of, IsRooted, children_of}
 use Rattle.book_accounts.specs.declared.account.Account.{Account}
@@ -18,6 +18,9 @@ use Rattle.book_accounts.specs.declared.rule.TreeRule.TheVariants.{NameTaken, Pa
 use Rattle.book_accounts.proofs.OrderLemmas.{some_below}
 use Rattle.book_accounts.proofs.TreeLaws.{option_eq-same, rooted_added, rooted_without}
 use Rattle.book_accounts.proofs.TreeLemmas.{neither, there_below, there_on_way, other_with}
+
+some_same : (a b : Account) → Some a ≡ Some b → a ≡ b
+some_same a b e = cc
 
 some_of : (o : Option Account) → IsSome o → (a : Account) × (o ≡ Some a)
 some_of None h = absurd cc
@@ -55,9 +58,9 @@ tree_with tree m account p above fits is = record {
       elim (split_with tree m account k a ka) [
         | inl here ↦ absurd (not_top account p fits.under (ap (λ (x : Account). x.parent) here.1 ∙ ta))
         | inr old ↦ elim (split_with tree m account l b lb) [
-            | inl here ↦ absurd (not_top account p fits.under (ap (λ (x : Account). x.parent) here.1 ∙ tb))
-            | inr other ↦ is.one_top k l a b old.1 other.1 ta tb
-          ]
+          | inl here ↦ absurd (not_top account p fits.under (ap (λ (x : Account). x.parent) here.1 ∙ tb))
+          | inr other ↦ is.one_top k l a b old.1 other.1 ta tb
+        ]
       ];
   top_is_root = λ n a na ta.
       elim (split_with tree m account n a na) [
@@ -67,17 +70,17 @@ tree_with tree m account p above fits is = record {
   names_differ = λ k l a b ka lb parents names.
       elim (split_with tree m account k a ka) [
         | inl here ↦ elim (split_with tree m account l b lb) [
-            | inl too ↦ here.0 ∙ sym too.0
-            | inr old ↦ absurd
-                (fits.own_name l b old.0 old.1 (sym parents ∙ sym (ap (λ (x : Account). x.parent) here.1) ∙ fits.under)
-                (sym names ∙ sym (ap (λ (x : Account). x.name) here.1)))
-          ]
+          | inl too ↦ here.0 ∙ sym too.0
+          | inr old ↦ absurd
+              (fits.own_name l b old.0 old.1 (sym parents ∙ sym (ap (λ (x : Account). x.parent) here.1) ∙ fits.under)
+              (sym names ∙ sym (ap (λ (x : Account). x.name) here.1)))
+        ]
         | inr old ↦ elim (split_with tree m account l b lb) [
-            | inl here ↦ absurd
-                (fits.own_name k a old.0 old.1 (parents ∙ sym (ap (λ (x : Account). x.parent) here.1) ∙ fits.under)
-                (names ∙ sym (ap (λ (x : Account). x.name) here.1)))
-            | inr other ↦ is.names_differ k l a b old.1 other.1 parents names
-          ]
+          | inl here ↦ absurd
+              (fits.own_name k a old.0 old.1 (parents ∙ sym (ap (λ (x : Account). x.parent) here.1) ∙ fits.under)
+              (names ∙ sym (ap (λ (x : Account). x.name) here.1)))
+          | inr other ↦ is.names_differ k l a b old.1 other.1 parents names
+        ]
       ];
   kinds_fit = λ n q a upper na up qu.
       elim (split_with tree m account n a na) [
@@ -89,16 +92,16 @@ tree_with tree m account p above fits is = record {
             let one : above ≡ upper = cc in
             subst (λ (x : Account). fits_under x.kind upper.kind ≡ true) here.1 (subst (λ (x : Account). fits_under account.kind x.kind ≡ true) one fits.kinds)
         | inr old ↦ elim (split_with tree m account q upper qu) [
-            | inl here ↦
-                let parent : parent_of tree n ≡ Some q = ap (option_and_then (λ account. account.parent)) old.1 ∙ up in
-                let way = is.rooted.up n (there_below tree n q parent) in
-                let found = some_below tree n q way.0 way.1 parent in
-                let before = some_of (value_of q tree) (there_on_way tree q found.0 found.1) in
-                let kind : before.0.kind ≡ upper.kind =
-                fits.same_kind before.0 (ap (λ (k : ℕ). value_of k tree) (sym here.0) ∙ before.1) ∙ ap (λ (x : Account). x.kind) here.1 in
-                subst (λ (k : AccountKind). fits_under a.kind k ≡ true) kind (is.kinds_fit n q a before.0 old.1 up before.1)
-            | inr other ↦ is.kinds_fit n q a upper old.1 up other.1
-          ]
+          | inl here ↦
+              let parent : parent_of tree n ≡ Some q = ap (option_and_then (λ account. account.parent)) old.1 ∙ up in
+              let way = is.rooted.up n (there_below tree n q parent) in
+              let found = some_below tree n q way.0 way.1 parent in
+              let before = some_of (value_of q tree) (there_on_way tree q found.0 found.1) in
+              let kind : before.0.kind ≡ upper.kind =
+              fits.same_kind before.0 (ap (λ (k : ℕ). value_of k tree) (sym here.0) ∙ before.1) ∙ ap (λ (x : Account). x.kind) here.1 in
+              subst (λ (k : AccountKind). fits_under a.kind k ≡ true) kind (is.kinds_fit n q a before.0 old.1 up before.1)
+          | inr other ↦ is.kinds_fit n q a upper old.1 up other.1
+        ]
       ];
 }
 
@@ -116,12 +119,12 @@ pub keeps_without : (tree : List (ℕ × Account)) (m : ℕ) → Rises tree → 
 keeps_without tree m r none = record {
   rooted = rooted_without tree m r none;
   tree = λ is. let from = from_without tree m r in record {
-      rooted = rooted_without tree m r none is.rooted;
-      one_top = λ k l a b ka lb. is.one_top k l a b (from k a ka) (from l b lb);
-      top_is_root = λ n a na. is.top_is_root n a (from n a na);
-      names_differ = λ k l a b ka lb. is.names_differ k l a b (from k a ka) (from l b lb);
-      kinds_fit = λ n q a upper na up qu. is.kinds_fit n q a upper (from n a na) up (from q upper qu);
-    };
+    rooted = rooted_without tree m r none is.rooted;
+    one_top = λ k l a b ka lb. is.one_top k l a b (from k a ka) (from l b lb);
+    top_is_root = λ n a na. is.top_is_root n a (from n a na);
+    names_differ = λ k l a b ka lb. is.names_differ k l a b (from k a ka) (from l b lb);
+    kinds_fit = λ n q a upper na up qu. is.kinds_fit n q a upper (from n a na) up (from q upper qu);
+  };
 }
 
 find_none : (test : ℕ × Account → Bool) (tree : List (ℕ × Account)) (n : ℕ) (b : Account) → find test tree ≡ None → value_of n tree ≡ Some b → test (n, b) ≡ false
@@ -132,12 +135,10 @@ find_none test (x ∷ xs) n b e f =
     elim (test x) as Test [
       | true ↦ λ t found. absurd cc
       | false ↦ λ t rest. elim (n == x.0) as Same [
-          | true ↦ λ same value t rest.
-              let value_is : x.1 ≡ b = cc in
-              let is : (n, b) ≡ x = ap (λ (k : ℕ). (k, b)) (eqb-true n x.0 same) ∙ ap (λ (a : Account). (x.0, a)) (sym value_is) in
-              ap test is ∙ t
-          | false ↦ λ other value t rest. find_none test xs n b rest value
-        ] refl f t rest
+        | true ↦ λ same value t rest.
+            ap (λ (k : ℕ). test (k, b)) (eqb-true n x.0 same) ∙ ap (λ (a : Account). test (x.0, a)) (sym (some_same x.1 b value)) ∙ t
+        | false ↦ λ other value t rest. find_none test xs n b rest value
+      ] refl f t rest
     ] refl e
 
 mapped_none : {X Y : Type 0} (f : X → Y) (o : Option X) → option_map f o ≡ None → o ≡ None
@@ -198,14 +199,14 @@ keeps_added tree m account p above under there free kinds gone =
       tree = λ is.
           tree_with tree m account p above
           (record {
-              under = under;
-              there = there;
-              apart = added_apart tree m p above there gone;
-              kinds = kinds;
-              same_kind = λ old e. absurd (let none : IsNone (Some old) = subst (λ (o : Option Account). IsNone o) e gone in cc);
-              own_name = λ n b other. own_name tree None p account.name free n b refl;
-              rooted = rooted_added tree m account p is.rooted under some gone;
-            }) is;
+            under = under;
+            there = there;
+            apart = added_apart tree m p above there gone;
+            kinds = kinds;
+            same_kind = λ old e. absurd (let none : IsNone (Some old) = subst (λ (o : Option Account). IsNone o) e gone in cc);
+            own_name = λ n b other. own_name tree None p account.name free n b refl;
+            rooted = rooted_added tree m account p is.rooted under some gone;
+          }) is;
     }
 
 -- an account is moved by the rules
@@ -221,14 +222,14 @@ keeps_moved tree m name p account was above before there free kinds moved apart 
       tree = λ is.
           tree_with tree m account p above
           (record {
-              under = moved.under;
-              there = there;
-              apart = (neither (p == m) (list_any (λ k. k == m) (ancestors tree p)) apart).0;
-              kinds = subst (λ (k : AccountKind). fits_under k above.kind ≡ true) kind kinds;
-              same_kind = λ old e. let same : Some was ≡ Some old = sym before ∙ e in let one : was ≡ old = cc in sym (ap (λ (x : Account). x.kind) one) ∙ kind;
-              own_name = λ n b other value parent named.
-                  let differs : (m == n) ≡ false = grind (arith, nat_tests, other) in
-                  own_name tree (Some m) p name free n b differs value parent (named ∙ moved.named);
-              rooted = rooted;
-            }) is;
+            under = moved.under;
+            there = there;
+            apart = (neither (p == m) (list_any (λ k. k == m) (ancestors tree p)) apart).0;
+            kinds = subst (λ (k : AccountKind). fits_under k above.kind ≡ true) kind kinds;
+            same_kind = λ old e. let same : Some was ≡ Some old = sym before ∙ e in let one : was ≡ old = cc in sym (ap (λ (x : Account). x.kind) one) ∙ kind;
+            own_name = λ n b other value parent named.
+                let differs : (m == n) ≡ false = grind (arith, nat_tests, other) in
+                own_name tree (Some m) p name free n b differs value parent (named ∙ moved.named);
+            rooted = rooted;
+          }) is;
     }

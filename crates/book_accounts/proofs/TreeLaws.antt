@@ -1,16 +1,15 @@
 -- A tree stays rooted where an account is added under another, or moved to where it doesn't stand under itself, or
 -- taken out with nothing under it.
-use Rattle.std.proofs.Common.{◌≡◌, nat_eq, ℕ, ◌<◌, ◌==◌, eqb, ◌||◌, Bool, true, false, if◌then◌else◌, List, [], ◌∷◌, map, filter, Option, Some, None, IsSome, IsNone, refl, sym, ap, subst, ◌∙◌, eq-eqb, arith}
+use Rattle.std.proofs.Common.{◌≡◌, nat_eq, ℕ, ◌==◌, ◌||◌, Bool, true, false, if◌then◌else◌, List, [], ◌∷◌, Option, Some, None, IsSome, IsNone, refl, sym, ap, subst, ◌∙◌, eq-eqb, arith}
 use Rattle.std.specs.List.{list_any}
 use Rattle.std.specs.Option.{option_and_then, option_eq}
 use Rattle.std.proofs.lemmas.Bool.{eqb-true}
-use Rattle.std.proofs.lemmas.Bool.Decides.{nat_tests}
 use Rattle.book_commodity.specs.Table.{Rises, value_of, with_entry, without_entry}
 use Rattle.book_commodity.proofs.TableLemmas as tables
 use Rattle.book_accounts.specs.Rules.{is_within}
-use Rattle.book_accounts.specs.Tree.{parent_of, IsWayUp, IsRooted, ancestors, children_of}
+use Rattle.book_accounts.specs.Tree.{parent_of, IsWayUp, IsRooted, children_of}
 use Rattle.book_accounts.specs.declared.account.Account.{Account}
-use Rattle.book_accounts.proofs.TreeLemmas.{way_from, way_kept, there_below, there_on_way, other_with, other_without, ancestors_are}
+use Rattle.book_accounts.proofs.TreeLemmas.{way_from, way_kept, there_on_way, other_with, other_without, ancestors_are}
 
 -- an account that isn't there is on no way
 way_without : (tree : List (ℕ × Account)) (n m : ℕ) (way : List ℕ) → (IsSome (value_of m tree) → ⊥) → IsWayUp tree n way → list_any (λ k. k == m) (n ∷ way) ≡ false
@@ -125,10 +124,10 @@ no_child (e ∷ es) m n none up =
     elim (option_eq nat_eq e.1.parent (Some m)) as Kept [
       | true ↦ λ kept. let listed : e.0 ∷ children_of es (Some m) ≡ [] = grind arith in cc
       | false ↦ λ kept. elim (n == e.0) as Same [
-          | true ↦ λ same kept. let here : e.1.parent ≡ Some m = grind arith in
-              let test : option_eq nat_eq e.1.parent (Some m) ≡ true = subst (λ (o : Option ℕ). option_eq nat_eq o (Some m) ≡ true) (sym here) (option_eq-same (Some m)) in cc
-          | false ↦ λ same kept. no_child es m n (grind arith) (grind arith)
-        ] refl kept
+        | true ↦ λ same kept. let here : e.1.parent ≡ Some m = grind arith in
+            let test : option_eq nat_eq e.1.parent (Some m) ≡ true = subst (λ (o : Option ℕ). option_eq nat_eq o (Some m) ≡ true) (sym here) (option_eq-same (Some m)) in cc
+        | false ↦ λ same kept. no_child es m n (grind arith) (grind arith)
+      ] refl kept
     ] refl
 
 way_left : (tree : List (ℕ × Account)) (m n : ℕ) (way : List ℕ) → children_of tree (Some m) ≡ [] → (n == m) ≡ false → IsWayUp tree n way → list_any (λ k. k == m) (n ∷ way) ≡ false

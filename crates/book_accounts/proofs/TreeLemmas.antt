@@ -1,12 +1,12 @@
 -- Rooted trees: an account has one way up, which is shorter than the tree; what adding, moving and taking an account
 -- leave of the ways.
-use Rattle.std.proofs.Common.{◌≡◌, ℕ, zero, suc, ◌+◌, ◌<◌, ◌≤◌, ◌==◌, eqb, ◌||◌, Bool, true, false, if◌then◌else◌, List, [], ◌∷◌, length, Option, Some, None, IsSome, IsNone, is_some, is_none, refl, sym, ap, subst, ◌∙◌, arith}
+use Rattle.std.proofs.Common.{◌≡◌, ℕ, zero, suc, ◌+◌, ◌<◌, ◌≤◌, ◌==◌, ◌||◌, Bool, true, false, if◌then◌else◌, List, [], ◌∷◌, length, Option, Some, None, IsSome, refl, sym, ap, subst, ◌∙◌, arith}
 use Rattle.std.specs.List.{list_any}
 use Rattle.std.specs.Option.{option_and_then}
 use Rattle.std.proofs.lemmas.Bool.Decides.{nat_tests}
-use Rattle.book_commodity.specs.Table.{Rises, AllAbove, value_of, with_entry, without_entry}
+use Rattle.book_commodity.specs.Table.{Rises, value_of, with_entry, without_entry}
 use Rattle.book_commodity.proofs.TableLemmas as tables
-use Rattle.book_accounts.specs.Tree.{parent_of, IsWayUp, IsRooted, nearest_parents, followed_up, ancestors, children_of}
+use Rattle.book_accounts.specs.Tree.{parent_of, IsWayUp, IsRooted, nearest_parents, followed_up, ancestors}
 use Rattle.book_accounts.specs.declared.account.Account.{Account}
 
 pub rises_with : (number : ℕ) (account : Account) (tree : List (ℕ × Account)) → Rises tree → Rises (with_entry number account tree)

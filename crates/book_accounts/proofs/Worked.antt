@@ -1,12 +1,12 @@
 -- The definitions, computed on a small tree: Root over Assets and Income, Cash and Bank under Assets, Safe under Cash.
-use Rattle.std.specs.Prelude.{◌≡◌, ℕ, true, false, List, [], ◌∷◌, codes, Option, Some, None, refl}
+use Rattle.std.specs.Prelude.{◌≡◌, ℕ, false, List, [], ◌∷◌, codes, Option, Some, None, refl}
 use Rattle.book_accounts.specs.Order.{with_generations, depth_first}
 use Rattle.book_accounts.specs.Path.{path}
 use Rattle.book_accounts.specs.Rules.{add_rule, move_rule}
 use Rattle.book_accounts.specs.Tree.{nearest_parents, ancestors, children_of}
 use Rattle.book_accounts.specs.declared.account.Account.{Account}
 use Rattle.book_accounts.specs.declared.kind.AccountKind.{AccountKind}
-use Rattle.book_accounts.specs.declared.kind.AccountKind.TheVariants.{Root, Asset, Bank, Cash, Income, Equity}
+use Rattle.book_accounts.specs.declared.kind.AccountKind.TheVariants.{Root, Asset, Bank, Cash, Income}
 use Rattle.book_accounts.specs.declared.rule.TreeRule.TheVariants.{UnknownAccount, NameTaken, Cycle, ParentKind}
 
 abbrev pub account : List ℕ → AccountKind → Option ℕ → Account

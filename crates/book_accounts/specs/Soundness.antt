@@ -1,5 +1,5 @@
 -- What holds of the accounts of every book: they form one tree under one root.
-use Rattle.std.specs.Prelude.{◌≡◌, ℕ, List, Option, Some, None, IsTrue, option_map}
+use Rattle.std.specs.Prelude.{◌≡◌, ℕ, List, Some, None, IsTrue}
 use Rattle.book_commodity.specs.Table.{value_of}
 use Rattle.book_accounts.specs.Group.{fits_under}
 use Rattle.book_accounts.specs.Rules.{kind_at}

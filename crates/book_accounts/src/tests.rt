@@ -64,10 +64,26 @@ fn tree_of_assets(alloc: Global) -> Option<Tree>
     ensures { IfSome result (λ tree. IsRooted tree.entries) }
 {
     let mut tree = tree_of_root(alloc)?;
-    add(&mut tree, 9, account(alloc, "Assets", AccountKind::Asset, Some(2)).ok()?)?;
-    add(&mut tree, 7, account(alloc, "Cash", AccountKind::Cash, Some(9)).ok()?)?;
-    add(&mut tree, 3, account(alloc, "Bank", AccountKind::Bank, Some(9)).ok()?)?;
-    add(&mut tree, 5, account(alloc, "Safe", AccountKind::Cash, Some(7)).ok()?)?;
+    add(
+        &mut tree,
+        9,
+        account(alloc, "Assets", AccountKind::Asset, Some(2)).ok()?,
+    )?;
+    add(
+        &mut tree,
+        7,
+        account(alloc, "Cash", AccountKind::Cash, Some(9)).ok()?,
+    )?;
+    add(
+        &mut tree,
+        3,
+        account(alloc, "Bank", AccountKind::Bank, Some(9)).ok()?,
+    )?;
+    add(
+        &mut tree,
+        5,
+        account(alloc, "Safe", AccountKind::Cash, Some(7)).ok()?,
+    )?;
     Some(tree)
 }
 
@@ -76,12 +92,18 @@ fn accounts_are_added_listed_and_named(rt: HostRuntime) {
     let Some(tree) = tree_of_assets(rt.alloc()) else {
         panic!(rt; "the accounts are refused")
     };
-    assert!(rt; tree.order().is_ok_and(|order| order.as_slice() == [2, 9, 3, 7, 5].as_slice()));
+    assert!(rt;
+        tree.order()
+            .is_ok_and(|order| order.as_slice() == [2, 9, 3, 7, 5].as_slice())
+    );
     let Some(safe) = tree.find(5) else {
         panic!(rt; "the safe is not there")
     };
     assert!(rt; tree.check_move(9, &safe.name, 5) == Err(TreeRule::Cycle));
     assert!(rt; safe.copy().is_ok_and(|copy| copy.name.as_str() == "Safe"));
-    assert!(rt; tree.path_of(5).is_ok_and(|path| path.as_str() == "Assets:Cash:Safe"));
+    assert!(rt;
+        tree.path_of(5)
+            .is_ok_and(|path| path.as_str() == "Assets:Cash:Safe")
+    );
     assert!(rt; tree.has_children(9) && !tree.has_children(5));
 }

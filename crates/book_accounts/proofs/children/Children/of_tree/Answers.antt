@@ -1,5 +1,5 @@
-use Rattle.std.proofs.Common.{rules, ◌≡◌, ℕ, ◌+◌, ◌-◌, drop, sym, subst, arith}
-use Rattle.book_accounts.specs.Children.{Adds, IsIndexOf}
+use Rattle.std.proofs.Common.{◌≡◌, ℕ, ◌+◌, ◌-◌, drop, subst, arith}
+use Rattle.book_accounts.specs.Children.{IsIndexOf}
 use Rattle.book_accounts.proofs.ChildrenLemmas.{index_more}
 use Rattle.book_accounts.proofs.children.Children.of_tree.Goals as goal
 

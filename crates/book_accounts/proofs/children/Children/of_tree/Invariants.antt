@@ -1,4 +1,4 @@
-use Rattle.std.proofs.Common.{◌≡◌, drop}
+use Rattle.std.proofs.Common.{drop}
 use Rattle.book_accounts.specs.Children.{IsIndexOf}
 use Rattle.book_accounts.proofs.children.Children.of_tree.Given as goal
 

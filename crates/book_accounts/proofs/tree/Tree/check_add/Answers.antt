@@ -1,7 +1,6 @@
-use Rattle.std.proofs.Common.{rules, ◌≡◌, Option, Some, None, IsSome, refl, sym, subst}
+use Rattle.std.proofs.Common.{rules, ◌≡◌, Some, None}
 use Rattle.book_commodity.specs.Table.{value_of}
 use Rattle.book_accounts.specs.Rules.{name_taken}
-use Rattle.book_accounts.specs.declared.account.Account.{Account}
 use Rattle.book_accounts.proofs.SoundLaws.{fits_on_ok, keeps_added}
 use Rattle.book_accounts.proofs.tree.Tree.check_add.Goals as goal
 

@@ -1,4 +1,4 @@
-use Rattle.std.proofs.Common.{rules, ◌≡◌, ℕ, ◌+◌, ◌∷◌, [], ◌++◌, get_or, string_bytes, List, refl, ap, ◌∙◌, arith}
+use Rattle.std.proofs.Common.{◌≡◌, ℕ, ◌++◌, get_or, string_bytes, List, ap, ◌∙◌, arith}
 use Rattle.book_accounts.specs.Path.{name_at}
 use Rattle.book_accounts.proofs.PathLemmas.{join_first, join_next}
 use Rattle.book_accounts.proofs.tree.Tree.joined_names.Goals as goal
