@@ -1,5 +1,5 @@
 -- The rules of a transaction, in the order in which they are asked.
-use Rattle.std.specs.Prelude.{ℕ, zero, ◌+◌, ◌^◌, ◌==◌, nat_eq, nat_lt, ◌≤◌, ℤ, pos, unsigned_abs, Bool, true, false, ◌&&◌, ◌||◌, not, List, [], ◌∷◌, ◌++◌, length, Option, Some, None, codes}
+use Rattle.std.specs.Prelude.{◌≡◌, All, ℕ, ◌+◌, ◌^◌, ◌==◌, nat_eq, nat_lt, ◌≤◌, ℤ, pos, unsigned_abs, Bool, true, false, ◌&&◌, ◌||◌, not, List, [], ◌∷◌, ◌++◌, length, Option, Some, None, codes}
 use Rattle.std.specs.Ordering.{int_eq}
 use lib.Pointwise.{pointwise}
 use Rattle.book_commodity.specs.Table.{value_of}
@@ -10,7 +10,7 @@ use Rattle.book_accounts.specs.declared.account.Account.{Account}
 use Rattle.book_accounts.specs.declared.kind.AccountKind.{AccountKind}
 use Rattle.book_accounts.specs.declared.kind.AccountKind.TheVariants.{Stock, Mutual}
 use Rattle.book_splits.specs.Balance.{sum_of_values}
-use Rattle.book_splits.specs.Rules.{broken_where, first_broken}
+use Rattle.book_splits.specs.Rules.{broken_where}
 use Rattle.book_splits.specs.declared.rule.TxnRule.{TxnRule}
 use Rattle.book_splits.specs.declared.rule.TxnRule.TheVariants.{SplitCount, Unknown, WrongCurrency, Placeholder, Limit, Basis, ValueNotQuantity, Unbalanced}
 use Rattle.book_splits.specs.declared.split.Split.{Split}
@@ -87,3 +87,10 @@ txn_rules commodities accounts txn =
 -- The value and the quantity of a split are at most 10^12 in size.
 abbrev pub HasAmounts : Split → Type 0
 HasAmounts split = (unsigned_abs split.value ≤ 10 ^ 12) × (unsigned_abs split.quantity ≤ 10 ^ 12)
+
+-- The splits of a transaction that breaks no rule: their values sum to zero, and they keep the limits.
+pub record IsSound (splits : List Split) : Type 0 where
+  pub balanced : sum_of_values splits ≡ pos 0
+  pub amounts : All HasAmounts splits
+  pub some : 1 ≤ length splits
+  pub few : length splits ≤ 500

@@ -1,7 +1,7 @@
-ghost use Rattle.std.specs.Prelude.{◌≡◌, ◌≤◌, pos, [], ◌∷◌, All, OnOk, length};
+ghost use Rattle.std.specs.Prelude.{◌≡◌, [], ◌∷◌, OnOk};
 ghost use Rattle.book_commodity.specs.Table.{value_of};
 ghost use Rattle.book_splits.specs.Balance.{sum_of_values};
-ghost use Rattle.book_splits.specs.Check.{HasAmounts, currency_rules, is_over_limit, is_security, rules_of_splits, split_count, split_rules, txn_rules, unbalanced};
+ghost use Rattle.book_splits.specs.Check.{IsSound, currency_rules, is_over_limit, is_security, rules_of_splits, split_count, split_rules, txn_rules, unbalanced};
 ghost use Rattle.book_splits.specs.Rules.{TellsFirst};
 
 use crate::{Split, Txn, TxnRule};
@@ -22,9 +22,7 @@ pub fn check_txn(
     txn: &Txn,
 ) -> Result<(), TxnRule>
     ensures first_rule { TellsFirst (txn_rules commodities.now.entries accounts.now.entries txn.now) result }
-    ensures balanced { OnOk result (sum_of_values txn.now.splits ≡ pos 0) }
-    ensures amounts { OnOk result (All HasAmounts txn.now.splits) }
-    ensures count { OnOk result ((1 ≤ length txn.now.splits) × (length txn.now.splits ≤ 500)) }
+    ensures sound { OnOk result (IsSound txn.now.splits) }
 {
     let splits = txn.splits.as_slice();
     check_count(splits)?;
