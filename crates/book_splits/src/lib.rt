@@ -7,6 +7,8 @@ mod balances;
 mod check;
 mod rule;
 mod split;
+#[cfg(test)]
+mod tests;
 mod transaction;
 
 pub use balances::balances_after;
