@@ -4,9 +4,15 @@
 #![tactic(auto)]
 
 mod balances;
+mod check;
+mod rule;
 mod split;
+#[cfg(test)]
+mod tests;
 mod transaction;
 
 pub use balances::balances_after;
+pub use check::check_txn;
+pub use rule::TxnRule;
 pub use split::{Mark, Split};
-pub use transaction::Txn;
+pub use transaction::{Txn, Txns};

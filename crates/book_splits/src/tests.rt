@@ -1,0 +1,115 @@
+use crate::{Mark, Split, Txn, TxnRule, Txns, check_txn};
+use book_accounts::{Account, AccountKind};
+use book_commodity::{Commodities, Commodity, Counted, Day, Many, OutOfMemory, Table, Text};
+use std::alloc::Global;
+use std::test::Fail;
+
+const EURO: u64 = 1;
+
+const SHARES: u64 = 3;
+
+const BROKER: u64 = 4;
+
+const CASH: u64 = 5;
+
+fn commodities(alloc: Global) -> Result<Commodities, OutOfMemory> {
+    let mut commodities = Commodities::new(alloc);
+    for (number, space) in [(EURO, "CURRENCY"), (SHARES, "NYSE")] {
+        commodities.reserve(1)?;
+        commodities.put(
+            number,
+            Commodity {
+                space: Text::of(String::from_str(alloc, space)?),
+                name: Text::new(alloc),
+                full_name: Text::new(alloc),
+                fraction: 100,
+            },
+        );
+    }
+    Ok(commodities)
+}
+
+fn accounts(alloc: Global) -> Result<Table<Account>, OutOfMemory> {
+    let mut accounts = Table::new(alloc);
+    for (number, kind, commodity, basis) in [
+        (BROKER, AccountKind::Stock, SHARES, Some(EURO)),
+        (CASH, AccountKind::Bank, EURO, None),
+    ] {
+        accounts.reserve(1)?;
+        accounts.put(
+            number,
+            Account {
+                name: Text::new(alloc),
+                kind,
+                commodity,
+                parent: None,
+                code: Text::new(alloc),
+                note: Text::new(alloc),
+                hidden: false,
+                placeholder: false,
+                basis,
+            },
+        );
+    }
+    Ok(accounts)
+}
+
+/// A transaction in euros with these splits, each an account, a value and a quantity.
+fn transaction(alloc: Global, day: Day, given: &[(u64, i64, i64)]) -> Result<Txn, OutOfMemory> {
+    let mut splits = Many::new(alloc);
+    for (account, value, quantity) in given {
+        splits.push(Split {
+            id: 0,
+            account: *account,
+            memo: Text::new(alloc),
+            action: Text::new(alloc),
+            mark: Mark::New,
+            recon: None,
+            value: *value,
+            quantity: *quantity,
+        })?;
+    }
+    Ok(Txn {
+        currency: EURO,
+        day,
+        num: Text::new(alloc),
+        description: Text::new(alloc),
+        splits,
+    })
+}
+
+/// What the check tells of such a transaction, and of a copy of it out of a table.
+fn answer(
+    alloc: Global,
+    day: Day,
+    given: &[(u64, i64, i64)],
+) -> Result<Result<(), TxnRule>, OutOfMemory> {
+    let mut transactions = Txns::new(alloc);
+    transactions.reserve(1)?;
+    transactions.put(6, transaction(alloc, day, given)?.copy()?);
+    let commodities = commodities(alloc)?;
+    let accounts = accounts(alloc)?;
+    match transactions.find(6) {
+        Some(transaction) => Ok(check_txn(&commodities, &accounts, transaction)),
+        None => Err(OutOfMemory),
+    }
+}
+
+#[test]
+fn rules_of_transactions(rt: HostRuntime) -> Result<(), Fail> {
+    let day = Day::of_number(19_732).ok_or("a day of the range")?;
+    let most = 1_000_000_000_000;
+    let limit = TxnRule::Limit {
+        which: Counted::Amount,
+        at: 1_000_000_000_000,
+    };
+    assert!(rt; answer(rt.alloc(), day, &[(BROKER, 0, 50)])? == Ok(()));
+    assert!(rt; answer(rt.alloc(), day, &[])? == Err(TxnRule::SplitCount { count: 0 }));
+    let allowed = [(CASH, most, most), (CASH, -most, -most)];
+    assert!(rt; answer(rt.alloc(), day, &allowed)? == Ok(()));
+    let too_large = [(CASH, most + 1, most + 1), (CASH, -most - 1, -most - 1)];
+    assert!(rt; answer(rt.alloc(), day, &too_large)? == Err(limit));
+    let uneven = [(CASH, 100, 100), (CASH, -99, -99)];
+    assert!(rt; answer(rt.alloc(), day, &uneven)? == Err(TxnRule::Unbalanced { sum: 1 }));
+    Ok(())
+}
