@@ -1,0 +1,37 @@
+ghost use Rattle.book_json.specs.Reads.{IsFaultOf};
+
+use book_commodity::Text;
+use std::alloc::{AllocError, Global};
+
+/// Why members were not read.
+#[derive(Drop)]
+pub enum Fault {
+    /// The member of this name fails: it is needed and absent, of another form, or not asked for.
+    Member(Text),
+    /// Memory was refused.
+    OutOfMemory,
+}
+
+impl From<book_commodity::OutOfMemory> for Fault {
+    fn from(_error: book_commodity::OutOfMemory) -> Fault {
+        Fault::OutOfMemory
+    }
+}
+
+impl From<AllocError> for Fault {
+    fn from(_error: AllocError) -> Fault {
+        Fault::OutOfMemory
+    }
+}
+
+impl Fault {
+    /// The fault of the member of that name, or `OutOfMemory` where its name finds no memory.
+    pub fn of(alloc: Global, name: &str) -> Fault
+        ensures { IsFaultOf name.now result }
+    {
+        match String::from_str(alloc, name) {
+            Ok(name) => Fault::Member(Text::of(name)),
+            Err(_) => Fault::OutOfMemory,
+        }
+    }
+}
