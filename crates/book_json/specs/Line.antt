@@ -1,5 +1,5 @@
 -- The object that a line of JSON is (RFC 8259), nested at most 127 deep.
-use Rattle.std.specs.Prelude.{◌≡◌, ℕ, List, IsUtf8, Some, None, Result, Ok, Err, ⊤, ⊥}
+use Rattle.std.specs.Prelude.{◌≡◌, ℕ, List, IsUtf8, Some, None, Result, Ok, Err, ⊤}
 use Rattle.serde_json.specs.Data.{Data, object}
 use Rattle.serde_json.specs.Find.{as_object}
 use Rattle.serde_json.specs.Read.{read}

@@ -13,12 +13,22 @@ pub enum Fault {
 }
 
 impl From<book_commodity::OutOfMemory> for Fault {
+    ghost use Rattle.book_json.specs.declared.fault.Fault.TheVariants.{OutOfMemory};
+    ghost use Rattle.std.specs.Prelude.{◌≡◌};
+
+    ghost from_gives = { λ _ fault. fault ≡ OutOfMemory };
+
     fn from(_error: book_commodity::OutOfMemory) -> Fault {
         Fault::OutOfMemory
     }
 }
 
 impl From<AllocError> for Fault {
+    ghost use Rattle.book_json.specs.declared.fault.Fault.TheVariants.{OutOfMemory};
+    ghost use Rattle.std.specs.Prelude.{◌≡◌};
+
+    ghost from_gives = { λ _ fault. fault ≡ OutOfMemory };
+
     fn from(_error: AllocError) -> Fault {
         Fault::OutOfMemory
     }

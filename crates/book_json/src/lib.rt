@@ -6,14 +6,14 @@
 
 mod fault;
 mod form;
-mod inner;
+mod inside;
 mod object;
 mod reading;
 mod word;
 
 pub use fault::Fault;
 pub use form::{Filled, Form};
-pub use inner::{Object, inner};
+pub use inside::{Object, inner};
 pub use object::{NotRead, object_of};
 pub use reading::Reading;
 pub use word::{Word, among};

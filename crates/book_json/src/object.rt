@@ -19,10 +19,13 @@ pub enum NotRead {
 pub fn object_of(alloc: Global, line: &[u8]) -> Result<Reading, NotRead>
     ensures { IsObjectOf line.now result }
 {
-    match Value::from_slice(alloc, line) {
-        Ok(Value::Object(members)) => Ok(Reading::of(alloc, members)),
-        Ok(_) => Err(NotRead::NotObject),
-        Err(error) if error.is_memory() => Err(NotRead::OutOfMemory),
-        Err(_) => Err(NotRead::NotJson),
-    }
+    let value = match Value::from_slice(alloc, line) {
+        Ok(value) => value,
+        Err(error) if error.is_memory() => return Err(NotRead::OutOfMemory),
+        Err(_) => return Err(NotRead::NotJson),
+    };
+    let Value::Object(members) = value else {
+        return Err(NotRead::NotObject);
+    };
+    Ok(Reading::of(alloc, members))
 }

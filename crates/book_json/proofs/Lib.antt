@@ -1,0 +1,4 @@
+pub mod DayLemmas
+pub mod EachLemmas
+pub mod OneLine
+pub mod TakeLemmas
