@@ -1,5 +1,5 @@
 -- The day that a text names is the one day of the book whose text it is.
-use Rattle.std.proofs.Common.{◌≡◌, ℕ, ◌+◌, ◌-◌, ◌*◌, ◌/◌, ◌%◌, ◌<◌, ◌&&◌, Bool, true, false, cond, List, [], ◌∷◌, ◌++◌, Option, Some, None, refl, sym, ap, ◌∙◌, subst, arith, ℤ, pos, negsuc, ◌≤ℤ◌, unsigned_abs, int_le}
+use Rattle.std.proofs.Common.{◌≡◌, ℕ, ◌+◌, ◌-◌, ◌*◌, ◌/◌, ◌%◌, ◌<◌, ◌&&◌, Bool, true, false, cond, List, [], ◌∷◌, ◌++◌, Option, Some, None, refl, sym, ap, ◌∙◌, subst, arith, rules, String, Global, string_bytes, ℤ, pos, negsuc, ◌≤ℤ◌, unsigned_abs, int_le}
 use Rattle.std.specs.Prelude.{IfSome, IfNone}
 use Rattle.std.specs.Str.{bytes_eq}
 use Rattle.std.proofs.lemmas.Int.{ints}
@@ -9,7 +9,15 @@ use Rattle.jiff_core.proofs.SignedLemmas.{signed_arith}
 use Rattle.book_commodity.specs.Day.{IsDay, year_of, month_of, day_of_month, day_text, date_text, IsSpelled}
 use Rattle.book_commodity.proofs.DayLemmas.{date_of_day, pos-unsigned_abs}
 use Rattle.book_commodity.proofs.DayTextLemmas.{day_text_spelled}
+use Rattle.serde_json.specs.Data.{string}
+use Rattle.serde_json.specs.View.{view}
+use Rattle.serde_json.specs.declared.value.Value as value
+use Rattle.serde_json.specs.declared.value.Value.{the_lemmas}
 use Rattle.book_json.specs.Forms.{digits_at, day_in_places, is_day, day_named}
+
+-- a value that is a string stands for its text
+pub view-String : (text : String Global) → view (value.String text) ≡ string (string_bytes text)
+view-String text = search (rules, the_lemmas)
 
 le_of_test : (a b : ℤ) → int_le a b ≡ true → a ≤ℤ b
 le_of_test a b e = omega (arith, ints, e)
@@ -61,8 +69,8 @@ none_if text none =
     let day = day_in_places text in
     let P : Bool → Bool → Type 0 = λ a b. is_day day ≡ a → bytes_eq text (day_text day) ≡ b → cond (a && b) (Some day) None ≡ None in
     elim (is_day day) as (λ a. P a (bytes_eq text (day_text day))) [
-      true ↦ elim (bytes_eq text (day_text day)) as (λ b. P true b) [
-        true ↦ λ e f. absurd (none day (is_day-true day e) ((bytes_eq-Decides text (day_text day)).0 f))
+      | true ↦ elim (bytes_eq text (day_text day)) as (λ b. P true b) [
+        | true ↦ λ e f. absurd (none day (is_day-true day e) ((bytes_eq-Decides text (day_text day)).0 f))
         | false ↦ λ e f. refl
       ]
       | false ↦ λ e f. refl

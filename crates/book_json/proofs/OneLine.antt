@@ -61,7 +61,7 @@ short-no_feed false false false false false = refl
 
 letter-no_feed : (x : ℕ) → no_feed (escape_letter x) ≡ true
 letter-no_feed x = elim (eqb_tells x 34) [
-  inl t ↦ rw t.1 refl
+  | inl t ↦ rw t.1 refl
   | inr f ↦ elim (eqb_tells x 92) [ inl t ↦ rw t.1 refl | inr g ↦ rw (f.0, g.0) (short-no_feed (x == 8) (x == 12) (x == 10) (x == 13) (x == 9)) ]
 ]
 

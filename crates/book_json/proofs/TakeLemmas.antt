@@ -1,6 +1,6 @@
 -- A map's removal beside the members that it stands for, and what readers give of a member.
 use Rattle.std.proofs.Common.{◌≡◌, ℕ, List, [], ◌∷◌, Option, Some, None, option_map, Result, Ok, Err, String, Global, Bool, true, false, cond, string_bytes, nat_cmp, refl, sym, ap, ◌∙◌, true≢false, ◌<◌, length, arith}
-use Rattle.std.specs.Prelude.{IsSome, ◌↔◌, slice_get, unwrap_or}
+use Rattle.std.specs.Prelude.{◌↔◌, slice_get, unwrap_or}
 use Rattle.serde_json.specs.declared.value.Value.{Value}
 use Rattle.std.proofs.lemmas.Map.Text.{is_eq-slice_cmp}
 use Rattle.std.specs.Cmp.Lexicographic.{slice_cmp}
@@ -74,7 +74,7 @@ unfolding absent optional
 absent-given name ms d e = rw e refl
 
 -- with no entry nothing is left
-pub ends-none : {X : Type 0} (x : X) (es : List Entry) → (IsSome (None {T = Entry}) ↔ (0 < length es)) → ends x (members_view es) ≡ Ok (x, members_view es)
+pub ends-none : {X : Type 0} (x : X) (es : List Entry) → ((false ≡ true) ↔ (0 < length es)) → ends x (members_view es) ≡ Ok (x, members_view es)
 unfolding ends
 ends-none x [] h = refl
 ends-none x (e ∷ es) h = absurd (true≢false (sym (h.1 (omega arith))))

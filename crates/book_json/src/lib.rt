@@ -17,3 +17,6 @@ pub use inside::{Object, inner};
 pub use object::{NotRead, object_of};
 pub use reading::Reading;
 pub use word::{Word, among};
+
+#[cfg(test)]
+mod tests;
