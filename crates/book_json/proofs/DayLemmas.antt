@@ -1,19 +1,18 @@
 -- The day that a text names is the one day of the book whose text it is.
-use Rattle.std.proofs.Common.{◌≡◌, ℕ, ◌+◌, ◌-◌, ◌*◌, ◌/◌, ◌%◌, ◌<◌, ◌&&◌, Bool, true, false, cond, List, [], ◌∷◌, ◌++◌, Option, Some, None, refl, sym, ap, ◌∙◌, subst, arith, rules, String, Global, string_bytes, ℤ, pos, negsuc, ◌≤ℤ◌, unsigned_abs, int_le}
+use Rattle.std.proofs.Common.{◌≡◌, ℕ, ◌+◌, ◌-◌, ◌*◌, ◌/◌, ◌%◌, ◌&&◌, Bool, true, false, cond, List, Option, Some, None, refl, sym, ap, ◌∙◌, arith, rules, String, Global, string_bytes, ℤ, pos, negsuc, ◌≤ℤ◌, unsigned_abs, int_le}
 use Rattle.std.specs.Prelude.{IfSome, IfNone}
 use Rattle.std.specs.Str.{bytes_eq}
 use Rattle.std.proofs.lemmas.Int.{ints}
 use Rattle.std.proofs.lemmas.Slice.Eq.{bytes_eq-Decides}
 use Rattle.jiff_core.specs.Calendar.{days_from_civil}
 use Rattle.jiff_core.proofs.SignedLemmas.{signed_arith}
-use Rattle.book_commodity.specs.Day.{IsDay, year_of, month_of, day_of_month, day_text, date_text, IsSpelled}
+use Rattle.book_commodity.specs.Day.{IsDay, year_of, month_of, day_of_month, day_text, date_text}
 use Rattle.book_commodity.proofs.DayLemmas.{date_of_day, pos-unsigned_abs}
-use Rattle.book_commodity.proofs.DayTextLemmas.{day_text_spelled}
 use Rattle.serde_json.specs.Data.{string}
 use Rattle.serde_json.specs.View.{view}
 use Rattle.serde_json.specs.declared.value.Value as value
 use Rattle.serde_json.specs.declared.value.Value.{the_lemmas}
-use Rattle.book_json.specs.Forms.{digits_at, day_in_places, is_day, day_named}
+use Rattle.book_json.specs.Forms.{day_in_places, is_day, day_named}
 
 -- a value that is a string stands for its text
 pub view-String : (text : String Global) → view (value.String text) ≡ string (string_bytes text)

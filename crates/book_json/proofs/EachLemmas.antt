@@ -1,6 +1,6 @@
 -- A list of a form, read up to an item.
-use Rattle.std.proofs.Common.{◌≡◌, List, [], ◌∷◌, ◌++◌, Option, Some, None, option_map, option_and_then, refl, sym, ap, ◌∙◌, append_assoc}
-use Rattle.serde_json.specs.Data.{Data, Items, item}
+use Rattle.std.proofs.Common.{List, ◌++◌, Option, option_map}
+use Rattle.serde_json.specs.Data.{Items}
 use Rattle.book_json.specs.Members.{Form}
 use Rattle.book_json.specs.Forms.{each}
 

@@ -1,5 +1,5 @@
 -- The text of data is one line: it has no line feed.
-use Rattle.std.proofs.Common.{◌&&◌, ◌||◌, ◌+◌, ◌++◌, ◌/◌, ◌%◌, ◌<◌, ◌==◌, ◌≡◌, ◌∙◌, ◌∷◌, Bool, List, [], arith, cond, decimal, false, inl, inr, nat_lt, negsuc, not, pos, refl, suc, true, zero, ℕ, ℤ}
+use Rattle.std.proofs.Common.{◌&&◌, ◌+◌, ◌++◌, ◌/◌, ◌%◌, ◌<◌, ◌==◌, ◌≡◌, ◌∙◌, ◌∷◌, Bool, List, [], arith, cond, decimal, false, inl, inr, nat_lt, negsuc, not, pos, refl, suc, true, zero, ℕ, ℤ}
 use Rattle.std.proofs.lemmas.Bool.Decides.{eqb_tells, nat_tests}
 use Rattle.std.proofs.lemmas.List.Folds.{list_all-append}
 use Rattle.std.specs.Fmt.{digit_glyph, digits, digits_onto, signed_decimal}

@@ -6,12 +6,11 @@ use Rattle.std.proofs.lemmas.Map.Text.{is_eq-slice_cmp}
 use Rattle.std.specs.Cmp.Lexicographic.{slice_cmp}
 use Rattle.std.specs.Map.{lookup, remove_entry}
 use Rattle.std.specs.BTreeMap.{is_at}
-use Rattle.std.specs.Str.{bytes_eq}
-use Rattle.serde_json.specs.Data.{Data, Members, no_members, member}
+use Rattle.serde_json.specs.Data.{Data, Members}
 use Rattle.serde_json.specs.Find.{get_member}
 use Rattle.serde_json.specs.View.{view, members_view}
 use Rattle.serde_json.proofs.Views.{Entry, view-lookup}
-use Rattle.book_json.specs.Members.{Form, Reader, without, needed, optional, absent, ends}
+use Rattle.book_json.specs.Members.{Form, without, needed, optional, absent, ends}
 use Rattle.book_json.specs.Reads.{Gives, IsFaultOf}
 use Rattle.book_json.specs.declared.fault.Fault.{Fault}
 use Rattle.book_json.specs.declared.fault.Fault.TheVariants.{Member, OutOfMemory}

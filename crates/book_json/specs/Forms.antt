@@ -2,7 +2,7 @@
 use Rattle.std.specs.Prelude.{ℕ, ◌+◌, ◌-◌, ◌*◌, ◌^◌, ◌&&◌, ℤ, pos, negsuc, List, [], ◌∷◌, slice_index, Bool, nat_lt, int_le, bytes_eq, if◌then◌else◌, Option, Some, None, option_map, option_and_then, Result, Ok, Err}
 use Rattle.jiff_core.specs.Calendar.{days_from_civil}
 use Rattle.book_commodity.specs.Day.{day_text}
-use Rattle.serde_json.specs.Data.{Data, Items, no_items, item}
+use Rattle.serde_json.specs.Data.{Items, no_items, item}
 use Rattle.serde_json.specs.Find.{as_bool, as_number, as_str, as_array, as_object, as_u64, as_i64}
 use Rattle.book_json.specs.Members.{Form, Reader, complete}
 

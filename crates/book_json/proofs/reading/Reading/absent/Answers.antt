@@ -1,6 +1,6 @@
 use Rattle.book_json.proofs.TakeLemmas.{member_of, members_view-remove_entry, fails, absent-absent, absent-given}
 use Rattle.book_json.proofs.reading.Reading.absent.Goals as goal
-use Rattle.std.proofs.Common.{◌∙◌, sym, ap}
+use Rattle.std.proofs.Common.{◌∙◌, ap}
 use Rattle.serde_json.specs.View.{members_view}
 
 pub returns-in_default : goal.returns-in_default

@@ -1,4 +1,4 @@
-use Rattle.book_json.proofs.TakeLemmas.{member_of, members_view-remove_entry, fails, no_memory, optional-absent, optional-other, optional-found}
+use Rattle.book_json.proofs.TakeLemmas.{member_of, members_view-remove_entry, fails, optional-absent, optional-other, optional-found}
 use Rattle.book_json.proofs.reading.Reading.optional.Goals as goal
 use Rattle.std.proofs.Common.{◌∙◌, sym, ap}
 use Rattle.serde_json.specs.View.{members_view}
