@@ -53,6 +53,10 @@ abbrev pub ◌>>=◌ : {X Y : Type 0} → Reader X → (X → Reader Y) → Read
 abbrev pub gives : {X : Type 0} → X → Reader X
 gives x ms = Ok (x, ms)
 
+-- The member of that name fails, whatever it is.
+abbrev pub refuses : {X : Type 0} → List ℕ → Reader X
+refuses name ms = Err name
+
 -- A text that may be absent, and is empty then.
 unfoldable pub text : List ℕ → Reader (List ℕ)
 text name = do

@@ -1,7 +1,5 @@
-ghost use Rattle.book_json.specs.Reads.{IsFaultOf};
-
 use book_commodity::Text;
-use std::alloc::{AllocError, Global};
+use std::alloc::AllocError;
 
 /// Why members were not read.
 #[derive(Drop)]
@@ -31,17 +29,5 @@ impl From<AllocError> for Fault {
 
     fn from(_error: AllocError) -> Fault {
         Fault::OutOfMemory
-    }
-}
-
-impl Fault {
-    /// The fault of the member of that name, or `OutOfMemory` where its name finds no memory.
-    pub fn of(alloc: Global, name: &str) -> Fault
-        ensures { IsFaultOf name.now result }
-    {
-        match String::from_str(alloc, name) {
-            Ok(name) => Fault::Member(Text::of(name)),
-            Err(_) => Fault::OutOfMemory,
-        }
     }
 }

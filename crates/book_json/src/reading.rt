@@ -1,7 +1,7 @@
 ghost use Rattle.std.specs.Prelude.{◌≡◌, Option};
 ghost use Rattle.serde_json.specs.View.{members_view};
 ghost use Rattle.book_json.specs.Members.{needed, optional, text, flag, absent, ends, complete};
-ghost use Rattle.book_json.specs.Reads.{rest, Gives, Completes};
+ghost use Rattle.book_json.specs.Reads.{rest, IsFaultOf, Gives, Completes};
 
 use crate::{Fault, Form, Object};
 use book_commodity::Text;
@@ -30,10 +30,10 @@ impl Reading {
         ensures { Gives (needed F.form name.now (rest self.old)) result (rest self.new) }
     {
         let Some(value) = self.members.remove(name) else {
-            return Err(Fault::of(self.alloc, name));
+            return Err(self.fault(name));
         };
         let Some(read) = F::read(self.alloc, value)? else {
-            return Err(Fault::of(self.alloc, name));
+            return Err(self.fault(name));
         };
         Ok(read)
     }
@@ -46,7 +46,7 @@ impl Reading {
             return Ok(None);
         };
         let Some(read) = F::read(self.alloc, value)? else {
-            return Err(Fault::of(self.alloc, name));
+            return Err(self.fault(name));
         };
         Ok(Some(read))
     }
@@ -80,7 +80,7 @@ impl Reading {
         let Some(_) = self.members.remove(name) else {
             return Ok(None);
         };
-        Err(Fault::of(self.alloc, name))
+        Err(self.fault(name))
     }
 
     /// The value, where no member is left; else the least one left fails, in the order of their names' bytes.
@@ -89,7 +89,17 @@ impl Reading {
     {
         match self.members.first_key_value() {
             None => Ok(value),
-            Some((name, _)) => Err(Fault::of(self.alloc, name.as_str())),
+            Some((name, _)) => Err(self.fault(name.as_str())),
+        }
+    }
+
+    /// The fault of the member of that name, for a reader that takes a member and refuses its value.
+    pub fn fault(&self, name: &str) -> Fault
+        ensures { IsFaultOf name.now result }
+    {
+        match String::from_str(self.alloc, name) {
+            Ok(name) => Fault::Member(Text::of(name)),
+            Err(_) => Fault::OutOfMemory,
         }
     }
 

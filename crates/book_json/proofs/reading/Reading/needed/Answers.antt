@@ -5,11 +5,11 @@ use Rattle.serde_json.specs.View.{members_view}
 
 pub returns-in_default : goal.returns-in_default
 returns-in_default g c =
-    fails _ _ _ _ (needed-absent _ _ _ (member_of c.args.name.now c.args.self.now.members.entries _ c.in_default.ensures.value)) c.of.ensures
+    fails _ _ _ _ (needed-absent _ _ _ (member_of c.args.name.now c.args.self.now.members.entries _ c.in_default.ensures.value)) c.fault.ensures
 
 pub returns-in_default-2 : goal.returns-in_default-2
 returns-in_default-2 g c =
-    fails _ _ _ _ (needed-other _ _ _ _ (member_of c.args.name.now c.args.self.now.members.entries _ c.in-Some.ensures.value) (sym c.in_ok-read.ensures ∙ c.in_default-2.is)) c.of-in_default-2.ensures
+    fails _ _ _ _ (needed-other _ _ _ _ (member_of c.args.name.now c.args.self.now.members.entries _ c.in-Some.ensures.value) (sym c.in_ok-read.ensures ∙ c.in_default-2.is)) c.fault-in_default-2.ensures
 
 pub returns : goal.returns
 returns g c =

@@ -9,7 +9,7 @@ returns-in_default g c =
 
 pub returns-in_default-2 : goal.returns-in_default-2
 returns-in_default-2 g c =
-    fails _ _ _ _ (optional-other _ _ _ _ (member_of c.args.name.now c.args.self.now.members.entries _ c.in-Some.ensures.value) (sym c.in_ok-read.ensures ∙ c.in_default-2.is)) c.of.ensures
+    fails _ _ _ _ (optional-other _ _ _ _ (member_of c.args.name.now c.args.self.now.members.entries _ c.in-Some.ensures.value) (sym c.in_ok-read.ensures ∙ c.in_default-2.is)) c.fault.ensures
 
 pub returns : goal.returns
 returns g c =
