@@ -13,10 +13,11 @@ use Rattle.book_accounts.specs.Soundness.{IsTree, KeepsTree, IsMoved}
 use Rattle.book_accounts.specs.Tree.{ancestors, parent_of, IsRooted, children_of}
 use Rattle.book_accounts.specs.declared.account.Account.{Account}
 use Rattle.book_accounts.specs.declared.kind.AccountKind.{AccountKind}
+use Rattle.book_accounts.specs.declared.kind.AccountKind.TheVariants.{Root}
 use Rattle.book_accounts.specs.declared.rule.TreeRule.{TreeRule}
 use Rattle.book_accounts.specs.declared.rule.TreeRule.TheVariants.{NameTaken, ParentKind}
 use Rattle.book_accounts.proofs.OrderLemmas.{some_below}
-use Rattle.book_accounts.proofs.TreeLaws.{option_eq-same, rooted_added, rooted_without}
+use Rattle.book_accounts.proofs.TreeLaws.{option_eq-same, rooted_added, rooted_empty, rooted_top, rooted_without}
 use Rattle.book_accounts.proofs.TreeLemmas.{neither, there_below, there_on_way, other_with}
 
 some_same : (a b : Account) → Some a ≡ Some b → a ≡ b
@@ -232,4 +233,19 @@ keeps_moved tree m name p account was above before there free kinds moved apart 
                 own_name tree (Some m) p name free n b differs value parent (named ∙ moved.named);
             rooted = rooted;
           }) is;
+    }
+
+-- a root alone is a tree
+pub tree_of_root : (m : ℕ) (root : Account) → root.parent ≡ None → root.kind ≡ Root → IsTree ((m, root) ∷ [])
+tree_of_root m root top kind =
+    let only : (n : ℕ) (a : Account) → value_of n ((m, root) ∷ []) ≡ Some a → (n ≡ m) × (root ≡ a) =
+    λ n a e.
+    let P : Bool → Type 0 = λ t. (n == m) ≡ t → (if t then Some root else None) ≡ Some a → (n ≡ m) × (root ≡ a) in
+    elim (n == m) as P [ true ↦ λ same told. (eqb-true n m same, some_same root a told) | false ↦ λ other told. absurd cc ] refl e in
+    record {
+      rooted = rooted_top [] m root rooted_empty top refl;
+      one_top = λ k l a b ka lb ta tb. (only k a ka).0 ∙ sym (only l b lb).0;
+      top_is_root = λ n a na ta. subst (λ (x : Account). x.kind ≡ Root) (only n a na).1 kind;
+      names_differ = λ k l a b ka lb parents names. (only k a ka).0 ∙ sym (only l b lb).0;
+      kinds_fit = λ n q a upper na up qu. absurd (not_top root q (ap (λ (x : Account). x.parent) (only n a na).1 ∙ up) top);
     }

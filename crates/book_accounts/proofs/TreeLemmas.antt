@@ -130,3 +130,9 @@ up_by tree n p (q ∷ above) r e w =
 -- an account with a parent stands under it, and under all that it stands under
 pub ancestors_up : (tree : List (ℕ × Account)) (n p : ℕ) → Rises tree → IsRooted tree → parent_of tree n ≡ Some p → ancestors tree n ≡ p ∷ ancestors tree p
 ancestors_up tree n p r rooted e = let way = rooted.up n (there_below tree n p e) in up_by tree n p way.0 r e way.1
+
+-- the accounts that an account stands under are its way up
+pub way_of : (tree : List (ℕ × Account)) (n : ℕ) → Rises tree → IsRooted tree → IsSome (value_of n tree) → IsWayUp tree n (ancestors tree n)
+way_of tree n r rooted there =
+    let way = rooted.up n there in
+    subst (λ (above : List ℕ). IsWayUp tree n above) (sym (ancestors_are tree n way.0 r way.1)) way.1

@@ -1,6 +1,6 @@
 -- What holds of the accounts of every book: they form one tree under one root.
-use Rattle.std.specs.Prelude.{◌≡◌, ℕ, List, Some, None, IsTrue}
-use Rattle.book_commodity.specs.Table.{value_of}
+use Rattle.std.specs.Prelude.{◌≡◌, ℕ, List, Some, None, IsNone, IsSome, IsTrue}
+use Rattle.book_commodity.specs.Table.{value_of, with_entry}
 use Rattle.book_accounts.specs.Group.{fits_under}
 use Rattle.book_accounts.specs.Rules.{kind_at}
 use Rattle.book_accounts.specs.Tree.{IsRooted}
@@ -30,3 +30,17 @@ pub record IsMoved (tree : List (ℕ × Account)) (number : ℕ) (name : List �
   pub named : account.name ≡ name
   pub under : account.parent ≡ Some parent
   pub same_kind : kind_at tree number ≡ Some account.kind
+
+-- An account can be added to the tree, under any number that is free.
+abbrev pub CanBeAdded : List (ℕ × Account) → Account → Type 0
+CanBeAdded tree account = (number : ℕ) → IsNone (value_of number tree) → KeepsTree tree (with_entry number account tree)
+
+-- An account can be given the name and the parent.
+abbrev pub CanBeMoved : List (ℕ × Account) → ℕ → List ℕ → ℕ → Type 0
+CanBeMoved tree number name parent =
+    (account : Account) → IsMoved tree number name parent account → KeepsTree tree (with_entry number account tree)
+
+-- The tree stays rooted where the account gets this parent, if that is there.
+abbrev pub StaysRooted : List (ℕ × Account) → ℕ → ℕ → Type 0
+StaysRooted tree number parent =
+    IsSome (value_of parent tree) → (account : Account) → account.parent ≡ Some parent → IsRooted (with_entry number account tree)

@@ -1,10 +1,9 @@
-ghost use Rattle.std.specs.Prelude.{◌≡◌, ℕ, ◌<◌, [], length, Some, IsNone, IsSome, OnOk, MatchBool, IfOk, option_map, slice_get};
+ghost use Rattle.std.specs.Prelude.{◌≡◌, ◌<◌, [], length, Some, OnOk, MatchBool, IfOk, option_map, slice_get};
 ghost use Rattle.std.specs.Bool.{OnFalse};
-ghost use Rattle.book_commodity.specs.Table.{value_of, with_entry, without_entry};
+ghost use Rattle.book_commodity.specs.Table.{value_of, without_entry};
 ghost use Rattle.book_accounts.specs.Rules.{IsAnswer, add_rule, is_within, is_namesake, move_rule, name_taken, namesake, parent_kind, unknown_account};
-ghost use Rattle.book_accounts.specs.Soundness.{IsMoved, KeepsTree};
+ghost use Rattle.book_accounts.specs.Soundness.{CanBeAdded, CanBeMoved, KeepsTree, StaysRooted};
 ghost use Rattle.book_accounts.specs.Tree.{IsRooted, children_of};
-ghost use Rattle.book_accounts.specs.declared.account.Account.{Account};
 
 use crate::{Account, AccountKind, Tree, TreeRule};
 use book_commodity::Text;
@@ -14,7 +13,7 @@ impl Tree {
     /// or its parent is of another group. An account without a parent, whatever its name, breaks the rule of kinds.
     pub fn check_add(&self, account: &Account) -> Result<(), TreeRule>
         ensures first_rule { IsAnswer (add_rule self.now.entries account.now) result }
-        ensures keeps { OnOk result ((number : ℕ) → IsNone (value_of number self.now.entries) → KeepsTree self.now.entries (with_entry number account.now self.now.entries)) }
+        ensures keeps { OnOk result (CanBeAdded self.now.entries account.now) }
     {
         let Some(parent) = account.parent else {
             return Err(TreeRule::ParentKind);
@@ -30,7 +29,7 @@ impl Tree {
     pub fn check_move(&self, number: u64, name: &Text, parent: u64) -> Result<(), TreeRule>
         requires { IsRooted self.now.entries }
         ensures first_rule { IsAnswer (move_rule self.now.entries number name.now parent) result }
-        ensures keeps { OnOk result ((account : Account) → IsMoved self.now.entries number name.now parent account → KeepsTree self.now.entries (with_entry number account self.now.entries)) }
+        ensures keeps { OnOk result (CanBeMoved self.now.entries number name.now parent) }
     {
         let account = self.known(number)?;
         let above = self.known(parent)?;
@@ -43,7 +42,7 @@ impl Tree {
 
     /// Whether an account stands right under the one with this number. One with none under it can be taken out.
     pub fn has_children(&self, number: u64) -> bool
-        ensures children { MatchBool result (0 < length (children_of self.now.entries (Some number))) (children_of self.now.entries (Some number) ≡ []) }
+        ensures children { let children = children_of self.now.entries (Some number) in MatchBool result (0 < length children) (children ≡ []) }
         ensures keeps { OnFalse result (KeepsTree self.now.entries (without_entry number self.now.entries)) }
     {
         for place in 0..self.len() {
@@ -99,7 +98,7 @@ impl Tree {
     fn is_within(&self, upper: u64, number: u64) -> bool
         requires { IsRooted self.now.entries }
         ensures within { result ≡ is_within self.now.entries upper number }
-        ensures rooted { OnFalse result (IsSome (value_of number self.now.entries) → (account : Account) → account.parent ≡ Some number → IsRooted (with_entry upper account self.now.entries)) }
+        ensures rooted { OnFalse result (StaysRooted self.now.entries upper number) }
     {
         let mut current = number;
         while current != upper {

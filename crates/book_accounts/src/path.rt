@@ -2,7 +2,7 @@ ghost use Rattle.std.specs.Prelude.{◌≡◌, ◌∷◌, ◌++◌, IfOk, OnOk, 
 ghost use Rattle.std.specs.List.{join_with_byte};
 ghost use Rattle.book_commodity.specs.Table.{value_of};
 ghost use Rattle.book_accounts.specs.Path.{name_at, path};
-ghost use Rattle.book_accounts.specs.Tree.{IsRooted, ancestors};
+ghost use Rattle.book_accounts.specs.Tree.{IsRooted, IsWayUp, ancestors};
 
 use crate::Tree;
 use book_commodity::{OutOfMemory, Text};
@@ -12,7 +12,8 @@ impl Tree {
     pub fn path_of(&self, number: u64) -> Result<Text, OutOfMemory>
         requires rooted { IsRooted self.now.entries }
         requires there { IsSome (value_of number self.now.entries) }
-        ensures { IfOk result (λ text. text ≡ path self.now.entries number) }
+        ensures text { IfOk result (λ text. text ≡ path self.now.entries number) }
+        ensures way { OnOk result (IsWayUp self.now.entries number (ancestors self.now.entries number)) }
     {
         let mut way = self.way_up(number)?;
         way.reverse();
@@ -22,8 +23,10 @@ impl Tree {
 
     /// The account itself and all that it stands under, from the nearest on.
     fn way_up(&self, number: u64) -> Result<Vec<u64>, OutOfMemory>
-        requires { IsRooted self.now.entries }
-        ensures { IfOk result (λ way. way.items ≡ number ∷ ancestors self.now.entries number) }
+        requires rooted { IsRooted self.now.entries }
+        requires there { IsSome (value_of number self.now.entries) }
+        ensures way { OnOk result (IsWayUp self.now.entries number (ancestors self.now.entries number)) }
+        ensures items { IfOk result (λ way. way.items ≡ number ∷ ancestors self.now.entries number) }
     {
         let mut way = Vec::new(self.alloc);
         way.push(number)?;

@@ -90,8 +90,8 @@ impl Tree {
         self.accounts.reserve(extra)
     }
 
-    #[tactic(auto, using(crate::proofs::TreeLemmas::rises_with))]
     /// Puts the account under the number, and hands back the one that stood there. It takes no memory.
+    #[tactic(auto, using(crate::proofs::TreeLemmas::rises_with))]
     pub fn put(&mut self, number: u64, account: Account) -> Option<Account>
         requires { IsNone (value_of number self.old.entries) → 1 ≤ self.old.spare }
         ensures entries { self.new.entries ≡ with_entry number account self.old.entries }
@@ -101,8 +101,8 @@ impl Tree {
         self.accounts.put(number, account)
     }
 
-    #[tactic(auto, using(crate::proofs::TreeLemmas::rises_without))]
     /// Takes the account with the number out of the tree; `None` where there is none. It takes no memory.
+    #[tactic(auto, using(crate::proofs::TreeLemmas::rises_without))]
     pub fn take(&mut self, number: u64) -> Option<Account>
         ensures entries { self.new.entries ≡ without_entry number self.old.entries }
         ensures old { result ≡ value_of number self.old.entries }
