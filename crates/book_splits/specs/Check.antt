@@ -1,14 +1,13 @@
 -- The rules of a transaction, in the order in which they are asked.
-use Rattle.std.specs.Prelude.{◌≡◌, All, ℕ, ◌+◌, ◌^◌, ◌==◌, nat_eq, nat_lt, ◌≤◌, ℤ, pos, unsigned_abs, Bool, true, false, ◌&&◌, ◌||◌, not, List, [], ◌∷◌, ◌++◌, length, Option, Some, None, codes}
+use Rattle.std.specs.Prelude.{◌≡◌, All, ℕ, ◌+◌, ◌^◌, ◌==◌, nat_eq, nat_lt, ◌≤◌, ℤ, pos, unsigned_abs, Bool, false, ◌&&◌, ◌||◌, not, List, [], ◌∷◌, ◌++◌, length, Option, Some, None, codes}
 use Rattle.std.specs.Ordering.{int_eq}
 use lib.Pointwise.{pointwise}
 use Rattle.book_commodity.specs.Table.{value_of}
 use Rattle.book_commodity.specs.declared.commodity.Commodity.{Commodity}
 use Rattle.book_commodity.specs.declared.counted.Counted.TheVariants.{Amount}
 use Rattle.book_commodity.specs.declared.kind.Kind.TheVariants as kind
+use Rattle.book_accounts.specs.Group.{is_security}
 use Rattle.book_accounts.specs.declared.account.Account.{Account}
-use Rattle.book_accounts.specs.declared.kind.AccountKind.{AccountKind}
-use Rattle.book_accounts.specs.declared.kind.AccountKind.TheVariants.{Stock, Mutual}
 use Rattle.book_splits.specs.Balance.{sum_of_values}
 use Rattle.book_splits.specs.Rules.{broken_where}
 use Rattle.book_splits.specs.declared.rule.TxnRule.{TxnRule}
@@ -40,12 +39,6 @@ is_over_limit amount = nat_lt (10 ^ 12) (unsigned_abs amount)
 -- The value and the quantity of a split are at most 10^12 in size (a limit of this project).
 abbrev pub amount_limit : Split → Option TxnRule
 amount_limit split = broken_where (is_over_limit split.value || is_over_limit split.quantity) (Limit Amount (10 ^ 12))
-
--- Whether accounts of the kind hold securities (GnuCash Concepts Guide, account types).
-abbrev pub is_security : AccountKind → Bool
-is_security Stock = true
-is_security Mutual = true
-is_security _ = false
 
 -- Whether the basis of an account is the currency.
 abbrev pub is_basis : ℕ → Option ℕ → Bool

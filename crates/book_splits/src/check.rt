@@ -1,12 +1,12 @@
 ghost use Rattle.std.specs.Prelude.{◌≡◌, [], ◌∷◌, OnOk};
 ghost use Rattle.book_commodity.specs.Table.{value_of};
 ghost use Rattle.book_splits.specs.Balance.{sum_of_values};
-ghost use Rattle.book_splits.specs.Check.{IsSound, currency_rules, is_over_limit, is_security, rules_of_splits, split_count, split_rules, txn_rules, unbalanced};
+ghost use Rattle.book_splits.specs.Check.{IsSound, currency_rules, is_over_limit, rules_of_splits, split_count, split_rules, txn_rules, unbalanced};
 ghost use Rattle.book_splits.specs.Rules.{TellsFirst};
 
 use crate::{Split, Txn, TxnRule};
-use book_accounts::{Account, AccountKind};
-use book_commodity::{Commodities, Counted, Kind, Table};
+use book_accounts::Tree;
+use book_commodity::{Commodities, Counted, Kind};
 
 const MAX_SPLITS: usize = 500;
 
@@ -16,11 +16,7 @@ const MAX_AMOUNT: u64 = 1_000_000_000_000;
 /// currency is known and a currency; then split by split the account is known and no placeholder, the amounts are at
 /// most 10^12 in size, the basis of a security account is the currency, and on an account in the currency value and
 /// quantity are equal; last the values sum to zero. It takes no memory.
-pub fn check_txn(
-    commodities: &Commodities,
-    accounts: &Table<Account>,
-    txn: &Txn,
-) -> Result<(), TxnRule>
+pub fn check_txn(commodities: &Commodities, accounts: &Tree, txn: &Txn) -> Result<(), TxnRule>
     ensures first_rule { TellsFirst (txn_rules commodities.now.entries accounts.now.entries txn.now) result }
     ensures sound { OnOk result (IsSound txn.now.splits) }
 {
@@ -63,7 +59,7 @@ fn check_currency(commodities: &Commodities, currency: u64) -> Result<(), TxnRul
 }
 
 /// Each split keeps its rules, asked in the order of the splits.
-fn check_splits(accounts: &Table<Account>, currency: u64, splits: &[Split]) -> Result<(), TxnRule>
+fn check_splits(accounts: &Tree, currency: u64, splits: &[Split]) -> Result<(), TxnRule>
     ensures { TellsFirst (rules_of_splits accounts.now.entries currency 0 splits.now) result }
 {
     for (place, split) in splits.iter().enumerate() {
@@ -73,12 +69,7 @@ fn check_splits(accounts: &Table<Account>, currency: u64, splits: &[Split]) -> R
 }
 
 /// The split at a place keeps its rules.
-fn check_split(
-    accounts: &Table<Account>,
-    currency: u64,
-    place: usize,
-    split: &Split,
-) -> Result<(), TxnRule>
+fn check_split(accounts: &Tree, currency: u64, place: usize, split: &Split) -> Result<(), TxnRule>
     ensures { TellsFirst (split_rules currency place split.now (value_of split.now.account accounts.now.entries)) result }
 {
     let Some(account) = accounts.find(split.account) else {
@@ -98,7 +89,7 @@ fn check_split(
             at: MAX_AMOUNT,
         });
     }
-    if is_security(account.kind) && account.basis != Some(currency) {
+    if account.kind.is_security() && account.basis != Some(currency) {
         return Err(TxnRule::Basis {
             account: split.account,
         });
@@ -116,13 +107,6 @@ fn is_over_limit(amount: i64) -> bool
     ensures { result ≡ is_over_limit amount }
 {
     amount.unsigned_abs() > MAX_AMOUNT
-}
-
-/// Whether accounts of the kind hold securities.
-fn is_security(kind: AccountKind) -> bool
-    ensures { result ≡ is_security kind }
-{
-    matches!(kind, AccountKind::Stock | AccountKind::Mutual)
 }
 
 /// The values sum to zero.

@@ -1,6 +1,7 @@
 //! Transactions and their splits. A transaction moves value among accounts: each split gives one account
 //! a value, in the transaction's currency, and a quantity, in the account's commodity, and the values of
-//! a transaction sum to zero (GnuCash Concepts Guide, the accounting equation and double entry).
+//! a transaction sum to zero (GnuCash Concepts Guide, the accounting equation and double entry). `check_txn`
+//! tells the first rule that a transaction breaks, and `balances_after` sums the splits of accounts.
 #![tactic(auto)]
 
 mod balances;

@@ -1,6 +1,6 @@
 use crate::{Mark, Split, Txn, TxnRule, Txns, check_txn};
-use book_accounts::{Account, AccountKind};
-use book_commodity::{Commodities, Commodity, Counted, Day, Many, OutOfMemory, Table, Text};
+use book_accounts::{Account, AccountKind, Tree};
+use book_commodity::{Commodities, Commodity, Counted, Day, Many, OutOfMemory, Text};
 use std::alloc::Global;
 use std::test::Fail;
 
@@ -29,8 +29,8 @@ fn commodities(alloc: Global) -> Result<Commodities, OutOfMemory> {
     Ok(commodities)
 }
 
-fn accounts(alloc: Global) -> Result<Table<Account>, OutOfMemory> {
-    let mut accounts = Table::new(alloc);
+fn accounts(alloc: Global) -> Result<Tree, OutOfMemory> {
+    let mut accounts = Tree::new(alloc);
     for (number, kind, commodity, basis) in [
         (BROKER, AccountKind::Stock, SHARES, Some(EURO)),
         (CASH, AccountKind::Bank, EURO, None),
