@@ -1,10 +1,10 @@
 -- Readers, forms and texts at values written by hand.
-use Rattle.std.proofs.Common.{◌≡◌, ℕ, List, [], ◌∷◌, Bool, true, false, Option, Some, None, Result, Ok, Err, codes, pos, ℤ, refl}
-use Rattle.serde_json.specs.Data.{unsigned, null, number, string, object, Members, no_members, member}
+use Rattle.std.proofs.Common.{◌≡◌, ℕ, List, [], ◌∷◌, true, false, None, Ok, Err, codes, refl}
+use Rattle.serde_json.specs.Data.{unsigned, null, number, string, object, no_members, member}
 use Rattle.serde_json.specs.Written.{compact_text}
 use Rattle.serde_json.proofs.OnLiterals.{serde_json_on_literals}
 use Rattle.book_json.specs.Members.{Reader, needed, optional, text, ends, ◌>>=◌}
-use Rattle.book_json.specs.Forms.{whole, filled, day_named, among}
+use Rattle.book_json.specs.Forms.{whole, among}
 
 -- an owner, who must be given, and a note, which may be absent
 abbrev purse : Reader (ℕ × List ℕ)

@@ -1,10 +1,8 @@
-ghost use Rattle.std.specs.Prelude.{◌≡◌, ℕ, List, IfOk};
+ghost use Rattle.std.specs.Prelude.{◌≡◌, ℕ, List};
 ghost use Rattle.serde_json.specs.View.{view};
 ghost use Rattle.book_json.specs.Forms.{named, among};
 
-use book_commodity::OutOfMemory;
 use serde_json::Value;
-use std::alloc::Global;
 
 /// A type whose values have words.
 pub trait Word {
@@ -16,13 +14,12 @@ pub trait Word {
         ensures { result ≡ named words text.now };
 }
 
-/// What a text that is one of the words stands for, `None` for all other data. It is a whole body for `Form::read`,
-/// and takes no memory.
-pub fn among<W: Word + Drop>(_alloc: Global, value: Value) -> Result<Option<W>, OutOfMemory>
-    ensures { IfOk result (λ read. read ≡ among W.words (view value)) }
+/// What data stands for that is the text of one of the words, byte for byte; `None` for all other data.
+pub fn among<W: Word + Drop>(value: Value) -> Option<W>
+    ensures { result ≡ among W.words (view value) }
 {
     match value {
-        Value::String(text) => Ok(W::named(text.as_str())),
-        _ => Ok(None),
+        Value::String(text) => W::named(text.as_str()),
+        _ => None,
     }
 }
