@@ -1,4 +1,5 @@
 pub mod ChildrenLemmas
+pub mod OnceLemmas
 pub mod OrderLemmas
 pub mod PathLemmas
 pub mod RuleLemmas

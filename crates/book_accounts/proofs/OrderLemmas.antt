@@ -1,10 +1,9 @@
 -- A rooted tree listed depth first: an account with all that stands under it is the account, then its children, each
 -- with all that stands under it.
-use Rattle.std.proofs.Common.{◌≡◌, nat_eq, ℕ, zero, suc, ◌+◌, ◌≤◌, ◌==◌, Bool, true, false, List, [], ◌∷◌, ◌++◌, cond, length, map, filter, reverse, Some, None, IsSome, refl, sym, ap, subst, ◌∙◌, append_assoc, arith}
+use Rattle.std.proofs.Common.{◌≡◌, nat_eq, ℕ, zero, suc, ◌+◌, ◌≤◌, ◌==◌, Bool, true, false, List, [], ◌∷◌, ◌++◌, cond, length, map, filter, reverse, Some, None, refl, sym, ap, subst, ◌∙◌, append_assoc, arith, if◌then◌else◌, eq-eqb, Option}
 use Rattle.std.specs.List.{flat_map}
-use Rattle.std.specs.Option.{option_eq}
+use Rattle.std.specs.Option.{option_and_then, option_eq}
 use Rattle.std.proofs.lemmas.Bool.{eqb-true}
-use Rattle.std.proofs.lemmas.Bool.Decides.{nat_tests}
 use Rattle.std.proofs.lemmas.List.{reverse-append, reverse-reverse}
 use Rattle.book_commodity.specs.Table.{Rises, value_of}
 use Rattle.book_commodity.proofs.TableLemmas.{above_value}
@@ -15,7 +14,7 @@ use Rattle.book_accounts.proofs.TreeLaws.{option_eq-true}
 use Rattle.book_accounts.proofs.TreeLemmas.{way_short, there_below}
 
 -- P of each item
-abbrev Each : (ℕ → Type 0) → List ℕ → Type 0
+abbrev pub Each : (ℕ → Type 0) → List ℕ → Type 0
 Each P [] = Unit {0}
 Each P (x ∷ xs) = P x × Each P xs
 
@@ -28,25 +27,30 @@ flat_map-append f [] ys = refl
 flat_map-append f (x ∷ xs) ys = ap (λ (l : List ℕ). f x ++ l) (flat_map-append f xs ys) ∙ sym (append_assoc (f x) (flat_map f xs) (flat_map f ys))
 
 -- what holds of each account with this parent holds of all the children listed
-all_children : (P : ℕ → Type 0) (m : ℕ) (tree : List (ℕ × Account)) → Rises tree → ((c : ℕ) → parent_of tree c ≡ Some m → P c) → Each P (children_of tree (Some m))
-all_children P m [] r h = tt
-all_children P m (e ∷ es) r h =
-    let rest : Each P (children_of es (Some m)) =
-    all_children P m es r.1
-    (λ c up.
+pub all_children :
+    (P : ℕ → Type 0) (parent : Option ℕ) (tree : List (ℕ × Account)) → Rises tree
+    → ((c : ℕ) (a : Account) → value_of c tree ≡ Some a → a.parent ≡ parent → P c) → Each P (children_of tree parent)
+all_children P parent [] r h = tt
+all_children P parent (e ∷ es) r h =
+    let rest : Each P (children_of es parent) =
+    all_children P parent es r.1
+    (λ c a value up.
     let Same : Bool → Type 0 = λ t. (c == e.0) ≡ t → P c in
     elim (c == e.0) as Same [
       | true ↦ λ same. absurd
           (let here : c ≡ e.0 = eqb-true c e.0 same in
-          let gone : value_of c es ≡ None = subst (λ (k : ℕ). value_of k es ≡ None) (sym here) (above_value e.0 es r.0) in
-          let some : IsSome (value_of c es) = there_below es c m up in cc)
-      | false ↦ λ other. h c (grind (arith, up, other))
+          let gone : value_of c es ≡ None = subst (λ (k : ℕ). value_of k es ≡ None) (sym here) (above_value e.0 es r.0) in cc)
+      | false ↦ λ other. h c a (ap (λ (t : Bool). if t then Some e.1 else value_of c es) other ∙ value) up
     ] refl) in
-    let Kept : Bool → Type 0 = λ t. option_eq nat_eq e.1.parent (Some m) ≡ t → Each P (map (λ entry. entry.0) (cond t (e ∷ filter (λ entry. option_eq nat_eq entry.1.parent (Some m)) es) (filter (λ entry. option_eq nat_eq entry.1.parent (Some m)) es))) in
-    elim (option_eq nat_eq e.1.parent (Some m)) as Kept [
-      | true ↦ λ kept. (h e.0 (let here : e.1.parent ≡ Some m = option_eq-true e.1.parent (Some m) kept in grind (arith, nat_tests)), rest)
+    let Kept : Bool → Type 0 = λ t. option_eq nat_eq e.1.parent parent ≡ t
+    → Each P (map (λ entry. entry.0) (cond t (e ∷ filter (λ entry. option_eq nat_eq entry.1.parent parent) es) (filter (λ entry. option_eq nat_eq entry.1.parent parent) es))) in
+    elim (option_eq nat_eq e.1.parent parent) as Kept [
+      | true ↦ λ kept. (h e.0 e.1 (ap (λ (t : Bool). if t then Some e.1 else value_of e.0 es) (eq-eqb e.0 e.0 refl)) (option_eq-true e.1.parent parent kept), rest)
       | false ↦ λ other. rest
     ] refl
+
+pub has_parent : (tree : List (ℕ × Account)) (c m : ℕ) (a : Account) → value_of c tree ≡ Some a → a.parent ≡ Some m → parent_of tree c ≡ Some m
+has_parent tree c m a value up = ap (option_and_then (λ account. account.parent)) value ∙ up
 
 -- one generation more adds nothing where an account's way up and the generations reach past the tree
 same_generations :
@@ -57,8 +61,8 @@ same_generations zero tree n way r w h = absurd (omega (arith, way_short tree n 
 same_generations (suc most) tree n way r w h =
     ap (λ (l : List ℕ). n ∷ l)
     (flat_map_same (with_generations most tree) (with_generations (suc most) tree) (children_of tree (Some n))
-    (all_children (λ c. with_generations most tree c ≡ with_generations (suc most) tree c) n tree r
-    (λ c up. same_generations most tree c (n ∷ way) r (up, w) (omega (arith, h)))))
+    (all_children (λ c. with_generations most tree c ≡ with_generations (suc most) tree c) (Some n) tree r
+    (λ c a value up. same_generations most tree c (n ∷ way) r (has_parent tree c n a value up, w) (omega (arith, h)))))
 
 pub some_below : (tree : List (ℕ × Account)) (c m : ℕ) (way : List ℕ) → IsWayUp tree c way → parent_of tree c ≡ Some m → (above : List ℕ) × IsWayUp tree m above
 some_below tree c m [] w up = absurd (let top = w.1 in cc)
@@ -75,8 +79,9 @@ whole zero (x ∷ xs) n r rooted e = absurd (omega (arith, e))
 whole (suc most) tree n r rooted e =
     ap (λ (l : List ℕ). n ∷ l)
     (flat_map_same (with_generations most tree) (with_generations (suc most) tree) (children_of tree (Some n))
-    (all_children (λ c. with_generations most tree c ≡ with_generations (suc most) tree c) n tree r
-    (λ c up.
+    (all_children (λ c. with_generations most tree c ≡ with_generations (suc most) tree c) (Some n) tree r
+    (λ c a value at.
+    let up = has_parent tree c n a value at in
     let way = rooted.up c (there_below tree c n up) in
     let above = some_below tree c n way.0 way.1 up in
     same_generations most tree c (n ∷ above.0) r (up, above.1) (omega (arith, e)))))

@@ -1,6 +1,7 @@
 -- The order in which the accounts of a tree are listed: depth first.
-use Rattle.std.specs.Prelude.{ℕ, zero, suc, List, [], ◌∷◌, length, Some, None}
+use Rattle.std.specs.Prelude.{◌≡◌, ℕ, zero, suc, nat_eq, if◌then◌else◌, List, [], ◌∷◌, length, count_by, Some, None, is_some}
 use Rattle.std.specs.List.{flat_map}
+use Rattle.book_commodity.specs.Table.{value_of}
 use Rattle.book_accounts.specs.Tree.{children_of}
 use Rattle.book_accounts.specs.declared.account.Account.{Account}
 
@@ -16,3 +17,7 @@ with_all_under tree number = with_generations (length tree) tree number
 -- The accounts of a tree, depth first: those at the top by number, each with all that stands under it.
 abbrev pub depth_first : List (ℕ × Account) → List ℕ
 depth_first tree = flat_map (with_all_under tree) (children_of tree None)
+
+-- Every account of the tree is listed once, and nothing else is.
+abbrev pub ListsEachOnce : List (ℕ × Account) → List ℕ → Type 0
+ListsEachOnce tree order = (number : ℕ) → count_by (nat_eq number) order ≡ (if is_some (value_of number tree) then 1 else 0)

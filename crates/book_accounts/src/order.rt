@@ -1,5 +1,5 @@
 ghost use Rattle.std.specs.Prelude.{◌≡◌, IfOk};
-ghost use Rattle.book_accounts.specs.Order.{depth_first};
+ghost use Rattle.book_accounts.specs.Order.{ListsEachOnce, depth_first};
 ghost use Rattle.book_accounts.specs.Tree.{IsRooted};
 
 use crate::Tree;
@@ -11,7 +11,8 @@ impl Tree {
     /// all that stands under it.
     pub fn order(&self) -> Result<Many<u64>, OutOfMemory>
         requires { IsRooted self.now.entries }
-        ensures { IfOk result (λ order. order ≡ depth_first self.now.entries) }
+        ensures order { IfOk result (λ order. order ≡ depth_first self.now.entries) }
+        ensures each_once { IfOk result (ListsEachOnce self.now.entries) }
     {
         let children = Children::of_tree(self)?;
         let mut order = Many::new(self.alloc);

@@ -1,7 +1,8 @@
-use Rattle.std.proofs.Common.{◌≡◌, ℕ, [], ◌∷◌, ◌++◌, Some, List, reverse, length, sym, ap, ◌∙◌, arith, append_assoc}
+use Rattle.std.proofs.Common.{rules, ◌≡◌, ℕ, [], ◌∷◌, ◌++◌, Some, List, reverse, length, sym, ap, subst, ◌∙◌, arith, append_assoc}
 use Rattle.std.specs.List.{flat_map}
-use Rattle.book_accounts.specs.Order.{with_all_under}
+use Rattle.book_accounts.specs.Order.{ListsEachOnce, depth_first, with_all_under}
 use Rattle.book_accounts.specs.Tree.{children_of}
+use Rattle.book_accounts.proofs.OnceLemmas.{listed_once}
 use Rattle.book_accounts.proofs.OrderLemmas.{listed_on}
 use Rattle.book_accounts.proofs.tree.Tree.order.Goals as goal
 
@@ -25,3 +26,9 @@ loop-number-preserved c =
     ∙ append_assoc c.loop-number.order (c.in-Some.number ∷ []) rest
     ∙ ap (λ (l : List ℕ). c.loop-number.order ++ l) (sym (listed c))
     ∙ c.loop-number.invariant
+
+pub returns-clause-each_once : goal.returns-clause-each_once
+returns-clause-each_once c =
+    let is : c.loop-number.order ≡ depth_first c.args.self.now.entries = search rules in
+    subst (λ (order : List ℕ). ListsEachOnce c.args.self.now.entries order) (sym is)
+    (listed_once c.args.self.now.entries c.of_tree.ensures.rises c.requires)
