@@ -3,21 +3,21 @@ use book_commodity::{Bytes, Many, OutOfMemory, Text};
 use book_keeper::{MemSink, MemSource};
 use std::alloc::Global;
 
-pub const SALARY: &str =
+pub(crate) const SALARY: &str =
     "{\"do\":\"post\",\"day\":\"2024-01-05\",\"currency\":1,\"description\":\"Pay\",\"splits\":[{\"account\":3,\"value\":250000},{\"account\":4,\"value\":-250000}]}";
 
-pub const SALARY_ANSWER: &str =
+pub(crate) const SALARY_ANSWER: &str =
     "{\"balances\":[\"250000\",\"-250000\"],\"ok\":\"post\",\"splits\":[6,7],\"transaction\":5,\"version\":3}\n";
 
 /// How a run ended, and what it wrote.
 #[derive(Drop)]
-pub struct Ended {
-    pub status: Status,
-    pub output: MemSink,
+pub(crate) struct Ended {
+    pub(crate) status: Status,
+    pub(crate) output: MemSink,
 }
 
 /// Runs the words over the input, which is read in pieces of so many bytes; these reads and writes fail.
-pub fn ran(
+pub(crate) fn ran(
     alloc: Global,
     words: &[&str],
     input: &[u8],
