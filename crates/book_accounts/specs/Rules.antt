@@ -4,6 +4,7 @@ use Rattle.std.specs.Prelude.{◌≡◌, ℕ, ◌==◌, nat_eq, Bool, ◌&&◌, 
 use Rattle.std.specs.List.{list_any}
 use Rattle.std.specs.Option.{option_eq}
 use lib.Pointwise.{pointwise}
+use Rattle.book_commodity.specs.Rules.{first_broken}
 use Rattle.book_commodity.specs.Table.{value_of}
 use Rattle.book_accounts.specs.Group.{fits_under}
 use Rattle.book_accounts.specs.Tree.{ancestors}
@@ -11,12 +12,6 @@ use Rattle.book_accounts.specs.declared.account.Account.{Account}
 use Rattle.book_accounts.specs.declared.kind.AccountKind.{AccountKind}
 use Rattle.book_accounts.specs.declared.rule.TreeRule.{TreeRule}
 use Rattle.book_accounts.specs.declared.rule.TreeRule.TheVariants.{UnknownAccount, NameTaken, Cycle, ParentKind}
-
--- The first of several rules that is broken, if one is.
-abbrev pub first_broken : List (Option TreeRule) → Option TreeRule
-first_broken [] = None
-first_broken (Some rule ∷ rules) = Some rule
-first_broken (None ∷ rules) = first_broken rules
 
 -- No account has the number.
 abbrev pub unknown_account : List (ℕ × Account) → ℕ → Option TreeRule

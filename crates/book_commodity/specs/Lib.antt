@@ -1,3 +1,5 @@
 pub mod Amount
+pub mod Currency
 pub mod Day
+pub mod Rules
 pub mod Table

@@ -1,4 +1,5 @@
 ghost use Rattle.std.specs.Prelude.{◌≡◌, IfOk};
+ghost use Rattle.book_commodity.specs.Currency.{is_currency};
 
 use crate::{OutOfMemory, Table, Text};
 
@@ -26,5 +27,12 @@ impl Commodity {
             full_name: self.full_name.copy()?,
             fraction: self.fraction,
         })
+    }
+
+    /// Whether it is a currency.
+    pub fn is_currency(&self) -> bool
+        ensures { result ≡ is_currency self.now }
+    {
+        self.space.as_str() == "CURRENCY"
     }
 }

@@ -112,6 +112,7 @@ impl<T: Drop> Table<T> {
     #[tactic(auto, using(crate::proofs::TableLemmas::places))]
     pub fn put(&mut self, number: u64, value: T) -> Option<T>
         requires { IsNone (value_of number self.old.entries) → 1 ≤ self.old.spare }
+        ensures rises { Rises self.old.entries }
         ensures entries { self.new.entries ≡ with_entry number value self.old.entries }
         ensures old { result ≡ value_of number self.old.entries }
         ensures spare { self.old.spare ≡ self.new.spare + (if is_none result then 1 else 0) }

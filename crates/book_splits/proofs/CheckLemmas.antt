@@ -1,48 +1,22 @@
 -- Laws of rules asked in order, and what holds of a transaction that breaks none.
-use Rattle.std.proofs.Common.{◌≡◌, Bool, true, false, OnOk, ℕ, suc, ◌+◌, ◌<◌, ◌≤◌, pos, ◌+ℤ◌, List, [], ◌∷◌, ◌++◌, length, map, take, drop, get_or, Option, Some, None, Result, Ok, Err, All, refl, sym, ap, subst, ◌∙◌, arith}
+use Rattle.std.proofs.Common.{◌≡◌, OnOk, ℕ, suc, ◌+◌, ◌<◌, ◌≤◌, pos, ◌+ℤ◌, List, [], ◌∷◌, ◌++◌, length, map, take, drop, get_or, Option, Some, None, Result, Ok, Err, All, sym, ap, subst, ◌∙◌, arith}
 use Rattle.std.proofs.Math.IntN.{+ℤ_idr}
 use Rattle.std.proofs.Math.Seq.{drop-cons}
 use Rattle.std.proofs.lemmas.Bool.{not-false}
 use Rattle.std.proofs.lemmas.Bool.Decides.{Decides-int_eq, nat_tests}
 use Rattle.std.proofs.lemmas.List.{map-append, take_more}
 use Rattle.std.proofs.lemmas.List.Elements.{All-nil, All-cons}
+use Rattle.book_commodity.specs.Rules.{TellsFirst, first_broken}
 use Rattle.book_commodity.specs.Table.{value_of}
+use Rattle.book_commodity.proofs.RuleLemmas.{first-past, first-here, none-front, none-back, not-broken, tells-past}
 use Rattle.book_commodity.specs.declared.commodity.Commodity.{Commodity}
 use Rattle.book_accounts.specs.declared.account.Account.{Account}
 use Rattle.book_splits.specs.Balance.{total, sum_of_values}
 use Rattle.book_splits.specs.Check.{HasAmounts, IsSound, amount_limit, basis, placeholder, value_not_quantity, currency_rules, rules_of_splits, split_count, split_rules, txn_rules, unbalanced}
-use Rattle.book_splits.specs.Rules.{TellsFirst, broken_where, first_broken}
 use Rattle.book_splits.specs.declared.rule.TxnRule.{TxnRule}
 use Rattle.book_splits.specs.declared.split.Split.{Split}
 use Rattle.book_splits.specs.declared.transaction.Txn.{Txn}
 use Rattle.book_splits.proofs.BalanceLemmas.{total-append}
-
--- where the first rules aren't broken, the first broken one is among those behind them
-pub first-past : {R : Type 0} (xs ys : List (Option R)) → first_broken xs ≡ None → first_broken (xs ++ ys) ≡ first_broken ys
-first-past [] ys e = refl
-first-past (None ∷ xs) ys e = first-past xs ys e
-first-past (Some rule ∷ xs) ys e = absurd cc
-
--- a rule that is the first broken one stays it, whatever rules stand behind
-pub first-here : {R : Type 0} (xs ys : List (Option R)) (rule : R) → first_broken xs ≡ Some rule → first_broken (xs ++ ys) ≡ Some rule
-first-here [] ys rule e = absurd cc
-first-here (None ∷ xs) ys rule e = first-here xs ys rule e
-first-here (Some other ∷ xs) ys rule e = e
-
--- of rules that aren't broken neither the first ones are
-pub none-front : {R : Type 0} (xs ys : List (Option R)) → first_broken (xs ++ ys) ≡ None → first_broken xs ≡ None
-none-front [] ys e = refl
-none-front (None ∷ xs) ys e = none-front xs ys e
-none-front (Some rule ∷ xs) ys e = absurd cc
-
--- nor those behind
-pub none-back : {R : Type 0} (xs ys : List (Option R)) → first_broken (xs ++ ys) ≡ None → first_broken ys ≡ None
-none-back xs ys e = sym (first-past xs ys (none-front xs ys e)) ∙ e
-
--- what is told of the rules behind unbroken ones is told of all
-pub tells-past : {T R : Type 0} (xs ys : List (Option R)) (result : Result T R) → first_broken xs ≡ None → TellsFirst ys result → TellsFirst (xs ++ ys) result
-tells-past xs ys (Ok x) e h = first-past xs ys e ∙ h
-tells-past xs ys (Err rule) e h = first-past xs ys e ∙ h
 
 -- the first broken rule of a split is that of all splits, where those before it break none
 pub first-of_splits :
@@ -58,11 +32,6 @@ first-of_splits accounts currency splits place split rule below is before here =
     before
     ∙ ap (λ (l : List Split). first_broken (rules_of_splits accounts currency place l)) next
     ∙ first-here (split_rules currency place split (value_of split.account accounts)) (rules_of_splits accounts currency (place + 1) rest) rule here
-
--- a rule isn't broken only where its condition doesn't hold
-not-broken : {R : Type 0} (condition : Bool) (rule : R) → first_broken (broken_where condition rule ∷ []) ≡ None → condition ≡ false
-not-broken true rule e = absurd cc
-not-broken false rule e = refl
 
 -- a split that breaks no rule has amounts within the limit
 amounts-of_split : (currency place : ℕ) (split : Split) (account : Option Account) → first_broken (split_rules currency place split account) ≡ None → HasAmounts split

@@ -1,5 +1,6 @@
 -- Sums over splits, computed afresh from the transactions (GnuCash Concepts Guide, account registers).
-use Rattle.std.specs.Prelude.{ℕ, ◌*◌, ◌^◌, ℤ, pos, ◌+ℤ◌, ◌-ℤ◌, ◌≤ℤ◌, ◌==◌, List, [], ◌∷◌, ◌++◌, map, filter}
+use Rattle.std.specs.Prelude.{ℕ, ◌*◌, ◌^◌, ℤ, pos, ◌+ℤ◌, ◌-ℤ◌, ◌≤ℤ◌, ◌==◌, Bool, List, [], ◌∷◌, ◌++◌, map, filter}
+use Rattle.std.specs.List.{list_any}
 use Rattle.book_splits.specs.declared.split.Split.{Split}
 use Rattle.book_splits.specs.declared.transaction.Txn.{Txn}
 
@@ -16,6 +17,10 @@ sum_of_values splits = total (map (λ split. split.value) splits)
 abbrev pub splits_of : List (ℕ × Txn) → List Split
 splits_of [] = []
 splits_of (entry ∷ more) = entry.1.splits ++ splits_of more
+
+-- whether a split stands on an account
+abbrev pub has_splits : List (ℕ × Txn) → ℕ → Bool
+has_splits transactions account = list_any (λ split. split.account == account) (splits_of transactions)
 
 -- what the splits give to an account: the sum of the quantities of those that name it
 abbrev pub quantity_on : ℕ → List Split → ℤ

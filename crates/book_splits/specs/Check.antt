@@ -1,7 +1,7 @@
 -- The rules of a transaction, in the order in which they are asked.
-use Rattle.std.specs.Prelude.{◌≡◌, All, ℕ, ◌+◌, ◌^◌, ◌==◌, nat_eq, nat_lt, ◌≤◌, ℤ, pos, unsigned_abs, Bool, false, ◌&&◌, ◌||◌, not, List, [], ◌∷◌, ◌++◌, length, Option, Some, None, codes}
+use Rattle.std.specs.Prelude.{◌≡◌, All, ℕ, ◌+◌, ◌^◌, ◌==◌, nat_lt, ◌≤◌, ℤ, pos, unsigned_abs, Bool, false, ◌&&◌, ◌||◌, not, List, [], ◌∷◌, ◌++◌, length, Option, Some, None}
 use Rattle.std.specs.Ordering.{int_eq}
-use lib.Pointwise.{pointwise}
+use Rattle.book_commodity.specs.Currency.{is_currency}
 use Rattle.book_commodity.specs.Table.{value_of}
 use Rattle.book_commodity.specs.declared.commodity.Commodity.{Commodity}
 use Rattle.book_commodity.specs.declared.counted.Counted.TheVariants.{Amount}
@@ -9,7 +9,7 @@ use Rattle.book_commodity.specs.declared.kind.Kind.TheVariants as kind
 use Rattle.book_accounts.specs.Group.{is_security}
 use Rattle.book_accounts.specs.declared.account.Account.{Account}
 use Rattle.book_splits.specs.Balance.{sum_of_values}
-use Rattle.book_splits.specs.Rules.{broken_where}
+use Rattle.book_commodity.specs.Rules.{broken_where}
 use Rattle.book_splits.specs.declared.rule.TxnRule.{TxnRule}
 use Rattle.book_splits.specs.declared.rule.TxnRule.TheVariants.{SplitCount, Unknown, WrongCurrency, Placeholder, Limit, Basis, ValueNotQuantity, Unbalanced}
 use Rattle.book_splits.specs.declared.split.Split.{Split}
@@ -18,10 +18,6 @@ use Rattle.book_splits.specs.declared.transaction.Txn.{Txn}
 -- A transaction has 1 to 500 splits (a limit of this project).
 abbrev pub split_count : List Split → Option TxnRule
 split_count splits = broken_where (nat_lt (length splits) 1 || nat_lt 500 (length splits)) (SplitCount (length splits))
-
--- Whether a commodity is a currency: it stands in the space CURRENCY (GnuCash, the namespaces of commodities).
-abbrev pub is_currency : Commodity → Bool
-is_currency commodity = pointwise nat_eq commodity.space (codes "CURRENCY")
 
 -- The currency of a transaction is a commodity of the book, and a currency.
 abbrev pub currency_rules : ℕ → Option Commodity → List (Option TxnRule)

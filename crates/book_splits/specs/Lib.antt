@@ -1,4 +1,3 @@
 pub mod Balance
 pub mod Balances
 pub mod Check
-pub mod Rules

@@ -2,7 +2,7 @@ ghost use Rattle.std.specs.Prelude.{◌≡◌, [], ◌∷◌, OnOk};
 ghost use Rattle.book_commodity.specs.Table.{value_of};
 ghost use Rattle.book_splits.specs.Balance.{sum_of_values};
 ghost use Rattle.book_splits.specs.Check.{IsSound, currency_rules, is_over_limit, rules_of_splits, split_count, split_rules, txn_rules, unbalanced};
-ghost use Rattle.book_splits.specs.Rules.{TellsFirst};
+ghost use Rattle.book_commodity.specs.Rules.{TellsFirst};
 
 use crate::{Split, Txn, TxnRule};
 use book_accounts::Tree;
@@ -50,7 +50,7 @@ fn check_currency(commodities: &Commodities, currency: u64) -> Result<(), TxnRul
             id: currency,
         });
     };
-    if commodity.space.as_str() != "CURRENCY" {
+    if !commodity.is_currency() {
         return Err(TxnRule::WrongCurrency {
             commodity: currency,
         });

@@ -1,3 +1,1 @@
-pub mod SoundStep
-pub mod StepLemmas
 pub mod Worked

@@ -1,56 +1,130 @@
--- The definition of the step, computed on examples: a salary of 2,500.00 euro, and a post that does not balance.
-use Rattle.std.specs.Prelude.{◌≡◌, ℕ, ℤ, pos, negsuc, [], ◌∷◌, codes, None, refl}
-use Rattle.book_splits.specs.declared.split.Split.{Split}
-use Rattle.book_splits.specs.declared.split.Mark.TheVariants.{New}
-use Rattle.book_step.specs.Book.{State, first_state}
-use Rattle.book_step.specs.Step.{Broken, Done, step}
+-- The step on command lines whose answers are known, from the fresh state on.
+use Rattle.std.proofs.Common.{◌≡◌, ℕ, ℤ, pos, negsuc, List, [], ◌∷◌, Option, Some, None, false, codes, refl}
+use Rattle.book_commodity.specs.declared.counted.Counted.TheVariants.{Amount}
+use Rattle.book_accounts.specs.Tree.{nearest_parents}
+use Rattle.book_accounts.specs.declared.kind.AccountKind.{AccountKind}
+use Rattle.book_accounts.specs.declared.kind.AccountKind.TheVariants.{Bank, Income, Stock}
+use Rattle.book_step.specs.Outcome.{Outcome, Broken, Done}
+use Rattle.book_step.specs.State.{State, fresh_state}
+use Rattle.book_step.specs.Step.{step}
+use Rattle.book_step.specs.declared.answer.Answer.{Answer}
 use Rattle.book_step.specs.declared.answer.Answer.TheVariants as answer
 use Rattle.book_step.specs.declared.command.Command.{Command}
-use Rattle.book_step.specs.declared.command.Command.TheVariants.{Post}
+use Rattle.book_step.specs.declared.command.GivenAccount.{GivenAccount}
 use Rattle.book_step.specs.declared.command.GivenSplit.{GivenSplit}
-use Rattle.book_step.specs.declared.rule.Rule.TheVariants.{Unbalanced}
+use Rattle.book_step.specs.declared.command.What.{What}
+use Rattle.book_step.specs.declared.command.What.TheVariants.{BookCurrency, CommodityAdd, AccountAdd, AccountEdit, AccountDrop, Post}
+use Rattle.book_step.specs.declared.rule.Rule.{Rule}
+use Rattle.book_step.specs.declared.rule.Rule.TheVariants.{Stale, NameTaken, Root, Cycle, SplitCount, Unbalanced, Limit}
 
-abbrev pub given : ℕ → ℤ → GivenSplit
-given account value = record { account = account; value = value }
+abbrev now : What → Command
+now what = record { at = None; what = what }
 
--- 2024-01-05 is day 19,727
-abbrev pub salary : Command
-salary = Post (pos 19727) 1 (codes "Pay") (given 3 (pos 250000) ∷ given 4 (negsuc 249999) ∷ [])
+-- what an outcome tells: a rule, or an answer with the version after
+data Told : Type 0 where
+  Refused : Rule → Told
+  Answered : Answer → ℕ → Told
 
-abbrev pub split_of : ℕ → ℕ → ℤ → Split
-split_of number account value = record {
-  id = number;
-  account = account;
-  memo = [];
-  action = [];
-  mark = New;
-  recon = None;
-  value = value;
-  quantity = value;
-}
+abbrev told : Outcome → Told
+told (Broken rule) = Refused rule
+told (Done state answer) = Answered answer state.version
 
-abbrev pub after_salary : State
-after_salary = record {
-  book = record {
-    transactions = (
-      5,
-      record {
-        currency = 1;
-        day = pos 19727;
-        num = [];
-        description = codes "Pay";
-        splits = split_of 6 3 (pos 250000) ∷ split_of 7 4 (negsuc 249999) ∷ [];
-      },
-    )
-        ∷ [];
-  };
-  next = 8;
-  version = 3;
-}
+abbrev after : State → Outcome → State
+after state (Broken rule) = state
+after state (Done new answer) = new
 
-pub salary-is_posted : step first_state salary ≡ Done after_salary (answer.Post 5 (6 ∷ 7 ∷ []) (pos 250000 ∷ negsuc 249999 ∷ []))
-salary-is_posted = refl
+abbrev run : State → List What → State
+run state [] = state
+run state (what ∷ more) = run (after state (step state (now what))) more
 
-pub uneven-is_refused :
-    step first_state (Post (pos 19727) 1 (codes "Pay") (given 3 (pos 100) ∷ given 4 (negsuc 98) ∷ [])) ≡ Broken (Unbalanced (pos 1))
-uneven-is_refused = refl
+-- what the last command tells after the others
+abbrev last : List What → What → Told
+last before what = told (step (run fresh_state before) (now what))
+
+abbrev account : List ℕ → AccountKind → Option ℕ → What
+account name kind basis = AccountAdd (record {
+  name = name;
+  kind = kind;
+  commodity = 1;
+  parent = Some 2;
+  code = [];
+  note = [];
+  hidden = false;
+  placeholder = false;
+  basis = basis;
+})
+
+abbrev broker : What
+broker = AccountAdd (record {
+  name = codes "Broker";
+  kind = Stock;
+  commodity = 3;
+  parent = Some 2;
+  code = [];
+  note = [];
+  hidden = false;
+  placeholder = false;
+  basis = Some 1;
+})
+
+abbrev given : ℕ → ℤ → ℤ → GivenSplit
+given account value quantity = record { account = account; value = value; quantity = quantity; memo = []; action = [] }
+
+abbrev paid : ℤ → ℤ → What
+paid to from = Post (pos 19727) (record { currency = 1; num = []; description = codes "Pay"; splits = given 3 to to ∷ given 4 from from ∷ [] })
+
+abbrev two_accounts : List What
+two_accounts = account (codes "Bank") Bank None ∷ account (codes "Salary") Income None ∷ []
+
+salary :
+    last two_accounts (paid (pos 250000) (negsuc 249999)) ≡ Answered (answer.Post 5 (6 ∷ 7 ∷ []) (pos 250000 ∷ negsuc 249999 ∷ [])) 3
+salary = refl
+
+unbalanced_post : last two_accounts (paid (pos 100) (negsuc 98)) ≡ Refused (Unbalanced (pos 1))
+unbalanced_post = refl
+
+amount_limit : last two_accounts (paid (pos 1000000000001) (negsuc 1000000000000)) ≡ Refused (Limit Amount 1000000000000)
+amount_limit = refl
+
+abbrev acme : What
+acme = CommodityAdd (record { space = codes "NYSE"; name = codes "ACME"; full_name = []; fraction = 1 })
+
+abbrev security : List What
+security = acme ∷ broker ∷ account (codes "Cash") Bank None ∷ []
+
+stock_split :
+    last security (Post (pos 19727) (record { currency = 1; num = []; description = []; splits = given 4 (pos 0) (pos 50) ∷ [] }))
+    ≡ Answered (answer.Post 6 (7 ∷ []) (pos 50 ∷ [])) 4
+stock_split = refl
+
+no_split : last security (Post (pos 19727) (record { currency = 1; num = []; description = []; splits = [] })) ≡ Refused (SplitCount 0)
+no_split = refl
+
+root_stays : last [] (AccountDrop 2) ≡ Refused Root
+root_stays = refl
+
+abbrev under_itself : GivenAccount
+under_itself = record { name = None; parent = Some 3; code = None; note = None; hidden = None; placeholder = None }
+
+cycle : last two_accounts (AccountEdit 3 under_itself) ≡ Refused Cycle
+cycle = refl
+
+abbrev nothing : GivenAccount
+nothing = record { name = Some (codes "Bank"); parent = Some 2; code = None; note = None; hidden = Some false; placeholder = None }
+
+-- an edit without a change leaves the version
+as_before : last two_accounts (AccountEdit 3 nothing) ≡ Answered answer.AccountEdit 2
+unfolding nearest_parents
+as_before = refl
+
+same_currency : last [] (BookCurrency 1) ≡ Answered answer.BookCurrency 0
+same_currency = refl
+
+name_taken : last two_accounts (account (codes "Bank") Bank None) ≡ Refused (NameTaken 3)
+name_taken = refl
+
+earlier_version : told (step (run fresh_state two_accounts) (record { at = Some 1; what = AccountDrop 9 })) ≡ Refused (Stale 2)
+earlier_version = refl
+
+dropped : last two_accounts (AccountDrop 3) ≡ Answered answer.AccountDrop 3
+dropped = refl

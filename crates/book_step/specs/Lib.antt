@@ -1,3 +1,8 @@
-pub mod Book
+pub mod Accounts
+pub mod Commodities
+pub mod Lifted
+pub mod Outcome
+pub mod Posting
 pub mod Soundness
+pub mod State
 pub mod Step

@@ -1,8 +1,15 @@
 use book_commodity::Many;
 
-/// What an accepted command is answered, by the command's name.
+/// What an accepted command is answered, by the command's word.
 #[derive(Drop)]
 pub enum Answer {
+    BookCurrency,
+    /// The number of the new commodity.
+    CommodityAdd { commodity: u64 },
+    /// The number of the new account.
+    AccountAdd { account: u64 },
+    AccountEdit,
+    AccountDrop,
     /// The number of the new transaction, the numbers of its splits by place, and for each split the balance
     /// of its account after the post, in smallest units of the account's commodity.
     Post {

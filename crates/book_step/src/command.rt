@@ -1,20 +1,57 @@
-use book_commodity::{Day, Many, Text};
+use book_accounts::Account;
+use book_commodity::{Commodity, Day, Many, Text};
 
-/// A split as a command gives it: an account and a value in smallest units of the transaction's currency.
-#[derive(Clone, Copy, Debug, PartialEq, Eq)]
+/// What one line asks: a change of the book, and at which version, where that is given.
+#[derive(Drop)]
+pub struct Command {
+    pub at: Option<u64>,
+    pub what: What,
+}
+
+/// A change of the book, by the command's word.
+#[derive(Drop)]
+pub enum What {
+    /// The book's currency becomes this commodity.
+    BookCurrency { commodity: u64 },
+    /// A new commodity.
+    CommodityAdd { commodity: Commodity },
+    /// A new account.
+    AccountAdd { account: Account },
+    /// The account of this number gets what is given.
+    AccountEdit { account: u64, given: GivenAccount },
+    /// The account of this number goes.
+    AccountDrop { account: u64 },
+    /// A new transaction on the day.
+    Post { day: Day, given: GivenTxn },
+}
+
+/// What an account is to have from now on; what isn't given stays as it is.
+#[derive(Drop)]
+pub struct GivenAccount {
+    pub name: Option<Text>,
+    pub parent: Option<u64>,
+    pub code: Option<Text>,
+    pub note: Option<Text>,
+    pub hidden: Option<bool>,
+    pub placeholder: Option<bool>,
+}
+
+/// A transaction as a command gives it, but for its day.
+#[derive(Drop)]
+pub struct GivenTxn {
+    pub currency: u64,
+    pub num: Text,
+    pub description: Text,
+    pub splits: Many<GivenSplit>,
+}
+
+/// A split as a command gives it: its value is in smallest units of the transaction's currency, its quantity in
+/// smallest units of the account's commodity.
+#[derive(Drop)]
 pub struct GivenSplit {
     pub account: u64,
     pub value: i64,
-}
-
-/// What one line asks of the book.
-#[derive(Drop)]
-pub enum Command {
-    /// Adds a transaction.
-    Post {
-        day: Day,
-        currency: u64,
-        description: Text,
-        splits: Many<GivenSplit>,
-    },
+    pub quantity: i64,
+    pub memo: Text,
+    pub action: Text,
 }

@@ -1,15 +1,15 @@
 //! What a command asks, what it is answered, and the rules that can refuse it, as plain types; and in `specs/`
-//! the meaning of them all: the book, and the step that a command takes on it.
+//! the meaning of them all: the state of the machine, and the step that each command takes on it, by family.
 #![tactic(auto)]
 
 mod answer;
 mod command;
-mod post;
 mod refusal;
 mod rule;
+mod step;
 
 pub use answer::Answer;
-pub use command::{Command, GivenSplit};
-pub use post::{answer_given, check_post, splits_given};
+pub use command::{Command, GivenAccount, GivenSplit, GivenTxn, What};
 pub use refusal::Refusal;
 pub use rule::Rule;
+pub use step::Step;

@@ -1,6 +1,6 @@
 use Rattle.std.proofs.Common.{◌≡◌, rules, Some}
 use Rattle.book_splits.specs.Check.{txn_rules}
-use Rattle.book_splits.specs.Rules.{TellsFirst, first_broken}
+use Rattle.book_commodity.specs.Rules.{TellsFirst, first_broken}
 use Rattle.book_splits.proofs.CheckLemmas.{first-of_txn, tells-balance, sound-told}
 use Rattle.book_splits.proofs.check.check_txn.Goals as goal
 

@@ -1,0 +1,147 @@
+-- The commands on accounts.
+use Rattle.std.specs.Prelude.{ℕ, ◌+◌, nat_eq, nat_lt, not, Bool, true, false, ◌&&◌, ◌||◌, if◌then◌else◌, List, [], ◌∷◌, length, Option, Some, None, is_none, option_map, unwrap_or}
+use Rattle.std.specs.Bool.{beq}
+use Rattle.std.specs.Option.{option_eq, option_or}
+use lib.Pointwise.{pointwise}
+use Rattle.book_commodity.specs.Rules.{broken_where}
+use Rattle.book_commodity.specs.Table.{value_of}
+use Rattle.book_commodity.specs.declared.commodity.Commodity.{Commodity}
+use Rattle.book_commodity.specs.declared.counted.Counted.TheVariants as counted
+use Rattle.book_commodity.specs.declared.kind.Kind.TheVariants as kind
+use Rattle.book_accounts.specs.Group.{is_security}
+use Rattle.book_accounts.specs.Rules.{add_rule, move_rule}
+use Rattle.book_accounts.specs.Tree.{children_of}
+use Rattle.book_accounts.specs.declared.account.Account.{Account}
+use Rattle.book_accounts.specs.declared.kind.AccountKind.{AccountKind}
+use Rattle.book_accounts.specs.declared.kind.AccountKind.TheVariants as account_kind
+use Rattle.book_accounts.specs.declared.rule.TreeRule.TheVariants as tree
+use Rattle.book_splits.specs.Balance.{has_splits}
+use Rattle.book_splits.specs.declared.transaction.Txn.{Txn}
+use Rattle.book_undo.specs.Book.{Book}
+use Rattle.book_undo.specs.declared.edit.Edit.TheVariants as edit
+use Rattle.book_step.specs.Commodities.{is_currency_of, unknown_commodity}
+use Rattle.book_step.specs.Lifted.{of_tree_rule}
+use Rattle.book_step.specs.Outcome.{Outcome, Broken, changing, leaving}
+use Rattle.book_step.specs.State.{State}
+use Rattle.book_step.specs.declared.answer.Answer.TheVariants as answer
+use Rattle.book_step.specs.declared.command.GivenAccount.{GivenAccount}
+use Rattle.book_step.specs.declared.rule.Rule.{Rule}
+use Rattle.book_step.specs.declared.rule.Rule.TheVariants.{Unknown, Root, NotEmpty, BasisShape, Limit}
+
+-- The account isn't one of the book's.
+abbrev pub unknown_account : List (ℕ × Account) → ℕ → Option Rule
+unknown_account accounts number = broken_where (is_none (value_of number accounts)) (Unknown kind.Account number)
+
+-- The same of a number that may be absent.
+abbrev pub unknown_given_account : List (ℕ × Account) → Option ℕ → Option Rule
+unknown_given_account accounts None = None
+unknown_given_account accounts (Some number) = unknown_account accounts number
+
+abbrev pub unknown_given_commodity : List (ℕ × Commodity) → Option ℕ → Option Rule
+unknown_given_commodity commodities None = None
+unknown_given_commodity commodities (Some number) = unknown_commodity commodities number
+
+-- Whether the basis fits the kind: a security account has a currency as its basis, another account has none.
+abbrev pub fits_basis : List (ℕ × Commodity) → Bool → Option ℕ → Bool
+fits_basis commodities true (Some basis) = is_currency_of (value_of basis commodities)
+fits_basis commodities true None = false
+fits_basis commodities false basis = is_none basis
+
+abbrev pub basis_shape : List (ℕ × Commodity) → Account → Option Rule
+basis_shape commodities account = broken_where (not (fits_basis commodities (is_security account.kind) account.basis)) BasisShape
+
+-- A book has at most 10,000 accounts (a limit of this project).
+abbrev pub too_many_accounts : List (ℕ × Account) → Option Rule
+too_many_accounts accounts = broken_where (nat_lt 10000 (length accounts + 1)) (Limit counted.Accounts 10000)
+
+-- A new account, under the next number: its commodity, its parent and its basis are in the book, it may be added to the
+-- tree of accounts, and its basis fits its kind.
+abbrev pub account_add : State → Account → Outcome
+account_add state account =
+    changing state
+    (unknown_commodity state.book.commodities account.commodity
+    ∷ unknown_given_account state.book.accounts account.parent
+    ∷ unknown_given_commodity state.book.commodities account.basis
+    ∷ option_map of_tree_rule (add_rule state.book.accounts account)
+    ∷ basis_shape state.book.commodities account
+    ∷ too_many_accounts state.book.accounts
+    ∷ [])
+    (edit.Account state.next account)
+    1
+    (answer.AccountAdd state.next)
+
+-- The root stays as it is.
+abbrev pub is_root : AccountKind → Bool
+is_root account_kind.Root = true
+is_root _ = false
+
+abbrev pub root_stays : Account → Option Rule
+root_stays account = broken_where (is_root account.kind) Root
+
+-- The account with what is given in place of what it had.
+abbrev pub with_given : Account → GivenAccount → Account
+with_given account given = record {
+  name = unwrap_or given.name account.name;
+  kind = account.kind;
+  commodity = account.commodity;
+  parent = option_or given.parent account.parent;
+  code = unwrap_or given.code account.code;
+  note = unwrap_or given.note account.note;
+  hidden = unwrap_or given.hidden account.hidden;
+  placeholder = unwrap_or given.placeholder account.placeholder;
+  basis = account.basis;
+}
+
+-- Whether an account that is edited stays as it was.
+abbrev pub is_as_before : Account → Account → Bool
+is_as_before old new =
+    pointwise nat_eq old.name new.name
+    && (option_eq nat_eq old.parent new.parent
+    && (pointwise nat_eq old.code new.code
+    && (pointwise nat_eq old.note new.note
+    && (beq old.hidden new.hidden
+    && beq old.placeholder new.placeholder))))
+
+-- The rule of the tree that the account breaks with its new name and its new parent.
+abbrev pub moved_rule : List (ℕ × Account) → ℕ → Account → Option ℕ → Option Rule
+moved_rule accounts number new None = Some (of_tree_rule tree.ParentKind)
+moved_rule accounts number new (Some parent) = option_map of_tree_rule (move_rule accounts number new.name parent)
+
+-- An account with splits doesn't become a placeholder.
+abbrev pub becomes_placeholder : List (ℕ × Txn) → ℕ → Account → Account → Option Rule
+becomes_placeholder transactions number old new =
+    broken_where (not old.placeholder && (new.placeholder && has_splits transactions number)) (NotEmpty number)
+
+abbrev pub account_edit_of : State → ℕ → GivenAccount → Account → Account → Outcome
+account_edit_of state number given old new =
+    let rules =
+        unknown_given_account state.book.accounts given.parent
+        ∷ root_stays old
+        ∷ moved_rule state.book.accounts number new new.parent
+        ∷ becomes_placeholder state.book.transactions number old new
+        ∷ [] in
+    if is_as_before old new then leaving state rules answer.AccountEdit
+    else changing state rules (edit.Account number new) 0 answer.AccountEdit
+
+abbrev pub account_edit_at : State → ℕ → GivenAccount → Option Account → Outcome
+account_edit_at state number given None = Broken (Unknown kind.Account number)
+account_edit_at state number given (Some old) = account_edit_of state number given old (with_given old given)
+
+-- An account gets what is given: it and its new parent are in the book, it isn't the root, it may stand in the tree with
+-- its new name under its new parent, and it becomes a placeholder only where it has no split.
+abbrev pub account_edit : State → ℕ → GivenAccount → Outcome
+account_edit state number given = account_edit_at state number given (value_of number state.book.accounts)
+
+-- An account with another under it, or with a split, can't go.
+abbrev pub not_empty : Book → ℕ → Option Rule
+not_empty book number =
+    broken_where (nat_lt 0 (length (children_of book.accounts (Some number))) || has_splits book.transactions number) (NotEmpty number)
+
+abbrev pub account_drop_of : State → ℕ → Option Account → Outcome
+account_drop_of state number None = Broken (Unknown kind.Account number)
+account_drop_of state number (Some account) =
+    changing state (root_stays account ∷ not_empty state.book number ∷ []) (edit.AccountGone number) 0 answer.AccountDrop
+
+-- An account goes: it is in the book, isn't the root, and has neither an account under it nor a split.
+abbrev pub account_drop : State → ℕ → Outcome
+account_drop state number = account_drop_of state number (value_of number state.book.accounts)

@@ -1,0 +1,60 @@
+-- The commands on commodities.
+use Rattle.std.specs.Prelude.{ℕ, ◌+◌, ◌^◌, ◌==◌, nat_eq, nat_lt, not, Bool, false, ◌&&◌, ◌||◌, if◌then◌else◌, List, [], ◌∷◌, length, Option, Some, None, is_none, option_map, find}
+use lib.Pointwise.{pointwise}
+use Rattle.book_commodity.specs.Currency.{is_currency}
+use Rattle.book_commodity.specs.Rules.{broken_where}
+use Rattle.book_commodity.specs.Table.{value_of}
+use Rattle.book_commodity.specs.declared.commodity.Commodity.{Commodity}
+use Rattle.book_commodity.specs.declared.counted.Counted.TheVariants.{Commodities}
+use Rattle.book_commodity.specs.declared.kind.Kind.TheVariants as kind
+use Rattle.book_undo.specs.declared.edit.Edit.TheVariants as edit
+use Rattle.book_step.specs.Outcome.{Outcome, changing, leaving}
+use Rattle.book_step.specs.State.{State}
+use Rattle.book_step.specs.declared.answer.Answer.TheVariants as answer
+use Rattle.book_step.specs.declared.rule.Rule.{Rule}
+use Rattle.book_step.specs.declared.rule.Rule.TheVariants.{Unknown, NameTaken, FractionShape, WrongCurrency, Limit}
+
+-- The commodity isn't one of the book's.
+abbrev pub unknown_commodity : List (ℕ × Commodity) → ℕ → Option Rule
+unknown_commodity commodities number = broken_where (is_none (value_of number commodities)) (Unknown kind.Commodity number)
+
+-- Whether a commodity of the book is a currency.
+abbrev pub is_currency_of : Option Commodity → Bool
+is_currency_of None = false
+is_currency_of (Some commodity) = is_currency commodity
+
+-- The commodity isn't a currency.
+abbrev pub wrong_currency : List (ℕ × Commodity) → ℕ → Option Rule
+wrong_currency commodities number = broken_where (not (is_currency_of (value_of number commodities))) (WrongCurrency number)
+
+-- The book's currency becomes a commodity that it has, and that is a currency.
+abbrev pub book_currency : State → ℕ → Outcome
+book_currency state commodity =
+    let rules = unknown_commodity state.book.commodities commodity ∷ wrong_currency state.book.commodities commodity ∷ [] in
+    if commodity == state.book.currency then leaving state rules answer.BookCurrency
+    else changing state rules (edit.Currency commodity) 0 answer.BookCurrency
+
+-- Whether a commodity has the space and the name of another.
+abbrev pub is_namesake : Commodity → ℕ × Commodity → Bool
+is_namesake commodity entry = pointwise nat_eq entry.1.space commodity.space && pointwise nat_eq entry.1.name commodity.name
+
+-- A commodity of the book has the space and the name already; the least number of such is told.
+abbrev pub name_taken : List (ℕ × Commodity) → Commodity → Option Rule
+name_taken commodities commodity = option_map (λ entry. NameTaken entry.0) (find (is_namesake commodity) commodities)
+
+-- One unit is made of 1 to 10^9 smallest units (a limit of this project).
+abbrev pub fraction_shape : Commodity → Option Rule
+fraction_shape commodity = broken_where (nat_lt commodity.fraction 1 || nat_lt (10 ^ 9) commodity.fraction) FractionShape
+
+-- A book has at most 10,000 commodities (a limit of this project).
+abbrev pub too_many_commodities : List (ℕ × Commodity) → Option Rule
+too_many_commodities commodities = broken_where (nat_lt 10000 (length commodities + 1)) (Limit Commodities 10000)
+
+-- A new commodity, under the next number.
+abbrev pub commodity_add : State → Commodity → Outcome
+commodity_add state commodity =
+    changing state
+    (name_taken state.book.commodities commodity ∷ fraction_shape commodity ∷ too_many_commodities state.book.commodities ∷ [])
+    (edit.Commodity state.next commodity)
+    1
+    (answer.CommodityAdd state.next)
