@@ -54,21 +54,22 @@ basis_shape commodities account = broken_where (not (fits_basis commodities (is_
 abbrev pub too_many_accounts : List (ℕ × Account) → Option Rule
 too_many_accounts accounts = broken_where (nat_lt 10000 (length accounts + 1)) (Limit counted.Accounts 10000)
 
--- A new account, under the next number: its commodity, its parent and its basis are in the book, it may be added to the
--- tree of accounts, and its basis fits its kind.
+-- The rules of a new account: its commodity, its parent and its basis are in the book, it may be added to the tree of
+-- accounts, its basis fits its kind, and the book has room for it.
+abbrev pub add_rules : Book → Account → List (Option Rule)
+add_rules book account =
+    unknown_commodity book.commodities account.commodity
+    ∷ unknown_given_account book.accounts account.parent
+    ∷ unknown_given_commodity book.commodities account.basis
+    ∷ option_map of_tree_rule (add_rule book.accounts account)
+    ∷ basis_shape book.commodities account
+    ∷ too_many_accounts book.accounts
+    ∷ []
+
+-- A new account, under the next number.
 abbrev pub account_add : State → Account → Outcome
 account_add state account =
-    changing state
-    (unknown_commodity state.book.commodities account.commodity
-    ∷ unknown_given_account state.book.accounts account.parent
-    ∷ unknown_given_commodity state.book.commodities account.basis
-    ∷ option_map of_tree_rule (add_rule state.book.accounts account)
-    ∷ basis_shape state.book.commodities account
-    ∷ too_many_accounts state.book.accounts
-    ∷ [])
-    (edit.Account state.next account)
-    1
-    (answer.AccountAdd state.next)
+    changing state (add_rules state.book account) (edit.Account state.next account) 1 (answer.AccountAdd state.next)
 
 -- The root stays as it is.
 abbrev pub is_root : AccountKind → Bool
@@ -112,14 +113,19 @@ abbrev pub becomes_placeholder : List (ℕ × Txn) → ℕ → Account → Accou
 becomes_placeholder transactions number old new =
     broken_where (not old.placeholder && (new.placeholder && has_splits transactions number)) (NotEmpty number)
 
+-- The rules of an edit: the new parent is in the book, the account isn't the root, it may stand in the tree with its new
+-- name under its new parent, and it becomes a placeholder only where it has no split.
+abbrev pub edit_rules : Book → ℕ → Option ℕ → Account → Account → List (Option Rule)
+edit_rules book number parent old new =
+    unknown_given_account book.accounts parent
+    ∷ root_stays old
+    ∷ moved_rule book.accounts number new new.parent
+    ∷ becomes_placeholder book.transactions number old new
+    ∷ []
+
 abbrev pub account_edit_of : State → ℕ → GivenAccount → Account → Account → Outcome
 account_edit_of state number given old new =
-    let rules =
-        unknown_given_account state.book.accounts given.parent
-        ∷ root_stays old
-        ∷ moved_rule state.book.accounts number new new.parent
-        ∷ becomes_placeholder state.book.transactions number old new
-        ∷ [] in
+    let rules = edit_rules state.book number given.parent old new in
     if is_as_before old new then leaving state rules answer.AccountEdit
     else changing state rules (edit.Account number new) 0 answer.AccountEdit
 
@@ -127,8 +133,7 @@ abbrev pub account_edit_at : State → ℕ → GivenAccount → Option Account �
 account_edit_at state number given None = Broken (Unknown kind.Account number)
 account_edit_at state number given (Some old) = account_edit_of state number given old (with_given old given)
 
--- An account gets what is given: it and its new parent are in the book, it isn't the root, it may stand in the tree with
--- its new name under its new parent, and it becomes a placeholder only where it has no split.
+-- An account of the book gets what is given.
 abbrev pub account_edit : State → ℕ → GivenAccount → Outcome
 account_edit state number given = account_edit_at state number given (value_of number state.book.accounts)
 

@@ -2,8 +2,10 @@
 //! the meaning of them all: the state of the machine, and the step that each command takes on it, by family.
 #![tactic(auto)]
 
+mod accounts;
 mod answer;
 mod command;
+mod commodities;
 mod refusal;
 mod rule;
 mod step;

@@ -1,0 +1,83 @@
+-- What a step comes to, from what a check of its rules tells.
+use Rattle.std.proofs.Common.{◌≡◌, ℕ, ◌+◌, ◌==◌, Bool, true, false, if◌then◌else◌, List, [], ◌∷◌, ◌++◌, Option, Some, None, Result, Ok, Err, refl, sym, ap, subst, ◌∙◌, arith}
+use Rattle.std.proofs.lemmas.Bool.Decides.{nat_tests}
+use Rattle.std.specs.Result.{IsErrAnd}
+use Rattle.book_commodity.specs.Rules.{first_broken}
+use Rattle.book_commodity.proofs.RuleLemmas.{first-here, first-past}
+use Rattle.book_undo.specs.Edit.{edited, is_nothing}
+use Rattle.book_undo.specs.declared.edit.Edit.{Edit}
+use Rattle.book_step.specs.Outcome.{Outcome, Broken, Done, StepsTo, after, changed, changing, leaving, numbers, unless_broken}
+use Rattle.book_step.specs.State.{State}
+use Rattle.book_step.specs.declared.answer.Answer.{Answer}
+use Rattle.book_step.specs.declared.refusal.Refusal.{Refusal}
+use Rattle.book_step.specs.declared.refusal.Refusal.TheVariants as refusal
+use Rattle.book_step.specs.declared.rule.Rule.{Rule}
+use Rattle.book_step.specs.declared.step.Step.{Step}
+
+-- a rule that is converted into an error is what the outcome says
+pub refused :
+    (state : State) (outcome : Outcome) (rule : Rule) (result : Result Step Refusal)
+    → IsErrAnd result (λ error. error ≡ refusal.Broken rule)
+    → outcome ≡ Broken rule
+    → StepsTo state outcome result
+refused state outcome rule (Ok step) h e = absurd h
+refused state outcome rule (Err error) h e = subst (λ (error : Refusal). StepsTo state outcome (Err error)) (sym h) e
+
+-- a change that keeps the limit of numbers is done
+pub done-changing :
+    (state : State) (edit : Edit) (drawn : ℕ) (answer : Answer)
+    → first_broken (numbers state drawn ∷ []) ≡ None
+    → is_nothing edit ≡ false
+    → changing state [] edit drawn answer ≡ Done (after state (record { edit = edit; next = state.next + drawn; answer = answer })) answer
+done-changing state edit drawn answer e change =
+    ap (λ (broken : Option Rule). unless_broken broken (Done (changed state edit drawn) answer)) e
+    ∙ ap (λ (nothing : Bool). Done (record { book = edited edit state.book; next = state.next + drawn; version = if nothing then state.version else state.version + 1 }) answer) (sym change)
+
+-- a broken rule is what a change comes to
+pub broken-changing :
+    (state : State) (rules : List (Option Rule)) (edit : Edit) (drawn : ℕ) (answer : Answer) (rule : Rule)
+    → first_broken rules ≡ Some rule
+    → changing state rules edit drawn answer ≡ Broken rule
+broken-changing state rules edit drawn answer rule e =
+    ap (λ (broken : Option Rule). unless_broken broken (Done (changed state edit drawn) answer)) (first-here rules (numbers state drawn ∷ []) rule e)
+
+-- a change whose rules aren't broken comes to what it would without them
+pub past-changing :
+    (state : State) (rules : List (Option Rule)) (edit : Edit) (drawn : ℕ) (answer : Answer) (result : Result Step Refusal)
+    → first_broken rules ≡ None
+    → StepsTo state (changing state [] edit drawn answer) result
+    → StepsTo state (changing state rules edit drawn answer) result
+past-changing state rules edit drawn answer result e h =
+    let same : changing state rules edit drawn answer ≡ changing state [] edit drawn answer =
+    ap (λ (broken : Option Rule). unless_broken broken (Done (changed state edit drawn) answer)) (first-past rules (numbers state drawn ∷ []) e) in
+    subst (λ (outcome : Outcome). StepsTo state outcome result) (sym same) h
+
+-- the same of a command that leaves the book
+pub broken-leaving :
+    (state : State) (rules : List (Option Rule)) (answer : Answer) (rule : Rule)
+    → first_broken rules ≡ Some rule
+    → leaving state rules answer ≡ Broken rule
+broken-leaving state rules answer rule e = ap (λ (broken : Option Rule). unless_broken broken (Done state answer)) e
+
+pub past-leaving :
+    (state : State) (rules : List (Option Rule)) (answer : Answer) (result : Result Step Refusal)
+    → first_broken rules ≡ None
+    → StepsTo state (leaving state [] answer) result
+    → StepsTo state (leaving state rules answer) result
+past-leaving state rules answer result e h =
+    let same : leaving state rules answer ≡ leaving state [] answer = ap (λ (broken : Option Rule). unless_broken broken (Done state answer)) e in
+    subst (λ (outcome : Outcome). StepsTo state outcome result) (sym same) h
+
+-- the limit of numbers is the last rule of a change
+pub broken-numbers :
+    (state : State) (edit : Edit) (drawn : ℕ) (answer : Answer) (rule : Rule)
+    → first_broken (numbers state drawn ∷ []) ≡ Some rule
+    → changing state [] edit drawn answer ≡ Broken rule
+broken-numbers state edit drawn answer rule e = ap (λ (broken : Option Rule). unless_broken broken (Done (changed state edit drawn) answer)) e
+
+-- which of two outcomes a comparison of numbers chooses
+pub chosen-same : (m n : ℕ) (same other : Outcome) → m ≡ n → (if m == n then same else other) ≡ same
+chosen-same m n same other e = grind (arith, nat_tests)
+
+pub chosen-other : (m n : ℕ) (same other : Outcome) → (m ≡ n → ⊥) → (if m == n then same else other) ≡ other
+chosen-other m n same other e = grind (arith, nat_tests)
