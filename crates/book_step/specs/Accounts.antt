@@ -115,11 +115,11 @@ becomes_placeholder transactions number old new =
 abbrev pub account_edit_of : State → ℕ → GivenAccount → Account → Account → Outcome
 account_edit_of state number given old new =
     let rules =
-        unknown_given_account state.book.accounts given.parent
-        ∷ root_stays old
-        ∷ moved_rule state.book.accounts number new new.parent
-        ∷ becomes_placeholder state.book.transactions number old new
-        ∷ [] in
+    unknown_given_account state.book.accounts given.parent
+    ∷ root_stays old
+    ∷ moved_rule state.book.accounts number new new.parent
+    ∷ becomes_placeholder state.book.transactions number old new
+    ∷ [] in
     if is_as_before old new then leaving state rules answer.AccountEdit
     else changing state rules (edit.Account number new) 0 answer.AccountEdit
 
