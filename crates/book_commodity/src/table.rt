@@ -54,6 +54,13 @@ impl<T> Table<T> {
         }
     }
 
+    /// The entries, borrowed.
+    pub fn as_slice(&self) -> &[(u64, T)]
+        ensures { result.now ≡ self.now.entries }
+    {
+        self.rows.as_slice()
+    }
+
     /// The number of the entry at a place.
     pub fn number_at(&self, place: usize) -> u64
         requires { place < length self.now.entries }

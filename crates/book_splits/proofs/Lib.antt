@@ -1,3 +1,4 @@
 pub mod BalanceLemmas
 pub mod CheckLemmas
+pub mod PostedLemmas
 pub mod Tables

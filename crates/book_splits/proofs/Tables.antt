@@ -1,10 +1,13 @@
 -- Laws of a table of balances into which splits are counted one after another.
-use Rattle.std.proofs.Common.{◌≡◌, ℕ, ◌+◌, ◌≤◌, ℤ, pos, ◌+ℤ◌, ◌==◌, Bool, true, false, if◌then◌else◌, List, [], ◌∷◌, ◌++◌, Option, None, Some, IfSome, IsSome, option_map, refl, sym, ap, subst, ◌∙◌, arith, w64, length, take, drop, map, get_or, ◌<◌, IsTrue}
+use Rattle.std.proofs.Common.{◌≡◌, ℕ, ◌+◌, ◌≤◌, ℤ, pos, ◌+ℤ◌, ◌==◌, Bool, true, false, if◌then◌else◌, List, [], ◌∷◌, ◌++◌, Option, None, Some, IfSome, IsSome, option_map, refl, sym, ap, subst, ◌∙◌, arith, w64, length, take, drop, map, get_or, ◌<◌, IsTrue, eqb}
 use mir.Val.{SFits}
 use Rattle.std.proofs.Common.{eq-eqb}
 use Rattle.std.proofs.lemmas.Bool.{eqb-true}
 use Rattle.std.proofs.lemmas.List.{take_more, take-append-drop, map-append, append-nil}
 use Rattle.std.proofs.Math.ListN.{length-append}
+use Rattle.std.proofs.lemmas.Bool.Decides.{nat_tests}
+use Rattle.book_commodity.specs.Table.{value_of, with_entry}
+use Rattle.book_commodity.proofs.TableLemmas.{value_of_with}
 use Rattle.std.proofs.lemmas.Int.{ints}
 use Rattle.std.proofs.Math.IntN.{+ℤ_idr}
 use Rattle.book_splits.specs.Balance.{IsWithin, quantity_on, splits_of}
@@ -171,3 +174,12 @@ Adds-put old new account balance quantity had puts = record {
 pub IsSome-None : (o : Option ℤ) → IsSome o → o ≡ None → ⊥
 IsSome-None None h e = cc
 IsSome-None (Some x) h e = cc
+
+flip : {X : Type 0} (m n : ℕ) (x y : X) → (if eqb m n then x else y) ≡ (if n == m then x else y)
+flip m n x y = grind (arith, nat_tests)
+
+-- what is put into the entries of a table is put into the balances
+pub Puts-with : (old new : Balances) (account : ℕ) (balance : ℤ) → new.sums.entries ≡ with_entry account balance old.sums.entries → Puts old new account balance
+Puts-with old new account balance e = record {
+  sums = λ a. ap (value_of a) e ∙ value_of_with a account balance old.sums.entries ∙ flip a account (Some balance) (value_of a old.sums.entries);
+}

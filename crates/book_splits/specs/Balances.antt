@@ -1,14 +1,13 @@
 -- What a table of balances says of the splits that were counted into it.
 use Rattle.std.specs.Prelude.{◌≡◌, ℕ, ◌==◌, ℤ, ◌+ℤ◌, List, Option, Some, IfSome, option_map, if◌then◌else◌}
-use Rattle.std.specs.BTreeMap.{get}
-use Rattle.std.specs.Ordering.{nat_cmp}
+use Rattle.book_commodity.specs.Table.{value_of}
 use Rattle.book_splits.specs.Balance.{quantity_on, IsWithin}
 use Rattle.book_splits.specs.declared.balances.Balances.{Balances}
 use Rattle.book_splits.specs.declared.split.Split.{Split}
 
 -- the balance that stands in the table for an account, where the table has that account
 abbrev pub balance_at : Balances → ℕ → Option ℤ
-balance_at balances account = get nat_cmp balances.sums account
+balance_at balances account = value_of account balances.sums.entries
 
 -- each balance in the table is the sum of the quantities of these splits on its account
 pub record Counts (balances : Balances) (splits : List Split) : Type 0 where

@@ -2,15 +2,14 @@ ghost use Rattle.std.specs.Prelude.{◌≡◌, ℕ, ◌+◌, ◌*◌, ◌≤◌,
 ghost use Rattle.book_splits.specs.Balance.{quantity_on, splits_of};
 ghost use Rattle.book_splits.specs.declared.split.Split.{Split};
 
-use crate::{Split, Txn};
-use book_commodity::{Many, OutOfMemory};
+use crate::{Split, Txn, Txns};
+use book_commodity::{Many, OutOfMemory, Table};
 use std::alloc::Global;
-use std::collections::BTreeMap;
 
 /// The balances of some accounts, as sums of the quantities of the splits counted so far.
 #[derive(Drop)]
 struct Balances {
-    sums: BTreeMap<u64, i128>,
+    sums: Table<i128>,
 }
 
 impl Balances {
@@ -23,10 +22,10 @@ impl Balances {
         ensures small { IfOk result (λ balances. IsSmall balances 0) }
     {
         let mut balances = Balances {
-            sums: BTreeMap::new(alloc),
+            sums: Table::new(alloc),
         };
         for split in splits {
-            balances.put(split.account, 0)?;
+            balances.start(split.account)?;
         }
         Ok(balances)
     }
@@ -35,54 +34,60 @@ impl Balances {
     fn at(&self, account: u64) -> Option<i128>
         ensures { result ≡ balance_at self.now account }
     {
-        self.sums.get(&account).copied()
+        self.sums.find(account).copied()
     }
 
-    /// Sets the balance of an account.
-    fn put(&mut self, account: u64, balance: i128) -> Result<(), OutOfMemory>
-        ensures { OnOk result (Puts self.old self.new account balance) }
+    /// Gives the account a balance of zero.
+    fn start(&mut self, account: u64) -> Result<(), OutOfMemory>
+        ensures { OnOk result (Puts self.old self.new account (pos 0)) }
     {
-        self.sums.insert(account, balance)?;
+        self.sums.reserve(1)?;
+        let _ = self.sums.put(account, 0);
         Ok(())
     }
 
     /// Adds a quantity to the balance of the account, where the table has it.
-    fn add(&mut self, account: u64, quantity: i64) -> Result<(), OutOfMemory>
+    fn add(&mut self, account: u64, quantity: i64)
         requires { IsSmall self.old (3 * 2 ^ 62) }
-        ensures added { OnOk result (Adds self.old self.new account quantity) }
-        ensures small { OnOk result ((count : ℕ) → IsSmall self.old count → IsSmall self.new (count + 1)) }
+        ensures added { Adds self.old self.new account quantity }
+        ensures small { (count : ℕ) → IsSmall self.old count → IsSmall self.new (count + 1) }
     {
         if let Some(balance) = self.at(account) {
-            self.put(account, balance + i128::from(quantity))?;
+            self.set(account, balance + i128::from(quantity));
         }
-        Ok(())
+    }
+
+    /// Sets a balance that the table has.
+    fn set(&mut self, account: u64, balance: i128)
+        requires { IsSome (balance_at self.old account) }
+        ensures { Puts self.old self.new account balance }
+    {
+        let _ = self.sums.put(account, balance);
     }
 
     /// Counts the splits into the balances of their accounts.
-    fn count(&mut self, splits: &[Split]) -> Result<(), OutOfMemory>
+    fn count(&mut self, splits: &[Split])
         requires { IsSmall self.old (2 ^ 62) }
-        ensures counted { OnOk result ((before : List Split) → Counts self.old before → Counts self.new (before ++ splits.now)) }
-        ensures small { OnOk result ((count : ℕ) → IsSmall self.old count → IsSmall self.new (count + length splits.now)) }
-        ensures kept { OnOk result ((a : ℕ) → IsSome (balance_at self.old a) → IsSome (balance_at self.new a)) }
+        ensures counted { (before : List Split) → Counts self.old before → Counts self.new (before ++ splits.now) }
+        ensures small { (count : ℕ) → IsSmall self.old count → IsSmall self.new (count + length splits.now) }
+        ensures kept { (a : ℕ) → IsSome (balance_at self.old a) → IsSome (balance_at self.new a) }
     {
         for split in splits {
-            self.add(split.account, split.quantity)?;
+            self.add(split.account, split.quantity);
         }
-        Ok(())
     }
 
     /// Counts the splits of all the transactions.
-    fn count_all(&mut self, transactions: &[(u64, Txn)]) -> Result<(), OutOfMemory>
+    fn count_all(&mut self, transactions: &[(u64, Txn)])
         requires zero { IsSmall self.old 0 }
         requires few { length (splits_of transactions.now) ≤ 2 ^ 61 }
-        ensures counted { OnOk result ((before : List Split) → Counts self.old before → Counts self.new (before ++ splits_of transactions.now)) }
-        ensures small { OnOk result (IsSmall self.new (length (splits_of transactions.now))) }
-        ensures kept { OnOk result ((a : ℕ) → IsSome (balance_at self.old a) → IsSome (balance_at self.new a)) }
+        ensures counted { (before : List Split) → Counts self.old before → Counts self.new (before ++ splits_of transactions.now) }
+        ensures small { IsSmall self.new (length (splits_of transactions.now)) }
+        ensures kept { (a : ℕ) → IsSome (balance_at self.old a) → IsSome (balance_at self.new a) }
     {
         for (_, transaction) in transactions {
-            self.count(transaction.splits.as_slice())?;
+            self.count(transaction.splits.as_slice());
         }
-        Ok(())
     }
 
     /// The balances of the accounts of the splits, in the order of the splits.
@@ -105,14 +110,14 @@ impl Balances {
 /// transactions, in smallest units of the account's commodity.
 pub fn balances_after(
     alloc: Global,
-    transactions: &[(u64, Txn)],
+    transactions: &Txns,
     splits: &[Split],
 ) -> Result<Many<i128>, OutOfMemory>
-    requires few { length (splits_of transactions.now) ≤ 2 ^ 61 }
-    ensures { IfOk result (λ balances. balances ≡ map (λ split. quantity_on split.account (splits_of transactions.now ++ splits.now)) splits.now) }
+    requires few { length (splits_of transactions.now.entries) ≤ 2 ^ 61 }
+    ensures { IfOk result (λ balances. balances ≡ map (λ split. quantity_on split.account (splits_of transactions.now.entries ++ splits.now)) splits.now) }
 {
     let mut balances = Balances::of_accounts(alloc, splits)?;
-    balances.count_all(transactions)?;
-    balances.count(splits)?;
+    balances.count_all(transactions.as_slice());
+    balances.count(splits);
     balances.of_each(alloc, splits)
 }

@@ -6,6 +6,7 @@
 
 mod balances;
 mod check;
+mod posted;
 mod rule;
 mod split;
 #[cfg(test)]
@@ -14,6 +15,7 @@ mod transaction;
 
 pub use balances::balances_after;
 pub use check::check_txn;
+pub use posted::has_splits;
 pub use rule::TxnRule;
 pub use split::{Mark, Split};
 pub use transaction::{Txn, Txns};

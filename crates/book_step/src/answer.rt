@@ -5,9 +5,13 @@ use book_commodity::Many;
 pub enum Answer {
     BookCurrency,
     /// The number of the new commodity.
-    CommodityAdd { commodity: u64 },
+    CommodityAdd {
+        commodity: u64,
+    },
     /// The number of the new account.
-    AccountAdd { account: u64 },
+    AccountAdd {
+        account: u64,
+    },
     AccountEdit,
     AccountDrop,
     /// The number of the new transaction, the numbers of its splits by place, and for each split the balance

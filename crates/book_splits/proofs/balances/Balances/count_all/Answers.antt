@@ -16,7 +16,7 @@ loop-transaction-preserved c =
     ∙ splits_of-item c.args.transactions.now i c.loop-transaction-item.result c.loop-transaction-test.true c.loop-transaction-item.is in
     record {
       counted = λ before counts. Counts-along _ _ _ (append_assoc before (splits_of (take i c.args.transactions.now)) c.as_slice.result.now ∙ ap (λ splits. before ++ splits) more)
-          (c.in_ok-count.ensures.counted _ (c.loop-transaction.invariant.counted before counts));
-      small = IsSmall-le _ _ _ (omega (arith, length-append (splits_of (take i c.args.transactions.now)) c.as_slice.result.now, ap length more)) (c.in_ok-count.ensures.small _ c.loop-transaction.invariant.small);
-      kept = λ a had. c.in_ok-count.ensures.kept a (c.loop-transaction.invariant.kept a had);
+          (c.count.ensures.counted _ (c.loop-transaction.invariant.counted before counts));
+      small = IsSmall-le _ _ _ (omega (arith, length-append (splits_of (take i c.args.transactions.now)) c.as_slice.result.now, ap length more)) (c.count.ensures.small _ c.loop-transaction.invariant.small);
+      kept = λ a had. c.count.ensures.kept a (c.loop-transaction.invariant.kept a had);
     }

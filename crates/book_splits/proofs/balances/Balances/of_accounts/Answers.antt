@@ -9,8 +9,8 @@ use Rattle.book_splits.proofs.balances.Balances.of_accounts.Goals as goal
 pub loop-split-preserved : goal.loop-split-preserved
 loop-split-preserved c =
     let split : Split = c.split-item.result in
-    let puts : Puts c.loop-split.balances c.put.new.self split.account (pos 0) = search rules in
-    let Named : Split → Type 0 = λ s. IsSome (balance_at c.put.new.self s.account) in
+    let puts : Puts c.loop-split.balances c.start.new.self split.account (pos 0) = search rules in
+    let Named : Split → Type 0 = λ s. IsSome (balance_at c.start.new.self s.account) in
     record {
       named = All-more Named c.args.splits.now c.loop-split.split-index split c.loop-split-test.true
           (All-weaker (λ s. IsSome (balance_at c.loop-split.balances s.account)) Named
