@@ -6,6 +6,7 @@ mod accounts;
 mod answer;
 mod command;
 mod commodities;
+mod editing;
 mod refusal;
 mod rule;
 mod step;

@@ -1,0 +1,138 @@
+ghost use Rattle.std.specs.Prelude.{◌≡◌, ◌<◌, ◌^◌, [], ◌∷◌, IfOk, unwrap_or};
+ghost use Rattle.book_commodity.specs.Rules.{TellsFirst};
+ghost use Rattle.book_accounts.specs.Tree.{IsRooted};
+ghost use Rattle.book_undo.specs.Book.{book_of};
+ghost use Rattle.book_step.specs.Accounts.{account_edit, account_edit_of, becomes_placeholder, edit_rules, is_as_before, moved_rule, with_given};
+ghost use Rattle.book_step.specs.Outcome.{StepsTo};
+ghost use Rattle.book_step.specs.State.{state_of};
+
+use crate::accounts::{check_given, check_not_root, known};
+use crate::{Answer, GivenAccount, Refusal, Rule, Step};
+use book_accounts::{Account, Tree};
+use book_commodity::{OutOfMemory, Text};
+use book_splits::{Txns, has_splits};
+use book_undo::{Edit, Plain};
+
+/// The account of this number gets what is given.
+pub(crate) fn account_edit(
+    plain: &Plain,
+    next: u64,
+    version: u64,
+    number: u64,
+    given: GivenAccount,
+) -> Result<Step, Refusal>
+    requires next { next < 2 ^ 62 }
+    requires version { version < 2 ^ 62 }
+    requires rooted { IsRooted plain.now.accounts.entries }
+    ensures { StepsTo (state_of plain.now next version) (account_edit (state_of plain.now next version) number given) result }
+{
+    let old = known(&plain.accounts, number)?;
+    account_edit_of(plain, next, version, number, given, old)
+}
+
+/// The same of an account that was found.
+fn account_edit_of(
+    plain: &Plain,
+    next: u64,
+    version: u64,
+    number: u64,
+    given: GivenAccount,
+    old: &Account,
+) -> Result<Step, Refusal>
+    requires next { next < 2 ^ 62 }
+    requires version { version < 2 ^ 62 }
+    requires rooted { IsRooted plain.now.accounts.entries }
+    ensures { StepsTo (state_of plain.now next version) (account_edit_of (state_of plain.now next version) number given old.now (with_given old.now given)) result }
+{
+    let parent = given.parent;
+    let new = with_given(old, given)?;
+    check_edit(plain, number, parent, old, &new)?;
+    if is_as_before(old, &new) {
+        return Step::leaving(next, Answer::AccountEdit);
+    }
+    let edit = Edit::Account(number, new);
+    Step::changing(next, version, 0, edit, Answer::AccountEdit)
+}
+
+/// The account with what is given, and with texts of its own.
+fn with_given(account: &Account, given: GivenAccount) -> Result<Account, OutOfMemory>
+    ensures { IfOk result (λ new. new ≡ with_given account.now given) }
+{
+    Ok(Account {
+        name: text_or(given.name, &account.name)?,
+        kind: account.kind,
+        commodity: account.commodity,
+        parent: given.parent.or(account.parent),
+        code: text_or(given.code, &account.code)?,
+        note: text_or(given.note, &account.note)?,
+        hidden: given.hidden.unwrap_or(account.hidden),
+        placeholder: given.placeholder.unwrap_or(account.placeholder),
+        basis: account.basis,
+    })
+}
+
+/// The text given, or else a copy of the other.
+fn text_or(given: Option<Text>, text: &Text) -> Result<Text, OutOfMemory>
+    ensures { IfOk result (λ new. new ≡ unwrap_or given text.now) }
+{
+    match given {
+        Some(given) => Ok(given),
+        None => text.copy(),
+    }
+}
+
+/// Whether an account that is edited stays as it was.
+fn is_as_before(old: &Account, new: &Account) -> bool
+    ensures { result ≡ is_as_before old.now new.now }
+{
+    old.name.as_str() == new.name.as_str()
+        && old.parent == new.parent
+        && old.code.as_str() == new.code.as_str()
+        && old.note.as_str() == new.note.as_str()
+        && old.hidden == new.hidden
+        && old.placeholder == new.placeholder
+}
+
+/// An account of the book, for which this parent is given, keeps the rules of an edit.
+fn check_edit(
+    plain: &Plain,
+    number: u64,
+    parent: Option<u64>,
+    old: &Account,
+    new: &Account,
+) -> Result<(), Rule>
+    requires { IsRooted plain.now.accounts.entries }
+    ensures { TellsFirst (edit_rules (book_of plain.now) number parent old.now new.now) result }
+{
+    check_given(&plain.accounts, parent)?;
+    check_not_root(old)?;
+    check_moved(&plain.accounts, number, new)?;
+    check_placeholder(&plain.transactions, number, old, new)
+}
+
+/// The account may stand in the tree with its new name under its new parent.
+fn check_moved(accounts: &Tree, number: u64, new: &Account) -> Result<(), Rule>
+    requires { IsRooted accounts.now.entries }
+    ensures { TellsFirst (moved_rule accounts.now.entries number new.now new.now.parent ∷ []) result }
+{
+    let Some(parent) = new.parent else {
+        return Err(Rule::ParentKind);
+    };
+    accounts.check_move(number, &new.name, parent)?;
+    Ok(())
+}
+
+/// The account becomes a placeholder only where it has no split.
+fn check_placeholder(
+    transactions: &Txns,
+    number: u64,
+    old: &Account,
+    new: &Account,
+) -> Result<(), Rule>
+    ensures { TellsFirst (becomes_placeholder transactions.now.entries number old.now new.now ∷ []) result }
+{
+    if !old.placeholder && new.placeholder && has_splits(transactions, number) {
+        return Err(Rule::NotEmpty { account: number });
+    }
+    Ok(())
+}
