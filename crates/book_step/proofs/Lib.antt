@@ -1,3 +1,4 @@
 pub mod EditLemmas
 pub mod OutcomeLemmas
+pub mod PostLemmas
 pub mod Worked

@@ -61,6 +61,10 @@ abbrev pub too_many_splits : Book → Txn → Option Rule
 too_many_splits book transaction =
     broken_where (nat_lt 1000000 (length (splits_of book.transactions) + length transaction.splits)) (Limit Splits 1000000)
 
+-- The rules of a post.
+abbrev pub post_rules : Book → Txn → List (Option Rule)
+post_rules book transaction = broken_by book transaction ∷ too_many_transactions book ∷ too_many_splits book transaction ∷ []
+
 -- A post is answered with the numbers it drew, and for each split the balance of its account after the post.
 abbrev pub post_answer : Book → ℕ → Txn → Answer
 post_answer after number transaction = answer.Post
@@ -68,13 +72,13 @@ post_answer after number transaction = answer.Post
     (map (λ split. split.id) transaction.splits)
     (map (λ split. balance after.transactions split.account) transaction.splits)
 
+-- The transaction stands in the book, under the next number.
+abbrev pub post_of : State → Txn → Outcome
+post_of state transaction =
+    let change = edit.Transaction state.next transaction in
+    changing state (post_rules state.book transaction) change (1 + length transaction.splits)
+    (post_answer (edited change state.book) state.next transaction)
+
 -- A new transaction.
 abbrev pub post : State → ℤ → GivenTxn → Outcome
-post state day given =
-    let transaction = new_transaction state.next day given in
-    let change = edit.Transaction state.next transaction in
-    changing state
-    (broken_by state.book transaction ∷ too_many_transactions state.book ∷ too_many_splits state.book transaction ∷ [])
-    change
-    (1 + length transaction.splits)
-    (post_answer (edited change state.book) state.next transaction)
+post state day given = post_of state (new_transaction state.next day given)

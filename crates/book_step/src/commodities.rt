@@ -26,7 +26,7 @@ pub(crate) fn book_currency(
 {
     check_currency(&plain.commodities, commodity)?;
     if commodity == plain.currency {
-        return Step::leaving(next, Answer::BookCurrency);
+        return Ok(Step::leaving(next, Answer::BookCurrency));
     }
     let edit = Edit::Currency(commodity);
     Step::changing(next, version, 0, edit, Answer::BookCurrency)

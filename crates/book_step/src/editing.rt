@@ -48,7 +48,7 @@ fn account_edit_of(
     let new = with_given(old, given)?;
     check_edit(plain, number, parent, old, &new)?;
     if is_as_before(old, &new) {
-        return Step::leaving(next, Answer::AccountEdit);
+        return Ok(Step::leaving(next, Answer::AccountEdit));
     }
     let edit = Edit::Account(number, new);
     Step::changing(next, version, 0, edit, Answer::AccountEdit)

@@ -1,13 +1,21 @@
-ghost use Rattle.std.specs.Prelude.{◌≡◌, ℕ, ◌<◌, ◌≤◌, ◌^◌, [], ◌∷◌, false};
+ghost use Rattle.std.specs.Prelude.{◌≡◌, ℕ, ◌<◌, ◌≤◌, ◌^◌, [], ◌∷◌, Ok, false};
 ghost use Rattle.book_commodity.specs.Rules.{TellsFirst};
+ghost use Rattle.book_undo.specs.Book.{IsCounted};
 ghost use Rattle.book_undo.specs.Edit.{is_nothing};
 ghost use Rattle.book_undo.specs.declared.plain.Plain.{Plain};
 ghost use Rattle.book_step.specs.Outcome.{StepsTo, changing, leaving, numbers};
+ghost use Rattle.book_step.specs.Soundness.{IsSound};
 ghost use Rattle.book_step.specs.State.{state_of};
+ghost use Rattle.book_step.specs.Step.{outcome, stale, step};
 
-use crate::{Answer, Refusal, Rule};
+use crate::accounts::{account_add, account_drop};
+use crate::commodities::{book_currency, commodity_add};
+use crate::editing::account_edit;
+use crate::posting::post;
+use crate::{Answer, Command, Refusal, Rule, What};
 use book_commodity::Counted;
-use book_undo::Edit;
+use book_undo::{Edit, Plain};
+use std::alloc::Global;
 
 const NUMBERS_LIMIT: u64 = 1 << 62;
 
@@ -21,14 +29,14 @@ pub struct Step {
 
 impl Step {
     /// The step that leaves the book as it is.
-    pub(crate) fn leaving(next: u64, answer: Answer) -> Result<Step, Refusal>
-        ensures { (plain : Plain) → (version : ℕ) → StepsTo (state_of plain next version) (leaving (state_of plain next version) [] answer) result }
+    pub(crate) fn leaving(next: u64, answer: Answer) -> Step
+        ensures { (plain : Plain) → (version : ℕ) → StepsTo (state_of plain next version) (leaving (state_of plain next version) [] answer) (Ok result) }
     {
-        Ok(Step {
+        Step {
             edit: Edit::Nothing,
             next,
             answer,
-        })
+        }
     }
 
     /// The step of an edit that breaks no rule of its own and draws so many numbers, where these keep their limit.
@@ -51,6 +59,57 @@ impl Step {
             next: next + drawn,
             answer,
         })
+    }
+}
+
+/// What the command comes to in a book with this next number and this version: the first broken rule of its order, of
+/// which the version is asked first, or the step, where the version after it is one more if the book is another. It needs
+/// memory for the texts and the answer; the book stays as it is.
+pub fn step_of(
+    alloc: Global,
+    plain: &Plain,
+    next: u64,
+    version: u64,
+    command: Command,
+) -> Result<Step, Refusal>
+    requires sound { IsSound (state_of plain.now next version) }
+    requires counted { IsCounted plain.now }
+    ensures { StepsTo (state_of plain.now next version) (step (state_of plain.now next version) command) result }
+{
+    let Command { at, what } = command;
+    check_version(version, at)?;
+    step_of_what(alloc, plain, next, version, what)
+}
+
+/// The same of what is asked, at the present version.
+fn step_of_what(
+    alloc: Global,
+    plain: &Plain,
+    next: u64,
+    version: u64,
+    what: What,
+) -> Result<Step, Refusal>
+    requires sound { IsSound (state_of plain.now next version) }
+    requires counted { IsCounted plain.now }
+    ensures { StepsTo (state_of plain.now next version) (outcome (state_of plain.now next version) what) result }
+{
+    match what {
+        What::BookCurrency { commodity } => book_currency(plain, next, version, commodity),
+        What::CommodityAdd { commodity } => commodity_add(plain, next, version, commodity),
+        What::AccountAdd { account } => account_add(plain, next, version, account),
+        What::AccountEdit { account, given } => account_edit(plain, next, version, account, given),
+        What::AccountDrop { account } => account_drop(plain, next, version, account),
+        What::Post { day, given } => post(alloc, plain, next, version, day, given),
+    }
+}
+
+/// The command is for the present version, where it is for one.
+fn check_version(version: u64, at: Option<u64>) -> Result<(), Rule>
+    ensures { (plain : Plain) → (next : ℕ) → TellsFirst (stale (state_of plain next version) at ∷ []) result }
+{
+    match at {
+        Some(at) if at != version => Err(Rule::Stale { now: version }),
+        _ => Ok(()),
     }
 }
 

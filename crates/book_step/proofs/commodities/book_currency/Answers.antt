@@ -1,4 +1,4 @@
-use Rattle.std.proofs.Common.{[], ◌∷◌, List, ℕ, Option, subst, sym}
+use Rattle.std.proofs.Common.{[], ◌∷◌, List, ℕ, Ok, Option, subst, sym}
 use Rattle.book_undo.specs.declared.edit.Edit.TheVariants as edit
 use Rattle.book_step.specs.Commodities.{unknown_commodity, wrong_currency}
 use Rattle.book_step.specs.Outcome.{Outcome, StepsTo, changing, leaving}
@@ -16,8 +16,8 @@ returns-then-commodity-plain c =
     let state = state_of c.args.plain.now c.args.next c.args.version in
     let left = leaving state (rules_of state c.args.commodity) answer.BookCurrency in
     let changed = changing state (rules_of state c.args.commodity) (edit.Currency c.args.commodity) 0 answer.BookCurrency in
-    subst (λ (outcome : Outcome). StepsTo state outcome c.leaving.result) (sym (chosen-same c.args.commodity c.args.plain.now.currency left changed c.if-commodity-plain.true))
-    (past-leaving state (rules_of state c.args.commodity) answer.BookCurrency c.leaving.result c.in_ok-check_currency.ensures (c.leaving.ensures c.args.plain.now c.args.version))
+    subst (λ (outcome : Outcome). StepsTo state outcome (Ok c.leaving.result)) (sym (chosen-same c.args.commodity c.args.plain.now.currency left changed c.if-commodity-plain.true))
+    (past-leaving state (rules_of state c.args.commodity) answer.BookCurrency (Ok c.leaving.result) c.in_ok-check_currency.ensures (c.leaving.ensures c.args.plain.now c.args.version))
 
 pub returns : goal.returns
 returns c =

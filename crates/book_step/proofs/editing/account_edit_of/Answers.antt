@@ -1,4 +1,4 @@
-use Rattle.std.proofs.Common.{subst, sym, ◌∙◌}
+use Rattle.std.proofs.Common.{Ok, subst, sym, ◌∙◌}
 use Rattle.book_accounts.specs.declared.account.Account.{Account}
 use Rattle.book_step.specs.Accounts.{account_edit_of}
 use Rattle.book_step.specs.Outcome.{StepsTo}
@@ -20,8 +20,8 @@ returns-in_err-check_edit c =
 pub returns-then-is_as_before : goal.returns-then-is_as_before
 returns-then-is_as_before c =
     let state = state_of c.args.plain.now c.args.next c.args.version in
-    subst (λ (new : Account). StepsTo state (account_edit_of state c.args.number c.args.given c.args.old.now new) c.leaving.result) c.in_ok-new.ensures
-    (edit-left state c.args.number c.args.given c.args.old.now c.in_ok-new.new c.leaving.result c.in_ok-check_edit.ensures
+    subst (λ (new : Account). StepsTo state (account_edit_of state c.args.number c.args.given c.args.old.now new) (Ok c.leaving.result)) c.in_ok-new.ensures
+    (edit-left state c.args.number c.args.given c.args.old.now c.in_ok-new.new (Ok c.leaving.result) c.in_ok-check_edit.ensures
     (sym c.is_as_before.ensures ∙ c.if-is_as_before.true) (c.leaving.ensures c.args.plain.now c.args.version))
 
 pub returns : goal.returns
