@@ -1,1 +1,3 @@
+pub mod DrawnLemmas
+pub mod SoundOutcome
 pub mod Worked
