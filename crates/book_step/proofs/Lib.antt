@@ -1,3 +1,4 @@
 pub mod DrawnLemmas
+pub mod SoundCommodities
 pub mod SoundOutcome
 pub mod Worked
