@@ -3,7 +3,7 @@ use Rattle.std.proofs.Common.{◌≡◌, ◌≢◌, ◌⊎◌, ◌==◌, nat_lt,
 use Rattle.std.proofs.lemmas.Bool.Decides.{nat_tests}
 use Rattle.std.proofs.lemmas.List.Elements.{All-head, All-tail, All-cons, All-weaker}
 use Rattle.book_commodity.specs.Table.{value_of, with_entry, without_entry, Rises}
-use Rattle.book_commodity.proofs.TableLemmas.{length_with, value_of_with, value_of_without}
+use Rattle.book_commodity.proofs.TableLemmas.{length_with, length_without, value_of_with, value_of_without}
 
 -- what is put under a number above all others stands at the end
 pub with_last : {T : Type 0} (n : ℕ) (v : T) (es : List (ℕ × T)) → All (λ (e : ℕ × T). e.0 < n) es → with_entry n v es ≡ es ++ (n, v) ∷ []
@@ -70,3 +70,24 @@ value_without m n x es r e = let told = sym (value_of_without m n es r) ∙ e in
 -- the others stay
 pub value_left : {T : Type 0} (m n : ℕ) (x : T) (es : List (ℕ × T)) → Rises es → m ≢ n → value_of m es ≡ Some x → value_of m (without_entry n es) ≡ Some x
 value_left m n x es r other e = let told = value_of_without m n es r in grind (arith, nat_tests, told)
+
+-- what stands there has a number that was drawn
+pub drawn_below : {T : Type 0} (n next : ℕ) (x : T) (es : List (ℕ × T)) → All (λ (e : ℕ × T). e.0 < next) es → value_of n es ≡ Some x → n < next
+drawn_below n next x [] h e = absurd cc
+drawn_below {T} n next x (entry ∷ es) h e =
+    let first : entry.0 < next = All-head (λ (x : ℕ × T). x.0 < next) entry es h in
+    let more = drawn_below n next x es (All-tail (λ (x : ℕ × T). x.0 < next) entry es h) in
+    grind (arith, nat_tests, first, more, e)
+
+-- in place of a value that is there comes another, and there are as many entries
+pub length_changed : {T : Type 0} (n : ℕ) (v x : T) (es : List (ℕ × T)) → Rises es → value_of n es ≡ Some x → length (with_entry n v es) ≡ length es
+length_changed {T} n v x es r e =
+    let told = length_with n v es r ∙ ap (λ (o : Option T). length es + (if is_none o then 1 else 0)) e in omega (arith, told)
+
+-- with one taken there are no more
+pub length_left : {T : Type 0} (n : ℕ) (es : List (ℕ × T)) → length (without_entry n es) ≤ length es
+length_left n es = omega (arith, length_without n es)
+
+-- what is put is found under its number
+pub value_here : {T : Type 0} (m n : ℕ) (v : T) (es : List (ℕ × T)) → m ≡ n → value_of m (with_entry n v es) ≡ Some v
+value_here m n v es same = let told = value_of_with m n v es in grind (arith, nat_tests, told, same)

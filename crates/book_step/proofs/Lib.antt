@@ -1,4 +1,5 @@
 pub mod DrawnLemmas
+pub mod SoundAccounts
 pub mod SoundCommodities
 pub mod SoundOutcome
 pub mod Worked
