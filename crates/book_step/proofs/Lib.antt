@@ -2,4 +2,5 @@ pub mod DrawnLemmas
 pub mod SoundAccounts
 pub mod SoundCommodities
 pub mod SoundOutcome
+pub mod SoundPosting
 pub mod Worked
