@@ -3,4 +3,5 @@ pub mod SoundAccounts
 pub mod SoundCommodities
 pub mod SoundOutcome
 pub mod SoundPosting
+pub mod SoundStep
 pub mod Worked
