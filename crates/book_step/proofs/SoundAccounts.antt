@@ -126,12 +126,16 @@ posted_beside : (accounts : List (ℕ × Account)) (n : ℕ) (new : Account) (sp
 posted_beside accounts n new split other is =
     record { account = is.account; there = value_beside split.account n new is.account accounts other is.there; takes_splits = is.takes_splits }
 
-posted_added : (accounts : List (ℕ × Account)) (n : ℕ) (new : Account) (splits : List Split) → value_of n accounts ≡ None → All (IsPosted accounts) splits → All (IsPosted (with_entry n new accounts)) splits
+posted_added :
+    (accounts : List (ℕ × Account)) (n : ℕ) (new : Account) (splits : List Split) → value_of n accounts ≡ None
+    → All (IsPosted accounts) splits → All (IsPosted (with_entry n new accounts)) splits
 posted_added accounts n new splits free all =
     All-weaker (IsPosted accounts) (IsPosted (with_entry n new accounts))
     (λ split is. posted_beside accounts n new split (free_apart accounts split.account n is.account is.there free) is) splits all
 
-posted_here : (accounts : List (ℕ × Account)) (n : ℕ) (old new : Account) (split : Split) → value_of n accounts ≡ Some old → split.account ≡ n → (old.placeholder ≡ false → new.placeholder ≡ false) → IsPosted accounts split → IsPosted (with_entry n new accounts) split
+posted_here :
+    (accounts : List (ℕ × Account)) (n : ℕ) (old new : Account) (split : Split) → value_of n accounts ≡ Some old → split.account ≡ n
+    → (old.placeholder ≡ false → new.placeholder ≡ false) → IsPosted accounts split → IsPosted (with_entry n new accounts) split
 posted_here accounts n old new split there same still is =
     let here : Some is.account ≡ Some old = sym is.there ∙ ap (λ (k : ℕ). value_of k accounts) same ∙ there in
     let one : is.account ≡ old = cc in

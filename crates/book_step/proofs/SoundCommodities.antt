@@ -57,7 +57,10 @@ drawn_currency : (book : Book) (currency next : ℕ) → AreDrawn book next → 
 drawn_currency book currency next are =
     record { commodities = are.commodities; accounts = are.accounts; transactions = are.transactions; splits = are.splits }
 
-currency_changed : (state : State) (currency : ℕ) (new : State) → IsChange state (unknown_commodity state.book.commodities currency ∷ wrong_currency state.book.commodities currency ∷ []) (edit.Currency currency) 0 new → IsSound state → IsSound new
+currency_changed :
+    (state : State) (currency : ℕ) (new : State)
+    → IsChange state (unknown_commodity state.book.commodities currency ∷ wrong_currency state.book.commodities currency ∷ []) (edit.Currency currency) 0 new
+    → IsSound state → IsSound new
 currency_changed state currency new change is =
     let wrong = not-broken _ _ (none-back (unknown_commodity state.book.commodities currency ∷ []) (wrong_currency state.book.commodities currency ∷ []) change.kept) in
     let there = currency_there state.book.commodities currency (value_of currency state.book.commodities) refl (not-false _ wrong) in
