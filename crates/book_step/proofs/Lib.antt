@@ -1,4 +1,10 @@
+pub mod DrawnLemmas
 pub mod EditLemmas
 pub mod OutcomeLemmas
 pub mod PostLemmas
+pub mod SoundAccounts
+pub mod SoundCommodities
+pub mod SoundOutcome
+pub mod SoundPosting
+pub mod SoundStep
 pub mod Worked
