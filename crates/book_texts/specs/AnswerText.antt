@@ -22,7 +22,7 @@ answer_data AccountEdit version = done_data (codes "account_edit") version
 answer_data AccountDrop version = done_data (codes "account_drop") version
 answer_data (Post transaction splits balances) version =
     told ((codes "balances", list_data sum_data balances) ∷ (codes "ok", string (codes "post")) ∷ (codes "splits", list_data number_data splits)
-        ∷ (codes "transaction", number_data transaction) ∷ (codes "version", number_data version) ∷ [])
+    ∷ (codes "transaction", number_data transaction) ∷ (codes "version", number_data version) ∷ [])
 
 -- The line that answers an accepted command: its answer's text with no blank.
 abbrev pub answer_bytes : Answer → ℕ → List ℕ

@@ -48,12 +48,7 @@ fn bare(alloc: Global, name: &str, version: u64) -> Result<Value, AllocError>
     json!(in alloc; {"broken": name, "version": version})
 }
 
-fn account_rule(
-    alloc: Global,
-    name: &str,
-    account: u64,
-    version: u64,
-) -> Result<Value, AllocError>
+fn account_rule(alloc: Global, name: &str, account: u64, version: u64) -> Result<Value, AllocError>
     ensures { IfOk result (λ value. view value ≡ account_rule_data name.now account version) }
 {
     json!(in alloc; {"account": account, "broken": name, "version": version})

@@ -9,9 +9,9 @@ type Row = (Rule, u64, &'static str);
 
 static RULES: [Row; 16] = [
     (
-        Rule::Stale { now: 6 },
-        6,
-        r#"{"broken":"Stale","now":6,"version":6}"#,
+        Rule::Stale { now: 42 },
+        42,
+        r#"{"broken":"Stale","now":42,"version":42}"#,
     ),
     (
         Rule::Unknown {
@@ -27,22 +27,26 @@ static RULES: [Row; 16] = [
         r#"{"broken":"NameTaken","id":8,"version":16}"#,
     ),
     (Rule::Cycle, 8, r#"{"broken":"Cycle","version":8}"#),
-    (Rule::ParentKind, 5, r#"{"broken":"ParentKind","version":5}"#),
+    (
+        Rule::ParentKind,
+        56,
+        r#"{"broken":"ParentKind","version":56}"#,
+    ),
     (Rule::Root, 0, r#"{"broken":"Root","version":0}"#),
     (
-        Rule::Placeholder { account: 3 },
-        2,
-        r#"{"account":3,"broken":"Placeholder","version":2}"#,
+        Rule::Placeholder { account: 2 },
+        20,
+        r#"{"account":2,"broken":"Placeholder","version":20}"#,
     ),
     (
-        Rule::NotEmpty { account: 4 },
-        3,
-        r#"{"account":4,"broken":"NotEmpty","version":3}"#,
+        Rule::NotEmpty { account: 7 },
+        51,
+        r#"{"account":7,"broken":"NotEmpty","version":51}"#,
     ),
     (
         Rule::FractionShape,
-        1,
-        r#"{"broken":"FractionShape","version":1}"#,
+        27,
+        r#"{"broken":"FractionShape","version":27}"#,
     ),
     (
         Rule::BasisShape,
@@ -55,24 +59,24 @@ static RULES: [Row; 16] = [
         r#"{"broken":"SplitCount","count":0,"version":15}"#,
     ),
     (
-        Rule::WrongCurrency { commodity: 3 },
-        4,
-        r#"{"broken":"WrongCurrency","commodity":3,"version":4}"#,
+        Rule::WrongCurrency { commodity: 4 },
+        117,
+        r#"{"broken":"WrongCurrency","commodity":4,"version":117}"#,
     ),
     (
-        Rule::Basis { account: 4 },
-        7,
-        r#"{"account":4,"broken":"Basis","version":7}"#,
+        Rule::Basis { account: 8 },
+        28,
+        r#"{"account":8,"broken":"Basis","version":28}"#,
     ),
     (
         Rule::ValueNotQuantity { place: 1 },
-        2,
-        r#"{"broken":"ValueNotQuantity","place":1,"version":2}"#,
+        68,
+        r#"{"broken":"ValueNotQuantity","place":1,"version":68}"#,
     ),
     (
-        Rule::Unbalanced { sum: 1 },
-        2,
-        r#"{"broken":"Unbalanced","sum":"1","version":2}"#,
+        Rule::Unbalanced { sum: -1 },
+        68,
+        r#"{"broken":"Unbalanced","sum":"-1","version":68}"#,
     ),
     (
         Rule::Limit {
@@ -84,12 +88,7 @@ static RULES: [Row; 16] = [
     ),
 ];
 
-fn answered(
-    alloc: Global,
-    answer: &Answer,
-    version: u64,
-    line: &str,
-) -> Result<bool, OutOfMemory> {
+fn answered(alloc: Global, answer: &Answer, version: u64, line: &str) -> Result<bool, OutOfMemory> {
     let text = answer_text(alloc, answer, version)?;
     Ok(text.as_slice() == line.as_bytes())
 }
