@@ -1,0 +1,4 @@
+pub mod LineLemmas
+pub mod StepLemmas
+pub mod ToldLemmas
+pub mod Worked

@@ -1,5 +1,5 @@
 -- What a line is answered that asks no command which is built.
-use Rattle.std.specs.Prelude.{◌≡◌, ℕ, List, [], codes, IfSome}
+use Rattle.std.specs.Prelude.{ℕ, List, [], codes}
 use Rattle.serde_json.specs.Data.{Data, unsigned, number, string, object, no_members, member}
 use Rattle.serde_json.specs.Written.{compact_text}
 use Rattle.book_wire.specs.Line.{Line, Asks, NotJson, NotCommand, NotBuilt}

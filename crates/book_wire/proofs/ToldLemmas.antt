@@ -1,0 +1,19 @@
+-- What a line is answered for its fault is a line of its own.
+use Rattle.std.proofs.Common.{ℕ, refl, codes}
+use Rattle.serde_json.proofs.OnLiterals.{serde_json_on_literals}
+use Rattle.book_json.proofs.OneLine.{IsOwnLine, compact_text-one_line}
+use Rattle.book_wire.specs.Line.{Line, Asks, NotJson, NotCommand, NotBuilt}
+use Rattle.book_wire.specs.Told.{refused_data, not_command_data, too_long_data, fault_bytes, too_long_bytes}
+
+-- The answer to each fault is one line, and neither of the two that say why a line has no answer.
+pub fault-own_line : (line : Line) → IsOwnLine (fault_bytes line)
+unfolding fault_bytes serde_json_on_literals
+fault-own_line (Asks command) = record { one_line = refl; no_memory = refl; no_keeper = refl }
+fault-own_line NotJson = record { one_line = compact_text-one_line (refused_data (codes "not json")); no_memory = refl; no_keeper = refl }
+fault-own_line (NotCommand name) = record { one_line = compact_text-one_line (not_command_data name); no_memory = refl; no_keeper = refl }
+fault-own_line NotBuilt = record { one_line = compact_text-one_line (refused_data (codes "not built")); no_memory = refl; no_keeper = refl }
+
+-- So is the answer to a line that is too long.
+pub too_long-own_line : (length : ℕ) → IsOwnLine (too_long_bytes length)
+unfolding too_long_bytes serde_json_on_literals
+too_long-own_line length = record { one_line = compact_text-one_line (too_long_data length); no_memory = refl; no_keeper = refl }
