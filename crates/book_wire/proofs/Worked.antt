@@ -1,5 +1,6 @@
 -- Lines and their answers at values written by hand.
 use Rattle.std.proofs.Common.{◌≡◌, [], ◌∷◌, codes, refl}
+use Rattle.std.specs.Fmt.{digits}
 use Rattle.serde_json.specs.Data.{unsigned, null, number, string, array, object, no_items, no_members, member}
 use Rattle.serde_json.proofs.OnLiterals.{serde_json_on_literals}
 use Rattle.book_wire.specs.Line.{NotJson, NotCommand, NotBuilt, line_of_data}
@@ -22,7 +23,7 @@ unfolding fault_bytes serde_json_on_literals
 not_command_bytes = refl
 
 long_bytes : too_long_bytes 9000000 ≡ codes "{\"length\":9000000,\"refused\":\"too long\"}"
-unfolding too_long_bytes serde_json_on_literals
+unfolding digits too_long_bytes serde_json_on_literals
 long_bytes = refl
 
 no_object : line_of_data (array no_items) ≡ NotCommand []
