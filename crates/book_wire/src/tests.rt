@@ -2,7 +2,7 @@
 use crate::{WireError, command_of, too_long_text, wire_text};
 use book_accounts::AccountKind;
 use book_commodity::{Bytes, OutOfMemory};
-use book_step::{Command, What};
+use book_step::{Command, GivenAccount, What};
 use std::alloc::Global;
 
 /// A line, and the member that fails in it, or in brackets what else comes of it.
@@ -226,41 +226,54 @@ fn commodities_are_read(alloc: Global) -> bool {
         && euro.fraction == 100
 }
 
-fn accounts_are_read(alloc: Global) -> bool {
+fn an_account_is_read(alloc: Global) -> bool {
     let Some(What::AccountAdd { account }) = asked(
         alloc,
         r#"{"do":"account_add","at":6,"name":"Bank","kind":"STOCK","commodity":3,"parent":2,"hidden":true,"basis":1}"#,
     ) else {
         return false;
     };
-    let Some(
-        What::AccountEdit {
-            account: edited,
-            given,
-        },
-    ) = asked(
-        alloc,
-        r#"{"do":"account_edit","at":6,"account":5,"note":"","hidden":false}"#,
-    )
-    else {
-        return false;
-    };
     account.name.as_str() == "Bank"
         && account.kind == AccountKind::Stock
         && (account.commodity, account.parent, account.basis) == (3, Some(2), Some(1))
-        && (account.code.is_empty() && account.note.is_empty())
+        && account.code.is_empty()
+        && account.note.is_empty()
         && (account.hidden, account.placeholder) == (true, false)
-        && edited == 5
-        && given.note.is_some_and(|note| note.is_empty())
-        && (given.name.is_none() && given.code.is_none())
-        && (given.parent, given.hidden, given.placeholder) == (None, Some(false), None)
 }
 
-fn posts_are_read(alloc: Global) -> bool {
-    let Some(What::Post { day, given }) = asked(
+fn what_is_given_of_an_account_is_read(alloc: Global) -> bool {
+    let Some(What::AccountEdit { account, given }) = asked(
+        alloc,
+        r#"{"do":"account_edit","at":6,"account":5,"note":"","hidden":false}"#,
+    ) else {
+        return false;
+    };
+    let GivenAccount {
+        name,
+        parent,
+        code,
+        note,
+        hidden,
+        placeholder,
+    } = given;
+    let Some(note) = note else {
+        return false;
+    };
+    account == 5
+        && note.is_empty()
+        && name.is_none()
+        && code.is_none()
+        && (parent, hidden, placeholder) == (None, Some(false), None)
+}
+
+fn a_post_is_read(alloc: Global) -> bool {
+    let Some(what) = asked(
         alloc,
         r#"{"do":"post","at":6,"day":"1970-01-02","currency":1,"description":"Pay\u00e9","splits":[{"account":3,"value":-5},{"action":"Buy","memo":"m","quantity":7,"value":5,"account":4}]}"#,
     ) else {
+        return false;
+    };
+    let What::Post { day, given } = what else {
         return false;
     };
     let [first, second] = given.splits.as_slice() else {
@@ -271,7 +284,8 @@ fn posts_are_read(alloc: Global) -> bool {
         && given.num.is_empty()
         && given.description.as_str() == "Payé"
         && (first.account, first.value, first.quantity) == (3, -5, -5)
-        && (first.memo.is_empty() && first.action.is_empty())
+        && first.memo.is_empty()
+        && first.action.is_empty()
         && (second.account, second.value, second.quantity) == (4, 5, 7)
         && (second.memo.as_str(), second.action.as_str()) == ("m", "Buy")
 }
@@ -286,7 +300,8 @@ fn lines_are_read_as_commands(rt: HostRuntime) -> Result<(), OutOfMemory> {
     );
     let before = r#"{"do":"account_add","name":"A","commodity":1,"parent":2,"kind":""#;
     assert_eq!(rt; misread_word(alloc, KINDS, before, "\"}", "(read)")?, None);
-    assert!(rt; commodities_are_read(alloc) && accounts_are_read(alloc) && posts_are_read(alloc));
+    assert!(rt; commodities_are_read(alloc) && an_account_is_read(alloc));
+    assert!(rt; what_is_given_of_an_account_is_read(alloc) && a_post_is_read(alloc));
     assert_eq!(rt;
         nested(alloc, 126)?.as_slice(),
         r#"{"field":"do","refused":"not command"}"#.as_bytes()
