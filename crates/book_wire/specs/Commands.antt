@@ -41,6 +41,7 @@ account = do
   basis ← optional whole (codes "basis")
   gives (record { name = name; kind = kind; commodity = commodity; parent = Some parent; code = code; note = note; hidden = hidden; placeholder = placeholder; basis = basis })
 
+-- The command that adds it.
 abbrev pub account_add : Reader What
 account_add = do
   given ← account

@@ -41,11 +41,12 @@ line_of_asked (Err name) = NotCommand name
 abbrev pub line_of_members : Members → Line
 line_of_members members = line_of_asked (needed asked_form (codes "do") members)
 
--- A line of JSON; where it is no object, the member with the empty name fails.
+-- A line that may be an object; where it is none, the member with the empty name fails.
 abbrev pub line_of_object : Option Members → Line
 line_of_object (Some members) = line_of_members members
 line_of_object None = NotCommand []
 
+-- What a line of JSON is read as.
 abbrev pub line_of_data : Data → Line
 line_of_data d = line_of_object (as_object d)
 
