@@ -48,7 +48,7 @@ pub record IsSoundBook (book : Book) : Type 0 where
   pub few_transactions : length book.transactions ≤ 200000
   pub few_splits : length (splits_of book.transactions) ≤ 1000000
 
--- Every thing and every split has a number below the next, and no number is drawn twice.
+-- Every thing and every split has a number below the next, which therefore is of none.
 pub record AreDrawn (book : Book) (next : ℕ) : Type 0 where
   pub commodities : All (λ entry. entry.0 < next) book.commodities
   pub accounts : All (λ entry. entry.0 < next) book.accounts
