@@ -1,6 +1,5 @@
-use Rattle.std.proofs.Common.{◌≡◌, sym, subst, arith}
+use Rattle.std.proofs.Common.{sym, subst, arith}
 use Rattle.book_undo.specs.Book.{Book}
-use Rattle.book_undo.specs.Edit.{edited}
 use Rattle.book_step.specs.Soundness.{IsSound}
 use Rattle.book_step.specs.State.{state_of}
 use Rattle.book_engine.specs.Planned.{after}
