@@ -1,6 +1,6 @@
 -- Bytes are read as one line alone.
 use Rattle.std.proofs.Common.{◌≡◌, ◌∙◌, ◌⊎◌, ℕ, List, inl, inr, refl, sym, ap}
-use Rattle.std.proofs.Common.{Some, option_map, unwrap_or}
+use Rattle.std.proofs.Common.{Some}
 use Rattle.serde_json.specs.Data.{Data}
 use Rattle.book_json.specs.Line.{IsJson}
 use Rattle.book_wire.specs.Line.{Line, Asks, NotJson, NotCommand, NotBuilt, IsLine, IsReadAs, line_of_data}

@@ -1,12 +1,12 @@
 -- Lines and their answers at values written by hand.
 use Rattle.std.proofs.Common.{◌≡◌, [], ◌∷◌, codes, refl}
 use Rattle.std.specs.Fmt.{digits}
-use Rattle.serde_json.specs.Data.{unsigned, null, number, string, array, object, no_items, no_members, member}
+use Rattle.serde_json.specs.Data.{null, string, array, object, no_items, no_members, member}
 use Rattle.serde_json.proofs.OnLiterals.{serde_json_on_literals}
 use Rattle.book_wire.specs.Line.{NotJson, NotCommand, NotBuilt, line_of_data}
 use Rattle.book_wire.specs.Told.{fault_bytes, too_long_bytes}
 use Rattle.book_wire.specs.Words.{is_later, asked_form}
-use Rattle.book_json.specs.Members.{needed, optional, text, ends}
+use Rattle.book_json.specs.Members.{needed, optional}
 use Rattle.book_json.specs.Forms.{whole}
 
 not_json_bytes : fault_bytes NotJson ≡ codes "{\"refused\":\"not json\"}"
