@@ -1,25 +1,24 @@
-ghost use Rattle.std.specs.Prelude.{◌≡◌, ◌≢◌, IfOk, IfSome};
+ghost use Rattle.std.specs.Prelude.{◌≡◌, Some, IfOk, option_map};
 ghost use Rattle.serde_json.specs.Written.{compact_text};
 ghost use Rattle.book_wire.specs.Line.{line_of_fault};
 ghost use Rattle.book_wire.specs.Told.{refused_data, not_command_data, fault_bytes, too_long_bytes};
-ghost use Rattle.book_wire.specs.declared.fault.WireError.TheVariants as wire;
 
 use crate::WireError;
 use book_commodity::{Bytes, OutOfMemory};
 use serde_json::json;
 use std::alloc::Global;
 
-/// The line that answers a line which is no command, without its line feed; an error only where memory is refused.
+/// The line that answers a line which is no command, without its line feed; an error only where memory is refused,
+/// or was when the line was read.
 #[tactic(auto, unfolding(crate::specs::Told::fault_bytes))]
 pub fn wire_text(alloc: Global, fault: &WireError) -> Result<Bytes, OutOfMemory>
-    requires { fault.now ≢ wire.OutOfMemory }
-    ensures { IfOk result (λ text. IfSome (line_of_fault fault.now) (λ line. text ≡ fault_bytes line)) }
+    ensures { IfOk result (λ text. option_map fault_bytes (line_of_fault fault.now) ≡ Some text) }
 {
     match fault {
         WireError::NotJson => refused(alloc, "not json"),
         WireError::NotCommand { field } => not_command(alloc, field.as_str()),
         WireError::NotBuilt => refused(alloc, "not built"),
-        WireError::OutOfMemory => unreachable!(),
+        WireError::OutOfMemory => Err(OutOfMemory),
     }
 }
 
