@@ -1,15 +1,87 @@
-use crate::runs::{SALARY, SALARY_ANSWER, ran};
+use crate::runs::{SALARY, SALARY_ANSWERS, ran};
 use book_app::Status;
 use std::test::Fail;
 
-const UNEVEN: &str =
-    "{\"do\":\"post\",\"day\":\"2024-01-05\",\"currency\":1,\"description\":\"Pay\",\"splits\":[{\"account\":3,\"value\":100},{\"account\":4,\"value\":-99}]}";
+/// Command lines, and what they are answered.
+type Row = (&'static str, &'static str);
 
-// The salary line is answered, whole and in pieces of one byte, with and without its line feed.
+// A post that does not balance; an amount past its limit; a stock split and a post without splits; a root that stays;
+// a cycle and a command that is not built yet; lines that are no command.
+static ROWS: [Row; 6] = [
+    (
+        r#"{"do":"account_add","name":"Bank","kind":"BANK","commodity":1,"parent":2}
+{"do":"account_add","name":"Salary","kind":"INCOME","commodity":1,"parent":2}
+{"do":"post","day":"2024-01-05","currency":1,"description":"Pay","splits":[{"account":3,"value":100},{"account":4,"value":-99}]}
+"#,
+        r#"{"account":3,"ok":"account_add","version":1}
+{"account":4,"ok":"account_add","version":2}
+{"broken":"Unbalanced","sum":"1","version":2}
+"#,
+    ),
+    (
+        r#"{"do":"account_add","name":"Bank","kind":"BANK","commodity":1,"parent":2}
+{"do":"account_add","name":"Salary","kind":"INCOME","commodity":1,"parent":2}
+{"do":"post","day":"2024-01-05","currency":1,"splits":[{"account":3,"value":1000000000000},{"account":4,"value":-1000000000000}]}
+{"do":"post","day":"2024-01-05","currency":1,"splits":[{"account":3,"value":1000000000001},{"account":4,"value":-1000000000001}]}
+"#,
+        r#"{"account":3,"ok":"account_add","version":1}
+{"account":4,"ok":"account_add","version":2}
+{"balances":["1000000000000","-1000000000000"],"ok":"post","splits":[6,7],"transaction":5,"version":3}
+{"at":1000000000000,"broken":"Limit","version":3,"which":"amount"}
+"#,
+    ),
+    (
+        r#"{"do":"commodity_add","space":"NYSE","name":"ACME","fraction":1}
+{"do":"account_add","name":"Broker","kind":"STOCK","commodity":3,"parent":2,"basis":1}
+{"do":"account_add","name":"Cash","kind":"BANK","commodity":1,"parent":2}
+{"do":"post","day":"2024-01-05","currency":1,"splits":[{"account":4,"value":0,"quantity":50}]}
+{"do":"post","day":"2024-01-05","currency":1,"splits":[]}
+"#,
+        r#"{"commodity":3,"ok":"commodity_add","version":1}
+{"account":4,"ok":"account_add","version":2}
+{"account":5,"ok":"account_add","version":3}
+{"balances":["50"],"ok":"post","splits":[7],"transaction":6,"version":4}
+{"broken":"SplitCount","count":0,"version":4}
+"#,
+    ),
+    (
+        "{\"do\":\"account_drop\",\"account\":2}\n",
+        "{\"broken\":\"Root\",\"version\":0}\n",
+    ),
+    (
+        r#"{"do":"account_add","name":"Bank","kind":"BANK","commodity":1,"parent":2}
+{"do":"account_add","name":"Salary","kind":"INCOME","commodity":1,"parent":2}
+{"do":"account_edit","account":3,"parent":3}
+{"do":"status","at":1}
+"#,
+        r#"{"account":3,"ok":"account_add","version":1}
+{"account":4,"ok":"account_add","version":2}
+{"broken":"Cycle","version":2}
+{"refused":"not built"}
+"#,
+    ),
+    (
+        r#"{
+{"do":"post"}
+{"do":"account_add","name":"","kind":"BANK","commodity":1,"parent":2}
+[1]
+{"do":"none"}
+{"do":"account_drop","account":3,"zz":1,"aa":2}
+"#,
+        r#"{"refused":"not json"}
+{"field":"day","refused":"not command"}
+{"field":"name","refused":"not command"}
+{"field":"","refused":"not command"}
+{"field":"do","refused":"not command"}
+{"field":"aa","refused":"not command"}
+"#,
+    ),
+];
+
+// The salary is answered, whole and in pieces of one byte, with and without its last line feed.
 #[test]
 fn a_salary(rt: HostRuntime) -> Result<(), Fail> {
-    let line = format!(in rt.alloc(); "{SALARY}\n")?;
-    for input in [SALARY, line.as_str()] {
+    for input in [SALARY, SALARY.trim_ascii_end()] {
         for piece in [1, 7, 65_536] {
             let ended = ran(
                 rt.alloc(),
@@ -20,8 +92,25 @@ fn a_salary(rt: HostRuntime) -> Result<(), Fail> {
                 &[],
             )?;
             assert_eq!(rt; ended.status, Status::Done);
-            assert_eq!(rt; ended.output.written(), SALARY_ANSWER.as_bytes());
+            assert_eq!(rt; ended.output.written(), SALARY_ANSWERS.as_bytes());
         }
+    }
+    Ok(())
+}
+
+#[test]
+fn rows(rt: HostRuntime) -> Result<(), Fail> {
+    for (input, answers) in ROWS {
+        let ended = ran(
+            rt.alloc(),
+            &["run", "household.book"],
+            input.as_bytes(),
+            50,
+            &[],
+            &[],
+        )?;
+        assert_eq!(rt; ended.status, Status::Done);
+        assert_eq!(rt; ended.output.written(), answers.as_bytes());
     }
     Ok(())
 }
@@ -41,26 +130,6 @@ fn blanks(rt: HostRuntime) -> Result<(), Fail> {
         assert_eq!(rt; ended.status, Status::Done);
         assert_eq!(rt; ended.output.written().len(), 0);
     }
-    Ok(())
-}
-
-// A post that does not balance, and a line that is no post, leave the book as it was for the next.
-#[test]
-fn refusals(rt: HostRuntime) -> Result<(), Fail> {
-    let input = format!(in rt.alloc(); "{UNEVEN}\n{{\"do\":\"undo\"}}\n{SALARY}")?;
-    let ended = ran(
-        rt.alloc(),
-        &["run", "household.book"],
-        input.as_str().as_bytes(),
-        50,
-        &[],
-        &[],
-    )?;
-    let wanted = format!(in rt.alloc();
-        "{{\"broken\":\"Unbalanced\",\"sum\":\"1\",\"version\":2}}\n{{\"refused\":\"not built\"}}\n{SALARY_ANSWER}"
-    )?;
-    assert_eq!(rt; ended.status, Status::Done);
-    assert_eq!(rt; ended.output.written(), wanted.as_str().as_bytes());
     Ok(())
 }
 

@@ -3,11 +3,18 @@ use book_commodity::{Bytes, Many, OutOfMemory, Text};
 use book_keeper::{MemSink, MemSource};
 use std::alloc::Global;
 
+/// Two accounts, and a salary of 2,500.00 euro on the fifth of January 2024.
 pub(crate) const SALARY: &str =
-    "{\"do\":\"post\",\"day\":\"2024-01-05\",\"currency\":1,\"description\":\"Pay\",\"splits\":[{\"account\":3,\"value\":250000},{\"account\":4,\"value\":-250000}]}";
+    r#"{"do":"account_add","name":"Bank","kind":"BANK","commodity":1,"parent":2}
+{"do":"account_add","name":"Salary","kind":"INCOME","commodity":1,"parent":2}
+{"do":"post","day":"2024-01-05","currency":1,"description":"Pay","splits":[{"account":3,"value":250000},{"account":4,"value":-250000}]}
+"#;
 
-pub(crate) const SALARY_ANSWER: &str =
-    "{\"balances\":[\"250000\",\"-250000\"],\"ok\":\"post\",\"splits\":[6,7],\"transaction\":5,\"version\":3}\n";
+/// What these lines are answered.
+pub(crate) const SALARY_ANSWERS: &str = r#"{"account":3,"ok":"account_add","version":1}
+{"account":4,"ok":"account_add","version":2}
+{"balances":["250000","-250000"],"ok":"post","splits":[6,7],"transaction":5,"version":3}
+"#;
 
 /// How a run ended, and what it wrote.
 #[derive(Drop)]
