@@ -19,10 +19,3 @@ fault-own_line NotBuilt = record { one_line = compact_text-one_line (refused_dat
 pub too_long-own_line : (length : ℕ) → IsOwnLine (too_long_bytes length)
 unfolding too_long_bytes serde_json_on_literals
 too_long-own_line length = record { one_line = compact_text-one_line (too_long_data length); no_memory = refl; no_keeper = refl }
-
--- An answer to the fault of a line is the answer to what its bytes are read as.
-pub told_line : (bytes text : List ℕ) (fault : WireError) → fault ≢ wire.OutOfMemory → IfSome (line_of_fault fault) (IsLine bytes) → IfSome (line_of_fault fault) (λ line. text ≡ fault_bytes line) → (line : Line) × IsLine bytes line × (text ≡ fault_bytes line)
-told_line bytes text wire.NotJson _ read told = (NotJson, read, told)
-told_line bytes text (wire.NotCommand name) _ read told = (NotCommand name, read, told)
-told_line bytes text wire.NotBuilt _ read told = (NotBuilt, read, told)
-told_line bytes text wire.OutOfMemory other read told = absurd (other refl)
