@@ -4,7 +4,7 @@ use Rattle.book_keeper.specs.Stream.{Are, Wrote}
 use Rattle.book_lines.specs.Table.{Moment, at, TableTo}
 use Rattle.book_lines.specs.declared.running.RunEnd.{RunEnd}
 use Rattle.book_lines.specs.declared.running.RunEnd.TheVariants as end
-use Rattle.book_step.specs.Book.{State}
+use Rattle.book_step.specs.State.{State}
 use Rattle.book_app.specs.Machine.{answers}
 use Rattle.book_app.specs.Numbers.{status_of}
 use Rattle.book_app.specs.declared.status.Status.{Status}

@@ -1,6 +1,6 @@
 ghost use Rattle.std.specs.Prelude.{◌≡◌, ℕ, ◌↔◌, false};
 ghost use Rattle.book_keeper.specs.Faults.{Rose};
-ghost use Rattle.book_step.specs.Book.{first_state};
+ghost use Rattle.book_step.specs.State.{fresh_state};
 ghost use Rattle.book_app.specs.Table.{IsBookRun, IsLineRun};
 ghost use Rattle.book_app.specs.Words.{is_run};
 
@@ -37,7 +37,7 @@ pub fn run_lines<S: Source, O: Sink>(
     ))
 }
 
-/// Does what the words ask: `run BOOK` answers the lines of the input, from the first book on. Usage comes
+/// Does what the words ask: `run BOOK` answers the lines of the input, from the fresh book on. Usage comes
 /// exactly where the words are not these; Memory where memory was refused before the first line.
 pub fn book_main<S: Source, O: Sink>(
     alloc: Global,
@@ -45,7 +45,7 @@ pub fn book_main<S: Source, O: Sink>(
     input: &mut S,
     output: &mut O,
 ) -> Status
-    ensures table { IsBookRun first_state (S.left input.old) (S.left input.new) (O.written output.old) (O.written output.new) result }
+    ensures table { IsBookRun fresh_state (S.left input.old) (S.left input.new) (O.written output.old) (O.written output.new) result }
     ensures usage { (result ≡ Status.Usage) ↔ (is_run words.now ≡ false) }
     ensures input_fault { result ≡ Status.InputFault → Rose (S.faults input.old) (S.faults input.new) }
     ensures output_fault { result ≡ Status.OutputFault → Rose (O.faults output.old) (O.faults output.new) }

@@ -8,7 +8,8 @@ use book_commodity::{Bytes, OutOfMemory};
 use book_engine::Engine;
 use book_lines::{Machine, Unanswered};
 use book_step::{Command, Refusal};
-use book_wire::{answer_text, command_of, not_built_text, rule_text};
+use book_texts::{answer_text, rule_text};
+use book_wire::{WireError, command_of, too_long_text, wire_text};
 use std::alloc::Global;
 
 /// The way in which this crate joins an engine to the lines.
@@ -24,7 +25,7 @@ fn reply(alloc: Global, engine: &mut Engine, command: Command) -> Result<Bytes, 
     ensures told { IfOk result (λ text. IsTold text × IsOutcome (step engine.old.state command) engine.old.state text engine.new.state) }
     ensures kept { OnErr result (engine.new.state ≡ engine.old.state) }
 {
-    match engine.prepare(alloc, command) {
+    match engine.prepare(command) {
         Ok(plan) => {
             let text = answer_text(alloc, plan.answer(), plan.version())?;
             let _ = engine.finish(plan);
@@ -40,9 +41,10 @@ fn answer_to(alloc: Global, engine: &mut Engine, line: &[u8]) -> Result<Bytes, O
     ensures told { IfOk result (λ text. IsTold text × Tells engine.old.state line.now text engine.new.state) }
     ensures kept { OnErr result (engine.new.state ≡ engine.old.state) }
 {
-    match command_of(alloc, line)? {
-        None => not_built_text(alloc),
-        Some(command) => reply(alloc, engine, command),
+    match command_of(alloc, line) {
+        Ok(command) => reply(alloc, engine, command),
+        Err(WireError::OutOfMemory) => Err(OutOfMemory),
+        Err(fault) => wire_text(alloc, &fault),
     }
 }
 
@@ -68,7 +70,7 @@ impl Machine<Wire, Nothing> for Engine {
         }
     }
 
-    fn too_long(&self, alloc: Global, _size: u64) -> Result<Bytes, OutOfMemory> {
-        not_built_text(alloc)
+    fn too_long(&self, alloc: Global, size: u64) -> Result<Bytes, OutOfMemory> {
+        too_long_text(alloc, size)
     }
 }

@@ -1,31 +1,32 @@
-ghost use Rattle.std.specs.Prelude.{◌≡◌, ℕ, ◌≤◌, IfOk, IfErr, OnOk};
-ghost use Rattle.book_step.specs.Book.{first_state};
+ghost use Rattle.std.specs.Prelude.{◌≡◌, ◌+◌, if◌then◌else◌, IfOk, IfErr};
+ghost use Rattle.book_step.specs.Outcome.{Done};
 ghost use Rattle.book_step.specs.Soundness.{IsSound};
-ghost use Rattle.book_step.specs.Step.{Done, step};
+ghost use Rattle.book_step.specs.State.{fresh_state};
+ghost use Rattle.book_step.specs.Step.{step as step_from};
+ghost use Rattle.book_undo.specs.Edit.{HasRoom};
 ghost use Rattle.book_engine.specs.Planned.{after, IsPlanFor, IsRefusal};
 
 use crate::Plan;
-use book_commodity::{Day, Many, OutOfMemory, Text};
-use book_splits::Txn;
-use book_step::{Answer, Command, GivenSplit, Refusal, answer_given, check_post, splits_given};
+use crate::fresh::{FIRST_NUMBER, fresh_book};
+use book_commodity::OutOfMemory;
+use book_step::{Answer, Command, Refusal, Step, step_of};
+use book_undo::Plain;
 use std::alloc::Global;
 use std::marker::Model;
 
-/// A whole book: its transactions by rising number, how many splits they have, the next number and the version.
+/// A whole book in tables, the next number and the version.
 #[derive(Drop)]
 pub struct Engine {
-    transactions: Vec<(u64, Txn)>,
-    splits: u64,
+    alloc: Global,
+    plain: Plain,
     next: u64,
     version: u64,
 }
 
 impl Model for Engine {
-    ghost use Rattle.book_engine.specs.Kept.{Kept};
+    ghost use Rattle.book_engine.specs.Kept.{Kept, kept_by, IsKept};
 
     ghost Value = { Kept };
-
-    ghost use Rattle.book_engine.specs.Kept.{kept_by, IsKept};
 
     ghost view = { kept_by };
 
@@ -33,15 +34,15 @@ impl Model for Engine {
 }
 
 impl Engine {
-    /// The state in which each run begins: the first book, 5 as the next number, and version 2.
+    /// The state in which each run begins: the fresh book, before any change.
     pub fn begin(alloc: Global) -> Result<Engine, OutOfMemory>
-        ensures { IfOk result (λ engine. engine.state ≡ first_state) }
+        ensures { IfOk result (λ engine. engine.state ≡ fresh_state) }
     {
         Ok(Engine {
-            transactions: Vec::new(alloc),
-            splits: 0,
-            next: 5,
-            version: 2,
+            alloc,
+            plain: fresh_book(alloc)?,
+            next: FIRST_NUMBER,
+            version: 0,
         })
     }
 
@@ -54,85 +55,52 @@ impl Engine {
 
     /// Tries all rules of the command and takes all memory that it needs. The state stays as it is.
     /// Refused by the first rule that the command breaks, or for want of memory.
-    pub fn prepare(&mut self, alloc: Global, command: Command) -> Result<Plan, Refusal>
-        ensures planned { IfOk result (λ plan. step self.old.state command ≡ Done (after self.old.state plan) plan.answer) }
-        ensures room { OnOk result (1 ≤ self.new.spare) }
-        ensures refused { IfErr result (IsRefusal (step self.old.state command)) }
+    pub fn prepare(&mut self, command: Command) -> Result<Plan, Refusal>
+        ensures planned { IfOk result (λ plan. step_from self.old.state command ≡ Done (after self.old.state plan) plan.answer) }
+        ensures room { IfOk result (λ plan. HasRoom self.new.plain plan.edit) }
+        ensures refused { IfErr result (IsRefusal (step_from self.old.state command)) }
         ensures unchanged { self.new.state ≡ self.old.state }
     {
-        match command {
-            Command::Post {
-                day,
-                currency,
-                description,
-                splits,
-            } => self.prepare_post(alloc, day, currency, description, splits),
-        }
+        let Step { edit, next, answer } =
+            step_of(self.alloc, &self.plain, self.next, self.version, command)?;
+        self.plain.reserve_for(&edit)?;
+        let version = self.version_after(edit.is_nothing());
+        Ok(Plan {
+            edit,
+            next,
+            version,
+            answer,
+        })
     }
 
     /// Makes the change that was prepared and hands out its answer. It can't fail and takes no memory.
     pub fn finish(&mut self, plan: Plan) -> Answer
         requires made { IsPlanFor self.old.state plan }
-        requires room { 1 ≤ self.old.spare }
+        requires room { HasRoom self.old.plain plan.edit }
         ensures state { self.new.state ≡ after self.old.state plan }
         ensures answer { result ≡ plan.answer }
         ensures sound { IsSound self.new.state }
     {
         let Plan {
-            entry,
+            edit,
             next,
             version,
             answer,
         } = plan;
-        self.splits += entry.1.splits.len() as u64;
+        self.plain.apply(edit);
         self.next = next;
         self.version = version;
-        let Ok(()) = self.transactions.push(entry) else {
-            unreachable!()
-        };
         answer
     }
 
-    fn prepare_post(
-        &mut self,
-        alloc: Global,
-        day: Day,
-        currency: u64,
-        description: Text,
-        splits: Many<GivenSplit>,
-    ) -> Result<Plan, Refusal>
-        ensures planned { IfOk result (λ plan. step self.old.state (Command.Post day currency description splits) ≡ Done (after self.old.state plan) plan.answer) }
-        ensures room { OnOk result (1 ≤ self.new.spare) }
-        ensures refused { IfErr result (IsRefusal (step self.old.state (Command.Post day currency description splits))) }
-        ensures unchanged { self.new.state ≡ self.old.state }
+    /// The version after a command: only one that changes the book raises it.
+    fn version_after(&self, is_nothing: bool) -> u64
+        ensures { result ≡ (if is_nothing then self.now.state.version else self.now.state.version + 1) }
     {
-        check_post(
-            self.transactions.len() as u64,
-            self.splits,
-            splits.as_slice(),
-        )?;
-        let number = self.next;
-        let splits = splits_given(alloc, number + 1, splits.as_slice())?;
-        let next = number + 1 + splits.len() as u64;
-        let answer = answer_given(
-            alloc,
-            number,
-            self.transactions.as_slice(),
-            splits.as_slice(),
-        )?;
-        self.transactions.reserve(1)?;
-        let transaction = Txn {
-            currency,
-            day,
-            num: Text::new(alloc),
-            description,
-            splits,
-        };
-        Ok(Plan {
-            entry: (number, transaction),
-            next,
-            version: self.version + 1,
-            answer,
-        })
+        if is_nothing {
+            self.version
+        } else {
+            self.version + 1
+        }
     }
 }

@@ -1,9 +1,10 @@
 //! The machine that keeps a whole book: it prepares a command, which tries all rules and takes all memory,
 //! and then finishes the plan, which can't fail. Between the two the answer is already there to be written out.
-//! Contracts see an engine as the state of its book, its next number and its version, and the spare places it has.
+//! Contracts see an engine as the state of its book, its next number and its version, and the tables that hold it.
 #![tactic(auto)]
 
 mod engine;
+mod fresh;
 mod plan;
 
 pub use engine::Engine;

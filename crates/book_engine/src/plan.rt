@@ -1,13 +1,14 @@
 ghost use Rattle.std.specs.Prelude.{◌≡◌};
 
-use book_splits::Txn;
 use book_step::Answer;
+use book_undo::Edit;
 use std::marker::Model;
 
-/// A command that breaks no rule, ready to be finished: the transaction to add and the answer.
+/// A command that breaks no rule, ready to be finished: the edit of the book, the next number and the version after
+/// it, and the answer.
 #[derive(Drop)]
 pub struct Plan {
-    pub(crate) entry: (u64, Txn),
+    pub(crate) edit: Edit,
     pub(crate) next: u64,
     pub(crate) version: u64,
     pub(crate) answer: Answer,
@@ -18,7 +19,7 @@ impl Model for Plan {
 
     ghost Value = { Planned };
 
-    ghost view = { λ p. record { entry = p.entry; next = p.next; version = p.version; answer = p.answer } };
+    ghost view = { λ p. record { edit = p.edit; next = p.next; version = p.version; answer = p.answer } };
 }
 
 impl Plan {

@@ -1,10 +1,11 @@
 -- The text of data is one line: it has no line feed.
-use Rattle.std.proofs.Common.{◌&&◌, ◌+◌, ◌++◌, ◌/◌, ◌%◌, ◌<◌, ◌==◌, ◌≡◌, ◌∙◌, ◌∷◌, Bool, List, [], arith, cond, decimal, false, inl, inr, nat_lt, negsuc, not, pos, refl, suc, true, zero, ℕ, ℤ}
+use Rattle.std.proofs.Common.{◌&&◌, ◌+◌, ◌++◌, ◌/◌, ◌%◌, ◌<◌, ◌==◌, ◌≡◌, ◌∙◌, ◌∷◌, Bool, List, [], arith, codes, cond, decimal, false, inl, inr, nat_lt, negsuc, not, pos, refl, suc, true, zero, ℕ, ℤ}
 use Rattle.std.proofs.lemmas.Bool.Decides.{eqb_tells, nat_tests}
 use Rattle.std.proofs.lemmas.List.Folds.{list_all-append}
 use Rattle.std.specs.Fmt.{digit_glyph, digits, digits_onto, signed_decimal}
 use Rattle.std.specs.Char.{digit_char}
 use Rattle.std.specs.List.{list_all}
+use Rattle.std.specs.Str.{bytes_eq}
 use Rattle.json.specs.Print.{escape_letter, escape_byte, escape, quoted}
 use Rattle.serde_json.specs.Data.{Num, unsigned, negative, float, Data, null, boolean, number, string, array, object, Items, no_items, item, Members, no_members, member}
 use Rattle.serde_json.specs.Written.{number_text, comma_if, compact_text, items_text, members_text}
@@ -116,3 +117,9 @@ mutual
       append-one_line (comma_if later) (quoted k ++ 58 ∷ (compact_text d ++ members_text true ms)) (comma-one_line later)
       (append-one_line (quoted k) (58 ∷ (compact_text d ++ members_text true ms)) (quoted-one_line k)
       (append-one_line (compact_text d) (members_text true ms) (compact_text-one_line d) (members_text-one_line ms true)))
+
+-- A text is one line, and neither of the two that say why a line has no answer.
+pub record IsOwnLine (text : List ℕ) : Type 0 where
+  pub one_line : is_one_line text ≡ true
+  pub no_memory : bytes_eq text (codes "{\"refused\":\"memory\"}") ≡ false
+  pub no_keeper : bytes_eq text (codes "{\"refused\":\"keeper\"}") ≡ false

@@ -1,7 +1,4 @@
-pub mod JoinLemmas
 pub mod LineLemmas
-pub mod NumberLemmas
-pub mod PieceLemmas
-pub mod SplitLemmas
-pub mod TextLemmas
+pub mod StepLemmas
 pub mod ToldLemmas
+pub mod Worked

@@ -1,2 +1,5 @@
-pub mod AnswerText
-pub mod LineForm
+pub mod Commands
+pub mod Kinds
+pub mod Line
+pub mod Told
+pub mod Words

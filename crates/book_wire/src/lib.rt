@@ -1,16 +1,23 @@
-//! What the book reads and writes as lines: the spelling of a command, and the texts of answers and of
-//! broken rules. A line is taken as a command exactly where it is, byte for byte, the spelling of one, and
-//! each answer is one line of JSON whose bytes are stated. Nothing here knows the book or how it is kept.
+//! Lines of JSON read as commands: the words of commands, the members of each in their order, and the texts of the
+//! faults of a line that is no command. A line is read exactly as the tables in `specs/` say. Nothing here knows the
+//! book or how it is kept.
 #![tactic(auto)]
 
-mod answers;
-mod descriptions;
-mod given_splits;
-mod line_form;
-mod pieces;
+mod accounts;
+mod asked;
+mod command;
+mod commodities;
+mod fault;
+mod held;
+mod kind;
+mod line;
+mod splits;
+mod told;
+mod transactions;
 
-pub use answers::{answer_text, not_built_text, rule_text};
-pub use line_form::command_of;
+pub use fault::WireError;
+pub use line::command_of;
+pub use told::{too_long_text, wire_text};
 
 #[cfg(test)]
 mod tests;

@@ -1,181 +1,322 @@
-//! Lines and answers written by hand, beside lines that the form must refuse.
-use crate::{answer_text, command_of, not_built_text, rule_text};
-use book_commodity::{Counted, Many, OutOfMemory};
-use book_step::{Answer, Command, Rule};
+//! Lines written by hand beside what they are read as: the fault that each is answered, or the values it gives.
+use crate::{WireError, command_of, too_long_text, wire_text};
+use book_accounts::AccountKind;
+use book_commodity::{Bytes, OutOfMemory};
+use book_step::{Command, GivenAccount, What};
 use std::alloc::Global;
 
-const SALARY: &str =
-    r#"{"do":"post","day":"2024-01-05","currency":1,"description":"Pay","splits":[{"account":3,"value":250000},{"account":4,"value":-250000}]}"#;
+/// A line, and the member that fails in it, or in brackets what else comes of it.
+type Row = (&'static str, &'static str);
 
-/// The day, the description and the splits of a line, and whether it is of the form.
-type Row = (&'static str, &'static str, &'static str, bool);
-
-static ROWS: [Row; 28] = [
-    ("2024-01-05", "Pay", r#"{"account":3,"value":0}"#, true),
+static ROWS: [Row; 47] = [
+    (r#"{"do":"account_drop","account":3}"#, "(read)"),
+    (r#" { "account" : 3 , "do" : "account_drop" } "#, "(read)"),
     (
-        "2024-02-29",
-        "",
-        r#"{"account":4,"value":-999999999999}"#,
-        true,
+        r#"{"do":"account_drop","at":4611686018427387903,"account":3}"#,
+        "(read)",
     ),
     (
-        "1900-01-01",
-        " ~",
-        r#"{"account":3,"value":999999999999}"#,
-        true,
+        r#"{"do":"account_drop","at":4611686018427387904,"account":3}"#,
+        "at",
     ),
-    ("2024-02-30", "Pay", r#"{"account":3,"value":0}"#, false),
-    ("1899-12-31", "Pay", r#"{"account":3,"value":0}"#, false),
-    ("2024-1-05", "Pay", r#"{"account":3,"value":0}"#, false),
-    ("2024-01-05", "a\"b", r#"{"account":3,"value":0}"#, false),
-    ("2024-01-05", "a\\b", r#"{"account":3,"value":0}"#, false),
-    ("2024-01-05", "a\tb", r#"{"account":3,"value":0}"#, false),
-    ("2024-01-05", "Gehält", r#"{"account":3,"value":0}"#, false),
-    ("2024-01-05", "Pay", "", false),
-    ("2024-01-05", "Pay", r#"{"account":5,"value":0}"#, false),
-    ("2024-01-05", "Pay", r#"{"account":03,"value":0}"#, false),
-    ("2024-01-05", "Pay", r#"{"account":"3","value":0}"#, false),
-    ("2024-01-05", "Pay", r#"{"account":3,"value":-0}"#, false),
-    ("2024-01-05", "Pay", r#"{"account":3,"value":+5}"#, false),
-    ("2024-01-05", "Pay", r#"{"account":3,"value":007}"#, false),
-    ("2024-01-05", "Pay", r#"{"account":3,"value":5.0}"#, false),
-    ("2024-01-05", "Pay", r#"{"account":3,"value":}"#, false),
-    ("2024-01-05", "Pay", r#"{"account":3,"value":-}"#, false),
+    (r#"{"do":"account_drop","account":1.0}"#, "account"),
+    (r#"{"do":"account_drop","account":1e2}"#, "account"),
+    (r#"{"do":"account_drop","account":-0}"#, "account"),
+    (r#"{"do":"account_drop","account":"3"}"#, "account"),
+    (r#"{"do":"account_drop","account":1e999}"#, "(not JSON)"),
+    (r#"{"do":"account_drop","at":null,"account":3}"#, "at"),
+    (r#"{"do":"account_drop","at":-1}"#, "at"),
+    (r#"{"do":"account_drop","account":null}"#, "account"),
     (
-        "2024-01-05",
-        "Pay",
-        r#"{"account":3,"value":1000000000000}"#,
-        false,
+        r#"{"do":"post","account":"3","do":"account_drop","account":3}"#,
+        "(read)",
     ),
     (
-        "2024-01-05",
-        "Pay",
-        r#"{"account":3,"value":-1000000000000}"#,
-        false,
+        r#"{"do":"account_drop","account":3,"account":"3"}"#,
+        "account",
     ),
-    ("2024-01-05", "Pay", r#"{"account":3, "value":5}"#, false),
-    ("2024-01-05", "Pay", r#"{"value":5,"account":3}"#, false),
-    ("2024-01-05", "Pay", r#"{"account":3,"value":5},"#, false),
-    ("2024-01-05", "Pay", r#",{"account":3,"value":5}"#, false),
+    (r#"{"do":"account_drop","account":3,"note":1,"":2}"#, ""),
     (
-        "2024-01-05",
-        "Pay",
-        r#"{"account":3,"value":5}{"account":4,"value":-5}"#,
-        false,
+        r#"{"do":"account_drop","account":3,"note":1,"b":2,"code":3}"#,
+        "b",
+    ),
+    (r#"{"do":"account_drop","account":3,"é\"":1}"#, "é\\\""),
+    (r#"[{"do":"account_drop","account":3}]"#, ""),
+    (r#"{}"#, "do"),
+    (r#"{"do":null,"at":"x"}"#, "do"),
+    (r#"{"do":"Post","at":"x"}"#, "do"),
+    (r#"{"do":"","at":"x"}"#, "do"),
+    (r#"{"do":"undo","at":"x","z":1}"#, "(not built)"),
+    (r#"{"do":"account_drop","account":3"#, "(not JSON)"),
+    ("", "(not JSON)"),
+    (r#"{"do":"book_currency","commodity":-1}"#, "commodity"),
+    (
+        r#"{"do":"commodity_add","space":"","name":"","fraction":100}"#,
+        "space",
     ),
     (
-        "2024-01-05",
-        "Pay",
-        r#"{"account":3,"value":5},{"account":4,"value":-5}"#,
-        true,
+        r#"{"do":"commodity_add","space":"X","name":"","fraction":100}"#,
+        "name",
+    ),
+    (
+        r#"{"do":"commodity_add","space":"X","name":"Y","full_name":null,"fraction":"1"}"#,
+        "full_name",
+    ),
+    (
+        r#"{"do":"commodity_add","space":"X","name":"Y","full_name":"","fraction":0}"#,
+        "(read)",
+    ),
+    (
+        r#"{"do":"account_add","name":"Bank","kind":"TRADING","commodity":1,"parent":2}"#,
+        "kind",
+    ),
+    (
+        r#"{"do":"account_add","name":"Bank","kind":"Bank","commodity":1,"parent":2}"#,
+        "kind",
+    ),
+    (
+        r#"{"do":"account_add","name":"Bank","kind":"BANK","commodity":1}"#,
+        "parent",
+    ),
+    (
+        r#"{"do":"account_add","name":"Bank","kind":"BANK","commodity":1,"parent":2,"basis":null}"#,
+        "basis",
+    ),
+    (r#"{"do":"account_edit","account":3}"#, "(read)"),
+    (r#"{"do":"account_edit","account":3,"name":""}"#, "name"),
+    (r#"{"do":"account_edit","account":3,"kind":"BANK"}"#, "kind"),
+    (r#"{"do":"post","currency":"1","splits":0}"#, "day"),
+    (
+        r#"{"do":"post","day":"2023-02-29","currency":1,"splits":[]}"#,
+        "day",
+    ),
+    (
+        r#"{"do":"post","day":"2024-02-29","currency":1,"splits":[]}"#,
+        "(read)",
+    ),
+    (
+        r#"{"do":"post","day":"2024-02-29","currency":1,"num":7,"description":8}"#,
+        "num",
+    ),
+    (r#"{"do":"post","day":"2024-02-29","currency":1}"#, "splits"),
+    (
+        r#"{"do":"post","day":"2024-02-29","currency":1,"splits":[null]}"#,
+        "splits",
+    ),
+    (
+        r#"{"do":"post","day":"2024-02-29","currency":1,"splits":[{"account":3,"value":-0}]}"#,
+        "splits",
+    ),
+    (
+        r#"{"do":"post","day":"2024-02-29","currency":1,"splits":[{"account":3,"value":1,"id":2}]}"#,
+        "splits",
+    ),
+    (
+        r#"{"do":"post","day":"2024-02-29","currency":1,"splits":[{"account":3,"value":-9223372036854775808}]}"#,
+        "(read)",
+    ),
+    (
+        r#"{"do":"post","day":"2024-02-29","currency":1,"splits":[{"account":3,"value":9223372036854775808}]}"#,
+        "splits",
     ),
 ];
+
+const LATER: &str =
+    "edit drop mark price_set price_drop schedule_add schedule_drop schedule_run bind import line_match line_add line_dismiss line_reopen match_auto reconcile reconcile_statement undo redo register trial sheet income lots gains lines statements recons due price status";
+
+const KINDS: &str =
+    "ROOT ASSET BANK CASH CREDIT LIABILITY STOCK MUTUAL RECEIVABLE PAYABLE INCOME EXPENSE EQUITY";
 
 fn rows() -> &'static [Row] {
     &ROWS
 }
 
-/// Whether the line of these parts is a command.
-fn takes(alloc: Global, day: &str, description: &str, splits: &str) -> Result<bool, OutOfMemory> {
-    let line = format!(in alloc;
-        "{{\"do\":\"post\",\"day\":\"{day}\",\"currency\":1,\"description\":\"{description}\",\"splits\":[{splits}]}}"
-    )?;
-    Ok(command_of(alloc, line.as_bytes())?.is_some())
+/// The answer that a row expects.
+fn expected(alloc: Global, outcome: &str) -> Result<String, OutOfMemory> {
+    Ok(match outcome {
+        "(read)" => String::from_str(alloc, "(read)")?,
+        "(not JSON)" => String::from_str(alloc, r#"{"refused":"not json"}"#)?,
+        "(not built)" => String::from_str(alloc, r#"{"refused":"not built"}"#)?,
+        field => format!(in alloc; "{{\"field\":\"{field}\",\"refused\":\"not command\"}}")?,
+    })
 }
 
-/// The piece so many times, with the separator between.
-fn repeated(
-    alloc: Global,
-    piece: &str,
-    separator: &str,
-    count: u32,
-) -> Result<String, OutOfMemory> {
-    let mut text = String::new(alloc);
-    for place in 0..count {
-        if place > 0 {
-            text.push_str(separator)?;
-        }
-        text.push_str(piece)?;
+/// The answer that comes of a line.
+fn outcome(alloc: Global, line: &[u8]) -> Result<Bytes, OutOfMemory> {
+    match command_of(alloc, line) {
+        Ok(_command) => Ok(Bytes::of(Vec::from_slice(alloc, b"(read)")?)),
+        Err(WireError::OutOfMemory) => Err(OutOfMemory),
+        Err(fault) => wire_text(alloc, &fault),
     }
-    Ok(text)
 }
 
-/// Whether the salary is read as what it spells.
-fn salary_is_read(alloc: Global) -> Result<bool, OutOfMemory> {
-    let Some(command) = command_of(alloc, SALARY.as_bytes())? else {
-        return Ok(false);
-    };
-    let Command::Post {
-        day,
-        currency,
-        description,
-        splits,
-    } = command;
-    let [bank, income] = splits.as_slice() else {
-        return Ok(false);
-    };
-    Ok(
-        day.number() == 19_727
-            && currency == 1
-            && description.as_str() == "Pay"
-            && (bank.account, bank.value) == (3, 250_000)
-            && (income.account, income.value) == (4, -250_000),
-    )
+/// Whether that comes of a line which is expected.
+fn comes(alloc: Global, line: &str, outcome_text: &str) -> Result<bool, OutOfMemory> {
+    let text = outcome(alloc, line.as_bytes())?;
+    let expected = expected(alloc, outcome_text)?;
+    Ok(text.as_slice() == expected.as_bytes())
 }
 
-fn answered(alloc: Global, answer: &Answer, version: u64, text: &str) -> Result<bool, OutOfMemory> {
-    Ok(answer_text(alloc, answer, version)?.as_slice() == text.as_bytes())
-}
-
-fn refused(alloc: Global, rule: Rule, version: u64, text: &str) -> Result<bool, OutOfMemory> {
-    Ok(rule_text(alloc, &rule, version)?.as_slice() == text.as_bytes())
-}
-
-/// The splits of the first row that is read otherwise than expected.
+/// The line of the first row of which something else comes.
 fn misread(alloc: Global) -> Result<Option<&'static str>, OutOfMemory> {
-    for (day, description, splits, expected) in rows() {
-        if takes(alloc, day, description, splits)? != *expected {
-            return Ok(Some(*splits));
+    for (line, outcome) in rows() {
+        if !comes(alloc, line, outcome)? {
+            return Ok(Some(*line));
         }
     }
     Ok(None)
 }
 
-/// Whether a line with a description of so many bytes and with so many splits is a command.
-fn takes_long(alloc: Global, bytes: u32, count: u32) -> Result<bool, OutOfMemory> {
-    let description = repeated(alloc, "a", "", bytes)?;
-    let splits = repeated(alloc, r#"{"account":4,"value":1}"#, ",", count)?;
-    takes(alloc, "2024-01-05", description.as_str(), splits.as_str())
+/// The first of the words of which something else comes, put between the two parts of a line.
+fn misread_word(
+    alloc: Global,
+    words: &'static str,
+    before: &str,
+    after: &str,
+    outcome: &str,
+) -> Result<Option<&'static str>, OutOfMemory> {
+    for word in words.split(' ') {
+        let line = format!(in alloc; "{before}{word}{after}")?;
+        if !comes(alloc, line.as_str(), outcome)? {
+            return Ok(Some(word));
+        }
+    }
+    Ok(None)
 }
 
-#[test]
-fn reads_lines(rt: HostRuntime) -> Result<(), OutOfMemory> {
-    assert!(rt; salary_is_read(rt.alloc())?);
-    assert_eq!(rt; misread(rt.alloc())?, None);
-    assert!(rt; takes_long(rt.alloc(), 1_000, 500)?);
-    assert!(rt; !takes_long(rt.alloc(), 1_001, 500)?);
-    assert!(rt; !takes_long(rt.alloc(), 1_000, 501)?);
-    Ok(())
+/// What comes of an object in which a member holds so many lists in one another.
+fn nested(alloc: Global, lists: u32) -> Result<Bytes, OutOfMemory> {
+    let mut line = String::from_str(alloc, "{\"do\":")?;
+    for _ in 0..lists {
+        line.push_str("[")?;
+    }
+    for _ in 0..lists {
+        line.push_str("]")?;
+    }
+    line.push_str("}")?;
+    outcome(alloc, line.as_bytes())
 }
 
-#[test]
-fn writes_answers(rt: HostRuntime) -> Result<(), OutOfMemory> {
-    let answer = Answer::Post {
-        transaction: 5,
-        splits: Many::of(vec![in rt.alloc(); 6, 7]?),
-        balances: Many::of(vec![in rt.alloc(); 250_000, -250_000]?),
+/// What a line asks, where it is a command for version 6.
+fn asked(alloc: Global, line: &str) -> Option<What> {
+    let Ok(command) = command_of(alloc, line.as_bytes()) else {
+        return None;
     };
-    let posted =
-        r#"{"balances":["250000","-250000"],"ok":"post","splits":[6,7],"transaction":5,"version":3}"#;
-    assert!(rt; answered(rt.alloc(), &answer, 3, posted)?);
-    let unbalanced = r#"{"broken":"Unbalanced","sum":"1","version":2}"#;
-    assert!(rt; refused(rt.alloc(), Rule::Unbalanced { sum: 1 }, 2, unbalanced)?);
-    let full = r#"{"at":200000,"broken":"Limit","version":7,"which":"transactions"}"#;
-    let which = Counted::Transactions;
-    assert!(rt; refused(rt.alloc(), Rule::Limit { which, at: 200_000 }, 7, full)?);
+    let Command { at, what } = command;
+    if at == Some(6) { Some(what) } else { None }
+}
+
+fn commodities_are_read(alloc: Global) -> bool {
+    let Some(What::BookCurrency { commodity }) = asked(
+        alloc,
+        r#"{"do":"book_currency","at":6,"commodity":2}"#,
+    ) else {
+        return false;
+    };
+    let Some(What::CommodityAdd { commodity: euro }) = asked(
+        alloc,
+        r#"{"do":"commodity_add","at":6,"space":"CURRENCY","name":"EUR","fraction":100}"#,
+    ) else {
+        return false;
+    };
+    commodity == 2
+        && euro.space.as_str() == "CURRENCY"
+        && euro.name.as_str() == "EUR"
+        && euro.full_name.is_empty()
+        && euro.fraction == 100
+}
+
+fn an_account_is_read(alloc: Global) -> bool {
+    let Some(What::AccountAdd { account }) = asked(
+        alloc,
+        r#"{"do":"account_add","at":6,"name":"Bank","kind":"STOCK","commodity":3,"parent":2,"hidden":true,"basis":1}"#,
+    ) else {
+        return false;
+    };
+    account.name.as_str() == "Bank"
+        && account.kind == AccountKind::Stock
+        && (account.commodity, account.parent, account.basis) == (3, Some(2), Some(1))
+        && account.code.is_empty()
+        && account.note.is_empty()
+        && (account.hidden, account.placeholder) == (true, false)
+}
+
+fn what_is_given_of_an_account_is_read(alloc: Global) -> bool {
+    let Some(What::AccountEdit { account, given }) = asked(
+        alloc,
+        r#"{"do":"account_edit","at":6,"account":5,"note":"","hidden":false}"#,
+    ) else {
+        return false;
+    };
+    let GivenAccount {
+        name,
+        parent,
+        code,
+        note,
+        hidden,
+        placeholder,
+    } = given;
+    let Some(note) = note else {
+        return false;
+    };
+    account == 5
+        && note.is_empty()
+        && name.is_none()
+        && code.is_none()
+        && (parent, hidden, placeholder) == (None, Some(false), None)
+}
+
+fn a_post_is_read(alloc: Global) -> bool {
+    let Some(what) = asked(
+        alloc,
+        r#"{"do":"post","at":6,"day":"1970-01-02","currency":1,"description":"Pay\u00e9","splits":[{"account":3,"value":-5},{"action":"Buy","memo":"m","quantity":7,"value":5,"account":4}]}"#,
+    ) else {
+        return false;
+    };
+    let What::Post { day, given } = what else {
+        return false;
+    };
+    let [first, second] = given.splits.as_slice() else {
+        return false;
+    };
+    day.number() == 1
+        && given.currency == 1
+        && given.num.is_empty()
+        && given.description.as_str() == "Payé"
+        && (first.account, first.value, first.quantity) == (3, -5, -5)
+        && first.memo.is_empty()
+        && first.action.is_empty()
+        && (second.account, second.value, second.quantity) == (4, 5, 7)
+        && (second.memo.as_str(), second.action.as_str()) == ("m", "Buy")
+}
+
+#[test]
+fn lines_are_read_as_commands(rt: HostRuntime) -> Result<(), OutOfMemory> {
+    let alloc = rt.alloc();
+    assert_eq!(rt; misread(alloc)?, None);
     assert_eq!(rt;
-        not_built_text(rt.alloc())?.as_slice(),
-        r#"{"refused":"not built"}"#.as_bytes()
+        misread_word(alloc, LATER, "{\"do\":\"", "\"}", "(not built)")?,
+        None
+    );
+    let before = r#"{"do":"account_add","name":"A","commodity":1,"parent":2,"kind":""#;
+    assert_eq!(rt; misread_word(alloc, KINDS, before, "\"}", "(read)")?, None);
+    assert!(rt; commodities_are_read(alloc) && an_account_is_read(alloc));
+    assert!(rt; what_is_given_of_an_account_is_read(alloc) && a_post_is_read(alloc));
+    assert_eq!(rt;
+        nested(alloc, 126)?.as_slice(),
+        r#"{"field":"do","refused":"not command"}"#.as_bytes()
+    );
+    assert_eq!(rt;
+        nested(alloc, 127)?.as_slice(),
+        r#"{"refused":"not json"}"#.as_bytes()
+    );
+    assert_eq!(rt;
+        outcome(alloc, b"{\"do\":\"\xff\"}")?.as_slice(),
+        r#"{"refused":"not json"}"#.as_bytes()
+    );
+    assert_eq!(rt;
+        too_long_text(alloc, 8_388_609)?.as_slice(),
+        r#"{"length":8388609,"refused":"too long"}"#.as_bytes()
     );
     Ok(())
 }

@@ -1,14 +1,20 @@
-use Rattle.std.proofs.Common.{Option, None, refl, subst}
+use Rattle.std.proofs.Common.{rules, Result, IfSome, subst}
 use Rattle.std.proofs.lemmas.Result.{IfOk-weaker}
-use Rattle.book_wire.specs.LineForm.{IsCommand}
 use Rattle.book_step.specs.declared.command.Command.{Command}
-use Rattle.book_wire.proofs.ToldLemmas.{not_built-own_line}
-use Rattle.book_app.proofs.ReplyLemmas.{IsTold-own_line}
+use Rattle.book_wire.specs.Line.{Asks, IsLine, IsRead, line_of_fault}
+use Rattle.book_wire.specs.declared.fault.WireError.{WireError}
+use Rattle.book_app.proofs.ReplyLemmas.{told-fault}
 use Rattle.book_app.proofs.reply.answer_to.Goals as goal
 
-pub returns-in-None-clause-told : goal.returns-in-None-clause-told
-returns-in-None-clause-told c =
-    let none : IsCommand c.args.line.now None = subst (λ (read : Option Command). IsCommand c.args.line.now read) c.in-None.is c.in_ok-command_of.ensures.exact in
-    IfOk-weaker c.not_built_text.result _ _
-    (λ text is. (IsTold-own_line text _ is not_built-own_line, record { command = None; read = none; reply = (is, refl) }))
-    c.not_built_text.ensures
+pub returns-in-Ok-clause-told : goal.returns-in-Ok-clause-told
+returns-in-Ok-clause-told c =
+    let read : IsLine c.args.line.now (Asks c.in-Ok.command) = subst (λ (r : Result Command WireError). IsRead c.args.line.now r) c.in-Ok.is c.command_of.ensures in
+    IfOk-weaker c.reply.result _ _ (λ text h. (h.0, record { line = Asks c.in-Ok.command; read = read; reply = h.1 })) c.reply.ensures.told
+
+pub returns-in-Err : goal.returns-in-Err
+returns-in-Err c =
+    let read : IfSome (line_of_fault c.in-Err.fault) (IsLine c.args.line.now) = subst (λ (r : Result Command WireError). IsRead c.args.line.now r) c.in-Err.is c.command_of.ensures in
+    record {
+      told = told-fault c.args.engine.now.state c.args.line.now c.in-Err.fault c.wire_text.result read c.wire_text.ensures;
+      kept = search rules;
+    }

@@ -1,12 +1,14 @@
 use Rattle.std.proofs.Common.{◌≡◌, ℕ, List, sym, ap, subst, ◌∙◌}
 use Rattle.std.proofs.lemmas.Result.{IfOk-weaker}
-use Rattle.book_step.specs.Book.{State}
-use Rattle.book_step.specs.Step.{Outcome, Broken, step}
+use Rattle.book_step.specs.State.{State}
+use Rattle.book_step.specs.Outcome.{Outcome, Broken}
+use Rattle.book_step.specs.Step.{step}
 use Rattle.book_step.specs.declared.answer.Answer.{Answer}
 use Rattle.book_step.specs.declared.rule.Rule.{Rule}
 use Rattle.book_engine.specs.Planned.{after, IsRefusal}
-use Rattle.book_wire.specs.AnswerText.{answer_bytes, rule_bytes}
-use Rattle.book_wire.proofs.ToldLemmas.{answer-own_line, rule-own_line}
+use Rattle.book_texts.specs.AnswerText.{answer_bytes}
+use Rattle.book_texts.specs.RuleText.{rule_bytes}
+use Rattle.book_texts.proofs.ToldLemmas.{answer-own_line, rule-own_line}
 use Rattle.book_app.specs.Machine.{IsOutcome}
 use Rattle.book_app.proofs.ReplyLemmas.{IsTold-own_line}
 use Rattle.book_app.proofs.reply.reply.Goals as goal

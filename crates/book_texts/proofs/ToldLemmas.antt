@@ -1,0 +1,61 @@
+-- Each answer and each rule is one line, and none of the two lines that say why a command has no answer.
+use Rattle.std.proofs.Common.{◌&&◌, ◌==◌, ◌≡◌, ◌∷◌, Bool, List, [], false, get_or, refl, true, ℕ}
+use Rattle.serde_json.proofs.OnLiterals.{serde_json_on_literals}
+use Rattle.book_step.specs.declared.answer.Answer.{Answer}
+use Rattle.book_step.specs.declared.answer.Answer.TheVariants.{AccountAdd, AccountDrop, AccountEdit, BookCurrency, CommodityAdd, Post}
+use Rattle.book_step.specs.declared.rule.Rule.{Rule}
+use Rattle.book_step.specs.declared.rule.Rule.TheVariants.{Basis, BasisShape, Cycle, FractionShape, Limit, NameTaken, NotEmpty, ParentKind, Placeholder, Root, SplitCount, Stale, Unbalanced, Unknown, ValueNotQuantity, WrongCurrency}
+use Rattle.book_json.proofs.OneLine.{IsOwnLine, compact_text-one_line, is_one_line}
+use Rattle.book_texts.specs.AnswerText.{answer_bytes, answer_data}
+use Rattle.book_texts.specs.RuleText.{rule_bytes, rule_data}
+
+first_false : (x : Bool) → (x && false) ≡ false
+first_false true = refl
+first_false false = refl
+
+second_false : (x y : Bool) → (x && (y && false)) ≡ false
+second_false x y = rw (first_false y) (first_false x)
+
+-- Where the byte after the brace and the quote is no `r`, a line is none of the two, which have "refused" there.
+no_refusal : (text : List ℕ) → is_one_line text ≡ true → (get_or text 2 0 == 114) ≡ false → IsOwnLine text
+no_refusal [] line other = record { one_line = line; no_memory = refl; no_keeper = refl }
+no_refusal (a ∷ []) line other = record { one_line = line; no_memory = first_false (a == 123); no_keeper = first_false (a == 123) }
+no_refusal (a ∷ b ∷ []) line other =
+    record { one_line = line; no_memory = second_false (a == 123) (b == 34); no_keeper = second_false (a == 123) (b == 34) }
+no_refusal (a ∷ b ∷ c ∷ more) line other =
+    record { one_line = line; no_memory = rw other (second_false (a == 123) (b == 34)); no_keeper = rw other (second_false (a == 123) (b == 34)) }
+
+answer-letter : (answer : Answer) (version : ℕ) → (get_or (answer_bytes answer version) 2 0 == 114) ≡ false
+unfolding serde_json_on_literals
+answer-letter BookCurrency version = refl
+answer-letter (CommodityAdd commodity) version = refl
+answer-letter (AccountAdd account) version = refl
+answer-letter AccountEdit version = refl
+answer-letter AccountDrop version = refl
+answer-letter (Post transaction splits balances) version = refl
+
+rule-letter : (rule : Rule) (version : ℕ) → (get_or (rule_bytes rule version) 2 0 == 114) ≡ false
+unfolding serde_json_on_literals
+rule-letter (Stale now) version = refl
+rule-letter (Unknown kind id) version = refl
+rule-letter (NameTaken id) version = refl
+rule-letter Cycle version = refl
+rule-letter ParentKind version = refl
+rule-letter Root version = refl
+rule-letter (Placeholder account) version = refl
+rule-letter (NotEmpty account) version = refl
+rule-letter FractionShape version = refl
+rule-letter BasisShape version = refl
+rule-letter (SplitCount count) version = refl
+rule-letter (WrongCurrency commodity) version = refl
+rule-letter (Basis account) version = refl
+rule-letter (ValueNotQuantity place) version = refl
+rule-letter (Unbalanced sum) version = refl
+rule-letter (Limit which at) version = refl
+
+pub answer-own_line : (answer : Answer) (version : ℕ) → IsOwnLine (answer_bytes answer version)
+answer-own_line answer version =
+    no_refusal (answer_bytes answer version) (compact_text-one_line (answer_data answer version)) (answer-letter answer version)
+
+pub rule-own_line : (rule : Rule) (version : ℕ) → IsOwnLine (rule_bytes rule version)
+rule-own_line rule version = no_refusal (rule_bytes rule version) (compact_text-one_line (rule_data rule version)) (rule-letter rule version)

@@ -1,0 +1,135 @@
+//! One answer of each command, and each rule once, byte by byte as written by hand.
+use crate::{answer_text, rule_text};
+use book_commodity::{Counted, Kind, Many, OutOfMemory};
+use book_step::{Answer, Rule};
+use std::alloc::Global;
+
+/// A rule, the version that it is told with, and the line.
+type Row = (Rule, u64, &'static str);
+
+static RULES: [Row; 16] = [
+    (
+        Rule::Stale { now: 42 },
+        42,
+        r#"{"broken":"Stale","now":42,"version":42}"#,
+    ),
+    (
+        Rule::Unknown {
+            kind: Kind::Commodity,
+            id: 2,
+        },
+        9,
+        r#"{"broken":"Unknown","id":2,"kind":"commodity","version":9}"#,
+    ),
+    (
+        Rule::NameTaken { id: 8 },
+        16,
+        r#"{"broken":"NameTaken","id":8,"version":16}"#,
+    ),
+    (Rule::Cycle, 8, r#"{"broken":"Cycle","version":8}"#),
+    (
+        Rule::ParentKind,
+        56,
+        r#"{"broken":"ParentKind","version":56}"#,
+    ),
+    (Rule::Root, 0, r#"{"broken":"Root","version":0}"#),
+    (
+        Rule::Placeholder { account: 2 },
+        20,
+        r#"{"account":2,"broken":"Placeholder","version":20}"#,
+    ),
+    (
+        Rule::NotEmpty { account: 7 },
+        51,
+        r#"{"account":7,"broken":"NotEmpty","version":51}"#,
+    ),
+    (
+        Rule::FractionShape,
+        27,
+        r#"{"broken":"FractionShape","version":27}"#,
+    ),
+    (
+        Rule::BasisShape,
+        14,
+        r#"{"broken":"BasisShape","version":14}"#,
+    ),
+    (
+        Rule::SplitCount { count: 0 },
+        15,
+        r#"{"broken":"SplitCount","count":0,"version":15}"#,
+    ),
+    (
+        Rule::WrongCurrency { commodity: 4 },
+        117,
+        r#"{"broken":"WrongCurrency","commodity":4,"version":117}"#,
+    ),
+    (
+        Rule::Basis { account: 8 },
+        28,
+        r#"{"account":8,"broken":"Basis","version":28}"#,
+    ),
+    (
+        Rule::ValueNotQuantity { place: 1 },
+        68,
+        r#"{"broken":"ValueNotQuantity","place":1,"version":68}"#,
+    ),
+    (
+        Rule::Unbalanced { sum: -1 },
+        68,
+        r#"{"broken":"Unbalanced","sum":"-1","version":68}"#,
+    ),
+    (
+        Rule::Limit {
+            which: Counted::Amount,
+            at: 1_000_000_000_000,
+        },
+        3,
+        r#"{"at":1000000000000,"broken":"Limit","version":3,"which":"amount"}"#,
+    ),
+];
+
+fn answered(alloc: Global, answer: &Answer, version: u64, line: &str) -> Result<bool, OutOfMemory> {
+    let text = answer_text(alloc, answer, version)?;
+    Ok(text.as_slice() == line.as_bytes())
+}
+
+/// The first rule whose line is another.
+fn misspelt(alloc: Global) -> Result<Option<Rule>, OutOfMemory> {
+    for (rule, version, line) in &RULES {
+        let text = rule_text(alloc, rule, *version)?;
+        if text.as_slice() != line.as_bytes() {
+            return Ok(Some(*rule));
+        }
+    }
+    Ok(None)
+}
+
+#[test]
+fn writes_answers(rt: HostRuntime) -> Result<(), OutOfMemory> {
+    let alloc = rt.alloc();
+    let posted = Answer::Post {
+        transaction: 5,
+        splits: Many::of(vec![in alloc; 6, 7]?),
+        balances: Many::of(vec![in alloc; 250_000, -250_000]?),
+    };
+    let post =
+        r#"{"balances":["250000","-250000"],"ok":"post","splits":[6,7],"transaction":5,"version":3}"#;
+    let currency = r#"{"ok":"book_currency","version":30}"#;
+    let commodity = r#"{"commodity":3,"ok":"commodity_add","version":1}"#;
+    let account = r#"{"account":4,"ok":"account_add","version":2}"#;
+    let edit = r#"{"ok":"account_edit","version":21}"#;
+    let gone = r#"{"ok":"account_drop","version":22}"#;
+    assert!(rt; answered(alloc, &Answer::BookCurrency, 30, currency)?);
+    assert!(rt; answered(alloc, &Answer::CommodityAdd { commodity: 3 }, 1, commodity)?);
+    assert!(rt; answered(alloc, &Answer::AccountAdd { account: 4 }, 2, account)?);
+    assert!(rt; answered(alloc, &Answer::AccountEdit, 21, edit)?);
+    assert!(rt; answered(alloc, &Answer::AccountDrop, 22, gone)?);
+    assert!(rt; answered(alloc, &posted, 3, post)?);
+    Ok(())
+}
+
+#[test]
+fn writes_rules(rt: HostRuntime) -> Result<(), OutOfMemory> {
+    assert_eq!(rt; misspelt(rt.alloc())?, None);
+    Ok(())
+}
