@@ -1,7 +1,5 @@
 -- The splits that a post gives, and its answer.
-use Rattle.std.proofs.Common.{◌≡◌, ℕ, ◌+◌, ◌<◌, ℤ, List, [], ◌∷◌, ◌++◌, length, map, All, Some, None, Result, refl, sym, ap, subst, ◌∙◌, arith}
-use Rattle.std.proofs.lemmas.Bool.Decides.{nat_tests}
-use Rattle.std.proofs.lemmas.List.Elements.{All-head, All-tail}
+use Rattle.std.proofs.Common.{◌≡◌, ℕ, ◌+◌, ◌<◌, ℤ, List, [], ◌∷◌, ◌++◌, length, map, All, Some, None, Result, sym, ap, subst, ◌∙◌, arith}
 use Rattle.book_commodity.specs.Rules.{first_broken}
 use Rattle.book_commodity.specs.Table.{with_entry}
 use Rattle.book_splits.specs.Balance.{balance, quantity_on, splits_of}
@@ -20,6 +18,7 @@ use Rattle.book_step.specs.declared.command.GivenSplit.{GivenSplit}
 use Rattle.book_step.specs.declared.refusal.Refusal.{Refusal}
 use Rattle.book_step.specs.declared.rule.Rule.{Rule}
 use Rattle.book_step.specs.declared.step.Step.{Step}
+use Rattle.book_step.proofs.DrawnLemmas.{with_last}
 use Rattle.book_step.proofs.OutcomeLemmas.{broken-changing, past-changing}
 
 -- one split more draws the number behind those before
@@ -31,14 +30,6 @@ new_splits-push number (x ∷ given) split =
     ap (λ splits. new_split number x ∷ splits)
     (new_splits-push (number + 1) given split ∙ ap (λ n. new_splits (number + 1) given ++ new_split n split ∷ []) (omega arith))
 
--- an entry above all others stands behind them
-pub with_entry-last : {T : Type 0} (n : ℕ) (v : T) (es : List (ℕ × T)) → All (λ entry. entry.0 < n) es → with_entry n v es ≡ es ++ (n, v) ∷ []
-with_entry-last n v [] below = refl
-with_entry-last {T} n v (e ∷ es) below =
-    let here : e.0 < n = All-head (λ (entry : ℕ × T). entry.0 < n) e es below in
-    let rest = with_entry-last n v es (All-tail (λ (entry : ℕ × T). entry.0 < n) e es below) in
-    grind (arith, nat_tests)
-
 -- what a post is answered, from what its parts are found to be
 pub post_answer-is :
     (book : Book) (number : ℕ) (transaction : Txn) (splits : List Split) (numbers : List ℕ) (balances : List ℤ)
@@ -49,7 +40,7 @@ pub post_answer-is :
     → answer.Post number numbers balances ≡ post_answer (edited (edit.Transaction number transaction) book) number transaction
 post_answer-is book number transaction splits numbers balances below same numbered summed =
     let behind : splits_of (with_entry number transaction book.transactions) ≡ splits_of book.transactions ++ transaction.splits =
-    ap splits_of (with_entry-last number transaction book.transactions below) ∙ splits_of-added book.transactions (number, transaction) in
+    ap splits_of (with_last number transaction book.transactions below) ∙ splits_of-added book.transactions (number, transaction) in
     let ids : numbers ≡ map (λ split. split.id) transaction.splits = numbered ∙ ap (map (λ (split : Split). split.id)) same in
     let sums : balances ≡ map (λ split. balance (with_entry number transaction book.transactions) split.account) transaction.splits =
     summed

@@ -12,6 +12,8 @@ mod posting;
 mod refusal;
 mod rule;
 mod step;
+#[cfg(test)]
+mod tests;
 
 pub use answer::Answer;
 pub use command::{Command, GivenAccount, GivenSplit, GivenTxn, What};

@@ -39,7 +39,7 @@ impl Step {
         }
     }
 
-    /// The step of an edit that breaks no rule of its own and draws so many numbers, where these keep their limit.
+    /// The step of an edit that draws so many numbers, and breaks no rule but, it may be, the limit of numbers.
     pub(crate) fn changing(
         next: u64,
         version: u64,
@@ -62,9 +62,10 @@ impl Step {
     }
 }
 
-/// What the command comes to in a book with this next number and this version: the first broken rule of its order, of
-/// which the version is asked first, or the step, where the version after it is one more if the book is another. It needs
-/// memory for the texts and the answer; the book stays as it is.
+/// What the command comes to in a book with this next number and this version, all of which stay as they are. It is
+/// broken with the first rule in its order that it breaks, the version being asked first, and out of memory where that is
+/// refused for texts or the answer; else it is done by the step, after which the version is the same if the edit is
+/// nothing, and one more if not.
 pub fn step_of(
     alloc: Global,
     plain: &Plain,

@@ -1,0 +1,8 @@
+use Rattle.std.proofs.Common.{subst, sym}
+use Rattle.book_step.specs.Soundness.{IsSound}
+use Rattle.book_step.specs.State.{State}
+use Rattle.book_step.proofs.SoundStep.{fresh-sound}
+use Rattle.book_step.proofs.tests.each_command_is_taken.Goals as goal
+
+pub take-requires-clause-sound : goal.take-requires-clause-sound
+take-requires-clause-sound g c = subst (λ (state : State). IsSound state) (sym c.in_ok-machine.ensures.fresh) fresh-sound

@@ -1,0 +1,173 @@
+ghost use Rattle.std.specs.Prelude.{◌≡◌, ◌+◌, ◌<◌, ◌^◌, [], None, IfOk, false, if◌then◌else◌};
+ghost use Rattle.book_undo.specs.Book.{IsCounted};
+ghost use Rattle.book_undo.specs.Edit.{is_nothing};
+ghost use Rattle.book_step.specs.Soundness.{IsSound};
+ghost use Rattle.book_step.specs.State.{fresh_state, state_of};
+
+use crate::{Answer, Command, GivenAccount, GivenSplit, GivenTxn, Refusal, Rule, What, step_of};
+use book_accounts::{Account, AccountKind};
+use book_commodity::{Commodity, Day, Many, OutOfMemory, Text};
+use book_undo::{Edit, Plain};
+use std::alloc::Global;
+use std::test::Fail;
+
+/// A book with the next number and the version.
+#[derive(Drop)]
+struct Machine {
+    plain: Plain,
+    next: u64,
+    version: u64,
+}
+
+fn text(alloc: Global, text: &str) -> Result<Text, OutOfMemory>
+    ensures { IfOk result (λ given. given ≡ text.now) }
+{
+    Ok(Text::of(String::from_str(alloc, text)?))
+}
+
+fn commodity(alloc: Global, space: &str, name: &str) -> Result<Commodity, OutOfMemory>
+    ensures { IfOk result (λ given. given ≡ record { space = space.now; name = name.now; full_name = []; fraction = 100 }) }
+{
+    Ok(Commodity {
+        space: text(alloc, space)?,
+        name: text(alloc, name)?,
+        full_name: Text::new(alloc),
+        fraction: 100,
+    })
+}
+
+fn account(
+    alloc: Global,
+    name: &str,
+    kind: AccountKind,
+    parent: Option<u64>,
+    placeholder: bool,
+) -> Result<Account, OutOfMemory>
+    ensures { IfOk result (λ given. given ≡ record { name = name.now; kind = kind; commodity = 1; parent = parent; code = []; note = []; hidden = false; placeholder = placeholder; basis = None }) }
+{
+    Ok(Account {
+        name: text(alloc, name)?,
+        kind,
+        commodity: 1,
+        parent,
+        code: Text::new(alloc),
+        note: Text::new(alloc),
+        hidden: false,
+        placeholder,
+        basis: None,
+    })
+}
+
+/// The machine in which each run begins.
+fn fresh(alloc: Global) -> Result<Machine, OutOfMemory>
+    ensures fresh { IfOk result (λ machine. state_of machine.plain machine.next machine.version ≡ fresh_state) }
+    ensures counted { IfOk result (λ machine. IsCounted machine.plain) }
+{
+    let mut plain = Plain::new(alloc, 1);
+    plain.commodities.reserve(1)?;
+    plain
+        .commodities
+        .put(1, commodity(alloc, "CURRENCY", "EUR")?);
+    plain.accounts.reserve(1)?;
+    plain
+        .accounts
+        .put(2, account(alloc, "Root", AccountKind::Root, None, true)?);
+    Ok(Machine {
+        plain,
+        next: 3,
+        version: 0,
+    })
+}
+
+/// The version after an edit.
+fn version_after(version: u64, edit: &Edit) -> u64
+    requires { version < 2 ^ 62 }
+    ensures { result ≡ (if is_nothing edit.now then version else version + 1) }
+{
+    if edit.is_nothing() {
+        version
+    } else {
+        version + 1
+    }
+}
+
+impl Machine {
+    /// Takes the command, and changes the book by its step.
+    fn take(&mut self, alloc: Global, what: What) -> Result<Answer, Refusal>
+        requires sound { IsSound (state_of self.old.plain self.old.next self.old.version) }
+        requires counted { IsCounted self.old.plain }
+        ensures sound { IsSound (state_of self.new.plain self.new.next self.new.version) }
+        ensures counted { IsCounted self.new.plain }
+    {
+        let at = Some(self.version);
+        let step = step_of(
+            alloc,
+            &self.plain,
+            self.next,
+            self.version,
+            Command { at, what },
+        )?;
+        self.plain.reserve_for(&step.edit)?;
+        self.version = version_after(self.version, &step.edit);
+        self.next = step.next;
+        self.plain.apply(step.edit);
+        Ok(step.answer)
+    }
+}
+
+fn bank(alloc: Global, name: &str) -> Result<What, OutOfMemory> {
+    let account = account(alloc, name, AccountKind::Bank, Some(2), false)?;
+    Ok(What::AccountAdd { account })
+}
+
+fn renamed(alloc: Global, name: &str) -> Result<GivenAccount, OutOfMemory> {
+    Ok(GivenAccount {
+        name: Some(text(alloc, name)?),
+        parent: None,
+        code: None,
+        note: None,
+        hidden: None,
+        placeholder: None,
+    })
+}
+
+fn nothing_moved(alloc: Global, account: u64) -> Result<GivenTxn, OutOfMemory> {
+    let mut splits = Many::new(alloc);
+    splits.push(GivenSplit {
+        account,
+        value: 0,
+        quantity: 0,
+        memo: Text::new(alloc),
+        action: Text::new(alloc),
+    })?;
+    Ok(GivenTxn {
+        currency: 1,
+        num: Text::new(alloc),
+        description: Text::new(alloc),
+        splits,
+    })
+}
+
+#[test]
+fn each_command_is_taken(rt: HostRuntime) -> Result<(), Fail> {
+    let alloc = rt.alloc();
+    let day = Day::of_number(19_732).ok_or("a day of the range")?;
+    let mut machine = fresh(alloc)?;
+    let euro = machine.take(alloc, What::BookCurrency { commodity: 1 })?;
+    assert!(rt; matches!(euro, Answer::BookCurrency));
+    let commodity = commodity(alloc, "NYSE", "ACME")?;
+    let added = machine.take(alloc, What::CommodityAdd { commodity })?;
+    assert!(rt; matches!(added, Answer::CommodityAdd { commodity: 3 }));
+    let bank = machine.take(alloc, bank(alloc, "Bank")?)?;
+    assert!(rt; matches!(bank, Answer::AccountAdd { account: 4 }));
+    let given = renamed(alloc, "Checking")?;
+    let edited = machine.take(alloc, What::AccountEdit { account: 4, given })?;
+    assert!(rt; matches!(edited, Answer::AccountEdit));
+    let given = nothing_moved(alloc, 4)?;
+    let posted = machine.take(alloc, What::Post { day, given })?;
+    assert!(rt; matches!(posted, Answer::Post { transaction: 5, .. }));
+    let kept = machine.take(alloc, What::AccountDrop { account: 4 });
+    assert!(rt; matches!(kept, Err(Refusal::Broken(Rule::NotEmpty { account: 4 }))));
+    assert!(rt; machine.next == 7 && machine.version == 4);
+    Ok(())
+}
