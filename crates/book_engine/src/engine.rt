@@ -61,8 +61,13 @@ impl Engine {
         ensures refused { IfErr result (IsRefusal (step_from self.old.state command)) }
         ensures unchanged { self.new.state ≡ self.old.state }
     {
-        let Step { edit, next, answer } =
-            step_of(self.alloc, &self.plain, self.next, self.version, command)?;
+        let Step { edit, next, answer } = step_of(
+            self.alloc,
+            &self.plain,
+            self.next,
+            self.version,
+            command,
+        )?;
         self.plain.reserve_for(&edit)?;
         let version = self.version_after(edit.is_nothing());
         Ok(Plan {
