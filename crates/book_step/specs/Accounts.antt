@@ -28,7 +28,7 @@ use Rattle.book_step.specs.declared.command.GivenAccount.{GivenAccount}
 use Rattle.book_step.specs.declared.rule.Rule.{Rule}
 use Rattle.book_step.specs.declared.rule.Rule.TheVariants.{Unknown, Root, NotEmpty, BasisShape, Limit}
 
--- The account isn't one of the book's.
+-- The account isn't one of the book's (GnuCash SQL schema, table accounts: what names an account names one that is there).
 abbrev pub unknown_account : List (ℕ × Account) → ℕ → Option Rule
 unknown_account accounts number = broken_where (is_none (value_of number accounts)) (Unknown kind.Account number)
 
@@ -41,7 +41,8 @@ abbrev pub unknown_given_commodity : List (ℕ × Commodity) → Option ℕ → 
 unknown_given_commodity commodities None = None
 unknown_given_commodity commodities (Some number) = unknown_commodity commodities number
 
--- Whether the basis fits the kind: a security account has a currency as its basis, another account has none.
+-- Whether the basis fits the kind: a security account has a currency as its basis, in which it is bought and sold (GnuCash
+-- Concepts Guide, buying shares); another account has none.
 abbrev pub fits_basis : List (ℕ × Commodity) → Bool → Option ℕ → Bool
 fits_basis commodities true (Some basis) = is_currency_of (value_of basis commodities)
 fits_basis commodities true None = false
@@ -71,7 +72,7 @@ abbrev pub account_add : State → Account → Outcome
 account_add state account =
     changing state (add_rules state.book account) (edit.Account state.next account) 1 (answer.AccountAdd state.next)
 
--- The root stays as it is.
+-- The root stays as it is (GnuCash SQL schema, table books: a book has one root account for good).
 abbrev pub is_root : AccountKind → Bool
 is_root account_kind.Root = true
 is_root _ = false
@@ -108,7 +109,7 @@ abbrev pub moved_rule : List (ℕ × Account) → ℕ → Account → Option ℕ
 moved_rule accounts number new None = Some (of_tree_rule tree.ParentKind)
 moved_rule accounts number new (Some parent) = option_map of_tree_rule (move_rule accounts number new.name parent)
 
--- An account with splits doesn't become a placeholder.
+-- An account with splits doesn't become a placeholder (GnuCash Concepts Guide, placeholder accounts).
 abbrev pub becomes_placeholder : List (ℕ × Txn) → ℕ → Account → Account → Option Rule
 becomes_placeholder transactions number old new =
     broken_where (not old.placeholder && (new.placeholder && has_splits transactions number)) (NotEmpty number)
@@ -137,7 +138,7 @@ account_edit_at state number given (Some old) = account_edit_of state number giv
 abbrev pub account_edit : State → ℕ → GivenAccount → Outcome
 account_edit state number given = account_edit_at state number given (value_of number state.book.accounts)
 
--- An account with another under it, or with a split, can't go.
+-- An account with another under it, or with a split, can't go (GnuCash Manual, deleting an account: these must be moved first).
 abbrev pub not_empty : Book → ℕ → Option Rule
 not_empty book number =
     broken_where (nat_lt 0 (length (children_of book.accounts (Some number))) || has_splits book.transactions number) (NotEmpty number)

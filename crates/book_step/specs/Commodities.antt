@@ -14,7 +14,7 @@ use Rattle.book_step.specs.declared.answer.Answer.TheVariants as answer
 use Rattle.book_step.specs.declared.rule.Rule.{Rule}
 use Rattle.book_step.specs.declared.rule.Rule.TheVariants.{Unknown, NameTaken, FractionShape, WrongCurrency, Limit}
 
--- The commodity isn't one of the book's.
+-- The commodity isn't one of the book's (GnuCash SQL schema, table commodities).
 abbrev pub unknown_commodity : List (ℕ × Commodity) → ℕ → Option Rule
 unknown_commodity commodities number = broken_where (is_none (value_of number commodities)) (Unknown kind.Commodity number)
 
@@ -23,7 +23,7 @@ abbrev pub is_currency_of : Option Commodity → Bool
 is_currency_of None = false
 is_currency_of (Some commodity) = is_currency commodity
 
--- The commodity isn't a currency.
+-- The commodity isn't a currency, as the currency of a book must be (GnuCash Manual, book currency).
 abbrev pub wrong_currency : List (ℕ × Commodity) → ℕ → Option Rule
 wrong_currency commodities number = broken_where (not (is_currency_of (value_of number commodities))) (WrongCurrency number)
 
@@ -38,7 +38,8 @@ book_currency state commodity =
 abbrev pub is_namesake : Commodity → ℕ × Commodity → Bool
 is_namesake commodity entry = pointwise nat_eq entry.1.space commodity.space && pointwise nat_eq entry.1.name commodity.name
 
--- A commodity of the book has the space and the name already; the least number of such is told.
+-- A commodity of the book has the space and the name already (GnuCash SQL schema, commodities: namespace and mnemonic are one
+-- commodity's); the least number of such is told.
 abbrev pub name_taken : List (ℕ × Commodity) → Commodity → Option Rule
 name_taken commodities commodity = option_map (λ entry. NameTaken entry.0) (find (is_namesake commodity) commodities)
 
