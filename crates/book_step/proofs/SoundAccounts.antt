@@ -1,15 +1,16 @@
 -- The commands on accounts lead from sound states to sound states.
 use Rattle.std.proofs.Common.{◌≡◌, ◌≢◌, inl, inr, ℕ, ◌+◌, ◌<◌, ◌≤◌, ◌==◌, ◌&&◌, not, nat_lt, All, Bool, true, false, if◌then◌else◌, List, [], ◌∷◌, ◌++◌, length, Option, Some, None, IsSome, IsNone, is_none, option_map, refl, sym, ap, subst, ◌∙◌, arith}
 use Rattle.std.specs.List.{list_any}
-use Rattle.std.proofs.lemmas.Bool.{eqb-true, eqb-false, or_parts, or_left, or_right}
+use Rattle.std.proofs.lemmas.Bool.{eqb-true, eqb-false, not-false, or_parts, or_left, or_right}
 use Rattle.std.proofs.lemmas.Bool.Decides.{nat_tests}
 use Rattle.std.proofs.lemmas.List.{nil_from_length}
 use Rattle.std.proofs.lemmas.List.Elements.{All-nil, All-cons, All-head, All-tail, All-weaker}
 use Rattle.book_commodity.specs.Rules.{first_broken}
 use Rattle.book_commodity.specs.Table.{Rises, value_of, with_entry, without_entry}
+use Rattle.book_commodity.specs.declared.commodity.Commodity.{Commodity}
 use Rattle.book_commodity.proofs.RuleLemmas.{none-front, none-back, not-broken}
 use Rattle.book_commodity.proofs.TableLemmas.{rises_with, rises_without}
-use Rattle.book_accounts.specs.Group.{fits_under}
+use Rattle.book_accounts.specs.Group.{fits_under, is_security}
 use Rattle.book_accounts.specs.Rules as tree
 use Rattle.book_accounts.specs.Soundness.{IsTree, KeepsTree}
 use Rattle.book_accounts.specs.Tree.{IsRooted, children_of}
@@ -24,7 +25,7 @@ use Rattle.book_splits.specs.declared.split.Split.{Split}
 use Rattle.book_undo.specs.Book.{Book}
 use Rattle.book_undo.specs.Edit.{edited}
 use Rattle.book_undo.specs.declared.edit.Edit.TheVariants as edit
-use Rattle.book_step.specs.Accounts.{account_add, account_edit, account_edit_at, account_edit_of, account_drop, account_drop_of, basis_shape, becomes_placeholder, is_as_before, is_root, moved_rule, not_empty, root_stays, too_many_accounts, unknown_given_account, unknown_given_commodity, with_given}
+use Rattle.book_step.specs.Accounts.{account_add, account_edit, account_edit_at, account_edit_of, account_drop, account_drop_of, basis_shape, becomes_placeholder, fits_basis, is_as_before, is_root, moved_rule, not_empty, root_stays, too_many_accounts, unknown_given_account, unknown_given_commodity, with_given}
 use Rattle.book_step.specs.Commodities.{unknown_commodity}
 use Rattle.book_step.specs.Lifted.{of_tree_rule}
 use Rattle.book_step.specs.Outcome.{Done, changing, leaving}
@@ -168,6 +169,14 @@ posted_left accounts n (split ∷ more) r none all =
     (record { account = is.account; there = value_left split.account n is.account accounts r (eqb-false split.account n parts.0) is.there; takes_splits = is.takes_splits })
     (posted_left accounts n more r parts.1 (All-tail (IsPosted accounts) split more all))
 
+-- ---- the basis fits the kind
+same_basis :
+    (commodities : List (ℕ × Commodity)) (old new : Account) → old.kind ≡ new.kind → old.basis ≡ new.basis
+    → fits_basis commodities (is_security old.kind) old.basis ≡ true → fits_basis commodities (is_security new.kind) new.basis ≡ true
+same_basis commodities old new kind basis fits =
+    subst (λ (b : Option ℕ). fits_basis commodities (is_security new.kind) b ≡ true) basis
+    (subst (λ (k : AccountKind). fits_basis commodities (is_security k) old.basis ≡ true) kind fits)
+
 -- ---- the book and its numbers with other accounts
 abbrev with_accounts : Book → List (ℕ × Account) → Book
 with_accounts book accounts = record { commodities = book.commodities; accounts = accounts; transactions = book.transactions; currency = book.currency }
@@ -178,6 +187,7 @@ record AreSound (book : Book) (accounts : List (ℕ × Account)) : Type 0 where
   tree : IsTree accounts
   root : HasRoot accounts
   valued : (number : ℕ) (account : Account) → value_of number accounts ≡ Some account → IsSome (value_of account.commodity book.commodities)
+  based : (number : ℕ) (account : Account) → value_of number accounts ≡ Some account → fits_basis book.commodities (is_security account.kind) account.basis ≡ true
   posted : All (IsPosted accounts) (splits_of book.transactions)
   few : length accounts ≤ 10000
 
@@ -190,6 +200,7 @@ sound_accounts book accounts are is = record {
   root = are.root;
   currency = is.currency;
   valued = are.valued;
+  based = are.based;
   in_currency = is.in_currency;
   balanced = is.balanced;
   posted = are.posted;
@@ -206,8 +217,8 @@ drawn_accounts book accounts next below are =
 -- ---- an account comes
 account_added :
     (book : Book) (n : ℕ) (account : Account) → AreDrawn book n → IsSome (value_of account.commodity book.commodities) → tree.add_rule book.accounts account ≡ None
-    → length book.accounts + 1 ≤ 10000 → IsSoundBook book → IsSoundBook (edited (edit.Account n account) book)
-account_added book n account are known fits few is =
+    → fits_basis book.commodities (is_security account.kind) account.basis ≡ true → length book.accounts + 1 ≤ 10000 → IsSoundBook book → IsSoundBook (edited (edit.Account n account) book)
+account_added book n account are known fits based few is =
     let free = drawn_free n book.accounts are.accounts in
     let accounts = with_entry n account book.accounts in
     sound_accounts book accounts
@@ -218,6 +229,10 @@ account_added book n account are known fits few is =
       valued = λ k other there. elim (value_with k n account other book.accounts there) [
         | inl here ↦ subst (λ (a : Account). IsSome (value_of a.commodity book.commodities)) here.1 known
         | inr old ↦ is.valued k other old.1
+      ];
+      based = λ k other there. elim (value_with k n account other book.accounts there) [
+        | inl here ↦ subst (λ (a : Account). fits_basis book.commodities (is_security a.kind) a.basis ≡ true) here.1 based
+        | inr old ↦ is.based k other old.1
       ];
       posted = posted_added book.accounts n account (splits_of book.transactions) free is.posted;
       few = omega (arith, few, length_drawn n account book.accounts is.accounts_rise are.accounts);
@@ -230,16 +245,19 @@ account_add-sound state account new told is e =
     let given = unknown_given_account book.accounts account.parent ∷ unknown_given_commodity book.commodities account.basis ∷ [] in
     let fits = option_map of_tree_rule (tree.add_rule book.accounts account) ∷ [] in
     let last = too_many_accounts book.accounts ∷ [] in
-    let rest = basis_shape book.commodities account ∷ last in
+    let shape = basis_shape book.commodities account ∷ [] in
+    let rest = shape ++ last in
     let added = edit.Account state.next account in
     let change = changing_done state (known ++ (given ++ (fits ++ rest))) added 1 (answer.AccountAdd state.next) new told e in
     let past = none-back given (fits ++ rest) (none-back known (given ++ (fits ++ rest)) change.kept) in
     let some = some_of (value_of account.commodity book.commodities) (not-broken _ _ (none-front known (given ++ (fits ++ rest)) change.kept)) in
     let rule = lifted_none (tree.add_rule book.accounts account) (none-front fits rest past) in
-    let few = not-broken _ _ (none-back (basis_shape book.commodities account ∷ []) last (none-back fits rest past)) in
+    let room = none-back fits rest past in
+    let based = not-false _ (not-broken _ _ (none-front shape last room)) in
+    let few = not-broken _ _ (none-back shape last room) in
     let later = drawn_later book state.next (state.next + 1) (omega arith) is.drawn in
     sound_after state (known ++ (given ++ (fits ++ rest))) added 1 new change
-    (account_added book state.next account is.drawn some rule (grind (arith, nat_tests, few)) is.book)
+    (account_added book state.next account is.drawn some rule based (grind (arith, nat_tests, few)) is.book)
     (drawn_accounts book (with_entry state.next account book.accounts) (state.next + 1)
     (all_with (λ (e : ℕ × Account). e.0 < state.next + 1) state.next account book.accounts (omega arith) later.accounts) later)
 
@@ -249,9 +267,9 @@ still_open old new has kept there before = grind (arith, nat_tests, kept, there,
 
 account_changed :
     (book : Book) (n : ℕ) (old new : Account) → value_of n book.accounts ≡ Some old → old.kind ≡ new.kind → old.commodity ≡ new.commodity
-    → is_root old.kind ≡ false → first_broken (moved_rule book.accounts n new new.parent ∷ []) ≡ None
+    → old.basis ≡ new.basis → is_root old.kind ≡ false → first_broken (moved_rule book.accounts n new new.parent ∷ []) ≡ None
     → (not old.placeholder && (new.placeholder && has_splits book.transactions n)) ≡ false → IsSoundBook book → IsSoundBook (edited (edit.Account n new) book)
-account_changed book n old new there kind commodity other moved kept is =
+account_changed book n old new there kind commodity basis other moved kept is =
     let accounts = with_entry n new book.accounts in
     sound_accounts book accounts
     (record {
@@ -262,6 +280,11 @@ account_changed book n old new there kind commodity other moved kept is =
         | inl here ↦ subst (λ (a : Account). IsSome (value_of a.commodity book.commodities)) here.1
             (subst (λ (c : ℕ). IsSome (value_of c book.commodities)) commodity (is.valued n old there))
         | inr before ↦ is.valued k account before.1
+      ];
+      based = λ k account found. elim (value_with k n new account book.accounts found) [
+        | inl here ↦ subst (λ (a : Account). fits_basis book.commodities (is_security a.kind) a.basis ≡ true) here.1
+            (same_basis book.commodities old new kind basis (is.based n old there))
+        | inr before ↦ is.based k account before.1
       ];
       posted = posted_changed book.accounts n old new (splits_of book.transactions) there
           (λ has before. still_open old.placeholder new.placeholder (has_splits book.transactions n) kept has before) is.posted;
@@ -289,7 +312,7 @@ account_edit_of-sound state n given old new told there is e =
           let later = drawn_later book state.next (state.next + 0) (omega arith) is.drawn in
           let below = drawn_below n state.next old book.accounts is.drawn.accounts there in
           sound_after state rules (edit.Account n account) 0 new change
-          (account_changed book n old account there refl refl (not-broken _ _ (none-front stays (moved ++ last) past)) (none-front moved last rest)
+          (account_changed book n old account there refl refl refl (not-broken _ _ (none-front stays (moved ++ last) past)) (none-front moved last rest)
           (not-broken _ _ (none-back moved last rest)) is.book)
           (drawn_accounts book (with_entry n account book.accounts) (state.next + 0)
           (all_with (λ (e : ℕ × Account). e.0 < state.next + 0) n account book.accounts (omega (arith, below)) later.accounts) later)
@@ -315,6 +338,7 @@ account_gone book n old there other alone unused is =
       tree = (keeps_without book.accounts n is.accounts_rise alone).tree is.tree;
       root = root_left book.accounts n is.accounts_rise (root_apart book.accounts n old is.tree is.root there other) is.root;
       valued = λ k account found. is.valued k account (value_without k n account book.accounts is.accounts_rise found);
+      based = λ k account found. is.based k account (value_without k n account book.accounts is.accounts_rise found);
       posted = posted_left book.accounts n (splits_of book.transactions) is.accounts_rise unused is.posted;
       few = omega (arith, is.few_accounts, length_left n book.accounts);
     }) is

@@ -1,5 +1,5 @@
 -- The commands on commodities lead from sound states to sound states.
-use Rattle.std.proofs.Common.{◌≡◌, ℕ, ◌+◌, ◌<◌, ◌≤◌, ◌==◌, Bool, true, false, if◌then◌else◌, List, [], ◌∷◌, ◌++◌, length, Option, Some, None, IsSome, refl, subst, arith}
+use Rattle.std.proofs.Common.{◌≡◌, ℕ, ◌+◌, ◌<◌, ◌≤◌, ◌==◌, Bool, true, false, if◌then◌else◌, List, [], ◌∷◌, ◌++◌, length, Option, Some, None, IsSome, refl, ap, subst, ◌∙◌, arith}
 use Rattle.std.proofs.lemmas.Bool.{not-false}
 use Rattle.std.proofs.lemmas.Bool.Decides.{nat_tests}
 use Rattle.std.proofs.lemmas.List.Elements.{All-weaker}
@@ -7,10 +7,12 @@ use Rattle.book_commodity.specs.Table.{value_of, with_entry}
 use Rattle.book_commodity.specs.declared.commodity.Commodity.{Commodity}
 use Rattle.book_commodity.proofs.RuleLemmas.{none-back, not-broken}
 use Rattle.book_commodity.proofs.TableLemmas.{value_of_with, rises_with}
+use Rattle.book_accounts.specs.Group.{is_security}
 use Rattle.book_splits.specs.declared.transaction.Txn.{Txn}
 use Rattle.book_undo.specs.Book.{Book}
 use Rattle.book_undo.specs.Edit.{edited}
 use Rattle.book_undo.specs.declared.edit.Edit.TheVariants as edit
+use Rattle.book_step.specs.Accounts.{fits_basis}
 use Rattle.book_step.specs.Commodities.{is_currency_of, unknown_commodity, wrong_currency, book_currency, name_taken, fraction_shape, too_many_commodities, commodity_add}
 use Rattle.book_step.specs.Outcome.{Done, changing, leaving}
 use Rattle.book_step.specs.Soundness.{IsSoundBook, IsCurrencyOf, IsSound, AreDrawn}
@@ -35,6 +37,16 @@ currency_kept commodities currency n new free is = record {
 some_kept : (commodities : List (ℕ × Commodity)) (k n : ℕ) (new : Commodity) → IsSome (value_of k commodities) → IsSome (value_of k (with_entry n new commodities))
 some_kept commodities k n new some = grind (arith, nat_tests, value_of_with k n new commodities, some)
 
+-- a basis that fits does so beside a new commodity
+basis_kept :
+    (commodities : List (ℕ × Commodity)) (n : ℕ) (new : Commodity) (security : Bool) (basis : Option ℕ) → value_of n commodities ≡ None
+    → fits_basis commodities security basis ≡ true → fits_basis (with_entry n new commodities) security basis ≡ true
+basis_kept commodities n new true (Some basis) free fits =
+    let is = currency_kept commodities basis n new free (currency_there commodities basis (value_of basis commodities) refl fits) in
+    ap is_currency_of is.there ∙ is.is
+basis_kept commodities n new true None free fits = absurd cc
+basis_kept commodities n new false basis free fits = fits
+
 sound_currency : (book : Book) (currency : ℕ) → IsCurrencyOf book.commodities currency → IsSoundBook book → IsSoundBook (edited (edit.Currency currency) book)
 sound_currency book currency new is = record {
   commodities_rise = is.commodities_rise;
@@ -44,6 +56,7 @@ sound_currency book currency new is = record {
   root = is.root;
   currency = new;
   valued = is.valued;
+  based = is.based;
   in_currency = is.in_currency;
   balanced = is.balanced;
   posted = is.posted;
@@ -90,6 +103,7 @@ sound_commodity book number commodity are few is =
       root = is.root;
       currency = kept book.currency is.currency;
       valued = λ k account there. some_kept book.commodities account.commodity number commodity (is.valued k account there);
+      based = λ k account there. basis_kept book.commodities number commodity (is_security account.kind) account.basis free (is.based k account there);
       in_currency = All-weaker (λ (e : ℕ × Txn). IsCurrencyOf book.commodities e.1.currency)
           (λ (e : ℕ × Txn). IsCurrencyOf (with_entry number commodity book.commodities) e.1.currency) (λ e was. kept e.1.currency was) book.transactions is.in_currency;
       balanced = is.balanced;

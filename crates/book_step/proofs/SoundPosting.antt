@@ -115,6 +115,7 @@ sound_transaction book n transaction are fit few splits is = record {
   root = is.root;
   currency = is.currency;
   valued = is.valued;
+  based = is.based;
   in_currency = all_with (λ (e : ℕ × Txn). IsCurrencyOf book.commodities e.1.currency) n transaction book.transactions fit.currency is.in_currency;
   balanced = all_with (λ (e : ℕ × Txn). check.IsSound e.1.splits) n transaction book.transactions fit.splits is.balanced;
   posted = all_splits (IsPosted book.accounts) n transaction book.transactions are.transactions is.posted fit.posted;

@@ -1,12 +1,14 @@
 -- Every step from a sound state leads to a sound state, and the fresh state is sound.
-use Rattle.std.proofs.Common.{◌≡◌, ℕ, ◌<◌, [], Some, IsSome, inl, inr, refl, subst, arith}
+use Rattle.std.proofs.Common.{◌≡◌, ℕ, ◌<◌, true, [], Some, IsSome, inl, inr, refl, subst, arith}
 use Rattle.std.proofs.lemmas.List.Elements.{All-nil, All-cons}
 use Rattle.book_commodity.specs.Table.{value_of}
+use Rattle.book_accounts.specs.Group.{is_security}
 use Rattle.book_accounts.specs.declared.account.Account.{Account}
 use Rattle.book_accounts.proofs.SoundLaws.{tree_of_root}
 use Rattle.book_splits.specs.Check as check
 use Rattle.book_splits.specs.declared.split.Split.{Split}
 use Rattle.book_splits.specs.declared.transaction.Txn.{Txn}
+use Rattle.book_step.specs.Accounts.{fits_basis}
 use Rattle.book_step.specs.Outcome.{Done}
 use Rattle.book_step.specs.Soundness.{IsSound, IsCurrencyOf, IsPosted}
 use Rattle.book_step.specs.State.{State, fresh_state, fresh_book, euro, root}
@@ -40,6 +42,12 @@ fresh_valued number account there = elim (value_with number 2 root account [] th
   | inr old ↦ absurd (let none = old.1 in cc)
 ]
 
+fresh_based : (number : ℕ) (account : Account) → value_of number fresh_book.accounts ≡ Some account → fits_basis fresh_book.commodities (is_security account.kind) account.basis ≡ true
+fresh_based number account there = elim (value_with number 2 root account [] there) [
+  | inl here ↦ subst (λ (a : Account). fits_basis fresh_book.commodities (is_security a.kind) a.basis ≡ true) here.1 refl
+  | inr old ↦ absurd (let none = old.1 in cc)
+]
+
 -- Each run begins in a sound state.
 pub fresh-sound : IsSound fresh_state
 fresh-sound = record {
@@ -51,6 +59,7 @@ fresh-sound = record {
     root = record { account = root; there = refl; top = refl };
     currency = record { commodity = euro; there = refl; is = refl };
     valued = fresh_valued;
+    based = fresh_based;
     in_currency = All-nil (λ (e : ℕ × Txn). IsCurrencyOf fresh_book.commodities e.1.currency);
     balanced = All-nil (λ (e : ℕ × Txn). check.IsSound e.1.splits);
     posted = All-nil (IsPosted fresh_book.accounts);

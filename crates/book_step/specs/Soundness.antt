@@ -3,12 +3,14 @@ use Rattle.std.specs.Prelude.{◌≡◌, ℕ, ◌<◌, ◌≤◌, ◌^◌, List,
 use Rattle.book_commodity.specs.Currency.{is_currency}
 use Rattle.book_commodity.specs.Table.{Rises, value_of}
 use Rattle.book_commodity.specs.declared.commodity.Commodity.{Commodity}
+use Rattle.book_accounts.specs.Group.{is_security}
 use Rattle.book_accounts.specs.Soundness.{IsTree}
 use Rattle.book_accounts.specs.declared.account.Account.{Account}
 use Rattle.book_splits.specs.Balance.{splits_of}
 use Rattle.book_splits.specs.Check as transaction
 use Rattle.book_splits.specs.declared.split.Split.{Split}
 use Rattle.book_undo.specs.Book.{Book}
+use Rattle.book_step.specs.Accounts.{fits_basis}
 use Rattle.book_step.specs.State.{State}
 
 -- The root stands under number 2, at the top of the tree.
@@ -30,8 +32,9 @@ pub record IsPosted (accounts : List (ℕ × Account)) (split : Split) : Type 0 
   pub takes_splits : account.placeholder ≡ false
 
 -- A book is sound: its numbers rise; its accounts form one tree under one root, siblings with different names, each in a
--- commodity of the book; each transaction is in a currency of the book, its values sum to zero, and its splits stand on
--- accounts that take splits; the counts keep their limits.
+-- commodity of the book; a security account has a currency of the book as its basis, and another account has none; each
+-- transaction is in a currency of the book, its values sum to zero, and its splits stand on accounts that take splits; the
+-- counts keep their limits.
 pub record IsSoundBook (book : Book) : Type 0 where
   pub commodities_rise : Rises book.commodities
   pub accounts_rise : Rises book.accounts
@@ -40,6 +43,7 @@ pub record IsSoundBook (book : Book) : Type 0 where
   pub root : HasRoot book.accounts
   pub currency : IsCurrencyOf book.commodities book.currency
   pub valued : (number : ℕ) (account : Account) → value_of number book.accounts ≡ Some account → IsSome (value_of account.commodity book.commodities)
+  pub based : (number : ℕ) (account : Account) → value_of number book.accounts ≡ Some account → fits_basis book.commodities (is_security account.kind) account.basis ≡ true
   pub in_currency : All (λ entry. IsCurrencyOf book.commodities entry.1.currency) book.transactions
   pub balanced : All (λ entry. transaction.IsSound entry.1.splits) book.transactions
   pub posted : All (IsPosted book.accounts) (splits_of book.transactions)
