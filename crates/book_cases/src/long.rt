@@ -15,43 +15,26 @@ fn line_of(alloc: Global, byte: u8, count: usize, behind: &str) -> Result<Vec<u8
     Ok(line)
 }
 
+/// A byte, how many of it, what stands behind them, and the answers.
+type Row = (u8, usize, &'static str, &'static str);
+
+const NO_COMMAND: &str = "{\"field\":\"\",\"refused\":\"not command\"}\n";
+
+const TOO_LONG: &str = "{\"length\":8388609,\"refused\":\"too long\"}\n";
+
 // A line of exactly 8 MiB is read, one byte more is too long; a blank one has no answer, however long it is. The length
 // counts a carriage return, and no line feed.
+static ROWS: [Row; 5] = [
+    (b' ', LONGEST, "\n[]", NO_COMMAND),
+    (b' ', LONGEST + 1, "\n[]", NO_COMMAND),
+    (b'x', LONGEST, "", "{\"refused\":\"not json\"}\n"),
+    (b'x', LONGEST + 1, "\n\n", TOO_LONG),
+    (b'x', LONGEST, "\r\n", TOO_LONG),
+];
+
 #[test]
 fn lines_of_8_mib(rt: HostRuntime) -> Result<(), Fail> {
-    let rows: [(u8, usize, &str, &str); 5] = [
-        (
-            b' ',
-            LONGEST,
-            "\n[]",
-            "{\"field\":\"\",\"refused\":\"not command\"}\n",
-        ),
-        (
-            b' ',
-            LONGEST + 1,
-            "\n[]",
-            "{\"field\":\"\",\"refused\":\"not command\"}\n",
-        ),
-        (
-            b'x',
-            LONGEST,
-            "\n[]",
-            "{\"refused\":\"not json\"}\n{\"field\":\"\",\"refused\":\"not command\"}\n",
-        ),
-        (
-            b'x',
-            LONGEST + 1,
-            "\n[]",
-            "{\"length\":8388609,\"refused\":\"too long\"}\n{\"field\":\"\",\"refused\":\"not command\"}\n",
-        ),
-        (
-            b'x',
-            LONGEST,
-            "\r\n",
-            "{\"length\":8388609,\"refused\":\"too long\"}\n",
-        ),
-    ];
-    for (byte, count, behind, answers) in rows {
+    for (byte, count, behind, answers) in ROWS {
         let line = line_of(rt.alloc(), byte, count, behind)?;
         let ended = ran(
             rt.alloc(),
