@@ -1,6 +1,7 @@
 pub mod AmountLemmas
-pub mod CountLemmas
 pub mod DayLemmas
 pub mod DayTextLemmas
+pub mod DrawnLemmas
+pub mod ListLemmas
 pub mod RuleLemmas
 pub mod TableLemmas

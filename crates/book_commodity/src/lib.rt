@@ -13,7 +13,6 @@ mod kind;
 mod many;
 mod memory;
 mod rate;
-mod steps;
 mod table;
 #[cfg(test)]
 mod tests;
@@ -28,6 +27,6 @@ pub use kind::Kind;
 pub use many::Many;
 pub use memory::OutOfMemory;
 pub use rate::{Rate, scale};
-pub use steps::Steps;
+pub use step_counter::Steps;
 pub use table::Table;
 pub use text::Text;

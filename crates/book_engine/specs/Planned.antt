@@ -5,10 +5,10 @@ use Rattle.book_undo.specs.declared.edit.Edit.{Edit}
 use Rattle.book_step.specs.Outcome.{Outcome, Broken, Done}
 use Rattle.book_step.specs.State.{State}
 use Rattle.book_step.specs.Step.{step}
-use Rattle.book_step.specs.declared.answer.Answer.{Answer}
-use Rattle.book_step.specs.declared.command.Command.{Command}
-use Rattle.book_step.specs.declared.refusal.Refusal.{Refusal}
-use Rattle.book_step.specs.declared.refusal.Refusal.TheVariants as refusal
+use Rattle.book_command.specs.declared.answer.Answer.{Answer}
+use Rattle.book_command.specs.declared.command.Command.{Command}
+use Rattle.book_command.specs.declared.refusal.Refusal.{Refusal}
+use Rattle.book_command.specs.declared.refusal.Refusal.TheVariants as refusal
 
 -- the edit of the book, the next number and the version after it, and the answer
 pub record Planned : Type 0 where

@@ -6,10 +6,10 @@ use Rattle.book_undo.specs.declared.edit.Edit.TheVariants as edit
 use Rattle.book_step.specs.Accounts.{account_edit_of, edit_rules, is_as_before}
 use Rattle.book_step.specs.Outcome.{Broken, StepsTo, changing, leaving}
 use Rattle.book_step.specs.State.{State}
-use Rattle.book_step.specs.declared.answer.Answer.TheVariants as answer
-use Rattle.book_step.specs.declared.command.GivenAccount.{GivenAccount}
-use Rattle.book_step.specs.declared.refusal.Refusal.{Refusal}
-use Rattle.book_step.specs.declared.rule.Rule.{Rule}
+use Rattle.book_command.specs.declared.answer.Answer.TheVariants as answer
+use Rattle.book_command.specs.declared.command.GivenAccount.{GivenAccount}
+use Rattle.book_command.specs.declared.refusal.Refusal.{Refusal}
+use Rattle.book_command.specs.declared.rule.Rule.{Rule}
 use Rattle.book_step.specs.declared.step.Step.{Step}
 use Rattle.book_step.proofs.OutcomeLemmas.{broken-changing, broken-leaving, past-changing, past-leaving}
 

@@ -1,4 +1,3 @@
-pub mod DrawnLemmas
 pub mod EditLemmas
 pub mod OutcomeLemmas
 pub mod PostLemmas

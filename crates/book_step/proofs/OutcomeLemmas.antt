@@ -8,10 +8,10 @@ use Rattle.book_undo.specs.Edit.{edited, is_nothing}
 use Rattle.book_undo.specs.declared.edit.Edit.{Edit}
 use Rattle.book_step.specs.Outcome.{Outcome, Broken, Done, StepsTo, after, changed, changing, leaving, numbers, unless_broken}
 use Rattle.book_step.specs.State.{State}
-use Rattle.book_step.specs.declared.answer.Answer.{Answer}
-use Rattle.book_step.specs.declared.refusal.Refusal.{Refusal}
-use Rattle.book_step.specs.declared.refusal.Refusal.TheVariants as refusal
-use Rattle.book_step.specs.declared.rule.Rule.{Rule}
+use Rattle.book_command.specs.declared.answer.Answer.{Answer}
+use Rattle.book_command.specs.declared.refusal.Refusal.{Refusal}
+use Rattle.book_command.specs.declared.refusal.Refusal.TheVariants as refusal
+use Rattle.book_command.specs.declared.rule.Rule.{Rule}
 use Rattle.book_step.specs.declared.step.Step.{Step}
 
 -- a rule that is converted into an error is what the outcome says

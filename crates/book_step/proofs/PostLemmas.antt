@@ -12,13 +12,13 @@ use Rattle.book_undo.specs.declared.edit.Edit.TheVariants as edit
 use Rattle.book_step.specs.Outcome.{Broken, StepsTo, changing}
 use Rattle.book_step.specs.Posting.{new_split, new_splits, post_answer, post_of, post_rules}
 use Rattle.book_step.specs.State.{State}
-use Rattle.book_step.specs.declared.answer.Answer.{Answer}
-use Rattle.book_step.specs.declared.answer.Answer.TheVariants as answer
-use Rattle.book_step.specs.declared.command.GivenSplit.{GivenSplit}
-use Rattle.book_step.specs.declared.refusal.Refusal.{Refusal}
-use Rattle.book_step.specs.declared.rule.Rule.{Rule}
+use Rattle.book_command.specs.declared.answer.Answer.{Answer}
+use Rattle.book_command.specs.declared.answer.Answer.TheVariants as answer
+use Rattle.book_command.specs.declared.command.GivenSplit.{GivenSplit}
+use Rattle.book_command.specs.declared.refusal.Refusal.{Refusal}
+use Rattle.book_command.specs.declared.rule.Rule.{Rule}
 use Rattle.book_step.specs.declared.step.Step.{Step}
-use Rattle.book_step.proofs.DrawnLemmas.{with_last}
+use Rattle.book_commodity.proofs.DrawnLemmas.{with_last}
 use Rattle.book_step.proofs.OutcomeLemmas.{broken-changing, past-changing}
 
 -- one split more draws the number behind those before

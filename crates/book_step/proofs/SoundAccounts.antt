@@ -27,14 +27,14 @@ use Rattle.book_undo.specs.Edit.{edited}
 use Rattle.book_undo.specs.declared.edit.Edit.TheVariants as edit
 use Rattle.book_step.specs.Accounts.{account_add, account_edit, account_edit_at, account_edit_of, account_drop, account_drop_of, basis_shape, becomes_placeholder, fits_basis, is_as_before, is_root, moved_rule, not_empty, root_stays, too_many_accounts, unknown_given_account, unknown_given_commodity, with_given}
 use Rattle.book_step.specs.Commodities.{unknown_commodity}
-use Rattle.book_step.specs.Lifted.{of_tree_rule}
+use Rattle.book_command.specs.Lifted.{of_tree_rule}
 use Rattle.book_step.specs.Outcome.{Done, changing, leaving}
 use Rattle.book_step.specs.Soundness.{IsSoundBook, HasRoot, IsPosted, IsSound, AreDrawn}
 use Rattle.book_step.specs.State.{State}
-use Rattle.book_step.specs.declared.answer.Answer.{Answer}
-use Rattle.book_step.specs.declared.answer.Answer.TheVariants as answer
-use Rattle.book_step.specs.declared.command.GivenAccount.{GivenAccount}
-use Rattle.book_step.proofs.DrawnLemmas.{all_with, all_without, drawn_below, drawn_free, length_changed, length_drawn, length_left, value_beside, value_here, value_left, value_with, value_without}
+use Rattle.book_command.specs.declared.answer.Answer.{Answer}
+use Rattle.book_command.specs.declared.answer.Answer.TheVariants as answer
+use Rattle.book_command.specs.declared.command.GivenAccount.{GivenAccount}
+use Rattle.book_commodity.proofs.DrawnLemmas.{all_with, all_without, drawn_below, drawn_free, length_changed, length_drawn, length_left, value_beside, value_here, value_left, value_with, value_without}
 use Rattle.book_step.proofs.SoundOutcome.{changing_done, leaving_done, drawn_later, sound_after}
 
 -- ---- what the rules of the tree say where they aren't broken

@@ -17,9 +17,9 @@ use Rattle.book_step.specs.Commodities.{is_currency_of, unknown_commodity, wrong
 use Rattle.book_step.specs.Outcome.{Done, changing, leaving}
 use Rattle.book_step.specs.Soundness.{IsSoundBook, IsCurrencyOf, IsSound, AreDrawn}
 use Rattle.book_step.specs.State.{State}
-use Rattle.book_step.specs.declared.answer.Answer.{Answer}
-use Rattle.book_step.specs.declared.answer.Answer.TheVariants as answer
-use Rattle.book_step.proofs.DrawnLemmas.{all_with, drawn_free, length_drawn, value_kept}
+use Rattle.book_command.specs.declared.answer.Answer.{Answer}
+use Rattle.book_command.specs.declared.answer.Answer.TheVariants as answer
+use Rattle.book_commodity.proofs.DrawnLemmas.{all_with, drawn_free, length_drawn, value_kept}
 use Rattle.book_step.proofs.SoundOutcome.{IsChange, changing_done, leaving_done, drawn_later, sound_after}
 
 -- a commodity that is there, and a currency

@@ -12,9 +12,9 @@ use Rattle.book_undo.specs.declared.edit.Edit.{Edit}
 use Rattle.book_step.specs.Outcome.{Outcome, Done, changed, changing, leaving, numbers, unless_broken}
 use Rattle.book_step.specs.Soundness.{IsSoundBook, AreDrawn, IsSound}
 use Rattle.book_step.specs.State.{State}
-use Rattle.book_step.specs.declared.answer.Answer.{Answer}
-use Rattle.book_step.specs.declared.rule.Rule.{Rule}
-use Rattle.book_step.proofs.DrawnLemmas.{drawn_before}
+use Rattle.book_command.specs.declared.answer.Answer.{Answer}
+use Rattle.book_command.specs.declared.rule.Rule.{Rule}
+use Rattle.book_commodity.proofs.DrawnLemmas.{drawn_before}
 
 pub unless_done : (rule : Option Rule) (outcome : Outcome) (new : State) (answer : Answer) → unless_broken rule outcome ≡ Done new answer → (rule ≡ None) × (outcome ≡ Done new answer)
 unless_done None outcome new answer e = (refl, e)

@@ -19,15 +19,15 @@ use Rattle.book_splits.proofs.CheckLemmas.{sound_of}
 use Rattle.book_undo.specs.Book.{Book}
 use Rattle.book_undo.specs.Edit.{edited}
 use Rattle.book_undo.specs.declared.edit.Edit.TheVariants as edit
-use Rattle.book_step.specs.Lifted.{of_txn_rule}
+use Rattle.book_command.specs.Lifted.{of_txn_rule}
 use Rattle.book_step.specs.Outcome.{Done}
 use Rattle.book_step.specs.Posting.{broken_by, new_splits, new_transaction, post, post_answer, too_many_splits, too_many_transactions}
 use Rattle.book_step.specs.Soundness.{IsSoundBook, IsCurrencyOf, IsPosted, IsSound, AreDrawn}
 use Rattle.book_step.specs.State.{State}
-use Rattle.book_step.specs.declared.answer.Answer.{Answer}
-use Rattle.book_step.specs.declared.command.GivenSplit.{GivenSplit}
-use Rattle.book_step.specs.declared.command.GivenTxn.{GivenTxn}
-use Rattle.book_step.proofs.DrawnLemmas.{all_with, length_drawn, with_last}
+use Rattle.book_command.specs.declared.answer.Answer.{Answer}
+use Rattle.book_command.specs.declared.command.GivenSplit.{GivenSplit}
+use Rattle.book_command.specs.declared.command.GivenTxn.{GivenTxn}
+use Rattle.book_commodity.proofs.DrawnLemmas.{all_with, length_drawn, with_last}
 use Rattle.book_step.proofs.SoundOutcome.{changing_done, drawn_later, sound_after}
 
 -- ---- what the rules of a transaction say where none is broken

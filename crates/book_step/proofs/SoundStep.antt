@@ -13,11 +13,11 @@ use Rattle.book_step.specs.Outcome.{Done}
 use Rattle.book_step.specs.Soundness.{IsSound, IsCurrencyOf, IsPosted}
 use Rattle.book_step.specs.State.{State, fresh_state, fresh_book, euro, root}
 use Rattle.book_step.specs.Step.{outcome, stale, step}
-use Rattle.book_step.specs.declared.answer.Answer.{Answer}
-use Rattle.book_step.specs.declared.command.Command.{Command}
-use Rattle.book_step.specs.declared.command.What.{What}
-use Rattle.book_step.specs.declared.command.What.TheVariants.{BookCurrency, CommodityAdd, AccountAdd, AccountEdit, AccountDrop, Post}
-use Rattle.book_step.proofs.DrawnLemmas.{value_with}
+use Rattle.book_command.specs.declared.answer.Answer.{Answer}
+use Rattle.book_command.specs.declared.command.Command.{Command}
+use Rattle.book_command.specs.declared.command.What.{What}
+use Rattle.book_command.specs.declared.command.What.TheVariants.{BookCurrency, CommodityAdd, AccountAdd, AccountEdit, AccountDrop, Post}
+use Rattle.book_commodity.proofs.DrawnLemmas.{value_with}
 use Rattle.book_step.proofs.SoundAccounts.{account_add-sound, account_edit-sound, account_drop-sound}
 use Rattle.book_step.proofs.SoundCommodities.{book_currency-sound, commodity_add-sound}
 use Rattle.book_step.proofs.SoundOutcome.{unless_done}

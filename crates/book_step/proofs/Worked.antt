@@ -7,15 +7,15 @@ use Rattle.book_accounts.specs.declared.kind.AccountKind.TheVariants.{Bank, Inco
 use Rattle.book_step.specs.Outcome.{Outcome, Broken, Done}
 use Rattle.book_step.specs.State.{State, fresh_state}
 use Rattle.book_step.specs.Step.{step}
-use Rattle.book_step.specs.declared.answer.Answer.{Answer}
-use Rattle.book_step.specs.declared.answer.Answer.TheVariants as answer
-use Rattle.book_step.specs.declared.command.Command.{Command}
-use Rattle.book_step.specs.declared.command.GivenAccount.{GivenAccount}
-use Rattle.book_step.specs.declared.command.GivenSplit.{GivenSplit}
-use Rattle.book_step.specs.declared.command.What.{What}
-use Rattle.book_step.specs.declared.command.What.TheVariants.{BookCurrency, CommodityAdd, AccountAdd, AccountEdit, AccountDrop, Post}
-use Rattle.book_step.specs.declared.rule.Rule.{Rule}
-use Rattle.book_step.specs.declared.rule.Rule.TheVariants.{Stale, NameTaken, Root, Cycle, SplitCount, Unbalanced, Limit}
+use Rattle.book_command.specs.declared.answer.Answer.{Answer}
+use Rattle.book_command.specs.declared.answer.Answer.TheVariants as answer
+use Rattle.book_command.specs.declared.command.Command.{Command}
+use Rattle.book_command.specs.declared.command.GivenAccount.{GivenAccount}
+use Rattle.book_command.specs.declared.command.GivenSplit.{GivenSplit}
+use Rattle.book_command.specs.declared.command.What.{What}
+use Rattle.book_command.specs.declared.command.What.TheVariants.{BookCurrency, CommodityAdd, AccountAdd, AccountEdit, AccountDrop, Post}
+use Rattle.book_command.specs.declared.rule.Rule.{Rule}
+use Rattle.book_command.specs.declared.rule.Rule.TheVariants.{Stale, NameTaken, Root, Cycle, SplitCount, Unbalanced, Limit}
 
 abbrev now : What → Command
 now what = record { at = None; what = what }

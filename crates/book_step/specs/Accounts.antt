@@ -20,13 +20,13 @@ use Rattle.book_splits.specs.declared.transaction.Txn.{Txn}
 use Rattle.book_undo.specs.Book.{Book}
 use Rattle.book_undo.specs.declared.edit.Edit.TheVariants as edit
 use Rattle.book_step.specs.Commodities.{is_currency_of, unknown_commodity}
-use Rattle.book_step.specs.Lifted.{of_tree_rule}
+use Rattle.book_command.specs.Lifted.{of_tree_rule}
 use Rattle.book_step.specs.Outcome.{Outcome, Broken, changing, leaving}
 use Rattle.book_step.specs.State.{State}
-use Rattle.book_step.specs.declared.answer.Answer.TheVariants as answer
-use Rattle.book_step.specs.declared.command.GivenAccount.{GivenAccount}
-use Rattle.book_step.specs.declared.rule.Rule.{Rule}
-use Rattle.book_step.specs.declared.rule.Rule.TheVariants.{Unknown, Root, NotEmpty, BasisShape, Limit}
+use Rattle.book_command.specs.declared.answer.Answer.TheVariants as answer
+use Rattle.book_command.specs.declared.command.GivenAccount.{GivenAccount}
+use Rattle.book_command.specs.declared.rule.Rule.{Rule}
+use Rattle.book_command.specs.declared.rule.Rule.TheVariants.{Unknown, Root, NotEmpty, BasisShape, Limit}
 
 -- The account isn't one of the book's (GnuCash SQL schema, table accounts: what names an account names one that is there).
 abbrev pub unknown_account : List (ℕ × Account) → ℕ → Option Rule

@@ -10,9 +10,9 @@ use Rattle.book_commodity.specs.declared.kind.Kind.TheVariants as kind
 use Rattle.book_undo.specs.declared.edit.Edit.TheVariants as edit
 use Rattle.book_step.specs.Outcome.{Outcome, changing, leaving}
 use Rattle.book_step.specs.State.{State}
-use Rattle.book_step.specs.declared.answer.Answer.TheVariants as answer
-use Rattle.book_step.specs.declared.rule.Rule.{Rule}
-use Rattle.book_step.specs.declared.rule.Rule.TheVariants.{Unknown, NameTaken, FractionShape, WrongCurrency, Limit}
+use Rattle.book_command.specs.declared.answer.Answer.TheVariants as answer
+use Rattle.book_command.specs.declared.rule.Rule.{Rule}
+use Rattle.book_command.specs.declared.rule.Rule.TheVariants.{Unknown, NameTaken, FractionShape, WrongCurrency, Limit}
 
 -- The commodity isn't one of the book's (GnuCash SQL schema, table commodities).
 abbrev pub unknown_commodity : List (ℕ × Commodity) → ℕ → Option Rule

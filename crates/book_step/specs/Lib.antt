@@ -1,6 +1,5 @@
 pub mod Accounts
 pub mod Commodities
-pub mod Lifted
 pub mod Outcome
 pub mod Posting
 pub mod Soundness

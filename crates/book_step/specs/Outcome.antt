@@ -5,11 +5,11 @@ use Rattle.book_commodity.specs.declared.counted.Counted.TheVariants.{Numbers}
 use Rattle.book_undo.specs.Edit.{edited, is_nothing}
 use Rattle.book_undo.specs.declared.edit.Edit.{Edit}
 use Rattle.book_step.specs.State.{State}
-use Rattle.book_step.specs.declared.answer.Answer.{Answer}
-use Rattle.book_step.specs.declared.refusal.Refusal.{Refusal}
-use Rattle.book_step.specs.declared.refusal.Refusal.TheVariants as refusal
-use Rattle.book_step.specs.declared.rule.Rule.{Rule}
-use Rattle.book_step.specs.declared.rule.Rule.TheVariants.{Limit}
+use Rattle.book_command.specs.declared.answer.Answer.{Answer}
+use Rattle.book_command.specs.declared.refusal.Refusal.{Refusal}
+use Rattle.book_command.specs.declared.refusal.Refusal.TheVariants as refusal
+use Rattle.book_command.specs.declared.rule.Rule.{Rule}
+use Rattle.book_command.specs.declared.rule.Rule.TheVariants.{Limit}
 use Rattle.book_step.specs.declared.step.Step.{Step}
 
 pub data Outcome : Type 0 where

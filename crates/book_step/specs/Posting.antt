@@ -10,15 +10,15 @@ use Rattle.book_splits.specs.declared.transaction.Txn.{Txn}
 use Rattle.book_undo.specs.Book.{Book}
 use Rattle.book_undo.specs.Edit.{edited}
 use Rattle.book_undo.specs.declared.edit.Edit.TheVariants as edit
-use Rattle.book_step.specs.Lifted.{of_txn_rule}
+use Rattle.book_command.specs.Lifted.{of_txn_rule}
 use Rattle.book_step.specs.Outcome.{Outcome, changing}
 use Rattle.book_step.specs.State.{State}
-use Rattle.book_step.specs.declared.answer.Answer.{Answer}
-use Rattle.book_step.specs.declared.answer.Answer.TheVariants as answer
-use Rattle.book_step.specs.declared.command.GivenSplit.{GivenSplit}
-use Rattle.book_step.specs.declared.command.GivenTxn.{GivenTxn}
-use Rattle.book_step.specs.declared.rule.Rule.{Rule}
-use Rattle.book_step.specs.declared.rule.Rule.TheVariants.{Limit}
+use Rattle.book_command.specs.declared.answer.Answer.{Answer}
+use Rattle.book_command.specs.declared.answer.Answer.TheVariants as answer
+use Rattle.book_command.specs.declared.command.GivenSplit.{GivenSplit}
+use Rattle.book_command.specs.declared.command.GivenTxn.{GivenTxn}
+use Rattle.book_command.specs.declared.rule.Rule.{Rule}
+use Rattle.book_command.specs.declared.rule.Rule.TheVariants.{Limit}
 
 -- A split as it stands in the book after a post: new, and of no reconciliation.
 abbrev pub new_split : ℕ → GivenSplit → Split

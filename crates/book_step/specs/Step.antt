@@ -6,11 +6,11 @@ use Rattle.book_step.specs.Commodities.{book_currency, commodity_add}
 use Rattle.book_step.specs.Outcome.{Outcome, unless_broken}
 use Rattle.book_step.specs.Posting.{post}
 use Rattle.book_step.specs.State.{State}
-use Rattle.book_step.specs.declared.command.Command.{Command}
-use Rattle.book_step.specs.declared.command.What.{What}
-use Rattle.book_step.specs.declared.command.What.TheVariants.{BookCurrency, CommodityAdd, AccountAdd, AccountEdit, AccountDrop, Post}
-use Rattle.book_step.specs.declared.rule.Rule.{Rule}
-use Rattle.book_step.specs.declared.rule.Rule.TheVariants.{Stale}
+use Rattle.book_command.specs.declared.command.Command.{Command}
+use Rattle.book_command.specs.declared.command.What.{What}
+use Rattle.book_command.specs.declared.command.What.TheVariants.{BookCurrency, CommodityAdd, AccountAdd, AccountEdit, AccountDrop, Post}
+use Rattle.book_command.specs.declared.rule.Rule.{Rule}
+use Rattle.book_command.specs.declared.rule.Rule.TheVariants.{Stale}
 
 -- A command for another version than the present one.
 abbrev pub stale : State → Option ℕ → Option Rule

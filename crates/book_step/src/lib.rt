@@ -4,19 +4,12 @@
 #![tactic(auto)]
 
 mod accounts;
-mod answer;
-mod command;
 mod commodities;
 mod editing;
 mod posting;
-mod refusal;
-mod rule;
 mod step;
 #[cfg(test)]
 mod tests;
 
-pub use answer::Answer;
-pub use command::{Command, GivenAccount, GivenSplit, GivenTxn, What};
-pub use refusal::Refusal;
-pub use rule::Rule;
+pub use book_command::{Answer, Command, GivenAccount, GivenSplit, GivenTxn, Refusal, Rule, What};
 pub use step::{Step, step_of};

@@ -2,8 +2,8 @@
 use Rattle.std.proofs.Common.{◌≡◌, ◌∷◌, List, [], false, refl, ℕ}
 use Rattle.serde_json.specs.Data.{Data}
 use Rattle.serde_json.specs.Written.{has_float}
-use Rattle.book_step.specs.declared.answer.Answer.{Answer}
-use Rattle.book_step.specs.declared.answer.Answer.TheVariants.{AccountAdd, AccountDrop, AccountEdit, BookCurrency, CommodityAdd, Post}
+use Rattle.book_command.specs.declared.answer.Answer.{Answer}
+use Rattle.book_command.specs.declared.answer.Answer.TheVariants.{AccountAdd, AccountDrop, AccountEdit, BookCurrency, CommodityAdd, Post}
 use Rattle.book_texts.specs.AnswerText.{answer_data}
 use Rattle.book_texts.specs.Pieces.{list_data, number_data, sum_data}
 

@@ -1,10 +1,10 @@
 -- Each answer and each rule is one line, and none of the two lines that say why a command has no answer.
 use Rattle.std.proofs.Common.{◌&&◌, ◌==◌, ◌≡◌, ◌∷◌, Bool, List, [], false, get_or, refl, true, ℕ}
 use Rattle.serde_json.proofs.OnLiterals.{serde_json_on_literals}
-use Rattle.book_step.specs.declared.answer.Answer.{Answer}
-use Rattle.book_step.specs.declared.answer.Answer.TheVariants.{AccountAdd, AccountDrop, AccountEdit, BookCurrency, CommodityAdd, Post}
-use Rattle.book_step.specs.declared.rule.Rule.{Rule}
-use Rattle.book_step.specs.declared.rule.Rule.TheVariants.{Basis, BasisShape, Cycle, FractionShape, Limit, NameTaken, NotEmpty, ParentKind, Placeholder, Root, SplitCount, Stale, Unbalanced, Unknown, ValueNotQuantity, WrongCurrency}
+use Rattle.book_command.specs.declared.answer.Answer.{Answer}
+use Rattle.book_command.specs.declared.answer.Answer.TheVariants.{AccountAdd, AccountDrop, AccountEdit, BookCurrency, CommodityAdd, Post}
+use Rattle.book_command.specs.declared.rule.Rule.{Rule}
+use Rattle.book_command.specs.declared.rule.Rule.TheVariants.{Basis, BasisShape, Cycle, FractionShape, Limit, NameTaken, NotEmpty, ParentKind, Placeholder, Root, SplitCount, Stale, Unbalanced, Unknown, ValueNotQuantity, WrongCurrency}
 use Rattle.book_json.proofs.OneLine.{IsOwnLine, compact_text-one_line, is_one_line}
 use Rattle.book_texts.specs.AnswerText.{answer_bytes, answer_data}
 use Rattle.book_texts.specs.RuleText.{rule_bytes, rule_data}

@@ -3,8 +3,8 @@
 use Rattle.std.specs.Prelude.{ℕ, List, [], ◌∷◌, codes}
 use Rattle.serde_json.specs.Data.{Data, string}
 use Rattle.serde_json.specs.Written.{compact_text}
-use Rattle.book_step.specs.declared.answer.Answer.{Answer}
-use Rattle.book_step.specs.declared.answer.Answer.TheVariants.{BookCurrency, CommodityAdd, AccountAdd, AccountEdit, AccountDrop, Post}
+use Rattle.book_command.specs.declared.answer.Answer.{Answer}
+use Rattle.book_command.specs.declared.answer.Answer.TheVariants.{BookCurrency, CommodityAdd, AccountAdd, AccountEdit, AccountDrop, Post}
 use Rattle.book_texts.specs.Pieces.{list_data, number_data, sum_data, told}
 
 -- The answer of a command that says no more than that it was done.

@@ -3,8 +3,8 @@
 use Rattle.std.specs.Prelude.{ℕ, List, [], ◌∷◌, codes}
 use Rattle.serde_json.specs.Data.{Data, string}
 use Rattle.serde_json.specs.Written.{compact_text}
-use Rattle.book_step.specs.declared.rule.Rule.{Rule}
-use Rattle.book_step.specs.declared.rule.Rule.TheVariants.{Stale, Unknown, NameTaken, Cycle, ParentKind, Root, Placeholder, NotEmpty, FractionShape, BasisShape, SplitCount, WrongCurrency, Basis, ValueNotQuantity, Unbalanced, Limit}
+use Rattle.book_command.specs.declared.rule.Rule.{Rule}
+use Rattle.book_command.specs.declared.rule.Rule.TheVariants.{Stale, Unknown, NameTaken, Cycle, ParentKind, Root, Placeholder, NotEmpty, FractionShape, BasisShape, SplitCount, WrongCurrency, Basis, ValueNotQuantity, Unbalanced, Limit}
 use Rattle.book_texts.specs.Pieces.{counted_word, kind_word, number_data, sum_data, told}
 
 -- A rule with no field, by its name.

@@ -5,7 +5,7 @@ ghost use Rattle.book_texts.specs.AnswerText.{answer_bytes, answer_data, done_da
 use crate::shown::Shown;
 use crate::written::written;
 use book_commodity::{Bytes, Many, OutOfMemory};
-use book_step::Answer;
+use book_command::Answer;
 use serde_json::{Value, json};
 use std::alloc::{AllocError, Global};
 

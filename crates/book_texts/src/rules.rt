@@ -6,7 +6,7 @@ use crate::shown::Shown;
 use crate::words::{counted_text, kind_text};
 use crate::written::written;
 use book_commodity::{Bytes, Counted, Kind, OutOfMemory};
-use book_step::Rule;
+use book_command::Rule;
 use serde_json::{Value, json};
 use std::alloc::{AllocError, Global};
 

@@ -1,7 +1,7 @@
 //! One answer of each command, and each rule once, byte by byte as written by hand.
 use crate::{answer_text, rule_text};
 use book_commodity::{Counted, Kind, Many, OutOfMemory};
-use book_step::{Answer, Rule};
+use book_command::{Answer, Rule};
 use std::alloc::Global;
 
 /// A rule, the version that it is told with, and the line.

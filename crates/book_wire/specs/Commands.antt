@@ -3,11 +3,11 @@ use Rattle.std.specs.Prelude.{Some, codes, unwrap_or}
 use Rattle.book_accounts.specs.declared.account.Account.{Account}
 use Rattle.book_json.specs.Members.{Reader, needed, optional, text, flag, ends, gives, ◌>>=◌}
 use Rattle.book_json.specs.Forms.{whole, whole_signed, flag_form, text_form, filled, day_form, list, inner}
-use Rattle.book_step.specs.declared.command.Command.{Command}
-use Rattle.book_step.specs.declared.command.GivenSplit.{GivenSplit}
-use Rattle.book_step.specs.declared.command.GivenTxn.{GivenTxn}
-use Rattle.book_step.specs.declared.command.What.{What}
-use Rattle.book_step.specs.declared.command.What.TheVariants as what
+use Rattle.book_command.specs.declared.command.Command.{Command}
+use Rattle.book_command.specs.declared.command.GivenSplit.{GivenSplit}
+use Rattle.book_command.specs.declared.command.GivenTxn.{GivenTxn}
+use Rattle.book_command.specs.declared.command.What.{What}
+use Rattle.book_command.specs.declared.command.What.TheVariants as what
 use Rattle.book_wire.specs.Kinds.{kind_form}
 use Rattle.book_wire.specs.declared.asked.CommandWord.{CommandWord}
 use Rattle.book_wire.specs.declared.asked.CommandWord.TheVariants.{BookCurrency, CommodityAdd, AccountAdd, AccountEdit, AccountDrop, Post}

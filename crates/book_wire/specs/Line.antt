@@ -6,7 +6,7 @@ use Rattle.book_json.specs.Line.{IsJson}
 use Rattle.book_json.specs.Members.{needed}
 use Rattle.book_json.specs.declared.fault.Fault.{Fault}
 use Rattle.book_json.specs.declared.fault.Fault.TheVariants as fault
-use Rattle.book_step.specs.declared.command.Command.{Command}
+use Rattle.book_command.specs.declared.command.Command.{Command}
 use Rattle.book_wire.specs.Commands.{command}
 use Rattle.book_wire.specs.Words.{asked_form}
 use Rattle.book_wire.specs.declared.asked.Asked.{Asked}

@@ -6,7 +6,7 @@ use crate::held::Held;
 use book_accounts::{Account, AccountKind};
 use book_commodity::Text;
 use book_json::{Fault, Filled, Reading};
-use book_step::{GivenAccount, What};
+use book_command::{GivenAccount, What};
 
 /// The members of `account_add`.
 pub(crate) fn account_add(members: &mut Reading) -> Result<What, Fault>

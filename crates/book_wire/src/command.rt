@@ -6,7 +6,7 @@ use crate::asked::CommandWord;
 use crate::commodities::{book_currency, commodity_add};
 use crate::transactions::post;
 use book_json::{Fault, Reading};
-use book_step::{Command, What};
+use book_command::{Command, What};
 use std::alloc::Global;
 
 /// The command with this word, of the members after it, which it reads to the end.

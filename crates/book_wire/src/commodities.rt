@@ -3,7 +3,7 @@ ghost use Rattle.book_wire.specs.Commands.{book_currency, commodity_add};
 
 use book_commodity::Commodity;
 use book_json::{Fault, Filled, Reading};
-use book_step::What;
+use book_command::What;
 
 /// The members of `book_currency`.
 pub(crate) fn book_currency(members: &mut Reading) -> Result<What, Fault>

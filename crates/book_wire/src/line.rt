@@ -7,7 +7,7 @@ use crate::asked::Asked;
 use crate::command::command;
 use book_commodity::Text;
 use book_json::{NotRead, Reading, object_of};
-use book_step::Command;
+use book_command::Command;
 use std::alloc::Global;
 
 /// What the line asks, without its line feed; an error says why it is no command, or that memory was refused.

@@ -5,7 +5,7 @@ ghost use Rattle.book_wire.specs.Commands.{split};
 use crate::held::Held;
 use book_commodity::{Many, OutOfMemory};
 use book_json::{Fault, Form, Object, Reading, inner};
-use book_step::GivenSplit;
+use book_command::GivenSplit;
 use serde_json::Value;
 use std::alloc::Global;
 

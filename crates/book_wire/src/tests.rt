@@ -2,7 +2,7 @@
 use crate::{WireError, command_of, too_long_text, wire_text};
 use book_accounts::AccountKind;
 use book_commodity::{Bytes, OutOfMemory};
-use book_step::{Command, GivenAccount, What};
+use book_command::{Command, GivenAccount, What};
 use std::alloc::Global;
 
 /// A line, and the member that fails in it, or in brackets what else comes of it.

@@ -5,7 +5,7 @@ use crate::held::Held;
 use crate::splits::splits_of;
 use book_commodity::Many;
 use book_json::{Fault, Reading};
-use book_step::{GivenSplit, GivenTxn, What};
+use book_command::{GivenSplit, GivenTxn, What};
 use std::alloc::Global;
 
 /// The members of `post`.

@@ -1,6 +1,6 @@
 use Rattle.std.proofs.Common.{rules, Result, IfSome, subst}
 use Rattle.std.proofs.lemmas.Result.{IfOk-weaker}
-use Rattle.book_step.specs.declared.command.Command.{Command}
+use Rattle.book_command.specs.declared.command.Command.{Command}
 use Rattle.book_wire.specs.Line.{Asks, IsLine, IsRead, line_of_fault}
 use Rattle.book_wire.specs.declared.fault.WireError.{WireError}
 use Rattle.book_app.proofs.ReplyLemmas.{told-fault}

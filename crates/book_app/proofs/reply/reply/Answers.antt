@@ -3,8 +3,8 @@ use Rattle.std.proofs.lemmas.Result.{IfOk-weaker}
 use Rattle.book_step.specs.State.{State}
 use Rattle.book_step.specs.Outcome.{Outcome, Broken}
 use Rattle.book_step.specs.Step.{step}
-use Rattle.book_step.specs.declared.answer.Answer.{Answer}
-use Rattle.book_step.specs.declared.rule.Rule.{Rule}
+use Rattle.book_command.specs.declared.answer.Answer.{Answer}
+use Rattle.book_command.specs.declared.rule.Rule.{Rule}
 use Rattle.book_engine.specs.Planned.{after, IsRefusal}
 use Rattle.book_texts.specs.AnswerText.{answer_bytes}
 use Rattle.book_texts.specs.RuleText.{rule_bytes}

@@ -3,7 +3,7 @@ use Rattle.book_undo.specs.declared.edit.Edit.TheVariants as edit
 use Rattle.book_step.specs.Accounts.{add_rules}
 use Rattle.book_step.specs.Outcome.{changing}
 use Rattle.book_step.specs.State.{state_of}
-use Rattle.book_step.specs.declared.answer.Answer.TheVariants as answer
+use Rattle.book_command.specs.declared.answer.Answer.TheVariants as answer
 use Rattle.book_step.proofs.OutcomeLemmas.{broken-changing, past-changing, refused}
 use Rattle.book_step.proofs.accounts.account_add.Goals as goal
 

@@ -5,7 +5,7 @@ use Rattle.book_undo.specs.declared.edit.Edit.TheVariants as edit
 use Rattle.book_step.specs.Accounts.{account_drop_of, not_empty, root_stays}
 use Rattle.book_step.specs.Outcome.{StepsTo}
 use Rattle.book_step.specs.State.{state_of}
-use Rattle.book_step.specs.declared.answer.Answer.TheVariants as answer
+use Rattle.book_command.specs.declared.answer.Answer.TheVariants as answer
 use Rattle.book_commodity.proofs.RuleLemmas.{first-past}
 use Rattle.book_step.proofs.OutcomeLemmas.{past-changing}
 use Rattle.book_step.proofs.accounts.account_drop.Goals as goal

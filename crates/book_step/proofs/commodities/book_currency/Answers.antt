@@ -3,8 +3,8 @@ use Rattle.book_undo.specs.declared.edit.Edit.TheVariants as edit
 use Rattle.book_step.specs.Commodities.{unknown_commodity, wrong_currency}
 use Rattle.book_step.specs.Outcome.{Outcome, StepsTo, changing, leaving}
 use Rattle.book_step.specs.State.{State, state_of}
-use Rattle.book_step.specs.declared.answer.Answer.TheVariants as answer
-use Rattle.book_step.specs.declared.rule.Rule.{Rule}
+use Rattle.book_command.specs.declared.answer.Answer.TheVariants as answer
+use Rattle.book_command.specs.declared.rule.Rule.{Rule}
 use Rattle.book_step.proofs.OutcomeLemmas.{chosen-same, chosen-other, past-changing, past-leaving}
 use Rattle.book_step.proofs.commodities.book_currency.Goals as goal
 

@@ -2,7 +2,7 @@ use Rattle.std.proofs.Common.{[], ◌∷◌}
 use Rattle.book_undo.specs.declared.edit.Edit.TheVariants as edit
 use Rattle.book_step.specs.Commodities.{name_taken, fraction_shape, too_many_commodities}
 use Rattle.book_step.specs.State.{state_of}
-use Rattle.book_step.specs.declared.answer.Answer.TheVariants as answer
+use Rattle.book_command.specs.declared.answer.Answer.TheVariants as answer
 use Rattle.book_step.proofs.OutcomeLemmas.{past-changing}
 use Rattle.book_step.proofs.commodities.commodity_add.Goals as goal
 

@@ -1,6 +1,6 @@
 use Rattle.std.proofs.Common.{rules, ◌≡◌, ℕ, Some, option_map, slice_get, true, false, sym, ap, ◌∙◌}
 use Rattle.book_commodity.specs.declared.commodity.Commodity.{Commodity}
-use Rattle.book_accounts.proofs.RuleLemmas.{find_here, find_skips}
+use Rattle.book_commodity.proofs.ListLemmas.{find_here, find_skips}
 use Rattle.book_step.specs.Commodities.{is_namesake}
 use Rattle.book_step.proofs.commodities.namesake.Goals as goal
 

@@ -1,7 +1,7 @@
 use Rattle.std.proofs.Common.{rules, ◌≡◌, ℕ, Some, option_map, slice_get, true, false, sym, ap, ◌∙◌}
 use Rattle.book_accounts.specs.Rules.{is_namesake}
 use Rattle.book_accounts.specs.declared.account.Account.{Account}
-use Rattle.book_accounts.proofs.RuleLemmas.{find_here, find_skips}
+use Rattle.book_commodity.proofs.ListLemmas.{find_here, find_skips}
 use Rattle.book_accounts.proofs.tree.Tree.namesake.Goals as goal
 
 pub returns-then-is_namesake : goal.returns-then-is_namesake

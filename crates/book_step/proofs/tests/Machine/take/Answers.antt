@@ -6,7 +6,7 @@ use Rattle.book_step.specs.Outcome.{Done, after}
 use Rattle.book_step.specs.Soundness.{IsSound}
 use Rattle.book_step.specs.State.{State, state_of}
 use Rattle.book_step.specs.Step.{step}
-use Rattle.book_step.specs.declared.command.What.{What}
+use Rattle.book_command.specs.declared.command.What.{What}
 use Rattle.book_step.specs.declared.step.Step.{Step}
 use Rattle.book_step.proofs.SoundStep.{step-sound}
 use Rattle.book_step.proofs.tests.Machine.take.Goals as goal

@@ -18,11 +18,11 @@ use denote.Steps.{nothing}
 use denote.Triple.Table.{entered, run_framed}
 use denote.Triple.Walked.{says, on_exit, walk_of, Walks, ends_at, walked, walk_Meets}
 use denote.Triple.Clauses.{Clauses}
-use Rattle.book_commodity.proofs.CountLemmas.{token, Bare, made}
-use Rattle.book_commodity.specs.contracts.steps.Count.none.Key.{name as #none}
-use Rattle.book_commodity.specs.contracts.steps.Count.none as none
-use Rattle.book_commodity.proofs.steps.Count.none.Statement as stated
-use Rattle.book_commodity.proofs.steps.Count.none.Code as code
+use Rattle.step_counter.proofs.CountLemmas.{token, Bare, made}
+use Rattle.step_counter.specs.contracts.steps.Count.none.Key.{name as #none}
+use Rattle.step_counter.specs.contracts.steps.Count.none as none
+use Rattle.step_counter.proofs.steps.Count.none.Statement as stated
+use Rattle.step_counter.proofs.steps.Count.none.Code as code
 
 module _ {M : Type 1} {𝓤 : Ura M} (𝓛 : Logic 𝓤) (mem : Memory → SProp 𝓤) (run : Routine → Fun 𝓤) where
   open 𝓛 use {H}

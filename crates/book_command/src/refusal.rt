@@ -12,7 +12,7 @@ pub enum Refusal {
 }
 
 impl From<Rule> for Refusal {
-    ghost use Rattle.book_step.specs.declared.refusal.Refusal.TheVariants.{Broken};
+    ghost use Rattle.book_command.specs.declared.refusal.Refusal.TheVariants.{Broken};
 
     ghost from_gives = { λ rule refusal. refusal ≡ Broken rule };
 
@@ -22,7 +22,7 @@ impl From<Rule> for Refusal {
 }
 
 impl From<OutOfMemory> for Refusal {
-    ghost use Rattle.book_step.specs.declared.refusal.Refusal.TheVariants as refusal;
+    ghost use Rattle.book_command.specs.declared.refusal.Refusal.TheVariants as refusal;
 
     ghost from_gives = { λ memory given. given ≡ refusal.OutOfMemory };
 
@@ -32,7 +32,7 @@ impl From<OutOfMemory> for Refusal {
 }
 
 impl From<AllocError> for Refusal {
-    ghost use Rattle.book_step.specs.declared.refusal.Refusal.TheVariants as refusal;
+    ghost use Rattle.book_command.specs.declared.refusal.Refusal.TheVariants as refusal;
 
     ghost from_gives = { λ memory given. given ≡ refusal.OutOfMemory };
 

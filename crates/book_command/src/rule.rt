@@ -42,7 +42,7 @@ pub enum Rule {
 }
 
 impl From<TreeRule> for Rule {
-    ghost use Rattle.book_step.specs.Lifted.{of_tree_rule};
+    ghost use Rattle.book_command.specs.Lifted.{of_tree_rule};
 
     ghost from_gives = { λ rule result. result ≡ of_tree_rule rule };
 
@@ -60,7 +60,7 @@ impl From<TreeRule> for Rule {
 }
 
 impl From<TxnRule> for Rule {
-    ghost use Rattle.book_step.specs.Lifted.{of_txn_rule};
+    ghost use Rattle.book_command.specs.Lifted.{of_txn_rule};
 
     ghost from_gives = { λ rule result. result ≡ of_txn_rule rule };
 

@@ -28,12 +28,12 @@ use denote.Triple.Spec.{Meets, triple_of}
 use denote.Triple.Table.{entered}
 use denote.Triple.Walked.{says, on_exit, Stays, stay_dropped, walk_of, ends_at, Goes-dropped, walk_Meets}
 use contract.CodeStep
-use Rattle.book_commodity.specs.contracts.steps.Count as count
-use Rattle.book_commodity.proofs.CountLemmas.{token, Bare, made}
-use Rattle.book_commodity.specs.contracts.steps.Count.next.{ended, clauses}
-use Rattle.book_commodity.specs.contracts.steps.Count.next.Key.{name as #next}
-use Rattle.book_commodity.proofs.steps.Count.next.Statement as stated
-use Rattle.book_commodity.proofs.steps.Count.next.Code as code
+use Rattle.step_counter.specs.contracts.steps.Count as count
+use Rattle.step_counter.proofs.CountLemmas.{token, Bare, made}
+use Rattle.step_counter.specs.contracts.steps.Count.next.{ended, clauses}
+use Rattle.step_counter.specs.contracts.steps.Count.next.Key.{name as #next}
+use Rattle.step_counter.proofs.steps.Count.next.Statement as stated
+use Rattle.step_counter.proofs.steps.Count.next.Code as code
 
 module _ {M : Type 1} {𝓤 : Ura M} (𝓛 : Logic 𝓤) (𝓜 : Model 𝓤 𝓛.H) (𝓡 : Running 𝓤 𝓛.H 𝓜) where
   open 𝓛 use {H}

@@ -8,7 +8,7 @@ use types.Logic.{Logic, sem}
 use denote.RattleType.{RattleType}
 use denote.Shadow.{makes_shadow}
 use denote.Struct.Struct.{Struct}
-use Rattle.book_commodity.specs.contracts.steps.Count as count
+use Rattle.step_counter.specs.contracts.steps.Count as count
 
 abbrev pub token : Val
 token = vstruct vnil

@@ -1,0 +1,32 @@
+-- Lists that are gone through from place to place, and the first item that passes a test.
+use Rattle.std.proofs.Common.{◌≡◌, ℕ, zero, suc, ◌+◌, Bool, true, false, cond, List, [], ◌∷◌, drop, Option, Some, None, option_map, find, slice_get, refl, sym, ap, ◌∙◌, add-one}
+
+drop_at_suc : {X : Type 0} (xs : List X) (i : ℕ) (x : X) → slice_get xs i ≡ Some x → drop i xs ≡ x ∷ drop (suc i) xs
+drop_at_suc [] i x e = absurd cc
+drop_at_suc (y ∷ xs) zero x e = let same : y ≡ x = cc in ap (λ z. z ∷ xs) same
+drop_at_suc (y ∷ xs) (suc i) x e = drop_at_suc xs i x e
+
+-- what is left of a list from a place on begins with the item at the place
+pub drop_at : {X : Type 0} (xs : List X) (i : ℕ) (x : X) → slice_get xs i ≡ Some x → drop i xs ≡ x ∷ drop (i + 1) xs
+drop_at xs i x e = drop_at_suc xs i x e ∙ ap (λ (k : ℕ). x ∷ drop k xs) (sym (add-one i))
+
+pub mapped_some : {X Y : Type 0} (f : X → Y) (o : Option X) (y : Y) → option_map f o ≡ Some y → (x : X) × (o ≡ Some x) × (f x ≡ y)
+mapped_some f None y e = absurd cc
+mapped_some f (Some x) y e = (x, refl, cc)
+
+-- the item at a place, by its value
+pub drop_by : {X Y : Type 0} (f : X → Y) (xs : List X) (i : ℕ) (y : Y) → option_map f (slice_get xs i) ≡ Some y → (x : X) × (drop i xs ≡ x ∷ drop (i + 1) xs) × (f x ≡ y)
+drop_by f xs i y e = let r = mapped_some f (slice_get xs i) y e in (r.0, drop_at xs i r.0 r.1, r.2)
+
+pub find_skips : {X : Type 0} (test : X → Bool) (xs : List X) (i : ℕ) → option_map test (slice_get xs i) ≡ Some false → find test (drop i xs) ≡ find test (drop (i + 1) xs)
+find_skips test xs i e =
+    let r = drop_by test xs i false e in
+    ap (find test) r.1 ∙ ap (λ (t : Bool). cond t (Some r.0) (find test (drop (i + 1) xs))) r.2
+
+pub find_here : {X : Type 0} (number : X → ℕ) (test : X → Bool) (xs : List X) (i n : ℕ)
+    → option_map test (slice_get xs i) ≡ Some true → option_map number (slice_get xs i) ≡ Some n
+    → option_map number (find test (drop i xs)) ≡ Some n
+find_here number test xs i n e f =
+    let r = mapped_some test (slice_get xs i) true e in
+    ap (option_map number) (ap (find test) (drop_at xs i r.0 r.1) ∙ ap (λ (t : Bool). cond t (Some r.0) (find test (drop (i + 1) xs))) r.2)
+    ∙ ap (option_map number) (sym r.1) ∙ f
