@@ -46,7 +46,7 @@ pub struct GivenTxn {
 }
 
 /// A split as a command gives it: its value is in smallest units of the transaction's currency, its quantity in
-/// smallest units of the account's commodity.
+/// smallest units of the account's commodity. Only an edit of a transaction gives a number, that of a split that stays.
 #[derive(Drop)]
 pub struct GivenSplit {
     pub account: u64,
@@ -54,4 +54,5 @@ pub struct GivenSplit {
     pub quantity: i64,
     pub memo: Text,
     pub action: Text,
+    pub id: Option<u64>,
 }

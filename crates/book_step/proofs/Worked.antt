@@ -68,7 +68,7 @@ broker = AccountAdd (record {
 })
 
 abbrev given : ℕ → ℤ → ℤ → GivenSplit
-given account value quantity = record { account = account; value = value; quantity = quantity; memo = []; action = [] }
+given account value quantity = record { account = account; value = value; quantity = quantity; memo = []; action = []; id = None }
 
 abbrev paid : ℤ → ℤ → What
 paid to from = Post (pos 19727) (record { currency = 1; num = []; description = codes "Pay"; splits = given 3 to to ∷ given 4 from from ∷ [] })

@@ -139,6 +139,7 @@ fn nothing_moved(alloc: Global, account: u64) -> Result<GivenTxn, OutOfMemory> {
         quantity: 0,
         memo: Text::new(alloc),
         action: Text::new(alloc),
+        id: None,
     })?;
     Ok(GivenTxn {
         currency: 1,

@@ -1,5 +1,5 @@
 -- The members of each command, in the order in which they are read.
-use Rattle.std.specs.Prelude.{Some, codes, unwrap_or}
+use Rattle.std.specs.Prelude.{Some, None, codes, unwrap_or}
 use Rattle.book_accounts.specs.declared.account.Account.{Account}
 use Rattle.book_json.specs.Members.{Reader, needed, optional, text, flag, ends, gives, ◌>>=◌}
 use Rattle.book_json.specs.Forms.{whole, whole_signed, flag_form, text_form, filled, day_form, list, inner}
@@ -73,7 +73,7 @@ split = do
   quantity ← optional whole_signed (codes "quantity")
   memo ← text (codes "memo")
   action ← text (codes "action")
-  gives (record { account = account; value = value; quantity = unwrap_or quantity value; memo = memo; action = action })
+  gives (record { account = account; value = value; quantity = unwrap_or quantity value; memo = memo; action = action; id = None })
 
 -- A transaction, but for its day.
 unfoldable pub transaction : Reader GivenTxn

@@ -25,6 +25,7 @@ impl Object for Held<GivenSplit> {
             quantity: quantity.unwrap_or(value),
             memo,
             action,
+            id: None,
         }))
     }
 }
