@@ -1,13 +1,15 @@
 -- One price more: how the last price of a pair follows.
-use Rattle.std.proofs.Common.{◌≡◌, ℕ, ◌+◌, ◌<◌, ℤ, ◌≤ℤ◌, true, false, nat_lt, ◌==◌, if◌then◌else◌, List, [], ◌∷◌, ◌++◌, All, Contains, Option, None, Some, map, take, length, option_map, refl, sym, ap, subst, ◌∙◌, arith, lit<}
+use Rattle.std.proofs.Common.{◌≡◌, ℕ, ◌+◌, ◌<◌, ℤ, ◌≤ℤ◌, Bool, true, false, nat_lt, ◌==◌, if◌then◌else◌, List, [], ◌∷◌, ◌++◌, All, Contains, Option, None, Some, map, take, length, option_map, refl, sym, ap, subst, ◌∙◌, arith, lit<}
 use Rattle.std.specs.List.{slice_get}
 use Rattle.std.proofs.lemmas.Int.{ints}
+use Rattle.std.proofs.lemmas.Bool.Decides.{nat_tests}
 use Rattle.std.proofs.lemmas.List.{map-append, take_more}
 use Rattle.std.proofs.lemmas.List.Elements.{All-push, All-weaker, All-map, All-get_or, All-cons, All-head, All-tail, Contains-append_left, Contains-append_right}
 use Rattle.std.proofs.lemmas.Option.{get_or_from_slice_get, slice_get_within}
 use Rattle.book_commodity.specs.Table.{Rises, value_of, with_entry}
+use Rattle.book_commodity.proofs.DrawnLemmas.{all_with}
 use Rattle.book_commodity.proofs.TableLemmas.{value_of_place}
-use Rattle.book_prices.specs.Rate.{IsOf, IsLast, HasNone, IsBest, IsSound}
+use Rattle.book_prices.specs.Rate.{AreOnce, IsOf, IsLast, HasNone, IsBest, IsSound, is_same}
 use Rattle.book_prices.specs.declared.price.Price.{Price}
 
 there_still : (prices : List (ℕ × Price)) (entry : ℕ × Price) (price : Price) → Contains (map (λ e. e.1) prices) price → Contains (map (λ e. e.1) (prices ++ entry ∷ [])) price
@@ -128,16 +130,29 @@ value_of-place entries place number price rises e n =
     ap (λ m. value_of m entries) (sym is) ∙ value_of_place entries place x.0 rises x.1 ∙ ap (λ (q : Price). Some q) x.2
 
 -- what holds of all prices, and of one that is put among them, holds of all then
-pub All-with_entry : (P : Price → Type 0) (number : ℕ) (price : Price) (entries : List (ℕ × Price))
-    → All (λ entry. P entry.1) entries → P price → All (λ entry. P entry.1) (with_entry number price entries)
-All-with_entry P number price [] all here = All-cons (λ entry. P entry.1) (number, price) [] here all
-All-with_entry P number price (e ∷ es) all here =
-    let Q : ℕ × Price → Type 0 = λ entry. P entry.1 in
-    let before : List (ℕ × Price) → Type 0 = λ entries. All Q entries in
-    elim (nat_lt number e.0) as (λ t. before (if t then (number, price) ∷ e ∷ es else (if number == e.0 then (number, price) ∷ es else e ∷ with_entry number price es))) [
-      | true ↦ All-cons Q (number, price) (e ∷ es) here all
-      | false ↦ elim (number == e.0) as (λ t. before (if t then (number, price) ∷ es else e ∷ with_entry number price es)) [
-        | true ↦ All-cons Q (number, price) es here (All-tail Q e es all)
-        | false ↦ All-cons Q e (with_entry number price es) (All-head Q e es all) (All-with_entry P number price es (All-tail Q e es all) here)
-      ]
-    ]
+-- which of two prices stands first does not matter
+same_turned : (one other : Price) → is_same one other ≡ is_same other one
+same_turned one other = grind (arith, ints, nat_tests)
+
+one_with :
+    (n : ℕ) (price : Price) (e : ℕ × Price) (es : List (ℕ × Price)) (less same : Bool)
+    → All (λ entry. is_same entry.1 price ≡ false) (e ∷ es)
+    → AreOnce (e ∷ es)
+    → AreOnce (with_entry n price es)
+    → AreOnce (if less then (n, price) ∷ e ∷ es else (if same then (n, price) ∷ es else e ∷ with_entry n price es))
+one_with n price e es true same new once more = (new, once)
+one_with n price e es false true new once more = (All-tail (λ entry. is_same entry.1 price ≡ false) e es new, once.1)
+one_with n price e es false false new once more =
+    let here = same_turned price e.1 ∙ All-head (λ entry. is_same entry.1 price ≡ false) e es new in
+    (all_with (λ entry. is_same entry.1 e.1 ≡ false) n price es here once.0, more)
+
+-- beside prices of which none is the same, a new one may stand
+pub once_with :
+    (n : ℕ) (price : Price) (es : List (ℕ × Price))
+    → All (λ entry. is_same entry.1 price ≡ false) es
+    → AreOnce es
+    → AreOnce (with_entry n price es)
+once_with n price [] new once = (new, once)
+once_with n price (e ∷ es) new once =
+    one_with n price e es (nat_lt n e.0) (n == e.0) new once
+    (once_with n price es (All-tail (λ entry. is_same entry.1 price ≡ false) e es new) once.1)

@@ -1,5 +1,5 @@
 -- The rate between two commodities on a day, from all prices (GnuCash Concepts Guide, the price database).
-use Rattle.std.specs.Prelude.{◌≡◌, ℕ, ◌==◌, ◌&&◌, ℤ, ◌≤ℤ◌, Bool, true, false, List, All, Contains, map, Option, Some, None, IsNone, IsSomeAnd, MatchBool, ◌⊎◌}
+use Rattle.std.specs.Prelude.{◌≡◌, ℕ, ◌==◌, ◌&&◌, ℤ, ◌≤ℤ◌, Bool, true, false, List, [], ◌∷◌, All, ⊤, Contains, map, Option, Some, None, IsNone, IsSomeAnd, MatchBool, ◌⊎◌}
 use Rattle.std.specs.Ordering.{int_eq}
 use Rattle.std.specs.Int.{IsInRange}
 use Rattle.book_commodity.specs.Table.{value_of}
@@ -50,6 +50,15 @@ IsSound price = IsInRange 1 1_000_000_000 price.num × IsInRange 1 1_000_000_000
 -- two prices of one commodity, one currency and one day
 abbrev pub is_same : Price → Price → Bool
 is_same one other = (one.commodity == other.commodity) && ((one.currency == other.currency) && int_eq one.day other.day)
+
+-- There is one price for each commodity, currency and day (GnuCash Concepts Guide, the price database).
+abbrev pub AreOnce : List (ℕ × Price) → Type 0
+AreOnce [] = ⊤
+AreOnce (entry ∷ more) = All (λ other. is_same other.1 entry.1 ≡ false) more × AreOnce more
+
+-- the prices of a book: each is sound, and there is one for each commodity, currency and day
+abbrev pub AreKept : List (ℕ × Price) → Type 0
+AreKept prices = All (λ entry. IsSound entry.1) prices × AreOnce prices
 
 -- the number under which a price of the same commodity, currency and day stands, if there is one
 abbrev pub IsSame : List (ℕ × Price) → Price → Option ℕ → Type 0

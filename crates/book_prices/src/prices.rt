@@ -2,7 +2,7 @@ ghost use Rattle.std.specs.Prelude.{◌≡◌, ℕ, ◌+◌, ◌<◌, ◌≤◌,
 ghost use Rattle.std.specs.Option.{option_copied};
 ghost use Rattle.std.specs.List.{slice_get};
 ghost use Rattle.book_commodity.specs.Table.{Rises, value_of, with_entry, without_entry};
-ghost use Rattle.book_prices.specs.Rate.{IsBest, IsRate, IsSame, IsSound};
+ghost use Rattle.book_prices.specs.Rate.{AreOnce, IsBest, IsRate, IsSame, IsSound};
 
 use crate::Price;
 use crate::price::{are_same, last_of, rate_of, turned_rate_of};
@@ -72,7 +72,7 @@ impl Prices {
         self.table.value_at(place)
     }
 
-    /// Makes room for so many more prices; the prices stay, and no room is lost where memory is refused.
+    /// Makes room for so many more prices; the prices stay, and no room is lost where it is out of memory.
     pub fn reserve(&mut self, extra: usize) -> Result<(), OutOfMemory>
         ensures room { OnOk result (extra ≤ self.new.spare) }
         ensures full { OnErr result (self.old.spare < extra) }
@@ -92,7 +92,7 @@ impl Prices {
         self.table.put(number, price)
     }
 
-    /// Takes the price under the number out; `None` where there is none. It takes no memory.
+    /// Takes the price under the number out of the table; `None` where there is none. It takes no memory.
     pub fn take(&mut self, number: u64) -> Option<Price>
         ensures entries { self.new.entries ≡ without_entry number self.old.entries }
         ensures old { result ≡ value_of number self.old.entries }
@@ -101,9 +101,11 @@ impl Prices {
         self.table.take(number)
     }
 
-    /// The rate between a commodity and a currency on a day, `None` exactly where there is none; one pass, no memory.
+    /// The rate between a commodity and a currency on a day, `None` exactly where there is none. The table has one price
+    /// for each commodity, currency and day, and the numbers of each are 1 to 10^9.
     pub fn price_at(&self, commodity: u64, currency: u64, day: Day) -> Option<Rate>
-        requires { All (λ entry. IsSound entry.1) self.now.entries }
+        requires once { AreOnce self.now.entries }
+        requires sound { All (λ entry. IsSound entry.1) self.now.entries }
         ensures { IsRate self.now.entries commodity currency day result }
     {
         if commodity == currency {
@@ -119,8 +121,10 @@ impl Prices {
         Some(turned_rate_of(&price))
     }
 
-    /// The number of the price that has this one's commodity, currency and day; `None` exactly where none has.
+    /// The number of the price that has this one's commodity, currency and day; `None` exactly where none has. The table
+    /// has one price for each of these.
     pub fn same(&self, price: &Price) -> Option<u64>
+        requires once { AreOnce self.now.entries }
         ensures { IsSame self.now.entries price.now result }
     {
         for place in 0..self.table.len() {

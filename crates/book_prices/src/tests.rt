@@ -1,6 +1,6 @@
-ghost use Rattle.std.specs.Prelude.{◌≡◌, All, IfOk, OnOk};
+ghost use Rattle.std.specs.Prelude.{◌≡◌, IfOk, OnOk};
 ghost use Rattle.std.specs.Int.{IsInRange};
-ghost use Rattle.book_prices.specs.Rate.{IsSound};
+ghost use Rattle.book_prices.specs.Rate.{AreKept};
 
 use crate::{Price, Prices, Valuation, worth};
 use book_commodity::{Day, Rate};
@@ -25,10 +25,10 @@ fn add(
     num: u64,
     denom: u64,
 ) -> Result<(), Fail>
-    requires prices { All (λ entry. IsSound entry.1) prices.old.entries }
+    requires prices { AreKept prices.old.entries }
     requires num { IsInRange 1 1_000_000_000 num }
     requires denom { IsInRange 1 1_000_000_000 denom }
-    ensures { OnOk result (All (λ entry. IsSound entry.1) prices.new.entries) }
+    ensures { OnOk result (AreKept prices.new.entries) }
 {
     prices.reserve(1).map_err(|_| "memory")?;
     let price = Price {
@@ -38,13 +38,17 @@ fn add(
         num,
         denom,
     };
+    let None = prices.same(&price) else {
+        Err("two prices of one day")?;
+        return Ok(());
+    };
     prices.put(number, price);
     Ok(())
 }
 
 // Shares in euro and dollars, and a dollar in euro, each under its number.
 fn prices(alloc: Global) -> Result<Prices, Fail>
-    ensures { IfOk result (λ prices. All (λ entry. IsSound entry.1) prices.entries) }
+    ensures { IfOk result (λ prices. AreKept prices.entries) }
 {
     let mut prices = Prices::new(alloc);
     add(&mut prices, 15, (SHARE, EURO), on(2024, 3, 1)?, 150, 100)?;

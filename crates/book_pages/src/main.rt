@@ -1,0 +1,60 @@
+//! Checks the pages for people and the examples: runs each command that they show and compares the answers. They are
+//! this program's data; it says how many commands each shows, and ends with 1 at the first whose answers differ.
+#![tactic(auto)]
+
+mod page;
+mod session;
+
+use crate::page::{Page, page_of};
+use crate::session::answers_to;
+use std::process::ExitCode;
+use std::{fs, io};
+
+/// Reads a page.
+fn read(rt: &HostRuntime, name: &str) -> io::Result<Page> {
+    let text = fs::read_to_string(rt, name)?;
+    Ok(page_of(rt.alloc(), text.as_str())?)
+}
+
+/// Whether the page's commands, run from its first to its last, are answered as it says.
+fn is_session(rt: &HostRuntime, name: &str) -> io::Result<bool> {
+    let page = read(rt, name)?;
+    let answers = answers_to(rt.alloc(), page.commands.as_str())?;
+    let count = page.commands.as_str().lines().count();
+    println!(rt; "{name}: {count} commands")?;
+    Ok(answers.as_str() == page.answers.as_str())
+}
+
+/// Whether each command of the page stands in the session with the page's answer.
+fn is_of_session(rt: &HostRuntime, name: &str, session: &str) -> io::Result<bool> {
+    let page = read(rt, name)?;
+    let commands = fs::read_to_string(rt, session)?;
+    let answers = answers_to(rt.alloc(), commands.as_str())?;
+    let count = page.commands.as_str().lines().count();
+    println!(rt; "{name}: {count} commands of {session}")?;
+    Ok(page.is_shown_in(commands.as_str(), answers.as_str()))
+}
+
+/// Whether the commands of an example are answered as its file of answers says.
+fn is_example(rt: &HostRuntime, name: &str, answered: &str) -> io::Result<bool> {
+    let commands = fs::read_to_string(rt, name)?;
+    let answers = answers_to(rt.alloc(), commands.as_str())?;
+    let count = commands.as_str().lines().count();
+    println!(rt; "{name}: {count} commands")?;
+    Ok(answers.as_str() == fs::read_to_string(rt, answered)?.as_str())
+}
+
+/// Compares all pages and examples.
+fn compare(rt: &HostRuntime) -> io::Result<bool> {
+    Ok(is_session(rt, "GUIDE.md")?
+        && is_of_session(rt, "COMMANDS.md", "household.jsonl")?
+        && is_example(rt, "month.jsonl", "month.answers.jsonl")?
+        && is_example(rt, "salary.jsonl", "salary.answers.jsonl")?)
+}
+
+fn main(rt: HostRuntime) -> ExitCode {
+    match compare(&rt) {
+        Ok(true) => ExitCode::SUCCESS,
+        _ => ExitCode::from(1),
+    }
+}
