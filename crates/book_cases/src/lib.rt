@@ -10,3 +10,5 @@ mod faults;
 mod long;
 #[cfg(test)]
 mod runs;
+#[cfg(test)]
+mod sizes;

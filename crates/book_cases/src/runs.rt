@@ -3,6 +3,15 @@ use book_commodity::{Bytes, Many, OutOfMemory, Text};
 use book_keeper::{MemSink, MemSource};
 use std::alloc::Global;
 
+/// Two accounts.
+pub(crate) const ACCOUNTS: &str =
+    r#"{"do":"account_add","name":"Bank","kind":"BANK","commodity":1,"parent":2}
+{"do":"account_add","name":"Salary","kind":"INCOME","commodity":1,"parent":2}
+"#;
+
+/// How many bytes the answers of a run may have.
+const ROOM: usize = 1 << 20;
+
 /// Two accounts, and a salary of 2,500.00 euro on the fifth of January 2024.
 pub(crate) const SALARY: &str =
     r#"{"do":"account_add","name":"Bank","kind":"BANK","commodity":1,"parent":2}
@@ -38,7 +47,7 @@ pub(crate) fn ran(
     }
     let bytes = Bytes::of(input.to_vec(alloc)?);
     let mut source = MemSource::new(bytes, piece.max(1), Many::of(reads.to_vec(alloc)?));
-    let mut output = MemSink::new(alloc, 4096, Many::of(writes.to_vec(alloc)?))?;
+    let mut output = MemSink::new(alloc, ROOM, Many::of(writes.to_vec(alloc)?))?;
     let status = book_main(alloc, texts.as_slice(), &mut source, &mut output);
     Ok(Ended { status, output })
 }

@@ -44,7 +44,7 @@ fn schedule(alloc: Global, recurrence: Recurrence) -> Result<Timing, Fail>
     })
 }
 
-/// Checks that these days, parted by spaces, are due up to a day.
+/// Checks that these days, separated by spaces, are due up to a day.
 fn check(
     rt: &impl Abort,
     alloc: Global,
@@ -116,6 +116,18 @@ fn common_days_of_two_once(rt: HostRuntime) -> Result<(), Fail> {
         "2024-02-12",
         "2024-01-01 2024-01-08 2024-01-15 2024-01-22 2024-01-29 2024-02-01 2024-02-05 2024-02-12",
     )
+}
+
+#[test]
+fn once_and_no_more(rt: HostRuntime) -> Result<(), Fail> {
+    let start = day(&rt, "2024-05-05");
+    let mut timing = schedule(
+        rt.alloc(),
+        every(RecurrenceKind::Once, start, Adjust::Nothing),
+    )?;
+    check(&rt, rt.alloc(), &timing, "2024-12-31", "2024-05-05")?;
+    timing.last = Some(start);
+    check(&rt, rt.alloc(), &timing, "2024-12-31", "")
 }
 
 #[test]

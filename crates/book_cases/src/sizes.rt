@@ -1,0 +1,134 @@
+use crate::runs::{ACCOUNTS, ran};
+use book_app::Status;
+use book_commodity::OutOfMemory;
+use std::alloc::Global;
+use std::test::Fail;
+
+/// Runs the lines behind those of the two accounts, and gives the last answer.
+fn last_answer(alloc: Global, lines: &str) -> Result<String, Fail> {
+    let mut input = String::from_str(alloc, ACCOUNTS)?;
+    input.push_str(lines)?;
+    let ended = ran(
+        alloc,
+        &["run", "household.book"],
+        input.as_bytes(),
+        65_536,
+        &[],
+        &[],
+    )?;
+    if ended.status != Status::Done {
+        Err("the run did not end by Done")?;
+    }
+    let answers = str::from_utf8(ended.output.written()).map_err(|_| "no text")?;
+    let last = answers.lines().last().ok_or("no answer")?;
+    Ok(String::from_str(alloc, last)?)
+}
+
+/// A post with these splits, in a line.
+fn add_post(lines: &mut String, description: &str, splits: &str) -> Result<(), OutOfMemory> {
+    lines.push_str(r#"{"do":"post","day":"2024-01-05","currency":1,"description":""#)?;
+    lines.push_str(description)?;
+    lines.push_str(r#"","splits":["#)?;
+    lines.push_str(splits)?;
+    lines.push_str("]}\n")?;
+    Ok(())
+}
+
+/// The text so many times.
+fn repeated(alloc: Global, text: &str, count: usize) -> Result<String, OutOfMemory> {
+    let mut repeated = String::new(alloc);
+    for _ in 0..count {
+        repeated.push_str(text)?;
+    }
+    Ok(repeated)
+}
+
+const FIVE: &str =
+    r#"{"account":3,"value":4},{"account":4,"value":-1},{"account":4,"value":-1},{"account":4,"value":-1},{"account":4,"value":-1}"#;
+
+// Two thousand versions and twelve thousand numbers.
+#[test]
+fn two_thousand_posts(rt: HostRuntime) -> Result<(), Fail> {
+    let mut lines = String::new(rt.alloc());
+    for _ in 0..2000 {
+        add_post(&mut lines, "Pay", FIVE)?;
+    }
+    let last = last_answer(rt.alloc(), lines.as_str())?;
+    assert_eq!(rt;
+        last.as_str(),
+        r#"{"balances":["8000","-8000","-8000","-8000","-8000"],"ok":"post","splits":[12000,12001,12002,12003,12004],"transaction":11999,"version":2002}"#
+    );
+    Ok(())
+}
+
+const PAIR: &str = r#"{"account":3,"value":1},{"account":4,"value":-1},"#;
+
+const LAST_PAIR: &str = r#"{"account":3,"value":1},{"account":4,"value":-1}"#;
+
+// A post of 500 splits is done; one of 501 is refused.
+#[test]
+fn five_hundred_splits(rt: HostRuntime) -> Result<(), Fail> {
+    let mut splits = repeated(rt.alloc(), PAIR, 249)?;
+    splits.push_str(LAST_PAIR)?;
+    let mut lines = String::new(rt.alloc());
+    add_post(&mut lines, "Many", splits.as_str())?;
+    let last = last_answer(rt.alloc(), lines.as_str())?;
+    assert!(rt;
+        last.as_str()
+            .starts_with(r#"{"balances":["250","-250","250","#)
+    );
+    assert!(rt;
+        last.as_str()
+            .ends_with(r#",504,505],"transaction":5,"version":3}"#)
+    );
+    splits.push_str(r#",{"account":3,"value":0}"#)?;
+    let mut lines = String::new(rt.alloc());
+    add_post(&mut lines, "Many", splits.as_str())?;
+    let last = last_answer(rt.alloc(), lines.as_str())?;
+    assert_eq!(rt;
+        last.as_str(),
+        r#"{"broken":"SplitCount","count":501,"version":2}"#
+    );
+    Ok(())
+}
+
+/// What stands behind a long description, and the answer.
+type Row = (&'static str, &'static str);
+
+// A line of 100 KB is answered as a short one is, whatever the answer.
+static ROWS: [Row; 6] = [
+    (
+        r#"","splits":[{"account":3,"value":7},{"account":4,"value":-7}]}"#,
+        r#"{"balances":["7","-7"],"ok":"post","splits":[6,7],"transaction":5,"version":3}"#,
+    ),
+    (
+        r#"","splits":[{"account":3,"value":7},{"account":4,"value":-8}]}"#,
+        r#"{"broken":"Unbalanced","sum":"-1","version":2}"#,
+    ),
+    (
+        r#"","splits":[],"at":1}"#,
+        r#"{"broken":"Stale","now":2,"version":2}"#,
+    ),
+    (
+        r#"","splits":[{"account":3}]}"#,
+        r#"{"field":"splits","refused":"not command"}"#,
+    ),
+    (r#"","do":"undo"}"#, r#"{"refused":"not built"}"#),
+    (r#"","#, r#"{"refused":"not json"}"#),
+];
+
+#[test]
+fn long_lines(rt: HostRuntime) -> Result<(), Fail> {
+    let description = repeated(rt.alloc(), "a description ", 7200)?;
+    for (behind, answer) in ROWS {
+        let mut line = String::from_str(
+            rt.alloc(),
+            r#"{"do":"post","day":"2024-01-05","currency":1,"description":""#,
+        )?;
+        line.push_str(description.as_str())?;
+        line.push_str(behind)?;
+        let last = last_answer(rt.alloc(), line.as_str())?;
+        assert_eq!(rt; last.as_str(), answer);
+    }
+    Ok(())
+}
