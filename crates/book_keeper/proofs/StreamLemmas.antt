@@ -1,24 +1,7 @@
 -- What was taken and what was written, over one call after another.
-use Rattle.std.proofs.Common.{
-  ◌≡◌,
-  ℕ,
-  List,
-  [],
-  ◌++◌,
-  Option,
-  None,
-  Some,
-  refl,
-  sym,
-  ap,
-  subst,
-  ◌∙◌,
-  append_assoc,
-  append-nil,
-  length-append,
-  arith,
-}
-use Rattle.std.specs.Io.KnownBytes.{Keeps, Appends, Consumes}
+use Rattle.std.proofs.Common.{◌≡◌, ℕ, List, [], ◌++◌, Option, None, Some, refl, sym, ap, subst, ◌∙◌, append_assoc}
+use Rattle.std.proofs.Common.{append-nil, length-append, arith}
+use Rattle.std.specs.Io.KnownBytes.{Keeps, Appends, Consumes, IsAtEnd}
 use Rattle.book_keeper.specs.Stream.{Are, Wrote, WrotePart}
 
 -- nothing written
@@ -36,6 +19,11 @@ Wrote-append a b c first next p q = record {
 pub Are-some : (a : Option (List ℕ)) → (bytes : List ℕ) × Are a bytes
 Are-some None = ([], tt)
 Are-some (Some xs) = (xs, refl)
+
+-- at the end nothing is left
+pub Are-end : (a : Option (List ℕ)) → IsAtEnd a → Are a []
+Are-end None p = tt
+Are-end (Some xs) p = p
 
 -- what was left are the bytes taken and then the bytes that are left now
 pub Are-Consumes : (a b : Option (List ℕ)) (taken left : List ℕ) → Consumes a b taken → Are b left

@@ -1,22 +1,6 @@
 -- What the call took joins what was written before.
-use Rattle.std.proofs.Common.{
-  ◌≡◌,
-  ℕ,
-  ◌-◌,
-  List,
-  ◌++◌,
-  length,
-  take,
-  drop,
-  sym,
-  ap,
-  ◌∙◌,
-  append_assoc,
-  take-append-drop,
-  length-drop,
-  arith,
-  refl,
-}
+use Rattle.std.proofs.Common.{◌≡◌, ℕ, ◌-◌, List, ◌++◌, length, take, drop, sym, ap, ◌∙◌, append_assoc}
+use Rattle.std.proofs.Common.{take-append-drop, length-drop, arith, refl}
 use Rattle.std.proofs.lemmas.List.{take_all}
 use Rattle.book_keeper.proofs.StreamLemmas.{Wrote-append}
 use Rattle.book_keeper.proofs.writing.write_all.Goals as goal
