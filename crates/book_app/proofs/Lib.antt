@@ -1,2 +1,2 @@
 pub mod ReplyLemmas
-pub mod RunTables
+pub mod StatusClauseLemmas

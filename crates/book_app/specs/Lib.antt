@@ -1,4 +1,4 @@
 pub mod Machine
 pub mod Numbers
-pub mod Table
+pub mod StatusClause
 pub mod Words

@@ -1,6 +1,6 @@
 ghost use Rattle.std.specs.Prelude.{◌≡◌, ℕ, ◌^◌, ◌<◌, ◌≤◌, List, length, Err, IfOk, OnErr};
 ghost use Rattle.book_keeper.specs.Faults.{Rose};
-ghost use Rattle.book_lines.specs.Marks.{Mark, Told, Memory, Keeper, IsTold, memory_answer, keeper_answer};
+ghost use Rattle.book_lines.specs.Marks.{Mark, Answered, Memory, Keeper, IsAnswer, memory_answer, keeper_answer};
 ghost use Rattle.book_step.specs.Step.{step};
 ghost use Rattle.book_app.specs.Machine.{IsOutcome, Tells};
 
@@ -14,15 +14,15 @@ use std::alloc::Global;
 
 /// The way in which this crate joins an engine to the lines.
 #[derive(Clone, Copy, Debug)]
-pub struct Wire;
+pub struct Answering;
 
-/// What an engine keeps outside of memory: nothing.
+/// Nothing is kept outside of memory.
 #[derive(Clone, Copy, Debug)]
-pub struct Nothing;
+pub struct NoKeeper;
 
 /// The text of a command's outcome. The text is made before the change, so that no answered change is lost for memory.
 fn reply(alloc: Global, engine: &mut Engine, command: Command) -> Result<Bytes, OutOfMemory>
-    ensures told { IfOk result (λ text. IsTold text × IsOutcome (step engine.old.state command) engine.old.state text engine.new.state) }
+    ensures told { IfOk result (λ text. IsAnswer text × IsOutcome (step engine.old.state command) engine.old.state text engine.new.state) }
     ensures kept { OnErr result (engine.new.state ≡ engine.old.state) }
 {
     match engine.prepare(command) {
@@ -38,7 +38,7 @@ fn reply(alloc: Global, engine: &mut Engine, command: Command) -> Result<Bytes, 
 
 /// The answer to a line, whatever its bytes are.
 fn answer_to(alloc: Global, engine: &mut Engine, line: &[u8]) -> Result<Bytes, OutOfMemory>
-    ensures told { IfOk result (λ text. IsTold text × Tells engine.old.state line.now text engine.new.state) }
+    ensures told { IfOk result (λ text. IsAnswer text × Tells engine.old.state line.now text engine.new.state) }
     ensures kept { OnErr result (engine.new.state ≡ engine.old.state) }
 {
     match command_of(alloc, line) {
@@ -48,7 +48,7 @@ fn answer_to(alloc: Global, engine: &mut Engine, line: &[u8]) -> Result<Bytes, O
     }
 }
 
-impl Machine<Wire, Nothing> for Engine {
+impl Machine<Answering, NoKeeper> for Engine {
     ghost use Rattle.std.specs.Prelude.{ℕ};
     ghost use Rattle.book_app.specs.Machine.{answers as line_answers};
 
@@ -61,7 +61,7 @@ impl Machine<Wire, Nothing> for Engine {
     fn answer(
         &mut self,
         alloc: Global,
-        _keeper: &mut Nothing,
+        _keeper: &mut NoKeeper,
         line: &[u8],
     ) -> Result<Bytes, Unanswered> {
         match answer_to(alloc, self, line) {

@@ -10,7 +10,7 @@ pub enum Status {
     Done,
     /// The words are not those of a command of the program.
     Usage,
-    /// Memory was refused before the first line.
+    /// It was out of memory before the first line.
     Memory,
     /// The input failed.
     InputFault,
@@ -32,6 +32,18 @@ impl Status {
             Status::InputFault => 4,
             Status::OutputFault => 5,
             Status::InputLimit => 9,
+        }
+    }
+
+    /// The line that the program prints on standard error at this status; empty at Done, where it prints none.
+    pub fn message(self) -> &'static str {
+        match self {
+            Status::Done => "",
+            Status::Usage => "usage: book run BOOK",
+            Status::Memory => "book: out of memory",
+            Status::InputFault => "book: the input failed",
+            Status::OutputFault => "book: the output failed",
+            Status::InputLimit => "book: the input is too long",
         }
     }
 }

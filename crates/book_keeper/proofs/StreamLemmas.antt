@@ -1,50 +1,40 @@
 -- What was taken and what was written, over one call after another.
-use Rattle.std.proofs.Common.{◌≡◌, ℕ, List, [], ◌++◌, Option, None, Some, refl, sym, ap, ◌∙◌, append_assoc, append-nil, length-append, arith}
-use Rattle.std.proofs.lemmas.List.{append_cancel_left}
-use Rattle.book_keeper.specs.Stream.{Are, Took, Wrote, WrotePart}
-
--- nothing taken
-pub Took-nil : (a : Option (List ℕ)) → Took a a []
-Took-nil None = tt
-Took-nil (Some xs) = refl
-
--- what was taken first, and then what was taken next
-pub Took-append : (a b c : Option (List ℕ)) (first next : List ℕ) → Took a b first → Took b c next → Took a c (first ++ next)
-Took-append None b c first next p q = tt
-Took-append (Some x) None c first next p q = absurd p
-Took-append (Some x) (Some y) None first next p q = absurd q
-Took-append (Some x) (Some y) (Some z) first next p q = p ∙ ap (λ l. first ++ l) q ∙ sym (append_assoc first next z)
+use Rattle.std.proofs.Common.{◌≡◌, ℕ, List, [], ◌++◌, Option, None, Some, refl, sym, ap, subst, ◌∙◌, append_assoc}
+use Rattle.std.proofs.Common.{append-nil, length-append, arith}
+use Rattle.std.specs.Io.KnownBytes.{Keeps, Appends, Consumes, IsAtEnd}
+use Rattle.book_keeper.specs.Stream.{Are, Wrote, WrotePart}
 
 -- nothing written
-pub Wrote-nil : (a : Option (List ℕ)) → Wrote a a []
-Wrote-nil None = tt
-Wrote-nil (Some xs) = sym (append-nil xs)
+pub Wrote-nil : (a : List ℕ → Type 0) → Wrote a a []
+Wrote-nil a = record { each = λ before held. subst a (sym (append-nil before)) held }
 
 -- what was written first, and then what was written next
-pub Wrote-append : (a b c : Option (List ℕ)) (first next : List ℕ) → Wrote a b first → Wrote b c next → Wrote a c (first ++ next)
-Wrote-append a b None first next p q = tt
-Wrote-append a None (Some z) first next p q = absurd q
-Wrote-append None (Some y) (Some z) first next p q = absurd p
-Wrote-append (Some x) (Some y) (Some z) first next p q = q ∙ ap (λ l. l ++ next) p ∙ append_assoc x first next
+pub Wrote-append : (a b c : List ℕ → Type 0) (first next : List ℕ)
+    → Wrote a b first → Wrote b c next → Wrote a c (first ++ next)
+Wrote-append a b c first next p q = record {
+  each = λ before held. subst c (append_assoc before first next) (q.each (before ++ first) (p.each before held));
+}
 
--- there always are bytes that the told ones are
+-- there always are bytes that the reported ones are
 pub Are-some : (a : Option (List ℕ)) → (bytes : List ℕ) × Are a bytes
 Are-some None = ([], tt)
 Are-some (Some xs) = (xs, refl)
 
--- what was left are the bytes taken and then the bytes that are left now
-pub Are-Took : (a b : Option (List ℕ)) (taken left : List ℕ) → Took a b taken → Are b left → Are a (taken ++ left)
-Are-Took None b taken left p q = tt
-Are-Took (Some x) None taken left p q = absurd p
-Are-Took (Some x) (Some y) taken left p q = p ∙ ap (λ l. taken ++ l) q
+-- at the end nothing is left
+pub Are-end : (a : Option (List ℕ)) → IsAtEnd a → Are a []
+Are-end None p = tt
+Are-end (Some xs) p = p
 
--- where bytes are told, those that are left now are what stands behind those that were taken
-pub Took-Are : (x : List ℕ) (b : Option (List ℕ)) (taken left : List ℕ) → Took (Some x) b taken → x ≡ taken ++ left → Are b left
-Took-Are x None taken left p q = absurd p
-Took-Are x (Some y) taken left p q = append_cancel_left taken y left (sym p ∙ q)
+-- what was left are the bytes taken and then the bytes that are left now
+pub Are-Consumes : (a b : Option (List ℕ)) (taken left : List ℕ) → Consumes a b taken → Are b left
+    → Are a (taken ++ left)
+Are-Consumes None b taken left p q = tt
+Are-Consumes (Some x) None taken left p q = absurd p
+Are-Consumes (Some x) (Some y) taken left p q = p ∙ ap (λ l. taken ++ l) q
 
 -- bytes written whole, and then a part of others, are a part of both
-pub WrotePart-after : (a b c : Option (List ℕ)) (first next : List ℕ) → Wrote a b first → WrotePart b c next → WrotePart a c (first ++ next)
+pub WrotePart-after : (a b c : List ℕ → Type 0) (first next : List ℕ) → Wrote a b first → WrotePart b c next
+    → WrotePart a c (first ++ next)
 WrotePart-after a b c first next whole part = record {
   part = first ++ part.part;
   rest = part.rest;
@@ -54,7 +44,8 @@ WrotePart-after a b c first next whole part = record {
 }
 
 -- a part of bytes is a part of longer ones
-pub WrotePart-longer : (a b : Option (List ℕ)) (bytes more : List ℕ) → WrotePart a b bytes → WrotePart a b (bytes ++ more)
+pub WrotePart-longer : (a b : List ℕ → Type 0) (bytes more : List ℕ) → WrotePart a b bytes
+    → WrotePart a b (bytes ++ more)
 WrotePart-longer a b bytes more part = record {
   part = part.part;
   rest = part.rest ++ more;
@@ -62,3 +53,16 @@ WrotePart-longer a b bytes more part = record {
   short = let short = part.short in omega (arith, length-append part.rest more);
   wrote = part.wrote;
 }
+
+-- what a writer is known to hold stays known where a call appends to it, or keeps it
+pub known_appends : (a b : Option (List ℕ)) (before bytes : List ℕ) → Appends a b bytes → a ≡ Some before
+    → b ≡ Some (before ++ bytes)
+known_appends None b before bytes p is = absurd cc
+known_appends (Some x) None before bytes p is = absurd p
+known_appends (Some x) (Some y) before bytes p is = let held : x ≡ before = cc in ap Some
+    (p ∙ ap (λ l. l ++ bytes) held)
+
+pub known_keeps : (a b : Option (List ℕ)) (before : List ℕ) → Keeps a b → a ≡ Some before → b ≡ Some before
+known_keeps None b before p is = absurd cc
+known_keeps (Some x) None before p is = absurd p
+known_keeps (Some x) (Some y) before p is = let held : x ≡ before = cc in ap Some (p ∙ held)

@@ -3,3 +3,4 @@ pub mod Faults
 pub mod SinkInMemory
 pub mod SourceInMemory
 pub mod Stream
+pub mod Written

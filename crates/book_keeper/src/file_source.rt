@@ -1,47 +1,44 @@
-ghost use Rattle.std.specs.Prelude.{◌≡◌, ◌≤◌, None, IfOk, OnOk, OnErr, length};
+ghost use Rattle.std.specs.Prelude.{◌≡◌, ◌<◌, ◌≤◌, Ok, IfOk, OnOk, OnErr, length, take};
+ghost use Rattle.std.specs.Io.KnownBytes.{Consumes, IsAtEnd, Keeps};
 ghost use Rattle.book_keeper.specs.Faults.{HasCause, next_count};
 
 use crate::interrupted::{TRIES, is_interrupted};
 use crate::{Failed, Source};
 use std::io::Read;
-use std::marker::Model;
 
-/// A source over a reader of std, such as a file or standard input. It tells its count of faults alone,
-/// which is what contracts see, and nothing of content.
+/// A source over a reader of std, such as a file or standard input. It reports what its reader reports: the bytes that
+/// are left where the reader is one over memory, and nothing of what a file, a terminal or a pipe holds.
 #[derive(Drop)]
 pub struct FileSource<R> {
     reader: R,
     faults: u64,
 }
 
-impl<R> Model for FileSource<R> {
-    ghost use Rattle.std.specs.Prelude.{ℕ};
-
-    ghost Value = { ℕ };
-
-    ghost view = { λ s. s.faults };
-}
-
 impl<R: Read> FileSource<R> {
-    /// A source of what the reader gives.
+    /// A source of what the reader gives, with no fault yet.
     pub fn new(reader: R) -> FileSource<R>
-        ensures { result ≡ 0 }
+        ensures { result ≡ record { reader = reader; faults = 0 } }
     {
         FileSource { reader, faults: 0 }
     }
 }
 
 impl<R: Read> Source for FileSource<R> {
-    ghost left = { λ _. None };
+    ghost left = { λ source. R.remaining source.reader };
 
-    ghost faults = { λ source. source };
+    ghost faults = { λ source. source.faults };
 
-    /// Counts a fault where the reader answers an error that is no interruption.
+    /// Reads once, and again only where that was interrupted: up to 1,000,000 times in all. Failed, and one fault
+    /// counted, where the reader answers another error or is interrupted each time.
     fn read(&mut self, buffer: &mut [u8]) -> Result<usize, Failed>
         ensures within { IfOk result (λ count. count ≤ length buffer.old) }
-        ensures read { OnOk result (self.new ≡ self.old) }
-        ensures failed { OnErr result (self.new ≡ next_count self.old) }
-        ensures cause { HasCause self.old self.new result }
+        ensures taken { IfOk result (λ count.
+            Consumes (R.remaining self.old.reader) (R.remaining self.new.reader) (take count buffer.new)) }
+        ensures end { result ≡ Ok 0 → 0 < length buffer.old → IsAtEnd (R.remaining self.new.reader) }
+        ensures unchanged { OnErr result (Keeps (R.remaining self.old.reader) (R.remaining self.new.reader)) }
+        ensures read { OnOk result (self.new.faults ≡ self.old.faults) }
+        ensures failed { OnErr result (self.new.faults ≡ next_count self.old.faults) }
+        ensures cause { HasCause self.old.faults self.new.faults result }
     {
         if let Ok(count) = read_some(&mut self.reader, buffer) {
             return Ok(count);
@@ -53,9 +50,13 @@ impl<R: Read> Source for FileSource<R> {
 
 /// Reads into the front of the buffer, again where that was interrupted, and says how many bytes.
 fn read_some<R: Read>(reader: &mut R, buffer: &mut [u8]) -> Result<usize, Failed>
-    ensures { IfOk result (λ count. count ≤ length buffer.old) }
+    ensures within { IfOk result (λ count. count ≤ length buffer.old) }
+    ensures taken { IfOk result (λ count.
+        Consumes (R.remaining reader.old) (R.remaining reader.new) (take count buffer.new)) }
+    ensures end { result ≡ Ok 0 → 0 < length buffer.old → IsAtEnd (R.remaining reader.new) }
+    ensures unchanged { OnErr result (Keeps (R.remaining reader.old) (R.remaining reader.new)) }
 {
-    for _ in 0..TRIES {
+    'tries: for _ in 0..TRIES {
         match reader.read(buffer) {
             Ok(count) => return Ok(count),
             Err(error) if is_interrupted(&error) => {}
@@ -112,6 +113,36 @@ mod tests {
             assert_eq!(rt; source.read(&mut buffer), answer);
             assert_eq!(rt; &buffer, after);
             assert_eq!(rt; source.faults, faults);
+        }
+    }
+
+    /// A reader that is interrupted so many times, and then gives one byte.
+    #[derive(Drop)]
+    struct Interrupted {
+        left: u32,
+    }
+
+    impl Read for Interrupted {
+        fn read(&mut self, buffer: &mut [u8]) -> io::Result<usize> {
+            if self.left > 0 {
+                self.left -= 1;
+                return Err(io::Error::from(ErrorKind::Interrupted));
+            }
+            Ok(copy_front(buffer, b"a"))
+        }
+    }
+
+    #[test]
+    fn is_interrupted_up_to_a_million_times(rt: HostRuntime) {
+        let rows = [
+            (999_999, Ok(1), 0),
+            (1_000_000, Err(Failed), 0),
+            (1_000_001, Err(Failed), 1),
+        ];
+        for (times, answer, left) in rows {
+            let mut source = FileSource::new(Interrupted { left: times });
+            assert_eq!(rt; source.read(&mut [0; 4]), answer);
+            assert_eq!(rt; source.reader.left, left);
         }
     }
 }

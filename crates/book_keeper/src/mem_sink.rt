@@ -1,4 +1,4 @@
-ghost use Rattle.std.specs.Prelude.{◌≡◌, ◌↔◌, [], Some, IfOk, OnErr, IsErr, length, min};
+ghost use Rattle.std.specs.Prelude.{◌≡◌, ◌↔◌, [], IfOk, OnErr, IsErr, length, min};
 ghost use Rattle.book_keeper.specs.Faults.{HasCause};
 ghost use Rattle.book_keeper.specs.SinkInMemory.{Refuses, after_write, after_failed_write};
 
@@ -38,7 +38,8 @@ impl MemSink {
     /// A sink with room for so many bytes. The calls whose numbers, counted from 1, stand in `fail` are to
     /// fail; so does one with bytes where no room is left. Only this call takes memory.
     pub fn new(alloc: Global, room: usize, fail: Many<u64>) -> Result<MemSink, OutOfMemory>
-        ensures { IfOk result (λ sink. sink ≡ record { written = []; room = room; fail = fail; calls = 0; faults = 0 }) }
+        ensures { IfOk result (λ sink.
+            sink ≡ record { written = []; room = room; fail = fail; calls = 0; faults = 0 }) }
     {
         let bytes = Vec::with_capacity(alloc, room)?;
         Ok(MemSink {
@@ -58,7 +59,7 @@ impl MemSink {
 }
 
 impl Sink for MemSink {
-    ghost written = { λ sink. Some sink.written };
+    ghost written = { λ sink bytes. sink.written ≡ bytes };
 
     ghost faults = { λ sink. sink.faults };
 

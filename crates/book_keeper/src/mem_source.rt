@@ -61,7 +61,8 @@ impl Source for MemSource {
     /// buffer allow.
     fn read(&mut self, buffer: &mut [u8]) -> Result<usize, Failed>
         ensures fails { IsErr result ↔ FailsNext self.old.fail self.old.calls }
-        ensures count { IfOk result (λ count. count ≡ min (min (length self.old.left) self.old.piece) (length buffer.old)) }
+        ensures count { IfOk result (λ count.
+            count ≡ min (min (length self.old.left) self.old.piece) (length buffer.old)) }
         ensures bytes { IfOk result (λ count. buffer.new ≡ take count self.old.left ++ drop count buffer.old) }
         ensures read { IfOk result (λ count. self.new ≡ after_read self.old count) }
         ensures failed { OnErr result (self.new ≡ after_failed_read self.old) }

@@ -1,4 +1,4 @@
-ghost use Rattle.std.specs.Prelude.{ℕ, ◌<◌, ◌≤◌, List, [], Option, IfOk, OnErr, length, take};
+ghost use Rattle.std.specs.Prelude.{ℕ, ◌<◌, ◌≤◌, List, [], IfOk, OnErr, length, take};
 ghost use Rattle.book_keeper.specs.Faults.{HasCause};
 ghost use Rattle.book_keeper.specs.Stream.{Wrote};
 
@@ -6,14 +6,16 @@ use crate::Failed;
 
 /// Where bytes go to.
 pub trait Sink {
-    /// The bytes that it was given, where the sink tells them.
-    ghost written: { Self → Option (List ℕ) };
+    /// The lists of bytes that the sink may have been given: one list where it reports what it was given, none where
+    /// it never does, and all where it no longer can.
+    ghost written: { Self → List ℕ → Type 0 };
 
     /// The count of its faults.
     ghost faults: { Self → ℕ };
 
     /// Takes bytes from the front of the piece and says how many: at least one of a piece that is not empty.
-    /// A failed call takes nothing, where the sink tells.
+    /// Failed: it took nothing, as far as it reports, and its count of faults rose. A call that succeeds leaves the
+    /// count.
     fn write(&mut self, bytes: &[u8]) -> Result<usize, Failed>
         ensures within { IfOk result (λ count. count ≤ length bytes.now) }
         ensures progress { IfOk result (λ count. 0 < length bytes.now → 0 < count) }

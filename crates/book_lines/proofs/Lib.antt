@@ -4,7 +4,7 @@ pub mod RunLemmas
 pub mod RoomLemmas
 pub mod LoopLemmas
 pub mod LinesLemmas
-pub mod TableLemmas
+pub mod RunClauseLemmas
 pub mod AnswerLemmas
 pub mod CallerLemmas
 mod Worked

@@ -4,13 +4,15 @@ use Rattle.std.proofs.lemmas.List.{map-append}
 use Rattle.std.proofs.lemmas.List.Sums.{sum_by-append}
 use Rattle.std.specs.Prelude.{cond}
 use Rattle.book_lines.specs.Lines.{ended, left_over, whole_lines, last_piece}
-use Rattle.book_lines.specs.Marks.{Mark, Memory, Keeper, memory_answer, keeper_answer, mark_of, marks, is_one_line, is_keeper, RoseForEach}
+use Rattle.book_lines.specs.Marks.{Mark, Memory, Keeper, memory_answer, keeper_answer, mark_of, marks, is_one_line}
+use Rattle.book_lines.specs.Marks.{is_keeper, RoseForEach}
 use Rattle.book_lines.proofs.LineLemmas.{ended-append, left_over-append, ended-one_line, left_over-one_line}
 
 -- the marks of joined texts of which the first ends a line
 pub marks-append : (t u : List ℕ) → last_piece t ≡ [] → marks (t ++ u) ≡ marks t ++ marks u
 marks-append t u h =
-    ap (λ l. map mark_of l) (ended-append [] t u ∙ ap (λ r. ended [] t ++ ended r u) h) ∙ map-append mark_of (whole_lines t) (whole_lines u)
+    ap (λ l. map mark_of l) (ended-append [] t u ∙ ap (λ r. ended [] t ++ ended r u) h)
+    ∙ map-append mark_of (whole_lines t) (whole_lines u)
 
 -- joined texts end a line where each does
 pub last_piece-append : (t u : List ℕ) → last_piece t ≡ [] → last_piece u ≡ [] → last_piece (t ++ u) ≡ []
@@ -49,5 +51,6 @@ unfolding keeper_answer
 keeper-one_line = refl
 
 -- faults that rose for the marks of one stretch, and then for those of the next
-pub RoseForEach-append : (a b c : ℕ) (ms ns : List Mark) → RoseForEach a b ms → RoseForEach b c ns → RoseForEach a c (ms ++ ns)
+pub RoseForEach-append : (a b c : ℕ) (ms ns : List Mark) → RoseForEach a b ms → RoseForEach b c ns
+    → RoseForEach a c (ms ++ ns)
 RoseForEach-append a b c ms ns p q = omega (arith, sum_by-append (λ m. cond (is_keeper m) 1 0) ms ns)

@@ -1,5 +1,6 @@
 -- What is seen of a line that grows.
-use Rattle.std.proofs.Common.{◌≡◌, ℕ, zero, suc, ◌+◌, ◌-◌, ◌^◌, ◌≤◌, min, Bool, ◌&&◌, List, [], ◌∷◌, ◌++◌, length, take, refl, sym, ap, ◌∙◌, arith, length-append}
+use Rattle.std.proofs.Common.{◌≡◌, ℕ, zero, suc, ◌+◌, ◌-◌, ◌^◌, ◌≤◌, min, Bool, ◌&&◌, List, [], ◌∷◌, ◌++◌, length}
+use Rattle.std.proofs.Common.{take, refl, sym, ap, ◌∙◌, arith, length-append}
 use Rattle.std.proofs.lemmas.List.{take_all, take_min}
 use Rattle.std.proofs.lemmas.List.Folds.{list_all-append}
 use Rattle.book_lines.specs.Lines.{is_blank, is_blank_byte}
@@ -14,7 +15,8 @@ take-grow (suc n) (x ∷ xs) ys =
     ap (λ l. x ∷ l) (take-grow n xs ys ∙ ap (λ k. take n xs ++ take k ys) e)
 
 -- the kept part of a line that grows
-front_of-append : (xs ys : List ℕ) (n : ℕ) → n ≡ 2 ^ 23 - length (front_of xs) → front_of (xs ++ ys) ≡ front_of xs ++ take n ys
+front_of-append : (xs ys : List ℕ) (n : ℕ) → n ≡ 2 ^ 23 - length (front_of xs)
+    → front_of (xs ++ ys) ≡ front_of xs ++ take n ys
 unfolding front_of
 front_of-append xs ys n h = take-grow (2 ^ 23) xs ys ∙ ap (λ k. take (2 ^ 23) xs ++ take k ys) (sym h)
 
@@ -44,7 +46,8 @@ pub seen-append : (line segment items : List ℕ) (size n : ℕ) (blank : Bool)
     → size ≡ length line + length segment → blank ≡ (is_blank line && is_blank segment)
     → (let room : Seen = record { front = items; size = size; blank = blank } in room ≡ seen (line ++ segment))
 seen-append line segment items size n blank f k s b =
-    let front : items ≡ front_of (line ++ segment) = f ∙ ap (λ l. front_of line ++ l) (take_min n segment) ∙ sym (front_of-append line segment n k) in
+    let front : items ≡ front_of (line ++ segment) = f ∙ ap (λ l. front_of line ++ l) (take_min n segment)
+    ∙ sym (front_of-append line segment n k) in
     let long : size ≡ length (line ++ segment) = s ∙ sym (length-append line segment) in
     let blanks : blank ≡ is_blank (line ++ segment) = b ∙ sym (list_all-append is_blank_byte line segment) in
     cc

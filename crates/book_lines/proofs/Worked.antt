@@ -2,7 +2,7 @@
 use Rattle.std.proofs.Common.{◌≡◌, ℕ, ◌+◌, List, [], ◌∷◌, refl, arith}
 use Rattle.std.specs.Prelude.{codes}
 use Rattle.book_lines.specs.Lines.{whole_lines, all_lines, lines_within, sent}
-use Rattle.book_lines.specs.Marks.{Mark, Told, Memory, Keeper, memory_answer, keeper_answer, marks}
+use Rattle.book_lines.specs.Marks.{Mark, Answered, Memory, Keeper, memory_answer, keeper_answer, marks}
 use Rattle.book_lines.specs.Transcript.{IsTranscript, IsCutShort}
 
 -- an empty line is a line, and so is a rest
@@ -41,7 +41,8 @@ blank : sent (all_lines (codes "a\n \t\r\n\n b")) ≡ codes "a" ∷ codes " b" �
 blank = refl
 
 -- the marks of a text
-three_marks : marks (codes "{\"ok\":1}\n{\"refused\":\"memory\"}\n{\"refused\":\"keeper\"}\n") ≡ Told ∷ Memory ∷ Keeper ∷ []
+three_marks : marks (codes "{\"ok\":1}\n{\"refused\":\"memory\"}\n{\"refused\":\"keeper\"}\n")
+    ≡ Answered ∷ Memory ∷ Keeper ∷ []
 unfolding memory_answer keeper_answer
 three_marks = refl
 
@@ -55,6 +56,11 @@ unfolding Counts memory_answer keeper_answer
 counted = (codes "x", 1, codes "y\n", (refl, refl), refl, (codes "y", 2, [], (refl, refl), refl, (refl, refl)))
 
 -- the second answer is cut short behind its first byte
-cut : IsCutShort Counts 0 (all_lines (codes "x\nyz\nw")) (codes "x\ny") Told 2
+cut : IsCutShort Counts 0 (all_lines (codes "x\nyz\nw")) (codes "x\ny") Answered 2
 unfolding Counts memory_answer keeper_answer
-cut = record { more = codes "z\n"; some = omega arith; run = (codes "x", 1, codes "yz\n", (refl, refl), refl, (codes "yz", 2, [], (refl, refl), refl, (refl, refl))) }
+cut = record {
+  more = codes "z\n";
+  some = omega arith;
+  run =
+      (codes "x", 1, codes "yz\n", (refl, refl), refl, (codes "yz", 2, [], (refl, refl), refl, (refl, refl)));
+}

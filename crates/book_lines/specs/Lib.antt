@@ -2,5 +2,5 @@ pub mod Lines
 pub mod Marks
 pub mod Transcript
 pub mod Room
-pub mod Table
+pub mod RunClause
 pub mod Loop

@@ -1,5 +1,6 @@
 -- The lines of an input: its pieces that end by a line feed, and a rest behind the last of them, within two limits.
-use Rattle.std.specs.Prelude.{ℕ, ◌^◌, ◌<◌, ◌≤◌, ◌==◌, nat_le, Bool, not, ◌||◌, List, [], ◌∷◌, ◌++◌, length, take, filter, if◌then◌else◌, ◌⊎◌}
+use Rattle.std.specs.Prelude.{ℕ, ◌^◌, ◌<◌, ◌≤◌, ◌==◌, nat_le, Bool, not, ◌||◌, List, [], ◌∷◌, ◌++◌, length, take}
+use Rattle.std.specs.Prelude.{filter, if◌then◌else◌, ◌⊎◌}
 use Rattle.std.specs.List.{list_all}
 
 -- the pieces that end by a line feed, each without it; `begun` is what stands before `bytes` on the same line

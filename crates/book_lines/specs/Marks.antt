@@ -1,16 +1,17 @@
 -- How each answer of a text came about, read from the text itself.
-use Rattle.std.specs.Prelude.{◌≡◌, ℕ, ◌+◌, ◌-◌, ◌^◌, ◌≤◌, ◌==◌, min, Bool, true, false, not, List, map, count_by, if◌then◌else◌, codes}
+use Rattle.std.specs.Prelude.{◌≡◌, ℕ, ◌+◌, ◌-◌, ◌^◌, ◌≤◌, ◌==◌, min, Bool, true, false, not, List, map, count_by}
+use Rattle.std.specs.Prelude.{if◌then◌else◌, codes}
 use Rattle.std.specs.List.{list_all}
 use Rattle.std.specs.Str.{bytes_eq}
 use Rattle.book_lines.specs.Lines.{whole_lines}
 
--- how a line was answered: by the machine, or not, since memory was refused or what is kept could not be changed
+-- how a line was answered: by the machine, or not, since it was out of memory or what is kept could not be changed
 pub data Mark : Type 0 where
-  Told : Mark
+  Answered : Mark
   Memory : Mark
   Keeper : Mark
 
--- the answer to a line for which memory was refused
+-- the answer to a line for which the machine was out of memory
 unfoldable pub memory_answer : List ℕ
 memory_answer = codes "{\"refused\":\"memory\"}"
 
@@ -20,7 +21,8 @@ keeper_answer = codes "{\"refused\":\"keeper\"}"
 
 -- the mark of an answer
 abbrev pub mark_of : List ℕ → Mark
-mark_of answer = if bytes_eq answer memory_answer then Memory else (if bytes_eq answer keeper_answer then Keeper else Told)
+mark_of answer = if bytes_eq answer memory_answer then Memory else
+    (if bytes_eq answer keeper_answer then Keeper else Answered)
 
 -- the marks of a text of answers, one for each line feed
 abbrev pub marks : List ℕ → List Mark
@@ -31,13 +33,13 @@ abbrev pub is_one_line : List ℕ → Bool
 is_one_line text = list_all (λ byte. not (byte == 10)) text
 
 -- an answer that the machine may give: one line, and neither of the two texts that say why it gave none
-pub record IsTold (answer : List ℕ) : Type 0 where
+pub record IsAnswer (answer : List ℕ) : Type 0 where
   pub one_line : is_one_line answer ≡ true
-  pub mark : mark_of answer ≡ Told
+  pub mark : mark_of answer ≡ Answered
 
 -- whether a mark says that what is kept could not be changed
 abbrev pub is_keeper : Mark → Bool
-is_keeper Told = false
+is_keeper Answered = false
 is_keeper Memory = false
 is_keeper Keeper = true
 

@@ -2,7 +2,7 @@ ghost use Rattle.std.specs.Prelude.{◌≡◌, ◌∷◌, [], ℕ, List, ◌++�
 ghost use Rattle.book_keeper.specs.Faults.{HasCause};
 ghost use Rattle.book_keeper.specs.Stream.{Wrote, WrotePart};
 ghost use Rattle.book_lines.specs.Room.{seen};
-ghost use Rattle.book_lines.specs.Table.{at};
+ghost use Rattle.book_lines.specs.RunClause.{at};
 ghost use Rattle.book_lines.specs.Loop.{answer_of, GaveAnswer, HasAnswered, HasBroken};
 
 use crate::line::{Line, MAX_LINE};
@@ -11,7 +11,7 @@ use book_commodity::{Bytes, OutOfMemory};
 use book_keeper::{Failed, Sink, write_all};
 use std::alloc::Global;
 
-// Has the machine answer the line, by its length alone where it is too long.
+/// Has the machine answer the line, by its length alone where it is too long.
 fn ask<W, K, M: Machine<W, K>>(
     alloc: Global,
     machine: &mut M,
@@ -33,7 +33,7 @@ fn ask<W, K, M: Machine<W, K>>(
     }
 }
 
-// Writes a text and a line feed behind it.
+/// Writes a text and a line feed behind it.
 fn write_line<O: Sink>(output: &mut O, text: &[u8]) -> Result<(), Failed>
     ensures all { OnOk result (Wrote (O.written output.old) (O.written output.new) (text.now ++ 10 ∷ [])) }
     ensures part { OnErr result (WrotePart (O.written output.old) (O.written output.new) (text.now ++ 10 ∷ [])) }
@@ -43,8 +43,8 @@ fn write_line<O: Sink>(output: &mut O, text: &[u8]) -> Result<(), Failed>
     write_all(output, b"\n")
 }
 
-// Writes an answer and a line feed behind it, at one go where there is memory for the line feed.
-fn write_told<O: Sink>(output: &mut O, answer: Bytes) -> Result<(), Failed>
+/// Writes an answer and a line feed behind it, in one write where there is memory for the line feed.
+fn write_text<O: Sink>(output: &mut O, answer: Bytes) -> Result<(), Failed>
     ensures all { OnOk result (Wrote (O.written output.old) (O.written output.new) (answer ++ 10 ∷ [])) }
     ensures part { OnErr result (WrotePart (O.written output.old) (O.written output.new) (answer ++ 10 ∷ [])) }
     ensures cause { HasCause (O.faults output.old) (O.faults output.new) result }
@@ -57,14 +57,15 @@ fn write_told<O: Sink>(output: &mut O, answer: Bytes) -> Result<(), Failed>
     }
 }
 
-// Writes the answer to a line, or why there is none.
+/// Writes the answer to a line, or why there is none.
 fn write_answer<O: Sink>(output: &mut O, answered: Result<Bytes, Unanswered>) -> Result<(), Failed>
     ensures all { OnOk result (Wrote (O.written output.old) (O.written output.new) (answer_of answered ++ 10 ∷ [])) }
-    ensures part { OnErr result (WrotePart (O.written output.old) (O.written output.new) (answer_of answered ++ 10 ∷ [])) }
+    ensures part { OnErr result
+        (WrotePart (O.written output.old) (O.written output.new) (answer_of answered ++ 10 ∷ [])) }
     ensures cause { HasCause (O.faults output.old) (O.faults output.new) result }
 {
     match answered {
-        Ok(answer) => write_told(output, answer),
+        Ok(answer) => write_text(output, answer),
         Err(unanswered) => write_line(output, unanswered.text()),
     }
 }

@@ -1,18 +1,18 @@
 ghost use Rattle.std.specs.Prelude.{◌≡◌, ℕ, ◌^◌, ◌<◌, ◌≤◌, List, length, Err, IfOk, OnErr};
 ghost use Rattle.book_keeper.specs.Faults.{Rose};
 ghost use Rattle.book_lines.specs.Loop.{text_of};
-ghost use Rattle.book_lines.specs.Marks.{Mark, Told, Memory, Keeper, IsTold, memory_answer, keeper_answer};
+ghost use Rattle.book_lines.specs.Marks.{Mark, Answered, Memory, Keeper, IsAnswer, memory_answer, keeper_answer};
 
 use book_commodity::{Bytes, OutOfMemory};
 use std::alloc::Global;
 
-/// The answer to a line for which memory was refused.
+/// The answer to a line for which the machine was out of memory.
 pub const MEMORY: &[u8] = b"{\"refused\":\"memory\"}";
 
 /// The answer to a line whose change could not be kept.
 pub const KEEPER: &[u8] = b"{\"refused\":\"keeper\"}";
 
-/// Why the machine gave no answer to a line: memory was refused, or what is kept could not be changed.
+/// Why the machine gave no answer to a line: it was out of memory, or what is kept could not be changed.
 #[derive(Clone, Copy, Debug, PartialEq, Eq)]
 pub enum Unanswered {
     Memory,
@@ -47,7 +47,7 @@ pub trait Machine<W, K> {
     fn answer(&mut self, alloc: Global, keeper: &mut K, line: &[u8]) -> Result<Bytes, Unanswered>
         requires stands { stands self.old keeper.old }
         requires short { length line.now ≤ 2 ^ 23 }
-        ensures told { IfOk result (λ text. IsTold text × answers self.old line.now Told text self.new) }
+        ensures answered { IfOk result (λ text. IsAnswer text × answers self.old line.now Answered text self.new) }
         ensures memory { result ≡ Err Unanswered.Memory → answers self.old line.now Memory memory_answer self.new }
         ensures keeper { result ≡ Err Unanswered.Keeper
             → answers self.old line.now Keeper keeper_answer self.new
@@ -57,9 +57,9 @@ pub trait Machine<W, K> {
 
     /// Answers a line of more than 8 MiB, of which only the length is known. The state stays.
     fn too_long(&self, alloc: Global, size: u64) -> Result<Bytes, OutOfMemory>
-        ensures told { IfOk result (λ text. IsTold text
+        ensures answered { IfOk result (λ text. IsAnswer text
             × ((line : List ℕ) → length line ≡ size → 2 ^ 23 < length line
-            → answers self.now line Told text self.now)) }
+            → answers self.now line Answered text self.now)) }
         ensures memory { OnErr result ((line : List ℕ) → length line ≡ size → 2 ^ 23 < length line
             → answers self.now line Memory memory_answer self.now) };
 }

@@ -1,8 +1,8 @@
-ghost use Rattle.std.specs.Prelude.{◌≡◌, ◌∷◌, [], ℕ, List, ◌+◌, ◌^◌, ◌<◌, ◌≤◌, length, OnOk, OnErr, IfErr, Err};
+ghost use Rattle.std.specs.Prelude.{◌≡◌, ◌≢◌, ◌∷◌, [], ℕ, List, ◌+◌, ◌^◌, ◌<◌, ◌≤◌, length, OnOk, OnErr, IfErr, Err};
 ghost use Rattle.book_keeper.specs.Faults.{HasCause, Rose};
 ghost use Rattle.book_lines.specs.Lines.{rest_line};
 ghost use Rattle.book_lines.specs.Room.{seen};
-ghost use Rattle.book_lines.specs.Table.{at};
+ghost use Rattle.book_lines.specs.RunClause.{at};
 ghost use Rattle.book_lines.specs.Loop.{HasBroken, HasTaken, HasStopped};
 
 use crate::answer::answer_line;
@@ -15,7 +15,7 @@ use std::alloc::Global;
 /// How many lines a run takes at most.
 const MAX_LINES: u64 = 1_000_000;
 
-// Ends the line in the room: answers it, counts it and begins a new one; Failed where the output failed.
+/// Ends the line in the room: answers it, counts it and begins a new one; Failed where the output failed.
 fn end_line<W, K, M: Machine<W, K>, O: Sink>(
     alloc: Global,
     machine: &mut M,
@@ -68,7 +68,7 @@ pub fn take_piece<W, K, M: Machine<W, K>, O: Sink>(
         → count.old + length (rest_line begun) ≤ 1000000
         → HasStopped M.answers begun piece.now before after count.old end) }
     ensures output_fault { result ≡ Err RunEnd.OutputFault → Rose (O.faults output.old) (O.faults output.new) }
-    ensures later { O.faults output.old ≤ O.faults output.new }
+    ensures no_output_fault { result ≢ Err RunEnd.OutputFault → O.faults output.new ≡ O.faults output.old }
     ensures stands { M.stands machine.new keeper.new }
 {
     let mut rest = piece;

@@ -13,7 +13,7 @@ pub struct LineRoom {
 }
 
 impl LineRoom {
-    /// Takes the memory once; OutOfMemory where it is refused.
+    /// Takes the memory once. OutOfMemory where there is not enough.
     pub fn new(alloc: Global) -> Result<LineRoom, OutOfMemory> {
         let line = Line::new(alloc)?;
         let piece = Box::new(alloc, [0u8; PIECE])?;

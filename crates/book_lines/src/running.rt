@@ -1,9 +1,9 @@
-ghost use Rattle.std.specs.Prelude.{◌≡◌, ◌∷◌, [], ℕ, List, ◌+◌, ◌^◌, ◌<◌, ◌≤◌, take, Ok, IfOk, OnErr};
+ghost use Rattle.std.specs.Prelude.{◌≡◌, ◌≢◌, ◌∷◌, [], ℕ, List, ◌+◌, ◌^◌, ◌<◌, ◌≤◌, take, Ok, IfOk, OnErr};
 ghost use Rattle.book_keeper.specs.Faults.{HasCause, Rose};
-ghost use Rattle.book_keeper.specs.Stream.{Are, Took};
+ghost use Rattle.std.specs.Io.KnownBytes.{Consumes, IsAtEnd, Keeps};
 ghost use Rattle.book_lines.specs.Lines.{rest_line};
 ghost use Rattle.book_lines.specs.Room.{seen};
-ghost use Rattle.book_lines.specs.Table.{at, IsRun};
+ghost use Rattle.book_lines.specs.RunClause.{at, IsRun};
 ghost use Rattle.book_lines.specs.Loop.{HasEnded};
 
 use crate::answer::answer_line;
@@ -27,7 +27,7 @@ pub enum RunEnd {
     OutputFault,
 }
 
-// Reads the next bytes behind `taken`: at most as many as the limit allows, or one to see whether a byte follows.
+/// Reads the next bytes behind `taken`: at most as many as the limit allows, or one to see whether a byte follows.
 fn read_piece<S: Source>(
     input: &mut S,
     taken: u64,
@@ -36,16 +36,17 @@ fn read_piece<S: Source>(
     requires { taken ≤ 2 ^ 33 }
     ensures within { IfOk result (λ count. count ≤ 65536) }
     ensures limit { IfOk result (λ count. taken < 2 ^ 33 → taken + count ≤ 2 ^ 33) }
-    ensures read { IfOk result (λ count. Took (S.left input.old) (S.left input.new) (take count piece.new)) }
-    ensures end { result ≡ Ok 0 → Are (S.left input.new) [] }
-    ensures unchanged { OnErr result (Took (S.left input.old) (S.left input.new) []) }
+    ensures past { IfOk result (λ count. taken + count ≤ 2 ^ 33 + 1) }
+    ensures read { IfOk result (λ count. Consumes (S.left input.old) (S.left input.new) (take count piece.new)) }
+    ensures end { result ≡ Ok 0 → IsAtEnd (S.left input.new) }
+    ensures unchanged { OnErr result (Keeps (S.left input.old) (S.left input.new)) }
     ensures cause { HasCause (S.faults input.old) (S.faults input.new) result }
 {
-    let wanted = (MAX_BYTES - taken).max(1).min(PIECE as u64) as usize;
-    input.read(&mut piece[..wanted])
+    let wanted = (MAX_BYTES - taken).max(1).min(PIECE as u64);
+    input.read(&mut piece[..wanted as usize])
 }
 
-// Answers a rest without line feed at the end of the input: Done, or OutputFault.
+/// Answers a rest without line feed at the end of the input: Done, or OutputFault.
 fn end_input<W, K, M: Machine<W, K>, O: Sink>(
     alloc: Global,
     machine: &mut M,
@@ -59,6 +60,7 @@ fn end_input<W, K, M: Machine<W, K>, O: Sink>(
         (begun : List ℕ) → line.now ≡ seen begun
         → HasEnded M.answers before (rest_line begun) after result }
     ensures output_fault { result ≡ RunEnd.OutputFault → Rose (O.faults output.old) (O.faults output.new) }
+    ensures no_output_fault { result ≢ RunEnd.OutputFault → O.faults output.new ≡ O.faults output.old }
     ensures stands { M.stands machine.new keeper.new }
 {
     if line.size() == 0 {
@@ -70,7 +72,7 @@ fn end_input<W, K, M: Machine<W, K>, O: Sink>(
     }
 }
 
-// Answers the lines of the input, a piece at a time.
+/// Answers the lines of the input, a piece at a time.
 fn run_pieces<W, K, M: Machine<W, K>, S: Source, O: Sink>(
     alloc: Global,
     machine: &mut M,
@@ -82,11 +84,13 @@ fn run_pieces<W, K, M: Machine<W, K>, S: Source, O: Sink>(
 ) -> RunEnd
     requires stands { M.stands machine.old keeper.old }
     requires empty { line.old ≡ seen [] }
-    ensures table { let before = at machine.old (O.written output.old) (M.faults keeper.old) in
+    ensures run { let before = at machine.old (O.written output.old) (M.faults keeper.old) in
         let after = at machine.new (O.written output.new) (M.faults keeper.new) in
         IsRun M.answers (S.left input.old) (S.left input.new) before after result }
     ensures input_fault { result ≡ RunEnd.InputFault → Rose (S.faults input.old) (S.faults input.new) }
+    ensures no_input_fault { result ≢ RunEnd.InputFault → S.faults input.new ≡ S.faults input.old }
     ensures output_fault { result ≡ RunEnd.OutputFault → Rose (O.faults output.old) (O.faults output.new) }
+    ensures no_output_fault { result ≢ RunEnd.OutputFault → O.faults output.new ≡ O.faults output.old }
     ensures stands { M.stands machine.new keeper.new }
 {
     let mut taken: u64 = 0;
@@ -119,6 +123,8 @@ fn run_pieces<W, K, M: Machine<W, K>, S: Source, O: Sink>(
 
 /// Answers the lines of the input on the output, one answer line for each line that is not blank, and says how it
 /// ended. A rest without line feed at the end is a line; one at InputLimit, InputFault or OutputFault is not run.
+/// At most one byte past 2^33 is read. No read or write that failed is made again: a run that ends by Done or
+/// InputLimit met no fault, and one that ends by a fault met that fault alone.
 pub fn run<W, K, M: Machine<W, K>, S: Source, O: Sink>(
     alloc: Global,
     machine: &mut M,
@@ -128,11 +134,13 @@ pub fn run<W, K, M: Machine<W, K>, S: Source, O: Sink>(
     room: &mut LineRoom,
 ) -> RunEnd
     requires { M.stands machine.old keeper.old }
-    ensures table { let before = at machine.old (O.written output.old) (M.faults keeper.old) in
+    ensures run { let before = at machine.old (O.written output.old) (M.faults keeper.old) in
         let after = at machine.new (O.written output.new) (M.faults keeper.new) in
         IsRun M.answers (S.left input.old) (S.left input.new) before after result }
     ensures input_fault { result ≡ RunEnd.InputFault → Rose (S.faults input.old) (S.faults input.new) }
+    ensures no_input_fault { result ≢ RunEnd.InputFault → S.faults input.new ≡ S.faults input.old }
     ensures output_fault { result ≡ RunEnd.OutputFault → Rose (O.faults output.old) (O.faults output.new) }
+    ensures no_output_fault { result ≢ RunEnd.OutputFault → O.faults output.new ≡ O.faults output.old }
     ensures stands { M.stands machine.new keeper.new }
 {
     room.line.clear();

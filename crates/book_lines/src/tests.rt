@@ -1,5 +1,5 @@
 ghost use Rattle.std.specs.Prelude.{◌≡◌, ◌<◌, IfOk};
-ghost use Rattle.book_lines.specs.Marks.{IsTold};
+ghost use Rattle.book_lines.specs.Marks.{IsAnswer};
 
 use crate::{LineRoom, Machine, RunEnd, Unanswered, run};
 use book_commodity::{Bytes, Many, OutOfMemory};
@@ -29,7 +29,7 @@ fn bytes_of(alloc: Global, text: &[u8]) -> Result<Bytes, OutOfMemory>
 }
 
 fn turn(alloc: Global, odd: bool) -> Result<Bytes, OutOfMemory>
-    ensures { IfOk result IsTold }
+    ensures { IfOk result IsAnswer }
 {
     if odd {
         return bytes_of(alloc, b"odd");

@@ -9,17 +9,20 @@ use Rattle.book_app.proofs.main_call.run_lines.Goals as goal
 machine : Maps (λ (old : Kept) (line : List ℕ) (mark : Mark) (text : List ℕ) (new : Kept). answers old.state line mark text new.state) answers (λ k. k.state)
 machine = record { each = λ old line mark text new h. h }
 
-pub returns-clause-table : goal.returns-clause-table
-returns-clause-table g c =
-    let run = IsRun-map _ answers (λ (k : Kept). k.state) machine _ _ _ _ _ c.run.ensures.table in
+pub returns-clause-run : goal.returns-clause-run
+returns-clause-run g c =
+    let run = IsRun-map _ answers (λ (k : Kept). k.state) machine _ _ _ _ _ c.run.ensures.run in
     record {
       bytes = run.bytes;
+      read = run.read;
       left = run.left;
       text = run.text;
       bytes_are = run.bytes_are;
       left_are = run.left_are;
+      parts = run.parts;
+      few = run.few;
       wrote = run.wrote;
       ended = c.run.result;
       status_is = c.status_after.ensures;
-      table = run.table;
+      clause = run.clause;
     }

@@ -10,7 +10,7 @@ use Rattle.book_texts.specs.AnswerText.{answer_bytes}
 use Rattle.book_texts.specs.RuleText.{rule_bytes}
 use Rattle.book_texts.proofs.ToldLemmas.{answer-own_line, rule-own_line}
 use Rattle.book_app.specs.Machine.{IsOutcome}
-use Rattle.book_app.proofs.ReplyLemmas.{IsTold-own_line}
+use Rattle.book_app.proofs.ReplyLemmas.{IsAnswer-own_line}
 use Rattle.book_app.proofs.reply.reply.Goals as goal
 
 pub returns-in_ok-text-in-Ok-clause-told : goal.returns-in_ok-text-in-Ok-clause-told
@@ -21,7 +21,7 @@ returns-in_ok-text-in-Ok-clause-told c =
     c.in_ok-text-in-Ok.ensures ∙ ap (λ (a : Answer). answer_bytes a c.version.result) c.answer.ensures ∙ ap (answer_bytes c.in-Ok.plan.answer) c.version.ensures in
     let new : c.finish.new.self.state ≡ after old c.in-Ok.plan =
     c.finish.ensures.state ∙ ap (λ (s : State). after s c.in-Ok.plan) c.prepare.ensures.unchanged in (
-      IsTold-own_line text _ is (answer-own_line c.in-Ok.plan.answer c.in-Ok.plan.version),
+      IsAnswer-own_line text _ is (answer-own_line c.in-Ok.plan.answer c.in-Ok.plan.version),
       subst (λ (o : Outcome). IsOutcome o old text c.finish.new.self.state) (sym c.in-Ok.ensures.planned) (is, new),
     )
 
@@ -36,7 +36,7 @@ returns-in-Err-Broken-clause-told c =
     IfOk-weaker c.rule_text.result _ _
     (λ text e.
     let is : text ≡ rule_bytes rule old.version = e ∙ ap (rule_bytes rule) version in (
-      IsTold-own_line text _ is (rule-own_line rule old.version),
+      IsAnswer-own_line text _ is (rule-own_line rule old.version),
       subst (λ (o : Outcome). IsOutcome o old text c.prepare.new.self.state) (sym broken) (is, c.prepare.ensures.unchanged),
     ))
     c.rule_text.ensures

@@ -2,7 +2,7 @@
 use Rattle.std.proofs.Common.{◌≡◌, ℕ, ◌+◌, ◌^◌, ◌<◌, ◌≤◌, List, ◌++◌, length}
 use Rattle.book_lines.specs.Lines.{rest_line}
 use Rattle.book_lines.specs.Room.{seen}
-use Rattle.book_lines.specs.Table.{at}
+use Rattle.book_lines.specs.RunClause.{at}
 use Rattle.book_lines.specs.Loop.{HasTaken}
 use Rattle.book_lines.proofs.piece.take_piece.Given as goal
 
@@ -14,7 +14,7 @@ invariant-lines g l = record {
       (at l.fn.machine (g.O.Sink.written l.fn.output) (g.M.Machine.faults l.fn.keeper))
       (at l.machine (g.O.Sink.written l.output) (g.M.Machine.faults l.keeper)) l.line l.fn.count l.count);
   fits : l.line.size + length l.rest < 2 ^ 64;
-  later : g.O.Sink.faults l.fn.output ≤ g.O.Sink.faults l.output;
+  quiet : g.O.Sink.faults l.output ≡ g.O.Sink.faults l.fn.output;
   stands : g.M.Machine.stands l.machine l.keeper;
 }
 

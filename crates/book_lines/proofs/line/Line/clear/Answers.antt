@@ -4,4 +4,5 @@ use Rattle.book_lines.proofs.RoomLemmas.{front_of-nil}
 use Rattle.book_lines.proofs.line.Line.clear.Goals as goal
 
 pub returns : goal.returns
-returns c = ap (λ l. let r : Seen = record { front = l; size = 0; blank = true } in r) (c.clear.ensures.items ∙ sym front_of-nil)
+returns c = ap (λ l. let r : Seen = record { front = l; size = 0; blank = true } in r)
+    (c.clear.ensures.items ∙ sym front_of-nil)

@@ -15,8 +15,13 @@ returns c line h =
     let len = c.len.ensures in
     let blanks : c.if-self.self ≡ (is_blank line && is_blank c.args.segment.now) =
     elim c.if-self.branch [
-      | then-self w ↦ w.self-is ∙ w.are_blank-self-inside.ensures ∙ sym (ap (λ t. t && is_blank c.args.segment.now) (sym blank ∙ w.if-self.true))
-      | else-self w ↦ w.self-is ∙ w.if-self.false ∙ sym (ap (λ t. t && is_blank c.args.segment.now) (sym blank ∙ w.if-self.false))
+      | then-self w ↦ w.self-is ∙ w.are_blank-self-inside.ensures
+          ∙ sym (ap (λ t. t && is_blank c.args.segment.now) (sym blank ∙ w.if-self.true))
+      | else-self w ↦ w.self-is ∙ w.if-self.false
+          ∙ sym (ap (λ t. t && is_blank c.args.segment.now) (sym blank ∙ w.if-self.false))
     ] in
-    seen-append line c.args.segment.now c.extend_from_slice.new.self.items _ (8388608 - c.len.result) _ (items ∙ ap (λ l. l ++ take c.min-kept.result c.args.segment.now) front ∙ ap (λ k. front_of line ++ take k c.args.segment.now) kept)
-    (omega (arith, ap length front, c.self.inside.bytes.ok)) (ap (λ n. n + length c.args.segment.now) (size_is _ line was)) blanks
+    seen-append line c.args.segment.now c.extend_from_slice.new.self.items _ (8388608 - c.len.result) _
+    (items ∙ ap (λ l. l ++ take c.min-kept.result c.args.segment.now) front
+    ∙ ap (λ k. front_of line ++ take k c.args.segment.now) kept)
+    (omega (arith, ap length front, c.self.inside.bytes.ok))
+    (ap (λ n. n + length c.args.segment.now) (size_is _ line was)) blanks

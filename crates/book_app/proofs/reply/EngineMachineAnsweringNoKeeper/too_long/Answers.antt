@@ -4,14 +4,14 @@ use Rattle.std.proofs.lemmas.Bool.{lt-ltb}
 use Rattle.book_wire.specs.Told.{too_long_bytes}
 use Rattle.book_wire.proofs.ToldLemmas.{too_long-own_line}
 use Rattle.book_app.specs.Machine.{Tells}
-use Rattle.book_app.proofs.ReplyLemmas.{IsTold-own_line}
-use Rattle.book_app.proofs.reply.EngineMachineWireNothing.too_long.Goals as goal
+use Rattle.book_app.proofs.ReplyLemmas.{IsAnswer-own_line}
+use Rattle.book_app.proofs.reply.EngineMachineAnsweringNoKeeper.too_long.Goals as goal
 
-pub returns-clause-told : goal.returns-clause-told
-returns-clause-told c =
+pub returns-clause-answered : goal.returns-clause-answered
+returns-clause-answered c =
     IfOk-weaker c.too_long_text.result _ _
     (λ text is. (
-      IsTold-own_line text _ is (too_long-own_line c.args.size),
+      IsAnswer-own_line text _ is (too_long-own_line c.args.size),
       λ line size long.
           subst (λ (t : Bool). MatchBool t ((text ≡ too_long_bytes (length line)) × (c.args.self.now.state ≡ c.args.self.now.state)) (Tells c.args.self.now.state line text c.args.self.now.state))
           (sym (lt-ltb (2 ^ 23) (length line) long)) (is ∙ ap too_long_bytes (sym size), refl),

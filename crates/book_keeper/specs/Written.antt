@@ -1,0 +1,7 @@
+-- What a sink over a writer of std reports of the bytes that it was given.
+use Rattle.std.specs.Prelude.{◌≡◌, ℕ, false, List, Option, Some}
+use Rattle.book_keeper.specs.declared.stream_sink.StreamSink.{StreamSink}
+
+-- The sink may have been given these bytes: the writer is known to hold exactly these, unless a flush has failed.
+abbrev pub may_hold : {W : Type 0} → (W → Option (List ℕ)) → StreamSink W → List ℕ → Type 0
+may_hold contents sink bytes = sink.unflushed ≡ false → contents sink.writer ≡ Some bytes
