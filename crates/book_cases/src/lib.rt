@@ -9,4 +9,6 @@ mod faults;
 #[cfg(test)]
 mod long;
 #[cfg(test)]
+mod program;
+#[cfg(test)]
 mod runs;
