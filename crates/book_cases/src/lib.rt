@@ -9,6 +9,8 @@ mod faults;
 #[cfg(test)]
 mod long;
 #[cfg(test)]
+mod program;
+#[cfg(test)]
 mod runs;
 #[cfg(test)]
 mod sizes;

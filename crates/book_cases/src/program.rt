@@ -1,0 +1,178 @@
+use crate::runs::{SALARY, SALARY_ANSWERS};
+use book_app::{Status, run_program};
+use std::alloc::{Alloc, Allocator, Global};
+use std::cell::Cell;
+use std::env::{Env, FillError};
+use std::fmt::Display;
+use std::io;
+use std::io::{BufRead, Eprint, ErrorKind, Input, Lines, Print};
+use std::process::{ExitCode, Termination};
+
+/// A host with these words and this input. It takes what is written and what is said on standard error, and notes
+/// whether these are the bytes and the line that a test expects.
+#[derive(Drop)]
+struct Host {
+    alloc: Global,
+    words: &'static [&'static [u8]],
+    input: &'static [u8],
+    output: &'static [u8],
+    line: &'static str,
+    written: Cell<usize>,
+    lines: Cell<u32>,
+    differs: Cell<bool>,
+}
+
+impl Host {
+    fn new(alloc: Global, line: &'static str) -> Host {
+        Host {
+            alloc,
+            words: &[],
+            input: b"",
+            output: b"",
+            line,
+            written: Cell::new(0),
+            lines: Cell::new(0),
+            differs: Cell::new(false),
+        }
+    }
+}
+
+impl Alloc for Host {
+    type A = Global;
+
+    fn alloc(&self) -> Global {
+        self.alloc
+    }
+}
+
+impl Env for Host {
+    fn arg(&self, i: usize, buf: &mut [u8]) -> Result<usize, FillError> {
+        let Some(word) = self.words.get(i) else {
+            return Err(FillError::NotPresent);
+        };
+        if buf.len() < word.len() {
+            return Err(FillError::TooLong);
+        }
+        buf[..word.len()].copy_from_slice(word);
+        Ok(word.len())
+    }
+
+    fn var(&self, _name: &str, _buf: &mut [u8]) -> Result<usize, FillError> {
+        Err(FillError::NotPresent)
+    }
+
+    fn var_at(&self, _i: usize, _buf: &mut [u8]) -> Result<usize, FillError> {
+        Err(FillError::NotPresent)
+    }
+}
+
+impl Input for Host {
+    type Reader = &'static [u8];
+
+    fn read_line<A: Allocator + Clone>(&self, _buf: &mut String<A>) -> io::Result<usize> {
+        Err(io::Error::from(ErrorKind::Unsupported))
+    }
+
+    fn lines<A: Allocator>(&self, alloc: A) -> Lines<&'static [u8], A> {
+        self.input.lines(alloc)
+    }
+
+    fn reader(&self) -> &'static [u8] {
+        self.input
+    }
+}
+
+impl Print for Host {
+    fn print<D: Display + Drop>(&self, _value: D) -> io::Result<()> {
+        Err(io::Error::from(ErrorKind::Unsupported))
+    }
+
+    fn println<D: Display + Drop>(&self, _value: D) -> io::Result<()> {
+        Err(io::Error::from(ErrorKind::Unsupported))
+    }
+
+    fn write_all(&self, bytes: &[u8]) -> io::Result<()> {
+        let rest = self.output.get(self.written.get()..).unwrap_or(&[]);
+        if !rest.starts_with(bytes) {
+            self.differs.set(true);
+        }
+        self.written
+            .set(self.written.get().saturating_add(bytes.len()));
+        Ok(())
+    }
+}
+
+impl Eprint for Host {
+    fn eprint<D: Display + Drop>(&self, _value: D) -> io::Result<()> {
+        Err(io::Error::from(ErrorKind::Unsupported))
+    }
+
+    fn eprintln<D: Display + Drop>(&self, value: D) -> io::Result<()> {
+        if format!(in self.alloc; "{value}")?.as_str() != self.line {
+            self.differs.set(true);
+        }
+        self.lines.set(self.lines.get().saturating_add(1));
+        Ok(())
+    }
+}
+
+const USAGE: &str = "usage: book run BOOK";
+
+/// A host's words, what is written, what is said on standard error, how often, and the number at the end.
+type Row = (
+    &'static [&'static [u8]],
+    &'static str,
+    &'static str,
+    u32,
+    u8,
+);
+
+// A word that is not UTF-8 is no word of the program: wrong words, and not out of memory.
+static ROWS: [Row; 4] = [
+    (
+        &[b"book", b"run", b"household.book"],
+        SALARY_ANSWERS,
+        "",
+        0,
+        0,
+    ),
+    (&[b"book", b"run"], "", USAGE, 1, 2),
+    (&[b"book", b"run", b"-household.book"], "", USAGE, 1, 2),
+    (&[b"book", b"run", b"household\xff.book"], "", USAGE, 1, 2),
+];
+
+#[test]
+fn words_and_streams(rt: HostRuntime) {
+    for (words, output, line, lines, number) in ROWS {
+        let mut host = Host::new(rt.alloc(), line);
+        host.words = words;
+        host.input = SALARY.as_bytes();
+        host.output = output.as_bytes();
+        let code = run_program(&host).report(&host);
+        assert_eq!(rt; code, ExitCode::from(number));
+        assert_eq!(rt; host.written.get(), output.len());
+        assert_eq!(rt; host.lines.get(), lines);
+        assert!(rt; !host.differs.get());
+    }
+}
+
+// Each status but Done says its one line on standard error, and ends with its number.
+static ENDS: [(Status, &str, u32, u8); 6] = [
+    (Status::Done, "", 0, 0),
+    (Status::Usage, USAGE, 1, 2),
+    (Status::Memory, "book: out of memory", 1, 3),
+    (Status::InputFault, "book: the input failed", 1, 4),
+    (Status::OutputFault, "book: the output failed", 1, 5),
+    (Status::InputLimit, "book: the input is too long", 1, 9),
+];
+
+#[test]
+fn lines_on_standard_error(rt: HostRuntime) {
+    for (status, line, lines, number) in ENDS {
+        let host = Host::new(rt.alloc(), line);
+        let code = status.report(&host);
+        assert_eq!(rt; code, ExitCode::from(number));
+        assert_eq!(rt; host.lines.get(), lines);
+        assert!(rt; !host.differs.get());
+    }
+}
