@@ -1,6 +1,13 @@
--- Laws of rules asked in order.
-use Rattle.std.proofs.Common.{◌≡◌, Bool, true, false, List, [], ◌∷◌, ◌++◌, Option, Some, None, Result, Ok, Err, refl, sym, ◌∙◌}
-use Rattle.book_commodity.specs.Rules.{TellsFirst, broken_where, first_broken}
+-- Laws of rules: of which the first counts, all of which are kept, and those that the things of a table keep.
+use Rattle.std.proofs.Common.{◌≡◌, ◌≢◌, ℕ, ◌<◌, nat_lt, ◌&&◌, Bool, true, false, List, [], ◌∷◌, ◌++◌, Option, Some, None, Result, Ok, Err, cond, find, inl, inr, refl, sym, ap, subst, ◌∙◌, arith}
+use Rattle.std.specs.List.{list_any}
+use Rattle.std.proofs.lemmas.Bool.{or_parts}
+use Rattle.std.proofs.lemmas.Bool.Decides.{nat_tests}
+use Rattle.book_commodity.specs.Rules.{TellsFirst, AllHold, AllKept, EachKeeps, broken_where, first_broken, stands_before}
+use Rattle.book_commodity.specs.Table.{Rises, value_of, with_entry, without_entry}
+use Rattle.book_commodity.proofs.DrawnLemmas.{value_with, value_without}
+
+-- ---- the first broken rule
 
 -- where the first rules aren't broken, the first broken one is among those behind them
 pub first-past : {R : Type 0} (xs ys : List (Option R)) → first_broken xs ≡ None → first_broken (xs ++ ys) ≡ first_broken ys
@@ -9,27 +16,115 @@ first-past (None ∷ xs) ys e = first-past xs ys e
 first-past (Some rule ∷ xs) ys e = absurd cc
 
 -- a rule that is the first broken one stays it, whatever rules stand behind
-pub first-here : {R : Type 0} (xs ys : List (Option R)) (rule : R) → first_broken xs ≡ Some rule → first_broken (xs ++ ys) ≡ Some rule
+pub first-here :
+    {R : Type 0} (xs ys : List (Option R)) (rule : R) → first_broken xs ≡ Some rule → first_broken (xs ++ ys) ≡ Some rule
 first-here [] ys rule e = absurd cc
 first-here (None ∷ xs) ys rule e = first-here xs ys rule e
 first-here (Some other ∷ xs) ys rule e = e
 
--- of rules that aren't broken neither the first ones are
-pub none-front : {R : Type 0} (xs ys : List (Option R)) → first_broken (xs ++ ys) ≡ None → first_broken xs ≡ None
-none-front [] ys e = refl
-none-front (None ∷ xs) ys e = none-front xs ys e
-none-front (Some rule ∷ xs) ys e = absurd cc
-
--- nor those behind
-pub none-back : {R : Type 0} (xs ys : List (Option R)) → first_broken (xs ++ ys) ≡ None → first_broken ys ≡ None
-none-back xs ys e = sym (first-past xs ys (none-front xs ys e)) ∙ e
-
 -- what is told of the rules behind unbroken ones is told of all
-pub tells-past : {T R : Type 0} (xs ys : List (Option R)) (result : Result T R) → first_broken xs ≡ None → TellsFirst ys result → TellsFirst (xs ++ ys) result
+pub tells-past :
+    {T R : Type 0} (xs ys : List (Option R)) (result : Result T R) → first_broken xs ≡ None → TellsFirst ys result
+    → TellsFirst (xs ++ ys) result
 tells-past xs ys (Ok x) e h = first-past xs ys e ∙ h
 tells-past xs ys (Err rule) e h = first-past xs ys e ∙ h
 
+-- ---- rules that are all kept
+
+-- where no rule is the first that is broken, each is kept
+pub kept_of : {R : Type 0} (rules : List (Option R)) → first_broken rules ≡ None → AllKept rules
+kept_of [] e = tt
+kept_of (None ∷ more) e = (refl, kept_of more e)
+kept_of (Some rule ∷ more) e = absurd cc
+
+-- and the other way round
+pub none_broken : {R : Type 0} (rules : List (Option R)) → AllKept rules → first_broken rules ≡ None
+none_broken [] kept = refl
+none_broken (None ∷ more) kept = none_broken more kept.1
+none_broken (Some rule ∷ more) kept = absurd (let broken = kept.0 in cc)
+
+-- the first of them are kept, and those behind, and both lists together
+pub kept_front : {R : Type 0} (xs ys : List (Option R)) → AllKept (xs ++ ys) → AllKept xs
+kept_front [] ys kept = tt
+kept_front (x ∷ xs) ys kept = (kept.0, kept_front xs ys kept.1)
+
+pub kept_back : {R : Type 0} (xs ys : List (Option R)) → AllKept (xs ++ ys) → AllKept ys
+kept_back [] ys kept = kept
+kept_back (x ∷ xs) ys kept = kept_back xs ys kept.1
+
+pub kept_both : {R : Type 0} (xs ys : List (Option R)) → AllKept xs → AllKept ys → AllKept (xs ++ ys)
+kept_both [] ys front back = back
+kept_both (x ∷ xs) ys front back = (front.0, kept_both xs ys front.1 back)
+
 -- a rule isn't broken only where its condition doesn't hold
-pub not-broken : {R : Type 0} (condition : Bool) (rule : R) → first_broken (broken_where condition rule ∷ []) ≡ None → condition ≡ false
+pub not-broken : {R : Type 0} (condition : Bool) (rule : R) → broken_where condition rule ≡ None → condition ≡ false
 not-broken true rule e = absurd cc
 not-broken false rule e = refl
+
+-- ---- what stands once
+
+-- nothing stands before a number that passes the test, where nothing is found that would
+pub none_before :
+    {T : Type 0} (taken : ℕ × T → Bool) (test : T → Bool) (k : ℕ) (es : List (ℕ × T))
+    → ((e : ℕ × T) → e.0 < k → taken e ≡ false → test e.1 ≡ false) → find taken es ≡ None → stands_before test k es ≡ false
+none_before taken test k [] weaker none = refl
+none_before {T} taken test k (e ∷ es) weaker none =
+    let Found : Bool → Type 0 = λ t. taken e ≡ t → cond t (Some e) (find taken es) ≡ None → stands_before test k (e ∷ es) ≡ false in
+    elim (taken e) as Found [
+      | true ↦ λ here some. absurd cc
+      | false ↦ λ other rest.
+          let more = none_before taken test k es weaker rest in
+          let first : e.0 < k → test e.1 ≡ false = λ below. weaker e below other in
+          grind (arith, nat_tests, first, more)
+    ] refl none
+
+-- nor after a thing is put that doesn't pass it or stands behind
+pub none_before_with :
+    {T : Type 0} (test : T → Bool) (k n : ℕ) (v : T) (es : List (ℕ × T)) → (n < k → test v ≡ false)
+    → stands_before test k es ≡ false → stands_before test k (with_entry n v es) ≡ false
+none_before_with test k n v [] free none = grind (arith, nat_tests, free)
+none_before_with test k n v (e ∷ es) free none =
+    let parts = or_parts (nat_lt e.0 k && test e.1) (stands_before test k es) none in
+    let rest = none_before_with test k n v es free parts.1 in
+    grind (arith, nat_tests, free, parts.0, parts.1, rest)
+
+-- nor after one is taken
+pub none_before_without :
+    {T : Type 0} (test : T → Bool) (k n : ℕ) (es : List (ℕ × T)) → stands_before test k es ≡ false
+    → stands_before test k (without_entry n es) ≡ false
+none_before_without test k n [] none = none
+none_before_without test k n (e ∷ es) none =
+    let parts = or_parts (nat_lt e.0 k && test e.1) (stands_before test k es) none in
+    let rest = none_before_without test k n es parts.1 in
+    grind (arith, nat_tests, parts.0, parts.1, rest)
+
+-- ---- the rules of each thing of a table
+
+-- after a thing is put: the rules of that thing, and of each other one that was there
+pub each_with :
+    {T : Type 0} (rules later : ℕ → T → List Bool) (n : ℕ) (v : T) (es : List (ℕ × T)) → AllHold (later n v)
+    → ((k : ℕ) (x : T) → k ≢ n → value_of k es ≡ Some x → AllHold (rules k x) → AllHold (later k x))
+    → EachKeeps rules es → EachKeeps later (with_entry n v es)
+each_with {T} rules later n v es here others is = record {
+  each = λ k x there.
+      elim (value_with k n v x es there) [
+        | inl put ↦ subst (λ (m : ℕ). AllHold (later m x)) (sym put.0) (subst (λ (y : T). AllHold (later n y)) put.1 here)
+        | inr old ↦ others k x old.0 old.1 (is.each k x old.1)
+      ];
+}
+
+-- after one is taken: the rules of each other one
+pub each_without :
+    {T : Type 0} (rules later : ℕ → T → List Bool) (n : ℕ) (es : List (ℕ × T)) → Rises es
+    → ((k : ℕ) (x : T) → value_of k es ≡ Some x → AllHold (rules k x) → AllHold (later k x))
+    → EachKeeps rules es → EachKeeps later (without_entry n es)
+each_without rules later n es r others is = record {
+  each = λ k x there. let old = value_without k n x es r there in others k x old (is.each k x old);
+}
+
+-- where the table stays and another changes, at which its rules look
+pub each_still :
+    {T : Type 0} (rules later : ℕ → T → List Bool) (es : List (ℕ × T))
+    → ((k : ℕ) (x : T) → value_of k es ≡ Some x → AllHold (rules k x) → AllHold (later k x))
+    → EachKeeps rules es → EachKeeps later es
+each_still rules later es others is = record { each = λ k x there. others k x there (is.each k x there) }
