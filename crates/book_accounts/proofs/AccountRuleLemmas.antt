@@ -9,6 +9,7 @@ use Rattle.book_commodity.specs.Rules.{AllHold, EachKeeps, stands_before}
 use Rattle.book_commodity.specs.Table.{Rises, value_of, with_entry, without_entry}
 use Rattle.book_commodity.specs.declared.commodity.Commodity.{Commodity}
 use Rattle.book_commodity.proofs.CommodityRuleLemmas.{Stays, currency_stays, some_stays}
+use Rattle.book_commodity.proofs.ListLemmas.{mapped_none}
 use Rattle.book_commodity.proofs.RuleLemmas.{each_still, each_with, each_without, none_before, none_before_with, none_before_without}
 use Rattle.book_accounts.specs.AccountRules.{account_rules, fits_basis, fits_below, fits_parent, has_parent_unless_root, has_same_name, is_placeholder_if_root, is_root, is_second_root}
 use Rattle.book_accounts.specs.Group.{fits_under, is_security}
@@ -18,7 +19,7 @@ use Rattle.book_accounts.specs.declared.account.Account.{Account}
 use Rattle.book_accounts.specs.declared.kind.AccountKind.{AccountKind}
 use Rattle.book_accounts.specs.declared.kind.AccountKind.TheVariants.{Root}
 use Rattle.book_accounts.specs.declared.rule.TreeRule.TheVariants.{NameTaken}
-use Rattle.book_accounts.proofs.SoundLaws.{mapped_none, own_name}
+use Rattle.book_accounts.proofs.SoundLaws.{own_name}
 use Rattle.book_accounts.proofs.TreeLaws.{no_child, option_eq-true}
 use Rattle.book_accounts.proofs.TreeLemmas.{other_without}
 
@@ -209,7 +210,7 @@ accounts_with commodities accounts n new is =
 
 -- ---- where an account is taken that has no account under it
 
-kind_left :
+pub kind_left :
     (accounts : List (ℕ × Account)) (n p : ℕ) (above : AccountKind) → Rises accounts → p ≢ n → kind_at accounts p ≡ Some above
     → kind_at (without_entry n accounts) p ≡ Some above
 kind_left accounts n p above r other had =

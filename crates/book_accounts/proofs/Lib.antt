@@ -1,3 +1,4 @@
+pub mod AccountFitLemmas
 pub mod AccountRuleLemmas
 pub mod ChildrenLemmas
 pub mod OnceLemmas

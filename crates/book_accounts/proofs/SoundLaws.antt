@@ -6,6 +6,7 @@ use lib.Pointwise.{pointwise}
 use Rattle.std.proofs.lemmas.Bool.{eqb-true}
 use Rattle.std.proofs.lemmas.Bool.Decides.{nat_tests}
 use Rattle.book_commodity.specs.Table.{Rises, value_of, with_entry, without_entry}
+use Rattle.book_commodity.proofs.ListLemmas.{mapped_none}
 use Rattle.book_commodity.proofs.TableLemmas as tables
 use Rattle.book_accounts.specs.Group.{fits_under}
 use Rattle.book_accounts.specs.Rules.{IsAnswer, is_namesake, is_within, name_taken, parent_kind}
@@ -141,10 +142,6 @@ find_none test (x ∷ xs) n b e f =
         | false ↦ λ other value t rest. find_none test xs n b rest value
       ] refl f t rest
     ] refl e
-
-pub mapped_none : {X Y : Type 0} (f : X → Y) (o : Option X) → option_map f o ≡ None → o ≡ None
-mapped_none f None e = refl
-mapped_none f (Some x) e = absurd cc
 
 pointwise-same : (xs : List ℕ) → pointwise nat_eq xs xs ≡ true
 pointwise-same [] = refl

@@ -6,9 +6,9 @@ use Rattle.std.proofs.lemmas.Bool.{not-false}
 use Rattle.std.proofs.lemmas.Bool.Decides.{Decides-int_eq, nat_tests}
 use Rattle.std.proofs.lemmas.List.{map-append, take_more}
 use Rattle.std.proofs.lemmas.List.Elements.{All-nil, All-cons}
-use Rattle.book_commodity.specs.Rules.{TellsFirst, first_broken}
+use Rattle.book_commodity.specs.Rules.{AllKept, TellsFirst, first_broken}
 use Rattle.book_commodity.specs.Table.{value_of}
-use Rattle.book_commodity.proofs.RuleLemmas.{first-past, first-here, none-front, none-back, not-broken, tells-past}
+use Rattle.book_commodity.proofs.RuleLemmas.{first-past, first-here, kept_back, kept_both, kept_front, kept_of, none_broken, not-broken, tells-past}
 use Rattle.book_commodity.specs.declared.commodity.Commodity.{Commodity}
 use Rattle.book_accounts.specs.declared.account.Account.{Account}
 use Rattle.book_splits.specs.Balance.{total, sum_of_values}
@@ -33,46 +33,72 @@ first-of_splits accounts currency splits place split rule below is before here =
     ∙ ap (λ (l : List Split). first_broken (rules_of_splits accounts currency place l)) next
     ∙ first-here (split_rules currency place split (value_of split.account accounts)) (rules_of_splits accounts currency (place + 1) rest) rule here
 
--- a split that breaks no rule has amounts within the limit
-amounts-of_split : (currency place : ℕ) (split : Split) (account : Option Account) → first_broken (split_rules currency place split account) ≡ None → HasAmounts split
-amounts-of_split currency place split None e = absurd cc
-amounts-of_split currency place split (Some account) e =
-    let more = basis currency split account ∷ value_not_quantity currency place split account ∷ [] in
-    let past = none-back (placeholder split account ∷ []) (amount_limit split ∷ more) e in
-    let kept = not-broken _ _ (none-front (amount_limit split ∷ []) more past) in
-    (grind (arith, nat_tests, kept), grind (arith, nat_tests, kept))
+-- a split that keeps its rules has amounts within the limit
+amounts-of_split :
+    (currency place : ℕ) (split : Split) (account : Option Account) → AllKept (split_rules currency place split account)
+    → HasAmounts split
+amounts-of_split currency place split None kept = absurd (let broken = kept.0 in cc)
+amounts-of_split currency place split (Some account) kept =
+    let within = not-broken _ _ kept.1.0 in (grind (arith, nat_tests, within), grind (arith, nat_tests, within))
 
--- and so have all splits that break none
-pub amounts_of : (accounts : List (ℕ × Account)) (currency place : ℕ) (splits : List Split) → first_broken (rules_of_splits accounts currency place splits) ≡ None → All HasAmounts splits
-amounts_of accounts currency place [] e = All-nil HasAmounts
-amounts_of accounts currency place (split ∷ more) e =
+-- and so have all splits that keep theirs
+amounts_of :
+    (accounts : List (ℕ × Account)) (currency place : ℕ) (splits : List Split)
+    → AllKept (rules_of_splits accounts currency place splits) → All HasAmounts splits
+amounts_of accounts currency place [] kept = All-nil HasAmounts
+amounts_of accounts currency place (split ∷ more) kept =
     let rules = split_rules currency place split (value_of split.account accounts) in
+    let rest = rules_of_splits accounts currency (place + 1) more in
     All-cons HasAmounts split more
-    (amounts-of_split currency place split (value_of split.account accounts) (none-front rules (rules_of_splits accounts currency (place + 1) more) e))
-    (amounts_of accounts currency (place + 1) more (none-back rules (rules_of_splits accounts currency (place + 1) more) e))
+    (amounts-of_split currency place split (value_of split.account accounts) (kept_front rules rest kept))
+    (amounts_of accounts currency (place + 1) more (kept_back rules rest kept))
 
-balanced-of : (splits : List Split) → first_broken (unbalanced splits ∷ []) ≡ None → sum_of_values splits ≡ pos 0
-balanced-of splits e = let kept = not-broken _ _ e in (Decides-int_eq (sum_of_values splits) (pos 0)).0 (not-false _ kept)
+-- The rules of a transaction by their parts.
+pub record KeepsCheck (commodities : List (ℕ × Commodity)) (accounts : List (ℕ × Account)) (txn : Txn) : Type 0 where
+  pub count : split_count txn.splits ≡ None
+  pub currency : AllKept (currency_rules txn.currency (value_of txn.currency commodities))
+  pub splits : AllKept (rules_of_splits accounts txn.currency 0 txn.splits)
+  pub balance : unbalanced txn.splits ≡ None
 
-few-of : (splits : List Split) → first_broken (split_count splits ∷ []) ≡ None → (1 ≤ length splits) × (length splits ≤ 500)
-few-of splits e =
-    let kept = not-broken _ _ e in (grind (arith, nat_tests, kept), grind (arith, nat_tests, kept))
-
--- a transaction that breaks no rule is balanced and within its limits
-pub sound_of : (commodities : List (ℕ × Commodity)) (accounts : List (ℕ × Account)) (txn : Txn) → first_broken (txn_rules commodities accounts txn) ≡ None → IsSound txn.splits
-sound_of commodities accounts txn e =
-    let count = split_count txn.splits ∷ [] in
+pub parts_of :
+    (commodities : List (ℕ × Commodity)) (accounts : List (ℕ × Account)) (txn : Txn)
+    → first_broken (txn_rules commodities accounts txn) ≡ None → KeepsCheck commodities accounts txn
+parts_of commodities accounts txn e =
     let currency = currency_rules txn.currency (value_of txn.currency commodities) in
     let splits = rules_of_splits accounts txn.currency 0 txn.splits in
     let balance = unbalanced txn.splits ∷ [] in
-    let past_count = none-back count (currency ++ (splits ++ balance)) e in
-    let past_currency = none-back currency (splits ++ balance) past_count in
-    let few = few-of txn.splits (none-front count (currency ++ (splits ++ balance)) e) in
+    let kept = kept_of (txn_rules commodities accounts txn) e in
+    let rest = kept_back currency (splits ++ balance) kept.1 in
     record {
-      balanced = balanced-of txn.splits (none-back splits balance past_currency);
-      amounts = amounts_of accounts txn.currency 0 txn.splits (none-front splits balance past_currency);
-      some = few.0;
-      few = few.1;
+      count = kept.0;
+      currency = kept_front currency (splits ++ balance) kept.1;
+      splits = kept_front splits balance rest;
+      balance = (kept_back splits balance rest).0;
+    }
+
+pub none_of_parts :
+    (commodities : List (ℕ × Commodity)) (accounts : List (ℕ × Account)) (txn : Txn)
+    → KeepsCheck commodities accounts txn → first_broken (txn_rules commodities accounts txn) ≡ None
+none_of_parts commodities accounts txn is =
+    let currency = currency_rules txn.currency (value_of txn.currency commodities) in
+    let splits = rules_of_splits accounts txn.currency 0 txn.splits in
+    let balance = unbalanced txn.splits ∷ [] in
+    none_broken (txn_rules commodities accounts txn)
+    (is.count, kept_both currency (splits ++ balance) is.currency (kept_both splits balance is.splits (is.balance, tt)))
+
+-- a transaction that breaks no rule is balanced and within its limits
+pub sound_of :
+    (commodities : List (ℕ × Commodity)) (accounts : List (ℕ × Account)) (txn : Txn)
+    → first_broken (txn_rules commodities accounts txn) ≡ None → IsSound txn.splits
+sound_of commodities accounts txn e =
+    let is = parts_of commodities accounts txn e in
+    let count = not-broken _ _ is.count in
+    let balance = not-broken _ _ is.balance in
+    record {
+      balanced = (Decides-int_eq (sum_of_values txn.splits) (pos 0)).0 (not-false _ balance);
+      amounts = amounts_of accounts txn.currency 0 txn.splits is.splits;
+      some = grind (arith, nat_tests, count);
+      few = grind (arith, nat_tests, count);
     }
 
 -- where a check tells that no rule is broken, so it is
