@@ -1,9 +1,9 @@
 pub mod EditLemmas
 pub mod OutcomeLemmas
 pub mod PostLemmas
-pub mod SoundAccounts
-pub mod SoundCommodities
+pub mod SoundBook
+pub mod SoundCommands
 pub mod SoundOutcome
-pub mod SoundPosting
+pub mod SoundRules
 pub mod SoundStep
 pub mod Worked
