@@ -17,7 +17,7 @@ use Rattle.book_accounts.specs.declared.account.Account.{Account}
 use Rattle.book_accounts.specs.declared.kind.AccountKind.{AccountKind}
 use Rattle.book_accounts.specs.declared.rule.TreeRule.{TreeRule}
 use Rattle.book_accounts.specs.declared.rule.TreeRule.TheVariants.{Cycle, ParentKind}
-use Rattle.book_accounts.proofs.AccountRuleLemmas.{IsFit, Keeps}
+use Rattle.book_accounts.proofs.AccountRuleLemmas.{IsFit}
 use Rattle.book_accounts.proofs.TreeLaws.{rooted_added, rooted_moved}
 
 -- ---- what the rules of the tree say where they aren't broken
@@ -65,23 +65,17 @@ kinds_moved accounts n old new there same m kind had =
 
 -- ---- an account that is added
 
--- What is put fits, and the accounts are rooted with it.
-pub record Enters (commodities : List (ℕ × Commodity)) (accounts : List (ℕ × Account)) (n : ℕ) (new : Account) : Type 0 where
-  pub fit : IsFit commodities accounts n new
-  pub rooted : IsRooted (with_entry n new accounts)
-
-pub enters_added :
+pub fit_added :
     (commodities : List (ℕ × Commodity)) (accounts : List (ℕ × Account)) (n : ℕ) (new : Account) (parent : Option ℕ)
     → IsTrue (is_some (value_of new.commodity commodities)) → IsTrue (fits_basis commodities (is_security new.kind) new.basis)
     → IsRooted accounts → value_of n accounts ≡ None → new.parent ≡ parent → add_rule_under accounts new parent ≡ None
-    → Enters commodities accounts n new
-enters_added commodities accounts n new None commodity basis rooted free under e = absurd cc
-enters_added commodities accounts n new (Some p) commodity basis rooted free under e =
+    → IsFit commodities accounts n new
+fit_added commodities accounts n new None commodity basis rooted free under e = absurd cc
+fit_added commodities accounts n new (Some p) commodity basis rooted free under e =
     let kept = kept_of (unknown_account accounts p ∷ name_taken accounts None p new.name ∷ parent_kind (Some new.kind) (kind_at accounts p) ∷ []) e in
     let above = known_by (value_of p accounts) _ kept.0 in
     let kind = ap (option_map (λ (a : Account). a.kind)) above.1 in
     record {
-      fit = record {
         commodity = commodity;
         basis = basis;
         parent = p;
@@ -90,20 +84,19 @@ enters_added commodities accounts n new (Some p) commodity basis rooted free und
         there = kind;
         fits = fits_of new.kind above.0.kind (Some new.kind) (kind_at accounts p) refl kind kept.1.1.0;
         kinds = kinds_added accounts n new free;
-      };
-      rooted = rooted_added accounts n new p rooted under (subst (λ (o : Option Account). IsSome o) (sym above.1) refl)
+        rooted = rooted_added accounts n new p rooted under (subst (λ (o : Option Account). IsSome o) (sym above.1) refl)
           (subst (λ (o : Option Account). IsNone o) (sym free) refl);
     }
 
 -- ---- an account that gets another name or another parent
 
-pub enters_moved :
+pub fit_moved :
     (commodities : List (ℕ × Commodity)) (accounts : List (ℕ × Account)) (n : ℕ) (old new : Account) (p : ℕ)
     → value_of n accounts ≡ Some old → old.kind ≡ new.kind
     → IsTrue (is_some (value_of new.commodity commodities)) → IsTrue (fits_basis commodities (is_security new.kind) new.basis)
     → Rises accounts → IsRooted accounts → new.parent ≡ Some p → move_rule accounts n new.name p ≡ None
-    → Enters commodities accounts n new
-enters_moved commodities accounts n old new p there same commodity basis r rooted under e =
+    → IsFit commodities accounts n new
+fit_moved commodities accounts n old new p there same commodity basis r rooted under e =
     let rules =
     unknown_account accounts n ∷ unknown_account accounts p ∷ name_taken accounts (Some n) p new.name
     ∷ cycle accounts n p ∷ parent_kind (kind_at accounts n) (kind_at accounts p) ∷ [] in
@@ -112,7 +105,6 @@ enters_moved commodities accounts n old new p there same commodity basis r roote
     let kind = ap (option_map (λ (a : Account). a.kind)) above.1 in
     let own : kind_at accounts n ≡ Some new.kind = ap (option_map (λ (a : Account). a.kind)) there ∙ ap (λ (k : AccountKind). Some k) same in
     record {
-      fit = record {
         commodity = commodity;
         basis = basis;
         parent = p;
@@ -121,7 +113,6 @@ enters_moved commodities accounts n old new p there same commodity basis r roote
         there = kind;
         fits = fits_of new.kind above.0.kind (kind_at accounts n) (kind_at accounts p) own kind kept.1.1.1.1.0;
         kinds = kinds_moved accounts n old new there same;
-      };
-      rooted = rooted_moved accounts n new p r rooted under (subst (λ (o : Option Account). IsSome o) (sym above.1) refl)
+        rooted = rooted_moved accounts n new p r rooted under (subst (λ (o : Option Account). IsSome o) (sym above.1) refl)
           (not_where (is_within accounts n p) Cycle kept.1.1.1.0);
     }

@@ -1,35 +1,37 @@
 -- How the rules of accounts stay where a commodity is added, and where an account is put or taken.
-use Rattle.std.proofs.Common.{◌≡◌, ◌≢◌, ℕ, ◌<◌, nat_eq, ◌&&◌, ◌||◌, not, Bool, true, false, List, [], ◌∷◌, Option, Some, None, IsTrue, is_none, is_some, option_map, find, inl, inr, refl, sym, ap, subst, ◌∙◌, arith}
+use Rattle.std.proofs.Common.{◌≡◌, ◌≢◌, ℕ, ◌<◌, ◌==◌, nat_eq, ◌&&◌, ◌||◌, not, Bool, true, false, List, [], ◌∷◌, Option, Some, None, IsSome, IsTrue, if◌then◌else◌, is_none, is_some, option_map, find, refl, sym, ap, subst, ◌∙◌, eq-eqb, arith}
 use Rattle.std.specs.Bool.{beq}
+use Rattle.std.specs.List.{list_any}
 use Rattle.std.specs.Option.{option_and_then, option_eq}
 use lib.Pointwise.{pointwise}
-use Rattle.std.proofs.lemmas.Bool.{and_parts, and_left, and_right, eqb-true, ne_eqb, not-true, not_from_false}
-use Rattle.std.proofs.lemmas.Bool.Decides.{nat_tests}
+use Rattle.std.proofs.lemmas.Bool.{and_parts, eqb-true, ne_eqb, not-true, not_from_false, or_left, or_right}
 use Rattle.book_commodity.specs.Rules.{AllHold, EachKeeps, stands_before}
 use Rattle.book_commodity.specs.Table.{Rises, value_of, with_entry, without_entry}
 use Rattle.book_commodity.specs.declared.commodity.Commodity.{Commodity}
 use Rattle.book_commodity.proofs.CommodityRuleLemmas.{Stays, currency_stays, some_stays}
+use Rattle.book_commodity.proofs.DrawnLemmas.{value_without}
 use Rattle.book_commodity.proofs.ListLemmas.{mapped_none}
-use Rattle.book_commodity.proofs.RuleLemmas.{each_still, each_with, each_without, none_before, none_before_with, none_before_without}
-use Rattle.book_accounts.specs.AccountRules.{account_rules, fits_basis, fits_below, fits_parent, has_parent_unless_root, has_same_name, is_placeholder_if_root, is_root, is_second_root}
+use Rattle.book_commodity.proofs.RuleLemmas.{each_still, every_with, find_with, find_without, none_before, none_before_with, none_before_without}
+use Rattle.book_commodity.proofs.TableLemmas.{rises_with, rises_without, value_of_with}
+use Rattle.book_accounts.specs.AccountRules.{account_rules, fits_basis, fits_below, fits_parent, has_parent_unless_root, has_same_name, is_placeholder_if_root, is_root, is_root_if_of_kind, is_root_number, leads_to_root, root_of}
 use Rattle.book_accounts.specs.Group.{fits_under, is_security}
 use Rattle.book_accounts.specs.Rules.{is_namesake, kind_at, name_taken}
-use Rattle.book_accounts.specs.Tree.{children_of}
+use Rattle.book_accounts.specs.Tree.{IsRooted, IsWayUp, ancestors, children_of}
 use Rattle.book_accounts.specs.declared.account.Account.{Account}
 use Rattle.book_accounts.specs.declared.kind.AccountKind.{AccountKind}
 use Rattle.book_accounts.specs.declared.kind.AccountKind.TheVariants.{Root}
 use Rattle.book_accounts.specs.declared.rule.TreeRule.TheVariants.{NameTaken}
 use Rattle.book_accounts.proofs.SoundLaws.{own_name}
-use Rattle.book_accounts.proofs.TreeLaws.{no_child, option_eq-true}
-use Rattle.book_accounts.proofs.TreeLemmas.{other_without}
+use Rattle.book_accounts.proofs.TreeLaws.{no_child, option_eq-true, rooted_without}
+use Rattle.book_accounts.proofs.TreeLemmas.{other_without, way_of}
 
--- The rules of an account by their names.
+-- The rules of an account by their names, but for the way up to the root.
 pub record Keeps (commodities : List (ℕ × Commodity)) (accounts : List (ℕ × Account)) (n : ℕ) (account : Account) : Type 0 where
   pub commodity : IsTrue (is_some (value_of account.commodity commodities))
   pub basis : IsTrue (fits_basis commodities (is_security account.kind) account.basis)
   pub top : IsTrue (has_parent_unless_root account)
   pub placeholder : IsTrue (is_placeholder_if_root account)
-  pub one_root : is_second_root accounts n account ≡ false
+  pub one_root : IsTrue (is_root_if_of_kind accounts n account)
   pub parent : IsTrue (fits_parent accounts account.kind account.parent)
   pub own_name : stands_before (has_same_name account) n accounts ≡ false
 
@@ -41,18 +43,54 @@ by_name commodities accounts n account kept = record {
   basis = kept.1.0;
   top = kept.1.1.0;
   placeholder = kept.1.1.1.0;
-  one_root = not-true _ kept.1.1.1.1.0;
+  one_root = kept.1.1.1.1.0;
   parent = kept.1.1.1.1.1.0;
   own_name = not-true _ kept.1.1.1.1.1.1.0;
 }
 
 all_hold :
     (commodities : List (ℕ × Commodity)) (accounts : List (ℕ × Account)) (n : ℕ) (account : Account)
-    → Keeps commodities accounts n account → AllHold (account_rules commodities accounts n account)
-all_hold commodities accounts n account is =
-    let one_root = not_from_false _ is.one_root in
+    → Keeps commodities accounts n account → IsTrue (leads_to_root accounts n) → AllHold (account_rules commodities accounts n account)
+all_hold commodities accounts n account is leads =
     let own_name = not_from_false _ is.own_name in
-    (is.commodity, (is.basis, (is.top, (is.placeholder, (one_root, (is.parent, (own_name, tt)))))))
+    (is.commodity, (is.basis, (is.top, (is.placeholder, (is.one_root, (is.parent, (own_name, (leads, tt))))))))
+
+-- ---- the ways up to the root
+
+some_value : {T : Type 0} (found : Option T) → IsSome found → (value : T) × (found ≡ Some value)
+some_value None h = absurd cc
+some_value (Some value) h = (value, refl)
+
+top_chosen : (parent : Option ℕ) (root number : Bool) → parent ≡ None → beq (is_none parent) root ≡ true → (not root || number) ≡ true → number ≡ true
+top_chosen None true number top one chosen = chosen
+top_chosen None false number top one chosen = absurd cc
+top_chosen (Some p) root number top one chosen = absurd cc
+
+-- a way ends at the root, where only the root has no parent
+leads_of_way :
+    (commodities : List (ℕ × Commodity)) (accounts : List (ℕ × Account)) (n : ℕ) (way : List ℕ)
+    → ((m : ℕ) (a : Account) → value_of m accounts ≡ Some a → Keeps commodities accounts m a) → IsWayUp accounts n way
+    → list_any (is_root_number accounts) (n ∷ way) ≡ true
+leads_of_way commodities accounts n [] keeps way =
+    let found = some_value (value_of n accounts) way.0 in
+    let top : found.0.parent ≡ None = ap (option_and_then (λ (a : Account). a.parent)) (sym found.1) ∙ way.1 in
+    let is = keeps n found.0 found.1 in
+    or_left (is_root_number accounts n) false
+    (top_chosen found.0.parent (is_root found.0.kind) (is_root_number accounts n) top is.top is.one_root)
+leads_of_way commodities accounts n (p ∷ above) keeps way =
+    or_right (is_root_number accounts n) _ (leads_of_way commodities accounts p above keeps way.1)
+
+-- so all rules are kept where the accounts are rooted and the others of their rules are kept
+with_ways :
+    (commodities : List (ℕ × Commodity)) (accounts : List (ℕ × Account)) → Rises accounts → IsRooted accounts
+    → ((n : ℕ) (a : Account) → value_of n accounts ≡ Some a → Keeps commodities accounts n a)
+    → EachKeeps (account_rules commodities accounts) accounts
+with_ways commodities accounts r rooted keeps = record {
+  each = λ n a there.
+      let some = subst (λ (o : Option Account). IsSome o) (sym there) refl in
+      all_hold commodities accounts n a (keeps n a there)
+      (leads_of_way commodities accounts n (ancestors accounts n) keeps (way_of accounts n r rooted some));
+}
 
 -- ---- where commodities are added
 
@@ -73,7 +111,7 @@ accounts_beside old new accounts stays =
     let commodity = some_stays (value_of a.commodity old) (value_of a.commodity new) (stays.each a.commodity) kept.0 in
     (commodity, (basis_stays old new (is_security a.kind) a.basis stays kept.1.0, kept.1.1)))
 
--- ---- kinds, names and roots
+-- ---- kinds and names
 
 -- no root stands under another account
 pub no_root_below : (kind above : AccountKind) → fits_under kind above ≡ true → is_root kind ≡ false
@@ -140,18 +178,27 @@ free_apart accounts n p k new a is other there =
     let parent : a.parent ≡ Some p = sym (option_eq-true new.parent a.parent parts.0) ∙ is.under in
     own_name accounts is.apart p new.name is.free k a (is.others k other) there parent (sym (same_text new.name a.name parts.1)))
 
--- an account that is no root is no second one
-no_second : (accounts : List (ℕ × Account)) (k : ℕ) (a : Account) → is_root a.kind ≡ false → is_second_root accounts k a ≡ false
-no_second accounts k a other = and_left (is_root a.kind) _ other
+-- ---- the root
 
-second_stays :
-    (old new : List (ℕ × Account)) (k : ℕ) (a : Account)
-    → (stands_before (λ (other : Account). is_root other.kind) k old ≡ false → stands_before (λ (other : Account). is_root other.kind) k new ≡ false)
-    → (root : Bool) → is_root a.kind ≡ root → is_second_root old k a ≡ false → is_second_root new k a ≡ false
-second_stays old new k a stays false is once = no_second new k a is
-second_stays old new k a stays true is once =
-    let roots : List (ℕ × Account) → Bool = stands_before (λ (other : Account). is_root other.kind) k in
-    and_right (is_root a.kind) (roots new) (stays (sym (ap (λ (t : Bool). t && roots old) is) ∙ once))
+-- the root stays where an account is put or taken that is none
+root_with :
+    (accounts : List (ℕ × Account)) (n : ℕ) (new : Account) → is_root new.kind ≡ false
+    → ((old : Account) → value_of n accounts ≡ Some old → is_root old.kind ≡ false)
+    → root_of (with_entry n new accounts) ≡ root_of accounts
+root_with accounts n new other old =
+    ap (option_map (λ (e : ℕ × Account). e.0)) (find_with (λ (e : ℕ × Account). is_root e.1.kind) n new accounts other old)
+
+root_without :
+    (accounts : List (ℕ × Account)) (n : ℕ) → ((old : Account) → value_of n accounts ≡ Some old → is_root old.kind ≡ false)
+    → root_of (without_entry n accounts) ≡ root_of accounts
+root_without accounts n old =
+    ap (option_map (λ (e : ℕ × Account). e.0)) (find_without (λ (e : ℕ × Account). is_root e.1.kind) n accounts old)
+
+one_root_stays :
+    (old new : List (ℕ × Account)) (k : ℕ) (a : Account) → root_of new ≡ root_of old → IsTrue (is_root_if_of_kind old k a)
+    → IsTrue (is_root_if_of_kind new k a)
+one_root_stays old new k a same is =
+    subst (λ (root : Option ℕ). IsTrue (not (is_root a.kind) || option_eq nat_eq root (Some k))) (sym same) is
 
 -- ---- where an account is put
 
@@ -166,6 +213,22 @@ pub record IsFit (commodities : List (ℕ × Commodity)) (accounts : List (ℕ �
   pub fits : fits_under new.kind above ≡ true
   -- each account that was there keeps its kind
   pub kinds : (m : ℕ) (kind : AccountKind) → kind_at accounts m ≡ Some kind → kind_at (with_entry n new accounts) m ≡ Some kind
+  pub rooted : IsRooted (with_entry n new accounts)
+
+-- it is no root, nor was the one in whose place it stands, so that the root stays
+pub root_stays_with :
+    (commodities : List (ℕ × Commodity)) (accounts : List (ℕ × Account)) (n : ℕ) (new : Account) → IsFit commodities accounts n new
+    → root_of (with_entry n new accounts) ≡ root_of accounts
+root_stays_with commodities accounts n new is =
+    let other = no_root_below new.kind is.above is.fits in
+    let here : kind_at (with_entry n new accounts) n ≡ Some new.kind =
+    ap (option_map (λ (a : Account). a.kind)) (value_of_with n n new accounts ∙ ap (λ (t : Bool). if t then Some new else value_of n accounts) (eq-eqb n n refl)) in
+    root_with accounts n new other
+    (λ old there.
+    let was = is.kinds n old.kind (ap (option_map (λ (a : Account). a.kind)) there) in
+    let same : Some old.kind ≡ Some new.kind = sym was ∙ here in
+    let kind : old.kind ≡ new.kind = cc in
+    ap is_root kind ∙ other)
 
 own_rules :
     (commodities : List (ℕ × Commodity)) (accounts : List (ℕ × Account)) (n : ℕ) (new : Account)
@@ -180,35 +243,34 @@ own_rules commodities accounts n new is =
       basis = is.basis;
       top = ap (λ (p : Option ℕ). beq (is_none p) (is_root new.kind)) is.free.under ∙ ap (beq false) other;
       placeholder = ap (λ (t : Bool). not t || new.placeholder) other;
-      one_root = no_second later n new other;
+      one_root = ap (λ (t : Bool). not t || is_root_number later n) other;
       parent = subst (λ (p : Option ℕ). IsTrue (fits_parent later new.kind p)) (sym is.free.under) below;
       own_name = none_before_with (has_same_name new) n n new accounts (λ before. absurd (omega (arith, before))) own;
     }
 
 -- The account that is put keeps its rules, and all others keep theirs.
 pub accounts_with :
-    (commodities : List (ℕ × Commodity)) (accounts : List (ℕ × Account)) (n : ℕ) (new : Account)
+    (commodities : List (ℕ × Commodity)) (accounts : List (ℕ × Account)) (n : ℕ) (new : Account) → Rises accounts
     → IsFit commodities accounts n new → EachKeeps (account_rules commodities accounts) accounts
     → EachKeeps (account_rules commodities (with_entry n new accounts)) (with_entry n new accounts)
-accounts_with commodities accounts n new is =
+accounts_with commodities accounts n new r is keep =
     let later = with_entry n new accounts in
-    let roots = λ (k : ℕ). none_before_with (λ (b : Account). is_root b.kind) k n new accounts (λ before. no_root_below new.kind is.above is.fits) in
-    each_with (account_rules commodities accounts) (account_rules commodities later) n new accounts
-    (all_hold commodities later n new (own_rules commodities accounts n new is))
-    (λ k a other there kept.
-    let old = by_name commodities accounts k a kept in
-    all_hold commodities later k a
-    (record {
+    let root = root_stays_with commodities accounts n new is in
+    with_ways commodities later (rises_with n new accounts r) is.rooted
+    (every_with (Keeps commodities accounts) (Keeps commodities later) n new accounts (own_rules commodities accounts n new is)
+    (λ k a other there old. record {
       commodity = old.commodity;
       basis = old.basis;
       top = old.top;
       placeholder = old.placeholder;
-      one_root = second_stays accounts later k a (roots k) (is_root a.kind) refl old.one_root;
+      one_root = one_root_stays accounts later k a root old.one_root;
       parent = parent_stays accounts later a.kind a.parent (λ p above under. is.kinds p above) old.parent;
-      own_name = none_before_with (has_same_name a) k n new accounts (λ before. free_apart accounts n is.parent k new a is.free other there) old.own_name;
-    }))
+      own_name = none_before_with (has_same_name a) k n new accounts
+          (λ before. free_apart accounts n is.parent k new a is.free other there) old.own_name;
+    })
+    (λ k a there. by_name commodities accounts k a (keep.each k a there)))
 
--- ---- where an account is taken that has no account under it
+-- ---- where an account is taken that has no account under it, and isn't the root
 
 pub kind_left :
     (accounts : List (ℕ × Account)) (n p : ℕ) (above : AccountKind) → Rises accounts → p ≢ n → kind_at accounts p ≡ Some above
@@ -216,24 +278,35 @@ pub kind_left :
 kind_left accounts n p above r other had =
     ap (option_map (λ (a : Account). a.kind)) (other_without accounts n r p (ne_eqb p n other)) ∙ had
 
+pub root_stays_without :
+    (accounts : List (ℕ × Account)) (n : ℕ) (old : Account) → value_of n accounts ≡ Some old → is_root old.kind ≡ false
+    → root_of (without_entry n accounts) ≡ root_of accounts
+root_stays_without accounts n old there other =
+    root_without accounts n
+    (λ account found.
+    let both : Some old ≡ Some account = sym there ∙ found in
+    let one : old ≡ account = cc in
+    subst (λ (a : Account). is_root a.kind ≡ false) one other)
+
 pub accounts_without :
-    (commodities : List (ℕ × Commodity)) (accounts : List (ℕ × Account)) (n : ℕ) → Rises accounts → children_of accounts (Some n) ≡ []
+    (commodities : List (ℕ × Commodity)) (accounts : List (ℕ × Account)) (n : ℕ) → Rises accounts → IsRooted accounts
+    → root_of (without_entry n accounts) ≡ root_of accounts → children_of accounts (Some n) ≡ []
     → EachKeeps (account_rules commodities accounts) accounts
     → EachKeeps (account_rules commodities (without_entry n accounts)) (without_entry n accounts)
-accounts_without commodities accounts n r none =
+accounts_without commodities accounts n r rooted root none keep =
     let later = without_entry n accounts in
-    each_without (account_rules commodities accounts) (account_rules commodities later) n accounts r
-    (λ k a there kept.
-    let old = by_name commodities accounts k a kept in
+    with_ways commodities later (rises_without n accounts r) (rooted_without accounts n r none rooted)
+    (λ k a left.
+    let there = value_without k n a accounts r left in
+    let old = by_name commodities accounts k a (keep.each k a there) in
     let parent = ap (option_and_then (λ (account : Account). account.parent)) there in
     let apart = λ (p : ℕ) (under : a.parent ≡ Some p) (same : p ≡ n). no_child accounts n k none (parent ∙ under ∙ ap (λ (m : ℕ). Some m) same) in
-    all_hold commodities later k a
-    (record {
+    record {
       commodity = old.commodity;
       basis = old.basis;
       top = old.top;
       placeholder = old.placeholder;
-      one_root = second_stays accounts later k a (none_before_without (λ (b : Account). is_root b.kind) k n accounts) (is_root a.kind) refl old.one_root;
+      one_root = one_root_stays accounts later k a root old.one_root;
       parent = parent_stays accounts later a.kind a.parent (λ p above under. kind_left accounts n p above r (apart p under)) old.parent;
       own_name = none_before_without (has_same_name a) k n accounts old.own_name;
-    }))
+    })

@@ -1,6 +1,7 @@
--- The rules that each account of a book keeps. That its parents lead up to the root is a fact of the whole tree.
-use Rattle.std.specs.Prelude.{ℕ, nat_eq, not, Bool, true, false, ◌&&◌, ◌||◌, List, [], ◌∷◌, Option, Some, None, is_none, is_some}
+-- The rules that each account of a book keeps.
+use Rattle.std.specs.Prelude.{ℕ, nat_eq, not, Bool, true, false, ◌&&◌, ◌||◌, List, [], ◌∷◌, Option, Some, None, is_none, is_some, option_map, find}
 use Rattle.std.specs.Bool.{beq}
+use Rattle.std.specs.List.{list_any}
 use Rattle.std.specs.Option.{option_eq}
 use lib.Pointwise.{pointwise}
 use Rattle.book_commodity.specs.Currency.{is_currency_of}
@@ -9,6 +10,7 @@ use Rattle.book_commodity.specs.Table.{value_of}
 use Rattle.book_commodity.specs.declared.commodity.Commodity.{Commodity}
 use Rattle.book_accounts.specs.Group.{fits_under, is_security}
 use Rattle.book_accounts.specs.Rules.{kind_at}
+use Rattle.book_accounts.specs.Tree.{ancestors}
 use Rattle.book_accounts.specs.declared.account.Account.{Account}
 use Rattle.book_accounts.specs.declared.kind.AccountKind.{AccountKind}
 use Rattle.book_accounts.specs.declared.kind.AccountKind.TheVariants.{Root}
@@ -49,19 +51,33 @@ fits_parent accounts kind (Some parent) = fits_below kind (kind_at accounts pare
 abbrev pub has_same_name : Account → Account → Bool
 has_same_name account other = option_eq nat_eq other.parent account.parent && pointwise nat_eq other.name account.name
 
--- Whether an account is a second root: there is one root, that with the least number.
-abbrev pub is_second_root : List (ℕ × Account) → ℕ → Account → Bool
-is_second_root accounts number account = is_root account.kind && stands_before (λ other. is_root other.kind) number accounts
+-- The root: of the accounts of its kind the one with the least number.
+abbrev pub root_of : List (ℕ × Account) → Option ℕ
+root_of accounts = option_map (λ entry. entry.0) (find (λ entry. is_root entry.1.kind) accounts)
+
+-- Whether it is the number of the root.
+abbrev pub is_root_number : List (ℕ × Account) → ℕ → Bool
+is_root_number accounts number = option_eq nat_eq (root_of accounts) (Some number)
+
+-- Whether an account is the root where it is of its kind: there is no second one.
+abbrev pub is_root_if_of_kind : List (ℕ × Account) → ℕ → Account → Bool
+is_root_if_of_kind accounts number account = not (is_root account.kind) || is_root_number accounts number
+
+-- Whether the parents of an account lead up to the root: it is the root, or its parent is, or the parent of that, and so on.
+abbrev pub leads_to_root : List (ℕ × Account) → ℕ → Bool
+leads_to_root accounts number = list_any (is_root_number accounts) (number ∷ ancestors accounts number)
 
 -- The rules of an account: its commodity is in the book; its basis fits its kind; it has a parent unless it is the root,
--- which takes no splits and is the only one; the parent is there and of a fitting kind; and no sibling before it has its name.
+-- which takes no splits and is the only one; the parent is there and of a fitting kind; no sibling before it has its name;
+-- and its parents lead up to the root.
 abbrev pub account_rules : List (ℕ × Commodity) → List (ℕ × Account) → ℕ → Account → List Bool
 account_rules commodities accounts number account =
     is_some (value_of account.commodity commodities)
     ∷ fits_basis commodities (is_security account.kind) account.basis
     ∷ has_parent_unless_root account
     ∷ is_placeholder_if_root account
-    ∷ not (is_second_root accounts number account)
+    ∷ is_root_if_of_kind accounts number account
     ∷ fits_parent accounts account.kind account.parent
     ∷ not (stands_before (has_same_name account) number accounts)
+    ∷ leads_to_root accounts number
     ∷ []

@@ -1,11 +1,11 @@
 -- Laws of rules: of which the first counts, all of which are kept, and those that the things of a table keep.
-use Rattle.std.proofs.Common.{◌≡◌, ◌≢◌, ℕ, ◌<◌, nat_lt, ◌&&◌, Bool, true, false, List, [], ◌∷◌, ◌++◌, Option, Some, None, Result, Ok, Err, cond, find, inl, inr, refl, sym, ap, subst, ◌∙◌, arith}
+use Rattle.std.proofs.Common.{◌≡◌, ◌≢◌, ℕ, ◌<◌, ◌==◌, nat_lt, if◌then◌else◌, ◌&&◌, Bool, true, false, List, [], ◌∷◌, ◌++◌, Option, Some, None, Result, Ok, Err, cond, find, inl, inr, refl, sym, ap, subst, ◌∙◌, arith}
 use Rattle.std.specs.List.{list_any}
-use Rattle.std.proofs.lemmas.Bool.{or_parts}
+use Rattle.std.proofs.lemmas.Bool.{eqb-true, or_parts}
 use Rattle.std.proofs.lemmas.Bool.Decides.{nat_tests}
 use Rattle.book_commodity.specs.Rules.{TellsFirst, AllHold, AllKept, EachKeeps, broken_where, first_broken, stands_before}
-use Rattle.book_commodity.specs.Table.{Rises, value_of, with_entry, without_entry}
-use Rattle.book_commodity.proofs.DrawnLemmas.{value_with, value_without}
+use Rattle.book_commodity.specs.Table.{value_of, with_entry, without_entry}
+use Rattle.book_commodity.proofs.DrawnLemmas.{value_with}
 
 -- ---- the first broken rule
 
@@ -98,29 +98,63 @@ none_before_without test k n (e ∷ es) none =
     let rest = none_before_without test k n es parts.1 in
     grind (arith, nat_tests, parts.0, parts.1, rest)
 
--- ---- the rules of each thing of a table
+-- ---- the first that passes a test
 
--- after a thing is put: the rules of that thing, and of each other one that was there
+-- it is the same after a thing is put that doesn't pass it, where none stood that passed it
+pub find_with :
+    {T : Type 0} (test : ℕ × T → Bool) (n : ℕ) (v : T) (es : List (ℕ × T)) → test (n, v) ≡ false
+    → ((x : T) → value_of n es ≡ Some x → test (n, x) ≡ false) → find test (with_entry n v es) ≡ find test es
+find_with test n v [] new old = ap (λ (t : Bool). cond t (Some (n, v)) None) new
+find_with {T} test n v (e ∷ es) new old =
+    let skip : List (ℕ × T) → Type 0 = λ l. find test ((n, v) ∷ l) ≡ find test l in
+    let skips : (l : List (ℕ × T)) → skip l = λ l. ap (λ (t : Bool). cond t (Some (n, v)) (find test l)) new in
+    let Less : Bool → Type 0 = λ t. find test (if t then (n, v) ∷ e ∷ es else (if n == e.0 then (n, v) ∷ es else e ∷ with_entry n v es)) ≡ find test (e ∷ es) in
+    let Same : Bool → Type 0 = λ t. (n == e.0) ≡ t → ((x : T) → (if t then Some e.1 else value_of n es) ≡ Some x → test (n, x) ≡ false)
+    → find test (if t then (n, v) ∷ es else e ∷ with_entry n v es) ≡ find test (e ∷ es) in
+    elim (nat_lt n e.0) as Less [
+      | true ↦ skips (e ∷ es)
+      | false ↦ elim (n == e.0) as Same [
+        | true ↦ λ here gone.
+            let was : test e ≡ false = ap (λ (k : ℕ). test (k, e.1)) (sym (eqb-true n e.0 here)) ∙ gone e.1 refl in
+            skips es ∙ sym (ap (λ (t : Bool). cond t (Some e) (find test es)) was)
+        | false ↦ λ other gone. ap (λ (o : Option (ℕ × T)). cond (test e) (Some e) o) (find_with test n v es new gone)
+      ] refl old
+    ]
+
+-- and after one is taken that doesn't pass it
+pub find_without :
+    {T : Type 0} (test : ℕ × T → Bool) (n : ℕ) (es : List (ℕ × T)) → ((x : T) → value_of n es ≡ Some x → test (n, x) ≡ false)
+    → find test (without_entry n es) ≡ find test es
+find_without test n [] old = refl
+find_without {T} test n (e ∷ es) old =
+    let Same : Bool → Type 0 = λ t. (n == e.0) ≡ t → ((x : T) → (if t then Some e.1 else value_of n es) ≡ Some x → test (n, x) ≡ false)
+    → find test (if t then es else e ∷ without_entry n es) ≡ find test (e ∷ es) in
+    elim (n == e.0) as Same [
+      | true ↦ λ here gone.
+          let was : test e ≡ false = ap (λ (k : ℕ). test (k, e.1)) (sym (eqb-true n e.0 here)) ∙ gone e.1 refl in
+          sym (ap (λ (t : Bool). cond t (Some e) (find test es)) was)
+      | false ↦ λ other gone. ap (λ (o : Option (ℕ × T)). cond (test e) (Some e) o) (find_without test n es gone)
+    ] refl old
+
+-- ---- what holds of each thing of a table
+
+-- after a thing is put: of that thing, and of each other one that was there
+pub every_with :
+    {T : Type 0} (P Q : ℕ → T → Type 0) (n : ℕ) (v : T) (es : List (ℕ × T)) → Q n v
+    → ((k : ℕ) (x : T) → k ≢ n → value_of k es ≡ Some x → P k x → Q k x)
+    → ((k : ℕ) (x : T) → value_of k es ≡ Some x → P k x)
+    → (k : ℕ) (x : T) → value_of k (with_entry n v es) ≡ Some x → Q k x
+every_with {T} P Q n v es here others is k x there = elim (value_with k n v x es there) [
+  | inl put ↦ subst (λ (m : ℕ). Q m x) (sym put.0) (subst (λ (y : T). Q n y) put.1 here)
+  | inr old ↦ others k x old.0 old.1 (is k x old.1)
+]
+
 pub each_with :
     {T : Type 0} (rules later : ℕ → T → List Bool) (n : ℕ) (v : T) (es : List (ℕ × T)) → AllHold (later n v)
     → ((k : ℕ) (x : T) → k ≢ n → value_of k es ≡ Some x → AllHold (rules k x) → AllHold (later k x))
     → EachKeeps rules es → EachKeeps later (with_entry n v es)
-each_with {T} rules later n v es here others is = record {
-  each = λ k x there.
-      elim (value_with k n v x es there) [
-        | inl put ↦ subst (λ (m : ℕ). AllHold (later m x)) (sym put.0) (subst (λ (y : T). AllHold (later n y)) put.1 here)
-        | inr old ↦ others k x old.0 old.1 (is.each k x old.1)
-      ];
-}
-
--- after one is taken: the rules of each other one
-pub each_without :
-    {T : Type 0} (rules later : ℕ → T → List Bool) (n : ℕ) (es : List (ℕ × T)) → Rises es
-    → ((k : ℕ) (x : T) → value_of k es ≡ Some x → AllHold (rules k x) → AllHold (later k x))
-    → EachKeeps rules es → EachKeeps later (without_entry n es)
-each_without rules later n es r others is = record {
-  each = λ k x there. let old = value_without k n x es r there in others k x old (is.each k x old);
-}
+each_with {T} rules later n v es here others is =
+    record { each = every_with (λ k x. AllHold (rules k x)) (λ k x. AllHold (later k x)) n v es here others is.each }
 
 -- where the table stays and another changes, at which its rules look
 pub each_still :

@@ -9,7 +9,7 @@
 --
 -- So a new commodity asks nothing of the others, since what was there stays; another account in the place of one asks that the
 -- kinds stay, and that it takes splits as that did; and a new transaction asks that its splits have numbers of their own.
-use Rattle.std.proofs.Common.{◌≡◌, ◌≢◌, ℕ, ◌+◌, ◌<◌, ◌≤◌, All, List, [], ◌∷◌, ◌++◌, length, Option, Some, None, IsTrue, true, false, find, refl, sym, ap, ◌∙◌, append_assoc, append-nil, arith}
+use Rattle.std.proofs.Common.{◌≡◌, ℕ, ◌+◌, ◌<◌, ◌≤◌, All, List, [], ◌∷◌, ◌++◌, length, Some, None, IsTrue, true, false, is_some, find, refl, sym, ap, ◌∙◌, append_assoc, append-nil, arith}
 use Rattle.std.proofs.Math.ListN.{length-append}
 use Rattle.std.proofs.lemmas.List.Elements.{All-append, All-same, All-weaker}
 use Rattle.book_commodity.specs.CommodityRules.{has_fraction, has_same_pair}
@@ -19,12 +19,11 @@ use Rattle.book_commodity.specs.declared.commodity.Commodity.{Commodity}
 use Rattle.book_commodity.proofs.CommodityRuleLemmas.{commodities_with, currency_stays, stays_with}
 use Rattle.book_commodity.proofs.DrawnLemmas.{all_with, all_without, drawn_before, drawn_free, length_drawn, length_left, with_last}
 use Rattle.book_commodity.proofs.TableLemmas.{rises_with, rises_without}
-use Rattle.book_accounts.specs.Rules.{kind_at}
+use Rattle.book_accounts.specs.AccountRules.{is_root}
 use Rattle.book_accounts.specs.Tree.{children_of}
 use Rattle.book_accounts.specs.declared.account.Account.{Account}
-use Rattle.book_accounts.specs.declared.kind.AccountKind.TheVariants.{Root}
-use Rattle.book_accounts.proofs.AccountFitLemmas.{Enters}
-use Rattle.book_accounts.proofs.AccountRuleLemmas.{accounts_beside, accounts_with, accounts_without, kind_left}
+use Rattle.book_accounts.proofs.AccountRuleLemmas as accounts
+use Rattle.book_accounts.proofs.AccountRuleLemmas.{accounts_beside}
 use Rattle.book_accounts.proofs.TreeLaws.{rooted_without}
 use Rattle.book_splits.specs.Balance.{has_splits, splits_of}
 use Rattle.book_splits.specs.declared.split.Split.{Split}
@@ -110,27 +109,30 @@ commodity_drawn book n next new below are = record {
 -- ---- an account, under a drawn number or in the place of one
 
 pub account_put :
-    (book : Book) (n : ℕ) (new : Account) → Enters book.commodities book.accounts n new
+    (book : Book) (n : ℕ) (new : Account) → accounts.IsFit book.commodities book.accounts n new
     → ((m : ℕ) → has_splits book.transactions m ≡ true → Suits (value_of m book.accounts) (value_of m (with_entry n new book.accounts)))
     → length (with_entry n new book.accounts) ≤ 10000 → IsSoundBook book
     → IsSoundBook (record book { accounts = with_entry n new book.accounts })
-account_put book n new enters suits few is = record {
-  commodities = is.commodities;
-  accounts = record {
-    rise = rises_with n new book.accounts is.accounts.rise;
-    keep = accounts_with book.commodities book.accounts n new enters.fit is.accounts.keep;
-    few = few;
-  };
-  transactions = record {
-    rise = is.transactions.rise;
-    keep = transactions_on book.commodities book.accounts (with_entry n new book.accounts) book.transactions suits is.transactions.keep;
-    few = is.transactions.few;
-  };
-  few_splits = is.few_splits;
-  root = record { number = is.root.number; there = enters.fit.kinds is.root.number Root is.root.there };
-  rooted = enters.rooted;
-  currency = is.currency;
-}
+account_put book n new fit suits few is =
+    let later = with_entry n new book.accounts in
+    let root = accounts.root_stays_with book.commodities book.accounts n new fit in
+    record {
+      commodities = is.commodities;
+      accounts = record {
+        rise = rises_with n new book.accounts is.accounts.rise;
+        keep = accounts.accounts_with book.commodities book.accounts n new is.accounts.rise fit is.accounts.keep;
+        few = few;
+      };
+      transactions = record {
+        rise = is.transactions.rise;
+        keep = transactions_on book.commodities book.accounts later book.transactions suits is.transactions.keep;
+        few = is.transactions.few;
+      };
+      few_splits = is.few_splits;
+      root = ap is_some root ∙ is.root;
+      rooted = fit.rooted;
+      currency = is.currency;
+    }
 
 pub account_drawn :
     (book : Book) (n next : ℕ) (new : Account) → n < next → AreDrawn book next
@@ -145,27 +147,28 @@ account_drawn book n next new below are = record {
 -- ---- an account that is taken: it isn't the root, and has neither an account under it nor a split
 
 pub account_taken :
-    (book : Book) (n : ℕ) → kind_at book.accounts n ≢ Some Root → children_of book.accounts (Some n) ≡ []
-    → has_splits book.transactions n ≡ false → IsSoundBook book
+    (book : Book) (n : ℕ) (old : Account) → value_of n book.accounts ≡ Some old → is_root old.kind ≡ false
+    → children_of book.accounts (Some n) ≡ [] → has_splits book.transactions n ≡ false → IsSoundBook book
     → IsSoundBook (record book { accounts = without_entry n book.accounts })
-account_taken book n other none unused is =
+account_taken book n old there other none unused is =
     let r = is.accounts.rise in
-    let apart : is.root.number ≢ n = λ same. other (ap (kind_at book.accounts) (sym same) ∙ is.root.there) in
+    let later = without_entry n book.accounts in
+    let root = accounts.root_stays_without book.accounts n old there other in
     record {
       commodities = is.commodities;
       accounts = record {
         rise = rises_without n book.accounts r;
-        keep = accounts_without book.commodities book.accounts n r none is.accounts.keep;
+        keep = accounts.accounts_without book.commodities book.accounts n r is.rooted root none is.accounts.keep;
         few = omega (arith, is.accounts.few, length_left n book.accounts);
       };
       transactions = record {
         rise = is.transactions.rise;
-        keep = transactions_on book.commodities book.accounts (without_entry n book.accounts) book.transactions
+        keep = transactions_on book.commodities book.accounts later book.transactions
             (suits_left book.accounts book.transactions n r unused) is.transactions.keep;
         few = is.transactions.few;
       };
       few_splits = is.few_splits;
-      root = record { number = is.root.number; there = kind_left book.accounts n is.root.number Root r apart is.root.there };
+      root = ap is_some root ∙ is.root;
       rooted = rooted_without book.accounts n r none is.rooted;
       currency = is.currency;
     }

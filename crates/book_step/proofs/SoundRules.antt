@@ -1,5 +1,5 @@
 -- What a command puts into a sound book keeps the rules there, since it keeps those of the command.
-use Rattle.std.proofs.Common.{◌≡◌, ◌≢◌, ℕ, ◌+◌, ◌<◌, ◌≤◌, ◌==◌, ◌&&◌, not, nat_lt, ℤ, All, Bool, true, false, List, [], ◌∷◌, length, Option, Some, None, IsTrue, is_none, is_some, option_map, refl, sym, ap, subst, ◌∙◌, arith}
+use Rattle.std.proofs.Common.{◌≡◌, ℕ, ◌+◌, ◌<◌, ◌≤◌, ◌==◌, ◌&&◌, not, nat_lt, ℤ, All, Bool, true, false, List, [], ◌∷◌, length, Option, Some, None, IsTrue, is_none, is_some, refl, sym, ap, subst, ◌∙◌, arith}
 use Rattle.std.specs.List.{list_all}
 use Rattle.std.proofs.lemmas.Bool.{not-false, not_from_false, and_from, or_from, ne_eqb, or_parts}
 use Rattle.std.proofs.lemmas.Bool.Decides.{nat_tests}
@@ -13,15 +13,14 @@ use Rattle.book_commodity.proofs.CommodityRuleLemmas.{stays_with}
 use Rattle.book_commodity.proofs.DrawnLemmas.{drawn_free, length_changed, length_drawn}
 use Rattle.book_commodity.proofs.ListLemmas.{mapped_none}
 use Rattle.book_commodity.proofs.RuleLemmas.{not-broken}
-use Rattle.book_accounts.specs.AccountRules.{fits_basis, is_root}
+use Rattle.book_accounts.specs.AccountRules.{fits_basis}
 use Rattle.book_accounts.specs.Group.{is_security}
-use Rattle.book_accounts.specs.Rules.{add_rule, kind_at, move_rule}
+use Rattle.book_accounts.specs.Rules.{add_rule, move_rule}
 use Rattle.book_accounts.specs.Tree.{children_of}
 use Rattle.book_accounts.specs.declared.account.Account.{Account}
 use Rattle.book_accounts.specs.declared.kind.AccountKind.{AccountKind}
-use Rattle.book_accounts.specs.declared.kind.AccountKind.TheVariants.{Root}
-use Rattle.book_accounts.proofs.AccountFitLemmas.{Enters, enters_added, enters_moved}
-use Rattle.book_accounts.proofs.AccountRuleLemmas.{by_name}
+use Rattle.book_accounts.proofs.AccountFitLemmas.{fit_added, fit_moved}
+use Rattle.book_accounts.proofs.AccountRuleLemmas.{IsFit, by_name}
 use Rattle.book_splits.specs.Balance.{has_splits, splits_of}
 use Rattle.book_splits.specs.Check.{txn_rules}
 use Rattle.book_splits.specs.TransactionRules.{are_once, has_reconciliation_if_reconciled, is_among, numbers_of}
@@ -71,7 +70,7 @@ account_added book n new are kept is =
     let few = not-broken _ _ kept.1.1.1.1.1.0 in
     let longer = length_drawn n new book.accounts is.accounts.rise are.accounts in
     account_put book n new
-    (enters_added book.commodities book.accounts n new new.parent commodity basis is.rooted free refl (mapped_none of_tree_rule (add_rule book.accounts new) kept.1.1.1.0))
+    (fit_added book.commodities book.accounts n new new.parent commodity basis is.rooted free refl (mapped_none of_tree_rule (add_rule book.accounts new) kept.1.1.1.0))
     (λ m has. suits_stays book.accounts (with_entry n new book.accounts) m (stays_with n new book.accounts free))
     (grind (arith, nat_tests, few, longer)) is
 
@@ -81,14 +80,14 @@ pub record IsEdited (old new : Account) : Type 0 where
   pub commodity : old.commodity ≡ new.commodity
   pub basis : old.basis ≡ new.basis
 
-enters_edited :
+fit_edited :
     (book : Book) (n : ℕ) (old new : Account) (parent : Option ℕ) → value_of n book.accounts ≡ Some old → IsEdited old new
-    → new.parent ≡ parent → moved_rule book.accounts n new parent ≡ None → IsSoundBook book → Enters book.commodities book.accounts n new
-enters_edited book n old new None there edited under e is = absurd cc
-enters_edited book n old new (Some p) there edited under e is =
+    → new.parent ≡ parent → moved_rule book.accounts n new parent ≡ None → IsSoundBook book → IsFit book.commodities book.accounts n new
+fit_edited book n old new None there edited under e is = absurd cc
+fit_edited book n old new (Some p) there edited under e is =
     let had = by_name book.commodities book.accounts n old (is.accounts.keep.each n old there) in
     let Based : AccountKind → Option ℕ → Type 0 = λ kind basis. IsTrue (fits_basis book.commodities (is_security kind) basis) in
-    enters_moved book.commodities book.accounts n old new p there edited.kind
+    fit_moved book.commodities book.accounts n old new p there edited.kind
     (subst (λ (c : ℕ). IsTrue (is_some (value_of c book.commodities))) edited.commodity had.commodity)
     (subst (λ (k : AccountKind). Based k new.basis) edited.kind (subst (λ (b : Option ℕ). Based old.kind b) edited.basis had.basis))
     is.accounts.rise is.rooted under (mapped_none of_tree_rule (move_rule book.accounts n new.name p) e)
@@ -107,7 +106,7 @@ account_edited book n parent old new there edited kept is =
       basis = edited.basis;
       placeholder = still_open old.placeholder new.placeholder (has_splits book.transactions n) (not-broken _ _ kept.1.1.1.0) has;
     } in
-    account_put book n new (enters_edited book n old new new.parent there edited refl kept.1.1.0 is)
+    account_put book n new (fit_edited book n old new new.parent there edited refl kept.1.1.0 is)
     (suits_moved book.accounts book.transactions n old new there takes)
     (omega (arith, is.accounts.few, length_changed n new old book.accounts is.accounts.rise there)) is
 
@@ -118,13 +117,7 @@ account_dropped book n old there kept is =
     let children = children_of book.accounts (Some n) in
     let parts = or_parts (nat_lt 0 (length children)) (has_splits book.transactions n) (not-broken _ _ kept.1.0) in
     let none : length children ≡ 0 = grind (arith, nat_tests, parts.0) in
-    let kind = ap (option_map (λ (a : Account). a.kind)) there in
-    let other : kind_at book.accounts n ≢ Some Root = λ top.
-    let both : Some old.kind ≡ Some Root = sym kind ∙ top in
-    let root : old.kind ≡ Root = cc in
-    let yes = ap is_root root in
-    let stays = not-broken _ _ kept.0 in cc in
-    account_taken book n other (nil_from_length children none) parts.1 is
+    account_taken book n old there (not-broken _ _ kept.0) (nil_from_length children none) parts.1 is
 
 -- ---- transactions
 

@@ -59,10 +59,10 @@ fresh-sound = record {
   book = record {
     commodities = sound_alone (commodity_rules fresh_book.commodities) 10000 1 euro (omega arith) (refl, (refl, tt));
     accounts = sound_alone (account_rules fresh_book.commodities fresh_book.accounts) 10000 2 root (omega arith)
-        (refl, (refl, (refl, (refl, (refl, (refl, (refl, tt)))))));
+        (refl, (refl, (refl, (refl, (refl, (refl, (refl, (refl, tt))))))));
     transactions = record { rise = tt; keep = record { each = λ k x there. absurd cc }; few = omega arith };
     few_splits = omega arith;
-    root = record { number = 2; there = refl };
+    root = refl;
     rooted = rooted_top [] 2 root rooted_empty refl refl;
     currency = refl;
   };

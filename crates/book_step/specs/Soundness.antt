@@ -1,35 +1,26 @@
 -- What holds in every state that the machine reaches: each thing keeps the rules of its kind, and so does the whole book.
-use Rattle.std.specs.Prelude.{◌≡◌, ℕ, ◌<◌, ◌≤◌, ◌^◌, All, List, Some, IsTrue, length}
+use Rattle.std.specs.Prelude.{ℕ, ◌<◌, ◌≤◌, ◌^◌, All, IsTrue, is_some, length}
 use Rattle.book_commodity.specs.CommodityRules.{commodity_rules}
 use Rattle.book_commodity.specs.Currency.{is_currency_of}
 use Rattle.book_commodity.specs.Rules.{IsSoundTable}
 use Rattle.book_commodity.specs.Table.{value_of}
-use Rattle.book_accounts.specs.AccountRules.{account_rules}
-use Rattle.book_accounts.specs.Rules.{kind_at}
+use Rattle.book_accounts.specs.AccountRules.{account_rules, root_of}
 use Rattle.book_accounts.specs.Tree.{IsRooted}
-use Rattle.book_accounts.specs.declared.account.Account.{Account}
-use Rattle.book_accounts.specs.declared.kind.AccountKind.TheVariants.{Root}
 use Rattle.book_splits.specs.Balance.{splits_of}
 use Rattle.book_splits.specs.TransactionRules.{transaction_rules}
 use Rattle.book_undo.specs.Book.{Book}
 use Rattle.book_step.specs.State.{State}
 
--- One of the accounts is the root.
-pub record HasRoot (accounts : List (ℕ × Account)) : Type 0 where
-  pub number : ℕ
-  pub there : kind_at accounts number ≡ Some Root
-
--- A book is sound: its commodities, its accounts and its transactions keep the rules of their kinds, and there are at most
--- 10,000, 10,000 and 200,000 of them, with 1,000,000 splits (limits of this project); the parents of every account lead up to
--- the root, for only a root has no parent, and there is one; and the book's currency is one of its commodities, and a
--- currency (GnuCash Manual, book currency).
+-- A book is sound: its commodities, its accounts and its transactions keep the rules of their kinds; there are at most 10,000
+-- commodities, 10,000 accounts, and 200,000 transactions with 1,000,000 splits (limits of this project); there is a root, and
+-- the accounts are rooted; and the book's currency is one of its commodities, and a currency (GnuCash Manual, book currency).
 pub record IsSoundBook (book : Book) : Type 0 where
   pub commodities : IsSoundTable (commodity_rules book.commodities) 10000 book.commodities
   pub accounts : IsSoundTable (account_rules book.commodities book.accounts) 10000 book.accounts
   pub transactions :
       IsSoundTable (transaction_rules book.commodities book.accounts book.transactions) 200000 book.transactions
   pub few_splits : length (splits_of book.transactions) ≤ 1000000
-  pub root : HasRoot book.accounts
+  pub root : IsTrue (is_some (root_of book.accounts))
   pub rooted : IsRooted book.accounts
   pub currency : IsTrue (is_currency_of (value_of book.currency book.commodities))
 
