@@ -57,11 +57,11 @@ all_hold commodities accounts n account is leads =
 
 -- ---- the ways up to the root
 
-some_value : {T : Type 0} (found : Option T) → IsSome found → (value : T) × (found ≡ Some value)
+pub some_value : {T : Type 0} (found : Option T) → IsSome found → (value : T) × (found ≡ Some value)
 some_value None h = absurd cc
 some_value (Some value) h = (value, refl)
 
-top_chosen : (parent : Option ℕ) (root number : Bool) → parent ≡ None → beq (is_none parent) root ≡ true → (not root || number) ≡ true → number ≡ true
+pub top_chosen : (parent : Option ℕ) (root number : Bool) → parent ≡ None → beq (is_none parent) root ≡ true → (not root || number) ≡ true → number ≡ true
 top_chosen None true number top one chosen = chosen
 top_chosen None false number top one chosen = absurd cc
 top_chosen (Some p) root number top one chosen = absurd cc

@@ -4,6 +4,7 @@ pub mod ChildrenLemmas
 pub mod OnceLemmas
 pub mod OrderLemmas
 pub mod PathLemmas
+pub mod RootLemmas
 pub mod RuleLemmas
 pub mod SoundLaws
 pub mod TreeLaws

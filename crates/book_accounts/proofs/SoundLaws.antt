@@ -143,7 +143,7 @@ find_none test (x ∷ xs) n b e f =
       ] refl f t rest
     ] refl e
 
-pointwise-same : (xs : List ℕ) → pointwise nat_eq xs xs ≡ true
+pub pointwise-same : (xs : List ℕ) → pointwise nat_eq xs xs ≡ true
 pointwise-same [] = refl
 pointwise-same (x ∷ xs) = ap (λ (t : Bool). t && pointwise nat_eq xs xs) (eq-eqb x x refl) ∙ pointwise-same xs
 

@@ -98,6 +98,23 @@ none_before_without test k n (e ∷ es) none =
     let rest = none_before_without test k n es parts.1 in
     grind (arith, nat_tests, parts.0, parts.1, rest)
 
+-- what stands before a number doesn't pass the test, where nothing before passes it
+pub fails_before :
+    {T : Type 0} (test : T → Bool) (k n : ℕ) (x : T) (es : List (ℕ × T)) → stands_before test k es ≡ false → n < k
+    → value_of n es ≡ Some x → test x ≡ false
+fails_before test k n x [] none less there = absurd cc
+fails_before test k n x (e ∷ es) none less there =
+    let parts = or_parts (nat_lt e.0 k && test e.1) (stands_before test k es) none in
+    let Here : Bool → Type 0 = λ t. (n == e.0) ≡ t → (if t then Some e.1 else value_of n es) ≡ Some x → test x ≡ false in
+    elim (n == e.0) as Here [
+      | true ↦ λ same here.
+          let one : e.1 ≡ x = cc in
+          let number : n ≡ e.0 = eqb-true n e.0 same in
+          let below : nat_lt e.0 k ≡ true = grind (arith, nat_tests, number, less) in
+          ap test (sym one) ∙ sym (ap (λ (t : Bool). t && test e.1) below) ∙ parts.0
+      | false ↦ λ other more. fails_before test k n x es parts.1 less more
+    ] refl there
+
 -- ---- the first that passes a test
 
 -- it is the same after a thing is put that doesn't pass it, where none stood that passed it

@@ -24,7 +24,7 @@ use Rattle.book_splits.specs.declared.split.Split.{Split}
 use Rattle.book_splits.specs.declared.transaction.Txn.{Txn}
 use Rattle.book_splits.proofs.CheckLemmas.{KeepsCheck, none_of_parts, parts_of}
 
-is_none_of : {T : Type 0} (found : Option T) → IsTrue (is_none found) → found ≡ None
+pub is_none_of : {T : Type 0} (found : Option T) → IsTrue (is_none found) → found ≡ None
 is_none_of None e = refl
 is_none_of (Some x) e = absurd cc
 

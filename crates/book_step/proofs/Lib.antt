@@ -3,6 +3,7 @@ pub mod OutcomeLemmas
 pub mod PostLemmas
 pub mod SoundBook
 pub mod SoundCommands
+pub mod SoundFacts
 pub mod SoundOutcome
 pub mod SoundRules
 pub mod SoundStep
