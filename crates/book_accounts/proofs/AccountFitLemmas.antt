@@ -76,15 +76,15 @@ fit_added commodities accounts n new (Some p) commodity basis rooted free under 
     let above = known_by (value_of p accounts) _ kept.0 in
     let kind = ap (option_map (λ (a : Account). a.kind)) above.1 in
     record {
-        commodity = commodity;
-        basis = basis;
-        parent = p;
-        free = record { apart = None; others = λ k other. refl; under = under; free = kept.1.0 };
-        above = above.0.kind;
-        there = kind;
-        fits = fits_of new.kind above.0.kind (Some new.kind) (kind_at accounts p) refl kind kept.1.1.0;
-        kinds = kinds_added accounts n new free;
-        rooted = rooted_added accounts n new p rooted under (subst (λ (o : Option Account). IsSome o) (sym above.1) refl)
+      commodity = commodity;
+      basis = basis;
+      parent = p;
+      free = record { apart = None; others = λ k other. refl; under = under; free = kept.1.0 };
+      above = above.0.kind;
+      there = kind;
+      fits = fits_of new.kind above.0.kind (Some new.kind) (kind_at accounts p) refl kind kept.1.1.0;
+      kinds = kinds_added accounts n new free;
+      rooted = rooted_added accounts n new p rooted under (subst (λ (o : Option Account). IsSome o) (sym above.1) refl)
           (subst (λ (o : Option Account). IsNone o) (sym free) refl);
     }
 
@@ -105,14 +105,14 @@ fit_moved commodities accounts n old new p there same commodity basis r rooted u
     let kind = ap (option_map (λ (a : Account). a.kind)) above.1 in
     let own : kind_at accounts n ≡ Some new.kind = ap (option_map (λ (a : Account). a.kind)) there ∙ ap (λ (k : AccountKind). Some k) same in
     record {
-        commodity = commodity;
-        basis = basis;
-        parent = p;
-        free = record { apart = Some n; others = λ k other. ne_eqb n k (λ e. other (sym e)); under = under; free = kept.1.1.0 };
-        above = above.0.kind;
-        there = kind;
-        fits = fits_of new.kind above.0.kind (kind_at accounts n) (kind_at accounts p) own kind kept.1.1.1.1.0;
-        kinds = kinds_moved accounts n old new there same;
-        rooted = rooted_moved accounts n new p r rooted under (subst (λ (o : Option Account). IsSome o) (sym above.1) refl)
+      commodity = commodity;
+      basis = basis;
+      parent = p;
+      free = record { apart = Some n; others = λ k other. ne_eqb n k (λ e. other (sym e)); under = under; free = kept.1.1.0 };
+      above = above.0.kind;
+      there = kind;
+      fits = fits_of new.kind above.0.kind (kind_at accounts n) (kind_at accounts p) own kind kept.1.1.1.1.0;
+      kinds = kinds_moved accounts n old new there same;
+      rooted = rooted_moved accounts n new p r rooted under (subst (λ (o : Option Account). IsSome o) (sym above.1) refl)
           (not_where (is_within accounts n p) Cycle kept.1.1.1.0);
     }

@@ -57,8 +57,7 @@ root_there commodities accounts m r keep is =
     let first = mapped_some (λ (e : ℕ × Account). e.0) (find (λ (e : ℕ × Account). is_root e.1.kind) accounts) m (option_eq-true (root_of accounts) (Some m) is) in
     let found = find_there (λ (e : ℕ × Account). is_root e.1.kind) accounts first.0 r first.1 in
     let there : value_of m accounts ≡ Some first.0.1 = ap (λ (k : ℕ). value_of k accounts) (sym first.2) ∙ found.0 in
-    let kept = by_name commodities accounts m first.0.1 (keep.each m first.0.1 there) in
-    (
+    let kept = by_name commodities accounts m first.0.1 (keep.each m first.0.1 there) in (
       subst (λ (o : Option Account). IsSome o) (sym there) refl,
       ap (option_and_then (λ (a : Account). a.parent)) there ∙ none_chosen first.0.1.parent (is_root first.0.1.kind) found.1 kept.top,
     )
@@ -71,7 +70,7 @@ way_of_leads :
 unfolding nearest_parents
 way_of_leads zero accounts n tops leads =
     let Here : Bool → Type 0 = λ t. is_root_number accounts n ≡ t → t || false ≡ true → (way : List ℕ) × IsWayUp accounts n way in
-    elim (is_root_number accounts n) as Here [ | true ↦ λ is hit. ([], tops n is) | false ↦ λ is hit. absurd cc ] refl leads
+    elim (is_root_number accounts n) as Here [ true ↦ λ is hit. ([], tops n is) | false ↦ λ is hit. absurd cc ] refl leads
 way_of_leads (suc most) accounts n tops leads =
     let Way : Type 0 = (way : List ℕ) × IsWayUp accounts n way in
     let more : ℕ → Bool = λ p. list_any (is_root_number accounts) (p ∷ nearest_parents most accounts p) in

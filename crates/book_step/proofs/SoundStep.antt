@@ -37,7 +37,7 @@ step-sound state command new answer is e =
 
 -- what stands in a table of one thing
 only : {T : Type 0} (n k : ℕ) (x v : T) → value_of k ((n, v) ∷ []) ≡ Some x → (k ≡ n) × (v ≡ x)
-only n k x v there = elim (value_with k n v x [] there) [ | inl here ↦ here | inr old ↦ absurd (let none = old.1 in cc) ]
+only n k x v there = elim (value_with k n v x [] there) [ inl here ↦ here | inr old ↦ absurd (let none = old.1 in cc) ]
 
 -- A table of one thing is sound where that keeps its rules.
 sound_alone :
