@@ -1,5 +1,7 @@
 -- How the rules of accounts stay where a commodity is added, and where an account is put or taken.
-use Rattle.std.proofs.Common.{◌≡◌, ◌≢◌, ℕ, ◌<◌, ◌==◌, nat_eq, ◌&&◌, ◌||◌, not, Bool, true, false, List, [], ◌∷◌, Option, Some, None, IsSome, IsTrue, if◌then◌else◌, is_none, is_some, option_map, find, refl, sym, ap, subst, ◌∙◌, eq-eqb, arith}
+use Rattle.std.proofs.Common.{◌≡◌, ◌≢◌, ℕ, ◌<◌, ◌==◌, nat_eq, ◌&&◌, ◌||◌, not, Bool, true, false, List, [], ◌∷◌, Option}
+use Rattle.std.proofs.Common.{Some, None, IsSome, IsTrue, if◌then◌else◌, is_none, is_some, option_map, find, refl, sym}
+use Rattle.std.proofs.Common.{ap, subst, ◌∙◌, eq-eqb, arith}
 use Rattle.std.specs.Bool.{beq}
 use Rattle.std.specs.List.{list_any}
 use Rattle.std.specs.Option.{option_and_then, option_eq}
@@ -11,9 +13,12 @@ use Rattle.book_commodity.specs.declared.commodity.Commodity.{Commodity}
 use Rattle.book_commodity.proofs.CommodityRuleLemmas.{Stays, currency_stays, some_stays}
 use Rattle.book_commodity.proofs.DrawnLemmas.{value_without}
 use Rattle.book_commodity.proofs.ListLemmas.{mapped_none}
-use Rattle.book_commodity.proofs.RuleLemmas.{each_still, every_with, find_with, find_without, none_before, none_before_with, none_before_without}
+use Rattle.book_commodity.proofs.RuleLemmas.{each_still, every_with, find_with, find_without, none_before}
+use Rattle.book_commodity.proofs.RuleLemmas.{none_before_with, none_before_without}
 use Rattle.book_commodity.proofs.TableLemmas.{rises_with, rises_without, value_of_with}
-use Rattle.book_accounts.specs.AccountRules.{account_rules, fits_basis, fits_below, fits_parent, has_parent_unless_root, has_same_name, is_placeholder_if_root, is_root, is_root_if_of_kind, is_root_number, leads_to_root, root_of}
+use Rattle.book_accounts.specs.AccountRules.{account_rules, fits_basis, fits_below, fits_parent, has_parent_unless_root}
+use Rattle.book_accounts.specs.AccountRules.{has_same_name, is_placeholder_if_root, is_root, is_root_if_of_kind}
+use Rattle.book_accounts.specs.AccountRules.{is_root_number, leads_to_root, root_of}
 use Rattle.book_accounts.specs.Group.{fits_under, is_security}
 use Rattle.book_accounts.specs.Rules.{is_namesake, kind_at, name_taken}
 use Rattle.book_accounts.specs.Tree.{IsRooted, IsWayUp, ancestors, children_of}
@@ -26,7 +31,9 @@ use Rattle.book_accounts.proofs.TreeLaws.{no_child, option_eq-true, rooted_witho
 use Rattle.book_accounts.proofs.TreeLemmas.{other_without, way_of}
 
 -- The rules of an account by their names, but for the way up to the root.
-pub record Keeps (commodities : List (ℕ × Commodity)) (accounts : List (ℕ × Account)) (n : ℕ) (account : Account) : Type 0 where
+pub record Keeps
+    (commodities : List (ℕ × Commodity)) (accounts : List (ℕ × Account)) (n : ℕ) (account : Account)
+    : Type 0 where
   pub commodity : IsTrue (is_some (value_of account.commodity commodities))
   pub basis : IsTrue (fits_basis commodities (is_security account.kind) account.basis)
   pub top : IsTrue (has_parent_unless_root account)
@@ -50,7 +57,8 @@ by_name commodities accounts n account kept = record {
 
 all_hold :
     (commodities : List (ℕ × Commodity)) (accounts : List (ℕ × Account)) (n : ℕ) (account : Account)
-    → Keeps commodities accounts n account → IsTrue (leads_to_root accounts n) → AllHold (account_rules commodities accounts n account)
+    → Keeps commodities accounts n account → IsTrue (leads_to_root accounts n)
+    → AllHold (account_rules commodities accounts n account)
 all_hold commodities accounts n account is leads =
     let own_name = not_from_false _ is.own_name in
     (is.commodity, (is.basis, (is.top, (is.placeholder, (is.one_root, (is.parent, (own_name, (leads, tt))))))))
@@ -61,7 +69,9 @@ pub some_value : {T : Type 0} (found : Option T) → IsSome found → (value : T
 some_value None h = absurd cc
 some_value (Some value) h = (value, refl)
 
-pub top_chosen : (parent : Option ℕ) (root number : Bool) → parent ≡ None → beq (is_none parent) root ≡ true → (not root || number) ≡ true → number ≡ true
+pub top_chosen :
+    (parent : Option ℕ) (root number : Bool) → parent ≡ None → beq (is_none parent) root ≡ true
+    → (not root || number) ≡ true → number ≡ true
 top_chosen None true number top one chosen = chosen
 top_chosen None false number top one chosen = absurd cc
 top_chosen (Some p) root number top one chosen = absurd cc
@@ -95,9 +105,11 @@ with_ways commodities accounts r rooted keeps = record {
 -- ---- where commodities are added
 
 basis_stays :
-    (old new : List (ℕ × Commodity)) (security : Bool) (basis : Option ℕ) → Stays old new → IsTrue (fits_basis old security basis)
+    (old new : List (ℕ × Commodity)) (security : Bool) (basis : Option ℕ) → Stays old new
+    → IsTrue (fits_basis old security basis)
     → IsTrue (fits_basis new security basis)
-basis_stays old new true (Some basis) stays fits = currency_stays (value_of basis old) (value_of basis new) (stays.each basis) fits
+basis_stays old new true (Some basis) stays fits =
+    currency_stays (value_of basis old) (value_of basis new) (stays.each basis) fits
 basis_stays old new true None stays fits = fits
 basis_stays old new false basis stays fits = fits
 
@@ -131,7 +143,8 @@ parent_stays :
     → ((p : ℕ) (above : AccountKind) → parent ≡ Some p → kind_at old p ≡ Some above → kind_at new p ≡ Some above)
     → IsTrue (fits_parent old kind parent) → IsTrue (fits_parent new kind parent)
 parent_stays old new kind None same fits = fits
-parent_stays old new kind (Some p) same fits = below_stays kind (kind_at old p) (kind_at new p) (λ above. same p above refl) fits
+parent_stays old new kind (Some p) same fits =
+    below_stays kind (kind_at old p) (kind_at new p) (λ above. same p above refl) fits
 
 same_text : (xs ys : List ℕ) → pointwise nat_eq xs ys ≡ true → xs ≡ ys
 same_text [] [] e = refl
@@ -158,13 +171,16 @@ free_before :
     → stands_before (has_same_name new) n accounts ≡ false
 free_before accounts n p new is =
     let taken = is_namesake is.apart p new.name in
-    let missing = mapped_none (λ (e : ℕ × Account). e.0) (find taken accounts) (mapped_none (λ id. NameTaken id) _ is.free) in
+    let missing = mapped_none (λ (e : ℕ × Account). e.0) (find taken accounts)
+    (mapped_none (λ id. NameTaken id) _ is.free) in
     none_before taken (has_same_name new) n accounts
     (λ e below other.
     let apart = is.others e.0 (λ same. absurd (omega (arith, same, below))) in
-    let Named : Option ℕ → Type 0 = λ parent. option_eq nat_eq e.1.parent parent && pointwise nat_eq e.1.name new.name ≡ false in
+    let Named : Option ℕ → Type 0 =
+    λ parent. option_eq nat_eq e.1.parent parent && pointwise nat_eq e.1.name new.name ≡ false in
     subst Named (sym is.under)
-    (subst (λ (t : Bool). not t && (option_eq nat_eq e.1.parent (Some p) && pointwise nat_eq e.1.name new.name) ≡ false) apart other))
+    (subst (λ (t : Bool). not t && (option_eq nat_eq e.1.parent (Some p) && pointwise nat_eq e.1.name new.name)
+    ≡ false) apart other))
     missing
 
 -- and it has no other's name
@@ -176,7 +192,8 @@ free_apart accounts n p k new a is other there =
     (λ same.
     let parts = and_parts (option_eq nat_eq new.parent a.parent) (pointwise nat_eq new.name a.name) same in
     let parent : a.parent ≡ Some p = sym (option_eq-true new.parent a.parent parts.0) ∙ is.under in
-    own_name accounts is.apart p new.name is.free k a (is.others k other) there parent (sym (same_text new.name a.name parts.1)))
+    own_name accounts is.apart p new.name is.free k a (is.others k other) there parent
+    (sym (same_text new.name a.name parts.1)))
 
 -- ---- the root
 
@@ -186,16 +203,19 @@ root_with :
     → ((old : Account) → value_of n accounts ≡ Some old → is_root old.kind ≡ false)
     → root_of (with_entry n new accounts) ≡ root_of accounts
 root_with accounts n new other old =
-    ap (option_map (λ (e : ℕ × Account). e.0)) (find_with (λ (e : ℕ × Account). is_root e.1.kind) n new accounts other old)
+    ap (option_map (λ (e : ℕ × Account). e.0))
+    (find_with (λ (e : ℕ × Account). is_root e.1.kind) n new accounts other old)
 
 root_without :
-    (accounts : List (ℕ × Account)) (n : ℕ) → ((old : Account) → value_of n accounts ≡ Some old → is_root old.kind ≡ false)
+    (accounts : List (ℕ × Account)) (n : ℕ)
+    → ((old : Account) → value_of n accounts ≡ Some old → is_root old.kind ≡ false)
     → root_of (without_entry n accounts) ≡ root_of accounts
 root_without accounts n old =
     ap (option_map (λ (e : ℕ × Account). e.0)) (find_without (λ (e : ℕ × Account). is_root e.1.kind) n accounts old)
 
 one_root_stays :
-    (old new : List (ℕ × Account)) (k : ℕ) (a : Account) → root_of new ≡ root_of old → IsTrue (is_root_if_of_kind old k a)
+    (old new : List (ℕ × Account)) (k : ℕ) (a : Account) → root_of new ≡ root_of old
+    → IsTrue (is_root_if_of_kind old k a)
     → IsTrue (is_root_if_of_kind new k a)
 one_root_stays old new k a same is =
     subst (λ (root : Option ℕ). IsTrue (not (is_root a.kind) || option_eq nat_eq root (Some k))) (sym same) is
@@ -203,7 +223,9 @@ one_root_stays old new k a same is =
 -- ---- where an account is put
 
 -- What an account brings that is put under a number, where another stood or none.
-pub record IsFit (commodities : List (ℕ × Commodity)) (accounts : List (ℕ × Account)) (n : ℕ) (new : Account) : Type 0 where
+pub record IsFit
+    (commodities : List (ℕ × Commodity)) (accounts : List (ℕ × Account)) (n : ℕ) (new : Account)
+    : Type 0 where
   pub commodity : IsTrue (is_some (value_of new.commodity commodities))
   pub basis : IsTrue (fits_basis commodities (is_security new.kind) new.basis)
   pub parent : ℕ
@@ -212,17 +234,21 @@ pub record IsFit (commodities : List (ℕ × Commodity)) (accounts : List (ℕ �
   pub there : kind_at accounts parent ≡ Some above
   pub fits : fits_under new.kind above ≡ true
   -- each account that was there keeps its kind
-  pub kinds : (m : ℕ) (kind : AccountKind) → kind_at accounts m ≡ Some kind → kind_at (with_entry n new accounts) m ≡ Some kind
+  pub kinds : (m : ℕ) (kind : AccountKind) → kind_at accounts m ≡ Some kind
+      → kind_at (with_entry n new accounts) m ≡ Some kind
   pub rooted : IsRooted (with_entry n new accounts)
 
 -- it is no root, nor was the one in whose place it stands, so that the root stays
 pub root_stays_with :
-    (commodities : List (ℕ × Commodity)) (accounts : List (ℕ × Account)) (n : ℕ) (new : Account) → IsFit commodities accounts n new
+    (commodities : List (ℕ × Commodity)) (accounts : List (ℕ × Account)) (n : ℕ) (new : Account)
+    → IsFit commodities accounts n new
     → root_of (with_entry n new accounts) ≡ root_of accounts
 root_stays_with commodities accounts n new is =
     let other = no_root_below new.kind is.above is.fits in
     let here : kind_at (with_entry n new accounts) n ≡ Some new.kind =
-    ap (option_map (λ (a : Account). a.kind)) (value_of_with n n new accounts ∙ ap (λ (t : Bool). if t then Some new else value_of n accounts) (eq-eqb n n refl)) in
+    ap (option_map (λ (a : Account). a.kind))
+    (value_of_with n n new accounts ∙ ap (λ (t : Bool). if t then Some new else value_of n accounts)
+    (eq-eqb n n refl)) in
     root_with accounts n new other
     (λ old there.
     let was = is.kinds n old.kind (ap (option_map (λ (a : Account). a.kind)) there) in
@@ -257,7 +283,8 @@ accounts_with commodities accounts n new r is keep =
     let later = with_entry n new accounts in
     let root = root_stays_with commodities accounts n new is in
     with_ways commodities later (rises_with n new accounts r) is.rooted
-    (every_with (Keeps commodities accounts) (Keeps commodities later) n new accounts (own_rules commodities accounts n new is)
+    (every_with (Keeps commodities accounts) (Keeps commodities later) n new accounts
+    (own_rules commodities accounts n new is)
     (λ k a other there old. record {
       commodity = old.commodity;
       basis = old.basis;
@@ -273,7 +300,8 @@ accounts_with commodities accounts n new r is keep =
 -- ---- where an account is taken that has no account under it, and isn't the root
 
 pub kind_left :
-    (accounts : List (ℕ × Account)) (n p : ℕ) (above : AccountKind) → Rises accounts → p ≢ n → kind_at accounts p ≡ Some above
+    (accounts : List (ℕ × Account)) (n p : ℕ) (above : AccountKind) → Rises accounts → p ≢ n
+    → kind_at accounts p ≡ Some above
     → kind_at (without_entry n accounts) p ≡ Some above
 kind_left accounts n p above r other had =
     ap (option_map (λ (a : Account). a.kind)) (other_without accounts n r p (ne_eqb p n other)) ∙ had
@@ -300,13 +328,15 @@ accounts_without commodities accounts n r rooted root none keep =
     let there = value_without k n a accounts r left in
     let old = by_name commodities accounts k a (keep.each k a there) in
     let parent = ap (option_and_then (λ (account : Account). account.parent)) there in
-    let apart = λ (p : ℕ) (under : a.parent ≡ Some p) (same : p ≡ n). no_child accounts n k none (parent ∙ under ∙ ap (λ (m : ℕ). Some m) same) in
+    let apart = λ (p : ℕ) (under : a.parent ≡ Some p) (same : p ≡ n). no_child accounts n k none
+    (parent ∙ under ∙ ap (λ (m : ℕ). Some m) same) in
     record {
       commodity = old.commodity;
       basis = old.basis;
       top = old.top;
       placeholder = old.placeholder;
       one_root = one_root_stays accounts later k a root old.one_root;
-      parent = parent_stays accounts later a.kind a.parent (λ p above under. kind_left accounts n p above r (apart p under)) old.parent;
+      parent = parent_stays accounts later a.kind a.parent
+          (λ p above under. kind_left accounts n p above r (apart p under)) old.parent;
       own_name = none_before_without (has_same_name a) k n accounts old.own_name;
     })

@@ -1,5 +1,6 @@
 -- The rules that each account of a book keeps.
-use Rattle.std.specs.Prelude.{ℕ, nat_eq, not, Bool, true, false, ◌&&◌, ◌||◌, List, [], ◌∷◌, Option, Some, None, is_none, is_some, option_map, find}
+use Rattle.std.specs.Prelude.{ℕ, nat_eq, not, Bool, true, false, ◌&&◌, ◌||◌, List, [], ◌∷◌, Option, Some, None, is_none}
+use Rattle.std.specs.Prelude.{is_some, option_map, find}
 use Rattle.std.specs.Bool.{beq}
 use Rattle.std.specs.List.{list_any}
 use Rattle.std.specs.Option.{option_eq}
@@ -15,12 +16,14 @@ use Rattle.book_accounts.specs.declared.account.Account.{Account}
 use Rattle.book_accounts.specs.declared.kind.AccountKind.{AccountKind}
 use Rattle.book_accounts.specs.declared.kind.AccountKind.TheVariants.{Root}
 
--- Whether it is the kind of the account that all others stand under (GnuCash SQL schema, column root_account_guid of books).
+-- Whether it is the kind of the account that all others stand under (GnuCash SQL schema, column root_account_guid of
+-- books).
 abbrev pub is_root : AccountKind → Bool
 is_root Root = true
 is_root _ = false
 
--- Whether the basis fits the kind: a security account has a currency as its basis, in which it is bought and sold (GnuCash
+-- Whether the basis fits the kind: a security account has a currency as its basis, in which it is bought and sold
+-- (GnuCash
 -- Concepts Guide, buying shares); another account has none.
 abbrev pub fits_basis : List (ℕ × Commodity) → Bool → Option ℕ → Bool
 fits_basis commodities true (Some basis) = is_currency_of (value_of basis commodities)
@@ -63,12 +66,15 @@ is_root_number accounts number = option_eq nat_eq (root_of accounts) (Some numbe
 abbrev pub is_root_if_of_kind : List (ℕ × Account) → ℕ → Account → Bool
 is_root_if_of_kind accounts number account = not (is_root account.kind) || is_root_number accounts number
 
--- Whether the parents of an account lead up to the root: it is the root, or its parent is, or the parent of that, and so on.
+-- Whether the parents of an account lead up to the root: it is the root, or its parent is, or the parent of that, and
+-- so on.
 abbrev pub leads_to_root : List (ℕ × Account) → ℕ → Bool
 leads_to_root accounts number = list_any (is_root_number accounts) (number ∷ ancestors accounts number)
 
--- The rules of an account: its commodity is in the book; its basis fits its kind; it has a parent unless it is the root,
--- which takes no splits and is the only one; the parent is there and of a fitting kind; no sibling before it has its name;
+-- The rules of an account: its commodity is in the book; its basis fits its kind; it has a parent unless it is the
+-- root,
+-- which takes no splits and is the only one; the parent is there and of a fitting kind; no sibling before it has its
+-- name;
 -- and its parents lead up to the root.
 abbrev pub account_rules : List (ℕ × Commodity) → List (ℕ × Account) → ℕ → Account → List Bool
 account_rules commodities accounts number account =

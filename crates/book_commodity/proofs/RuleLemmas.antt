@@ -1,23 +1,28 @@
 -- Laws of rules: of which the first counts, all of which are kept, and those that the things of a table keep.
-use Rattle.std.proofs.Common.{◌≡◌, ◌≢◌, ℕ, ◌<◌, ◌==◌, nat_lt, if◌then◌else◌, ◌&&◌, Bool, true, false, List, [], ◌∷◌, ◌++◌, Option, Some, None, Result, Ok, Err, cond, find, inl, inr, refl, sym, ap, subst, ◌∙◌, arith}
+use Rattle.std.proofs.Common.{◌≡◌, ◌≢◌, ℕ, ◌<◌, ◌==◌, nat_lt, if◌then◌else◌, ◌&&◌, Bool, true, false, List, [], ◌∷◌}
+use Rattle.std.proofs.Common.{◌++◌, Option, Some, None, Result, Ok, Err, cond, find, inl, inr, refl, sym, ap, subst}
+use Rattle.std.proofs.Common.{◌∙◌, arith}
 use Rattle.std.specs.List.{list_any}
 use Rattle.std.proofs.lemmas.Bool.{eqb-true, or_parts}
 use Rattle.std.proofs.lemmas.Bool.Decides.{nat_tests}
-use Rattle.book_commodity.specs.Rules.{TellsFirst, AllHold, AllKept, EachKeeps, broken_where, first_broken, stands_before}
+use Rattle.book_commodity.specs.Rules.{TellsFirst, AllHold, AllKept, EachKeeps, broken_where, first_broken}
+use Rattle.book_commodity.specs.Rules.{stands_before}
 use Rattle.book_commodity.specs.Table.{value_of, with_entry, without_entry}
 use Rattle.book_commodity.proofs.DrawnLemmas.{value_with}
 
 -- ---- the first broken rule
 
 -- where the first rules aren't broken, the first broken one is among those behind them
-pub first-past : {R : Type 0} (xs ys : List (Option R)) → first_broken xs ≡ None → first_broken (xs ++ ys) ≡ first_broken ys
+pub first-past :
+    {R : Type 0} (xs ys : List (Option R)) → first_broken xs ≡ None → first_broken (xs ++ ys) ≡ first_broken ys
 first-past [] ys e = refl
 first-past (None ∷ xs) ys e = first-past xs ys e
 first-past (Some rule ∷ xs) ys e = absurd cc
 
 -- a rule that is the first broken one stays it, whatever rules stand behind
 pub first-here :
-    {R : Type 0} (xs ys : List (Option R)) (rule : R) → first_broken xs ≡ Some rule → first_broken (xs ++ ys) ≡ Some rule
+    {R : Type 0} (xs ys : List (Option R)) (rule : R) → first_broken xs ≡ Some rule
+    → first_broken (xs ++ ys) ≡ Some rule
 first-here [] ys rule e = absurd cc
 first-here (None ∷ xs) ys rule e = first-here xs ys rule e
 first-here (Some other ∷ xs) ys rule e = e
@@ -66,10 +71,12 @@ not-broken false rule e = refl
 -- nothing stands before a number that passes the test, where nothing is found that would
 pub none_before :
     {T : Type 0} (taken : ℕ × T → Bool) (test : T → Bool) (k : ℕ) (es : List (ℕ × T))
-    → ((e : ℕ × T) → e.0 < k → taken e ≡ false → test e.1 ≡ false) → find taken es ≡ None → stands_before test k es ≡ false
+    → ((e : ℕ × T) → e.0 < k → taken e ≡ false → test e.1 ≡ false) → find taken es ≡ None
+    → stands_before test k es ≡ false
 none_before taken test k [] weaker none = refl
 none_before {T} taken test k (e ∷ es) weaker none =
-    let Found : Bool → Type 0 = λ t. taken e ≡ t → cond t (Some e) (find taken es) ≡ None → stands_before test k (e ∷ es) ≡ false in
+    let Found : Bool → Type 0 = λ t. taken e ≡ t → cond t (Some e) (find taken es) ≡ None
+    → stands_before test k (e ∷ es) ≡ false in
     elim (taken e) as Found [
       | true ↦ λ here some. absurd cc
       | false ↦ λ other rest.
@@ -105,7 +112,8 @@ pub fails_before :
 fails_before test k n x [] none less there = absurd cc
 fails_before test k n x (e ∷ es) none less there =
     let parts = or_parts (nat_lt e.0 k && test e.1) (stands_before test k es) none in
-    let Here : Bool → Type 0 = λ t. (n == e.0) ≡ t → (if t then Some e.1 else value_of n es) ≡ Some x → test x ≡ false in
+    let Here : Bool → Type 0 = λ t. (n == e.0) ≡ t → (if t then Some e.1 else value_of n es) ≡ Some x
+    → test x ≡ false in
     elim (n == e.0) as Here [
       | true ↦ λ same here.
           let one : e.1 ≡ x = cc in
@@ -125,8 +133,11 @@ find_with test n v [] new old = ap (λ (t : Bool). cond t (Some (n, v)) None) ne
 find_with {T} test n v (e ∷ es) new old =
     let skip : List (ℕ × T) → Type 0 = λ l. find test ((n, v) ∷ l) ≡ find test l in
     let skips : (l : List (ℕ × T)) → skip l = λ l. ap (λ (t : Bool). cond t (Some (n, v)) (find test l)) new in
-    let Less : Bool → Type 0 = λ t. find test (if t then (n, v) ∷ e ∷ es else (if n == e.0 then (n, v) ∷ es else e ∷ with_entry n v es)) ≡ find test (e ∷ es) in
-    let Same : Bool → Type 0 = λ t. (n == e.0) ≡ t → ((x : T) → (if t then Some e.1 else value_of n es) ≡ Some x → test (n, x) ≡ false)
+    let Less : Bool → Type 0 =
+    λ t. find test (if t then (n, v) ∷ e ∷ es else (if n == e.0 then (n, v) ∷ es else e ∷ with_entry n v es)) ≡ find
+    test (e ∷ es) in
+    let Same : Bool → Type 0 = λ t. (n == e.0) ≡ t
+    → ((x : T) → (if t then Some e.1 else value_of n es) ≡ Some x → test (n, x) ≡ false)
     → find test (if t then (n, v) ∷ es else e ∷ with_entry n v es) ≡ find test (e ∷ es) in
     elim (nat_lt n e.0) as Less [
       | true ↦ skips (e ∷ es)
@@ -140,11 +151,13 @@ find_with {T} test n v (e ∷ es) new old =
 
 -- and after one is taken that doesn't pass it
 pub find_without :
-    {T : Type 0} (test : ℕ × T → Bool) (n : ℕ) (es : List (ℕ × T)) → ((x : T) → value_of n es ≡ Some x → test (n, x) ≡ false)
+    {T : Type 0} (test : ℕ × T → Bool) (n : ℕ) (es : List (ℕ × T))
+    → ((x : T) → value_of n es ≡ Some x → test (n, x) ≡ false)
     → find test (without_entry n es) ≡ find test es
 find_without test n [] old = refl
 find_without {T} test n (e ∷ es) old =
-    let Same : Bool → Type 0 = λ t. (n == e.0) ≡ t → ((x : T) → (if t then Some e.1 else value_of n es) ≡ Some x → test (n, x) ≡ false)
+    let Same : Bool → Type 0 = λ t. (n == e.0) ≡ t
+    → ((x : T) → (if t then Some e.1 else value_of n es) ≡ Some x → test (n, x) ≡ false)
     → find test (if t then es else e ∷ without_entry n es) ≡ find test (e ∷ es) in
     elim (n == e.0) as Same [
       | true ↦ λ here gone.

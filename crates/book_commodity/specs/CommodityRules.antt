@@ -7,7 +7,8 @@ use Rattle.book_commodity.specs.declared.commodity.Commodity.{Commodity}
 -- Whether another commodity has the same space and the same name, which are one commodity's (GnuCash SQL schema, table
 -- commodities: namespace and mnemonic).
 abbrev pub has_same_pair : Commodity → Commodity → Bool
-has_same_pair commodity other = pointwise nat_eq other.space commodity.space && pointwise nat_eq other.name commodity.name
+has_same_pair commodity other =
+    pointwise nat_eq other.space commodity.space && pointwise nat_eq other.name commodity.name
 
 -- Whether one unit of it is made of 1 to 10^9 smallest units (a limit of this project).
 abbrev pub has_fraction : Commodity → Bool

@@ -1,5 +1,6 @@
 -- Rules that are asked one after another, of which the first that is broken counts; and the rules that things keep.
-use Rattle.std.specs.Prelude.{◌≡◌, ◌≤◌, ⊤, ℕ, nat_lt, length, Bool, true, false, ◌&&◌, List, [], ◌∷◌, Option, Some, None, Result, MatchResult, IsTrue}
+use Rattle.std.specs.Prelude.{◌≡◌, ◌≤◌, ⊤, ℕ, nat_lt, length, Bool, true, false, ◌&&◌, List, [], ◌∷◌, Option, Some}
+use Rattle.std.specs.Prelude.{None, Result, MatchResult, IsTrue}
 use Rattle.std.specs.List.{list_any}
 use Rattle.book_commodity.specs.Table.{Rises, value_of}
 
@@ -28,7 +29,8 @@ abbrev pub AllHold : List Bool → Type 0
 AllHold [] = ⊤
 AllHold (test ∷ more) = IsTrue test × AllHold more
 
--- Whether a thing with a smaller number passes the test. What may stand once is broken at the greater of two numbers: the
+-- Whether a thing with a smaller number passes the test. What may stand once is broken at the greater of two numbers:
+-- the
 -- thing there has one before it.
 abbrev pub stands_before : {T : Type 0} → (T → Bool) → ℕ → List (ℕ × T) → Bool
 stands_before test number entries = list_any (λ entry. nat_lt entry.0 number && test entry.1) entries
@@ -37,7 +39,8 @@ stands_before test number entries = list_any (λ entry. nat_lt entry.0 number &&
 pub record EachKeeps {T : Type 0} (rules : ℕ → T → List Bool) (entries : List (ℕ × T)) : Type 0 where
   pub each : (number : ℕ) (thing : T) → value_of number entries ≡ Some thing → AllHold (rules number thing)
 
--- A table is sound: its numbers rise, so that none stands twice; every thing keeps its rules; and there are at most so many.
+-- A table is sound: its numbers rise, so that none stands twice; every thing keeps its rules; and there are at most so
+-- many.
 pub record IsSoundTable {T : Type 0} (rules : ℕ → T → List Bool) (most : ℕ) (entries : List (ℕ × T)) : Type 0 where
   pub rise : Rises entries
   pub keep : EachKeeps rules entries

@@ -14,7 +14,8 @@ takes_as_itself account = record { kind = refl; commodity = refl; basis = refl; 
 
 -- where all that stood still stands
 pub suits_stays : (old new : List (ℕ × Account)) (n : ℕ) → Stays old new → Suits (value_of n old) (value_of n new)
-suits_stays old new n stays = record { each = λ account there. (account, stays.each n account there, takes_as_itself account) }
+suits_stays old new n stays =
+    record { each = λ account there. (account, stays.each n account there, takes_as_itself account) }
 
 -- where another account stands in the place of one, and takes splits as that did, if it has any
 pub suits_moved :
@@ -23,7 +24,8 @@ pub suits_moved :
     → (m : ℕ) → has_splits ts m ≡ true → Suits (value_of m accounts) (value_of m (with_entry n new accounts))
 suits_moved accounts ts n old new there takes m has = record {
   each = λ account found.
-      let Place : Bool → Type 0 = λ t. (m == n) ≡ t → (later : Account) × (value_of m (with_entry n new accounts) ≡ Some later) × TakesAs account later in
+      let Place : Bool → Type 0 = λ t. (m == n) ≡ t → (later : Account)
+      × (value_of m (with_entry n new accounts) ≡ Some later) × TakesAs account later in
       elim (m == n) as Place [
         | true ↦ λ here.
             let same : m ≡ n = eqb-true m n here in
@@ -31,7 +33,12 @@ suits_moved accounts ts n old new there takes m has = record {
             let one : old ≡ account = cc in
             let as_old = takes (ap (has_splits ts) (sym same) ∙ has) in
             (new, value_here m n new accounts same, subst (λ (a : Account). TakesAs a new) one as_old)
-        | false ↦ λ other. (account, value_beside m n new account accounts (eqb-false m n other) found, takes_as_itself account)
+        | false ↦ λ other. (
+          account,
+          value_beside m n new account accounts
+              (eqb-false m n other) found,
+          takes_as_itself account,
+        )
       ] refl;
 }
 

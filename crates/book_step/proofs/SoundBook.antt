@@ -1,4 +1,5 @@
--- A change of one table leaves a book sound, where what is put keeps its rules and the rules that look at it are kept. Which
+-- A change of one table leaves a book sound, where what is put keeps its rules and the rules that look at it are kept.
+-- Which
 -- rules look at what of which table:
 --
 --     rules of        commodities              accounts                        transactions
@@ -7,9 +8,12 @@
 --     a transaction   its currency             those of its splits             the splits of those before it
 --     the book        its currency             the root, the ways up to it     the count of splits
 --
--- So a new commodity asks nothing of the others, since what was there stays; another account in the place of one asks that the
--- kinds stay, and that it takes splits as that did; and a new transaction asks that its splits have numbers of their own.
-use Rattle.std.proofs.Common.{◌≡◌, ℕ, ◌+◌, ◌<◌, ◌≤◌, All, List, [], ◌∷◌, ◌++◌, length, Some, None, IsTrue, true, false, is_some, find, refl, sym, ap, ◌∙◌, append_assoc, append-nil, arith}
+-- So a new commodity asks nothing of the others, since what was there stays; another account in the place of one asks
+-- that the
+-- kinds stay, and that it takes splits as that did; and a new transaction asks that its splits have numbers of their
+-- own.
+use Rattle.std.proofs.Common.{◌≡◌, ℕ, ◌+◌, ◌<◌, ◌≤◌, All, List, [], ◌∷◌, ◌++◌, length, Some, None, IsTrue, true, false}
+use Rattle.std.proofs.Common.{is_some, find, refl, sym, ap, ◌∙◌, append_assoc, append-nil, arith}
 use Rattle.std.proofs.Math.ListN.{length-append}
 use Rattle.std.proofs.lemmas.List.Elements.{All-append, All-same, All-weaker}
 use Rattle.book_commodity.specs.CommodityRules.{has_fraction, has_same_pair}
@@ -17,7 +21,8 @@ use Rattle.book_commodity.specs.Currency.{is_currency_of}
 use Rattle.book_commodity.specs.Table.{value_of, with_entry, without_entry}
 use Rattle.book_commodity.specs.declared.commodity.Commodity.{Commodity}
 use Rattle.book_commodity.proofs.CommodityRuleLemmas.{commodities_with, currency_stays, stays_with}
-use Rattle.book_commodity.proofs.DrawnLemmas.{all_with, all_without, drawn_before, drawn_free, length_drawn, length_left, with_last}
+use Rattle.book_commodity.proofs.DrawnLemmas.{all_with, all_without, drawn_before, drawn_free, length_drawn}
+use Rattle.book_commodity.proofs.DrawnLemmas.{length_left, with_last}
 use Rattle.book_commodity.proofs.TableLemmas.{rises_with, rises_without}
 use Rattle.book_accounts.specs.AccountRules.{is_root}
 use Rattle.book_accounts.specs.Tree.{children_of}
@@ -61,7 +66,13 @@ currency_set book n new is = record {
 
 pub currency_drawn : (book : Book) (n next : ℕ) → AreDrawn book next → AreDrawn (record book { currency = n }) next
 currency_drawn book n next are =
-    record { commodities = are.commodities; accounts = are.accounts; transactions = are.transactions; splits = are.splits }
+    record {
+      commodities = are.commodities;
+      accounts = are.accounts;
+      transactions = are.transactions;
+      splits =
+          are.splits;
+    }
 
 -- ---- a commodity under a drawn number
 
@@ -93,7 +104,8 @@ commodity_put book n new are free fraction few is =
       few_splits = is.few_splits;
       root = is.root;
       rooted = is.rooted;
-      currency = currency_stays (value_of book.currency book.commodities) (value_of book.currency later) (stays.each book.currency) is.currency;
+      currency = currency_stays (value_of book.currency book.commodities) (value_of book.currency later)
+          (stays.each book.currency) is.currency;
     }
 
 pub commodity_drawn :
@@ -110,7 +122,8 @@ commodity_drawn book n next new below are = record {
 
 pub account_put :
     (book : Book) (n : ℕ) (new : Account) → accounts.IsFit book.commodities book.accounts n new
-    → ((m : ℕ) → has_splits book.transactions m ≡ true → Suits (value_of m book.accounts) (value_of m (with_entry n new book.accounts)))
+    → ((m : ℕ) → has_splits book.transactions m ≡ true
+    → Suits (value_of m book.accounts) (value_of m (with_entry n new book.accounts)))
     → length (with_entry n new book.accounts) ≤ 10000 → IsSoundBook book
     → IsSoundBook (record book { accounts = with_entry n new book.accounts })
 account_put book n new fit suits few is =
@@ -174,7 +187,8 @@ account_taken book n old there other none unused is =
     }
 
 pub account_left_drawn :
-    (book : Book) (n next : ℕ) → AreDrawn book next → AreDrawn (record book { accounts = without_entry n book.accounts }) next
+    (book : Book) (n next : ℕ) → AreDrawn book next
+    → AreDrawn (record book { accounts = without_entry n book.accounts }) next
 account_left_drawn book n next are = record {
   commodities = are.commodities;
   accounts = all_without (λ (e : ℕ × Account). e.0 < next) n book.accounts are.accounts;
@@ -187,7 +201,8 @@ account_left_drawn book n next are = record {
 splits-append : (xs ys : List (ℕ × Txn)) → splits_of (xs ++ ys) ≡ splits_of xs ++ splits_of ys
 splits-append [] ys = refl
 splits-append (x ∷ xs) ys =
-    ap (λ (l : List Split). x.1.splits ++ l) (splits-append xs ys) ∙ sym (append_assoc x.1.splits (splits_of xs) (splits_of ys))
+    ap (λ (l : List Split). x.1.splits ++ l) (splits-append xs ys)
+    ∙ sym (append_assoc x.1.splits (splits_of xs) (splits_of ys))
 
 -- its splits stand behind all others
 splits_last :
@@ -200,7 +215,8 @@ splits_last n new ts below =
 
 pub transaction_put :
     (book : Book) (n : ℕ) (new : Txn) → AreDrawn book n → transaction.IsFit book.commodities book.accounts n new
-    → length book.transactions + 1 ≤ 200000 → length (splits_of book.transactions) + length new.splits ≤ 1000000 → IsSoundBook book
+    → length book.transactions + 1 ≤ 200000 → length (splits_of book.transactions) + length new.splits ≤ 1000000
+    → IsSoundBook book
     → IsSoundBook (record book { transactions = with_entry n new book.transactions })
 transaction_put book n new are fit few splits is =
     let longer = length_drawn n new book.transactions is.transactions.rise are.transactions in
@@ -210,7 +226,8 @@ transaction_put book n new are fit few splits is =
       accounts = is.accounts;
       transactions = record {
         rise = rises_with n new book.transactions is.transactions.rise;
-        keep = transactions_with book.commodities book.accounts n new book.transactions are.transactions are.splits fit is.transactions.keep;
+        keep = transactions_with book.commodities book.accounts n new book.transactions are.transactions are.splits
+            fit is.transactions.keep;
         few = omega (arith, few, longer);
       };
       few_splits = omega (arith, splits, last, length-append (splits_of book.transactions) new.splits);
@@ -220,7 +237,8 @@ transaction_put book n new are fit few splits is =
     }
 
 pub transaction_drawn :
-    (book : Book) (n next : ℕ) (new : Txn) → n < next → All (λ (split : Split). split.id < next) new.splits → AreDrawn book n
+    (book : Book) (n next : ℕ) (new : Txn) → n < next → All (λ (split : Split). split.id < next) new.splits
+    → AreDrawn book n
     → AreDrawn (record book { transactions = with_entry n new book.transactions }) next
 transaction_drawn book n next new below ids are =
     let later = drawn_later book n next (omega (arith, below)) are in
@@ -229,7 +247,8 @@ transaction_drawn book n next new below ids are =
       commodities = later.commodities;
       accounts = later.accounts;
       transactions = all_with (λ (e : ℕ × Txn). e.0 < next) n new book.transactions below later.transactions;
-      splits = All-same Below (splits_of (with_entry n new book.transactions)) (splits_of book.transactions ++ new.splits)
+      splits = All-same Below (splits_of (with_entry n new book.transactions))
+          (splits_of book.transactions ++ new.splits)
           (splits_last n new book.transactions are.transactions)
           (All-append Below (splits_of book.transactions) new.splits later.splits ids);
     }

@@ -14,8 +14,10 @@ use Rattle.book_step.specs.Soundness.{IsSoundBook}
 pub accounts_are_one_tree : (book : Book) → IsSoundBook book → IsTree book.accounts
 accounts_are_one_tree book is = tree_of book.commodities book.accounts is.accounts.rise is.accounts.keep
 
--- Each transaction of a sound book has 1 to 500 splits, whose values sum to zero and whose amounts are within the limit.
+-- Each transaction of a sound book has 1 to 500 splits, whose values sum to zero and whose amounts are within the
+-- limit.
 pub transactions_balance :
-    (book : Book) (n : ℕ) (t : Txn) → IsSoundBook book → value_of n book.transactions ≡ Some t → transaction.IsSound t.splits
+    (book : Book) (n : ℕ) (t : Txn) → IsSoundBook book → value_of n book.transactions ≡ Some t
+    → transaction.IsSound t.splits
 transactions_balance book n t is there =
     let kept = is.transactions.keep.each n t there in sound_of book.commodities book.accounts t (is_none_of _ kept.0)

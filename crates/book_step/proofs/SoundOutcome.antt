@@ -12,7 +12,8 @@ use Rattle.book_command.specs.declared.answer.Answer.{Answer}
 use Rattle.book_command.specs.declared.rule.Rule.{Rule}
 
 pub unless_done :
-    (rule : Option Rule) (outcome : Outcome) (new : State) (answer : Answer) → unless_broken rule outcome ≡ Done new answer
+    (rule : Option Rule) (outcome : Outcome) (new : State) (answer : Answer)
+    → unless_broken rule outcome ≡ Done new answer
     → (rule ≡ None) × (outcome ≡ Done new answer)
 unless_done None outcome new answer e = (refl, e)
 unless_done (Some rule) outcome new answer e = absurd cc
@@ -25,7 +26,8 @@ pub record IsChange (state : State) (rules : List (Option Rule)) (edit : Edit) (
   pub version : state.version + 1 < 2 ^ 62
 
 pub changing_done :
-    (state : State) (rules : List (Option Rule)) (edit : Edit) (drawn : ℕ) (given : Answer) (new : State) (answer : Answer)
+    (state : State) (rules : List (Option Rule)) (edit : Edit) (drawn : ℕ) (given : Answer) (new : State)
+    (answer : Answer)
     → changing state rules edit drawn given ≡ Done new answer → IsChange state rules edit drawn new
 changing_done state rules edit drawn given new answer e =
     let last = numbers state drawn ∷ [] in
@@ -47,7 +49,9 @@ leaving_done state rules given new answer e =
 
 -- A state that a command changes is sound where the book is after the edit, and its numbers are drawn.
 pub sound_after :
-    (state : State) (rules : List (Option Rule)) (edit : Edit) (drawn : ℕ) (new : State) → IsChange state rules edit drawn new
+    (state : State) (rules : List (Option Rule)) (edit : Edit) (drawn : ℕ) (new : State)
+    → IsChange state rules edit drawn new
     → IsSoundBook (edited edit state.book) → AreDrawn (edited edit state.book) (state.next + drawn) → IsSound new
 sound_after state rules edit drawn new change book are =
-    subst (λ (s : State). IsSound s) change.is (record { book = book; drawn = are; next = change.next; version = change.version })
+    subst (λ (s : State). IsSound s) change.is
+    (record { book = book; drawn = are; next = change.next; version = change.version })

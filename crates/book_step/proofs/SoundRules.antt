@@ -1,5 +1,6 @@
 -- What a command puts into a sound book keeps the rules there, since it keeps those of the command.
-use Rattle.std.proofs.Common.{◌≡◌, ℕ, ◌+◌, ◌<◌, ◌≤◌, ◌==◌, ◌&&◌, not, nat_lt, ℤ, All, Bool, true, false, List, [], ◌∷◌, length, Option, Some, None, IsTrue, is_none, is_some, refl, sym, ap, subst, ◌∙◌, arith}
+use Rattle.std.proofs.Common.{◌≡◌, ℕ, ◌+◌, ◌<◌, ◌≤◌, ◌==◌, ◌&&◌, not, nat_lt, ℤ, All, Bool, true, false, List, [], ◌∷◌}
+use Rattle.std.proofs.Common.{length, Option, Some, None, IsTrue, is_none, is_some, refl, sym, ap, subst, ◌∙◌, arith}
 use Rattle.std.specs.List.{list_all}
 use Rattle.std.proofs.lemmas.Bool.{not-false, not_from_false, and_from, or_from, ne_eqb, or_parts}
 use Rattle.std.proofs.lemmas.Bool.Decides.{nat_tests}
@@ -34,7 +35,8 @@ use Rattle.book_command.specs.declared.command.GivenSplit.{GivenSplit}
 use Rattle.book_command.specs.declared.command.GivenTxn.{GivenTxn}
 use Rattle.book_command.specs.declared.rule.Rule.{Rule}
 use Rattle.book_step.specs.Accounts.{add_rules, edit_rules, moved_rule, not_empty, root_stays}
-use Rattle.book_step.specs.Commodities.{fraction_shape, name_taken, too_many_commodities, unknown_commodity, wrong_currency}
+use Rattle.book_step.specs.Commodities.{fraction_shape, name_taken, too_many_commodities, unknown_commodity}
+use Rattle.book_step.specs.Commodities.{wrong_currency}
 use Rattle.book_step.specs.Posting.{new_splits, new_transaction, post_rules}
 use Rattle.book_step.specs.Soundness.{IsSoundBook, AreDrawn}
 use Rattle.book_step.proofs.SoundBook.{account_put, account_taken, commodity_put, currency_set, transaction_put}
@@ -52,7 +54,8 @@ pub commodity_added :
     → IsSoundBook book → IsSoundBook (record book { commodities = with_entry n new book.commodities })
 commodity_added book n new are kept is =
     let few = not-broken _ _ kept.1.1.0 in
-    commodity_put book n new are (mapped_none _ _ kept.0) (not-false _ (not-broken _ _ kept.1.0)) (grind (arith, nat_tests, few)) is
+    commodity_put book n new are (mapped_none _ _ kept.0) (not-false _ (not-broken _ _ kept.1.0))
+    (grind (arith, nat_tests, few)) is
 
 -- ---- accounts
 
@@ -70,7 +73,8 @@ account_added book n new are kept is =
     let few = not-broken _ _ kept.1.1.1.1.1.0 in
     let longer = length_drawn n new book.accounts is.accounts.rise are.accounts in
     account_put book n new
-    (fit_added book.commodities book.accounts n new new.parent commodity basis is.rooted free refl (mapped_none of_tree_rule (add_rule book.accounts new) kept.1.1.1.0))
+    (fit_added book.commodities book.accounts n new new.parent commodity basis is.rooted free refl
+    (mapped_none of_tree_rule (add_rule book.accounts new) kept.1.1.1.0))
     (λ m has. suits_stays book.accounts (with_entry n new book.accounts) m (stays_with n new book.accounts free))
     (grind (arith, nat_tests, few, longer)) is
 
@@ -81,22 +85,27 @@ pub record IsEdited (old new : Account) : Type 0 where
   pub basis : old.basis ≡ new.basis
 
 fit_edited :
-    (book : Book) (n : ℕ) (old new : Account) (parent : Option ℕ) → value_of n book.accounts ≡ Some old → IsEdited old new
-    → new.parent ≡ parent → moved_rule book.accounts n new parent ≡ None → IsSoundBook book → IsFit book.commodities book.accounts n new
+    (book : Book) (n : ℕ) (old new : Account) (parent : Option ℕ) → value_of n book.accounts ≡ Some old
+    → IsEdited old new
+    → new.parent ≡ parent → moved_rule book.accounts n new parent ≡ None → IsSoundBook book
+    → IsFit book.commodities book.accounts n new
 fit_edited book n old new None there edited under e is = absurd cc
 fit_edited book n old new (Some p) there edited under e is =
     let had = by_name book.commodities book.accounts n old (is.accounts.keep.each n old there) in
-    let Based : AccountKind → Option ℕ → Type 0 = λ kind basis. IsTrue (fits_basis book.commodities (is_security kind) basis) in
+    let Based : AccountKind → Option ℕ → Type 0 =
+    λ kind basis. IsTrue (fits_basis book.commodities (is_security kind) basis) in
     fit_moved book.commodities book.accounts n old new p there edited.kind
     (subst (λ (c : ℕ). IsTrue (is_some (value_of c book.commodities))) edited.commodity had.commodity)
-    (subst (λ (k : AccountKind). Based k new.basis) edited.kind (subst (λ (b : Option ℕ). Based old.kind b) edited.basis had.basis))
+    (subst (λ (k : AccountKind). Based k new.basis) edited.kind
+    (subst (λ (b : Option ℕ). Based old.kind b) edited.basis had.basis))
     is.accounts.rise is.rooted under (mapped_none of_tree_rule (move_rule book.accounts n new.name p) e)
 
 still_open : (old new has : Bool) → (not old && (new && has)) ≡ false → has ≡ true → old ≡ false → new ≡ false
 still_open old new has kept there before = grind (arith, nat_tests, kept, there, before)
 
 pub account_edited :
-    (book : Book) (n : ℕ) (parent : Option ℕ) (old new : Account) → value_of n book.accounts ≡ Some old → IsEdited old new
+    (book : Book) (n : ℕ) (parent : Option ℕ) (old new : Account) → value_of n book.accounts ≡ Some old
+    → IsEdited old new
     → AllKept (edit_rules book n parent old new) → IsSoundBook book
     → IsSoundBook (record book { accounts = with_entry n new book.accounts })
 account_edited book n parent old new there edited kept is =
@@ -104,14 +113,16 @@ account_edited book n parent old new there edited kept is =
       kind = edited.kind;
       commodity = edited.commodity;
       basis = edited.basis;
-      placeholder = still_open old.placeholder new.placeholder (has_splits book.transactions n) (not-broken _ _ kept.1.1.1.0) has;
+      placeholder = still_open old.placeholder new.placeholder (has_splits book.transactions n)
+          (not-broken _ _ kept.1.1.1.0) has;
     } in
     account_put book n new (fit_edited book n old new new.parent there edited refl kept.1.1.0 is)
     (suits_moved book.accounts book.transactions n old new there takes)
     (omega (arith, is.accounts.few, length_changed n new old book.accounts is.accounts.rise there)) is
 
 pub account_dropped :
-    (book : Book) (n : ℕ) (old : Account) → value_of n book.accounts ≡ Some old → AllKept (root_stays old ∷ not_empty book n ∷ [])
+    (book : Book) (n : ℕ) (old : Account) → value_of n book.accounts ≡ Some old
+    → AllKept (root_stays old ∷ not_empty book n ∷ [])
     → IsSoundBook book → IsSoundBook (record book { accounts = without_entry n book.accounts })
 account_dropped book n old there kept is =
     let children = children_of book.accounts (Some n) in
@@ -130,10 +141,13 @@ not_greater n (m ∷ more) above =
     (not_greater n more (All-tail (λ (k : ℕ). n < k) m more above))
 
 -- the splits of a post draw their numbers from one on,
-new_above : (below number : ℕ) (given : List GivenSplit) → below < number → All (λ (m : ℕ). below < m) (numbers_of (new_splits number given))
+new_above :
+    (below number : ℕ) (given : List GivenSplit) → below < number
+    → All (λ (m : ℕ). below < m) (numbers_of (new_splits number given))
 new_above below number [] lt = All-nil (λ (m : ℕ). below < m)
 new_above below number (first ∷ more) lt =
-    All-cons (λ (m : ℕ). below < m) number (numbers_of (new_splits (number + 1) more)) lt (new_above below (number + 1) more (omega (arith, lt)))
+    All-cons (λ (m : ℕ). below < m) number (numbers_of (new_splits (number + 1) more)) lt
+    (new_above below (number + 1) more (omega (arith, lt)))
 
 -- below the next one,
 pub new_below :
@@ -141,22 +155,26 @@ pub new_below :
     → All (λ (split : Split). split.id < next) (new_splits number given)
 new_below number next [] le = All-nil (λ (split : Split). split.id < next)
 new_below number next (first ∷ more) le =
-    All-cons (λ (split : Split). split.id < next) _ (new_splits (number + 1) more) (omega (arith, le)) (new_below (number + 1) next more (omega (arith, le)))
+    All-cons (λ (split : Split). split.id < next) _ (new_splits (number + 1) more) (omega (arith, le))
+    (new_below (number + 1) next more (omega (arith, le)))
 
 -- each another one,
 new_once : (number : ℕ) (given : List GivenSplit) → are_once (numbers_of (new_splits number given)) ≡ true
 new_once number [] = refl
 new_once number (first ∷ more) =
-    let apart = not_greater number (numbers_of (new_splits (number + 1) more)) (new_above number (number + 1) more (omega arith)) in
+    let apart = not_greater number (numbers_of (new_splits (number + 1) more))
+    (new_above number (number + 1) more (omega arith)) in
     and_from _ _ (not_from_false _ apart) (new_once (number + 1) more)
 
 -- and are new
-new_marks : (number : ℕ) (given : List GivenSplit) → list_all has_reconciliation_if_reconciled (new_splits number given) ≡ true
+new_marks :
+    (number : ℕ) (given : List GivenSplit) → list_all has_reconciliation_if_reconciled (new_splits number given) ≡ true
 new_marks number [] = refl
 new_marks number (first ∷ more) = new_marks (number + 1) more
 
 pub posted :
-    (book : Book) (n : ℕ) (day : ℤ) (given : GivenTxn) → AreDrawn book n → AllKept (post_rules book (new_transaction n day given))
+    (book : Book) (n : ℕ) (day : ℤ) (given : GivenTxn) → AreDrawn book n
+    → AllKept (post_rules book (new_transaction n day given))
     → IsSoundBook book
     → IsSoundBook (record book { transactions = with_entry n (new_transaction n day given) book.transactions })
 posted book n day given are kept is =

@@ -12,15 +12,19 @@ use Rattle.book_splits.specs.declared.transaction.Txn.{Txn}
 use Rattle.book_command.specs.declared.answer.Answer.{Answer}
 use Rattle.book_command.specs.declared.command.Command.{Command}
 use Rattle.book_command.specs.declared.command.What.{What}
-use Rattle.book_command.specs.declared.command.What.TheVariants.{BookCurrency, CommodityAdd, AccountAdd, AccountEdit, AccountDrop, Post}
+use Rattle.book_command.specs.declared.command.What.TheVariants.{BookCurrency, CommodityAdd, AccountAdd, AccountEdit}
+use Rattle.book_command.specs.declared.command.What.TheVariants.{AccountDrop, Post}
 use Rattle.book_step.specs.Outcome.{Done}
 use Rattle.book_step.specs.Soundness.{IsSound}
 use Rattle.book_step.specs.State.{State, fresh_state, fresh_book, euro, root}
 use Rattle.book_step.specs.Step.{outcome, stale, step}
-use Rattle.book_step.proofs.SoundCommands.{account_add-sound, account_drop-sound, account_edit-sound, book_currency-sound, commodity_add-sound, post-sound}
+use Rattle.book_step.proofs.SoundCommands.{account_add-sound, account_drop-sound, account_edit-sound}
+use Rattle.book_step.proofs.SoundCommands.{book_currency-sound, commodity_add-sound, post-sound}
 use Rattle.book_step.proofs.SoundOutcome.{unless_done}
 
-outcome-sound : (state : State) (what : What) (new : State) (told : Answer) → IsSound state → outcome state what ≡ Done new told → IsSound new
+outcome-sound :
+    (state : State) (what : What) (new : State) (told : Answer) → IsSound state → outcome state what ≡ Done new told
+    → IsSound new
 outcome-sound state (BookCurrency commodity) new told is e = book_currency-sound state commodity new told is e
 outcome-sound state (CommodityAdd commodity) new told is e = commodity_add-sound state commodity new told is e
 outcome-sound state (AccountAdd account) new told is e = account_add-sound state account new told is e
@@ -29,9 +33,12 @@ outcome-sound state (AccountDrop account) new told is e = account_drop-sound sta
 outcome-sound state (Post day given) new told is e = post-sound state day given new told is e
 
 -- A step that is done leads from a sound state to a sound one.
-pub step-sound : (state : State) (command : Command) (new : State) (answer : Answer) → IsSound state → step state command ≡ Done new answer → IsSound new
+pub step-sound :
+    (state : State) (command : Command) (new : State) (answer : Answer) → IsSound state
+    → step state command ≡ Done new answer → IsSound new
 step-sound state command new answer is e =
-    let done = unless_done (stale state command.at) (outcome state command.what) new answer e in outcome-sound state command.what new answer is done.1
+    let done = unless_done (stale state command.at) (outcome state command.what) new answer e in
+    outcome-sound state command.what new answer is done.1
 
 -- ---- the fresh state
 
