@@ -1,7 +1,10 @@
+pub mod AccountFitLemmas
+pub mod AccountRuleLemmas
 pub mod ChildrenLemmas
 pub mod OnceLemmas
 pub mod OrderLemmas
 pub mod PathLemmas
+pub mod RootLemmas
 pub mod RuleLemmas
 pub mod SoundLaws
 pub mod TreeLaws

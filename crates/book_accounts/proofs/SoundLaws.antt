@@ -1,11 +1,14 @@
 -- The accounts stay one tree where one is added or moved by the rules, or one without children is taken out.
-use Rattle.std.proofs.Common.{◌≡◌, ℕ, ◌==◌, nat_eq, ◌&&◌, not, ◌⊎◌, inl, inr, Bool, true, false, cond, if◌then◌else◌, List, [], ◌∷◌, Option, Some, None, IsSome, IsNone, option_map, find, Result, Ok, Err, OnOk, refl, sym, ap, subst, ◌∙◌, eq-eqb, arith}
+use Rattle.std.proofs.Common.{◌≡◌, ℕ, ◌==◌, nat_eq, ◌&&◌, not, ◌⊎◌, inl, inr, Bool, true, false, cond, if◌then◌else◌}
+use Rattle.std.proofs.Common.{List, [], ◌∷◌, Option, Some, None, IsSome, IsNone, option_map, find, Result, Ok, Err}
+use Rattle.std.proofs.Common.{OnOk, refl, sym, ap, subst, ◌∙◌, eq-eqb, arith}
 use Rattle.std.specs.List.{list_any}
 use Rattle.std.specs.Option.{option_and_then, option_eq}
 use lib.Pointwise.{pointwise}
 use Rattle.std.proofs.lemmas.Bool.{eqb-true}
 use Rattle.std.proofs.lemmas.Bool.Decides.{nat_tests}
 use Rattle.book_commodity.specs.Table.{Rises, value_of, with_entry, without_entry}
+use Rattle.book_commodity.proofs.ListLemmas.{mapped_none}
 use Rattle.book_commodity.proofs.TableLemmas as tables
 use Rattle.book_accounts.specs.Group.{fits_under}
 use Rattle.book_accounts.specs.Rules.{IsAnswer, is_namesake, is_within, name_taken, parent_kind}
@@ -29,13 +32,19 @@ some_of (Some a) h = (a, refl)
 
 -- what a tree with one account put says: that account, or one of the others
 split_with :
-    (tree : List (ℕ × Account)) (m : ℕ) (account : Account) (n : ℕ) (b : Account) → value_of n (with_entry m account tree) ≡ Some b
+    (tree : List (ℕ × Account)) (m : ℕ) (account : Account) (n : ℕ) (b : Account)
+    → value_of n (with_entry m account tree) ≡ Some b
     → ((n ≡ m) × (account ≡ b)) ⊎ (((n == m) ≡ false) × (value_of n tree ≡ Some b))
 split_with tree m account n b e =
     let told = sym (tables.value_of_with n m account tree) ∙ e in
-    let P : Bool → Type 0 = λ t. (n == m) ≡ t → ((n ≡ m) × (account ≡ b)) ⊎ (((n == m) ≡ false) × (value_of n tree ≡ Some b)) in
+    let P : Bool → Type 0 = λ t. (n == m) ≡ t
+    → ((n ≡ m) × (account ≡ b)) ⊎ (((n == m) ≡ false) × (value_of n tree ≡ Some b)) in
     elim (n == m) as P [
-      | true ↦ λ same. inl (eqb-true n m same, let here : Some account ≡ Some b = sym (ap (λ (t : Bool). if t then Some account else value_of n tree) same) ∙ told in cc)
+      | true ↦ λ same. inl (
+        eqb-true n m same,
+        let here : Some account ≡ Some b =
+            sym (ap (λ (t : Bool). if t then Some account else value_of n tree) same) ∙ told in cc,
+      )
       | false ↦ λ other. inr (other, sym (ap (λ (t : Bool). if t then Some account else value_of n tree) other) ∙ told)
     ] refl
 
@@ -46,13 +55,16 @@ pub record Fits (tree : List (ℕ × Account)) (m : ℕ) (account : Account) (p 
   pub apart : (p == m) ≡ false
   pub kinds : fits_under account.kind above.kind ≡ true
   pub same_kind : (old : Account) → value_of m tree ≡ Some old → old.kind ≡ account.kind
-  pub own_name : (n : ℕ) (b : Account) → (n == m) ≡ false → value_of n tree ≡ Some b → b.parent ≡ Some p → b.name ≡ account.name → ⊥
+  pub own_name : (n : ℕ) (b : Account) → (n == m) ≡ false → value_of n tree ≡ Some b → b.parent ≡ Some p
+      → b.name ≡ account.name → ⊥
   pub rooted : IsRooted (with_entry m account tree)
 
 not_top : (a : Account) (p : ℕ) → a.parent ≡ Some p → a.parent ≡ None → ⊥
 not_top a p e f = cc
 
-pub tree_with : (tree : List (ℕ × Account)) (m : ℕ) (account : Account) (p : ℕ) (above : Account) → Fits tree m account p above → IsTree tree → IsTree (with_entry m account tree)
+pub tree_with :
+    (tree : List (ℕ × Account)) (m : ℕ) (account : Account) (p : ℕ) (above : Account) → Fits tree m account p above
+    → IsTree tree → IsTree (with_entry m account tree)
 tree_with tree m account p above fits is = record {
   rooted = fits.rooted;
   one_top = λ k l a b ka lb ta tb.
@@ -88,10 +100,13 @@ tree_with tree m account p above fits is = record {
         | inl here ↦
             let first : Some p ≡ Some q = sym fits.under ∙ ap (λ (x : Account). x.parent) here.1 ∙ up in
             let same : p ≡ q = cc in
-            let told : value_of p (with_entry m account tree) ≡ Some above = other_with tree m account p fits.apart ∙ fits.there in
-            let both : Some above ≡ Some upper = sym told ∙ ap (λ (k : ℕ). value_of k (with_entry m account tree)) same ∙ qu in
+            let told : value_of p (with_entry m account tree) ≡ Some above = other_with tree m account p fits.apart
+            ∙ fits.there in
+            let both : Some above ≡ Some upper =
+            sym told ∙ ap (λ (k : ℕ). value_of k (with_entry m account tree)) same ∙ qu in
             let one : above ≡ upper = cc in
-            subst (λ (x : Account). fits_under x.kind upper.kind ≡ true) here.1 (subst (λ (x : Account). fits_under account.kind x.kind ≡ true) one fits.kinds)
+            subst (λ (x : Account). fits_under x.kind upper.kind ≡ true) here.1
+            (subst (λ (x : Account). fits_under account.kind x.kind ≡ true) one fits.kinds)
         | inr old ↦ elim (split_with tree m account q upper qu) [
           | inl here ↦
               let parent : parent_of tree n ≡ Some q = ap (option_and_then (λ account. account.parent)) old.1 ∙ up in
@@ -99,24 +114,31 @@ tree_with tree m account p above fits is = record {
               let found = some_below tree n q way.0 way.1 parent in
               let before = some_of (value_of q tree) (there_on_way tree q found.0 found.1) in
               let kind : before.0.kind ≡ upper.kind =
-              fits.same_kind before.0 (ap (λ (k : ℕ). value_of k tree) (sym here.0) ∙ before.1) ∙ ap (λ (x : Account). x.kind) here.1 in
-              subst (λ (k : AccountKind). fits_under a.kind k ≡ true) kind (is.kinds_fit n q a before.0 old.1 up before.1)
+              fits.same_kind before.0 (ap (λ (k : ℕ). value_of k tree) (sym here.0) ∙ before.1)
+              ∙ ap (λ (x : Account). x.kind) here.1 in
+              subst (λ (k : AccountKind). fits_under a.kind k ≡ true) kind
+              (is.kinds_fit n q a before.0 old.1 up before.1)
           | inr other ↦ is.kinds_fit n q a upper old.1 up other.1
         ]
       ];
 }
 
-from_without : (tree : List (ℕ × Account)) (m : ℕ) → Rises tree → (n : ℕ) (b : Account) → value_of n (without_entry m tree) ≡ Some b → value_of n tree ≡ Some b
+from_without :
+    (tree : List (ℕ × Account)) (m : ℕ) → Rises tree → (n : ℕ) (b : Account)
+    → value_of n (without_entry m tree) ≡ Some b → value_of n tree ≡ Some b
 from_without tree m r n b e =
     let told = sym (tables.value_of_without n m tree r) ∙ e in
     let P : Bool → Type 0 = λ t. (n == m) ≡ t → value_of n tree ≡ Some b in
     elim (n == m) as P [
-      | true ↦ λ same. absurd (let gone : None ≡ Some b = sym (ap (λ (t : Bool). if t then None else value_of n tree) same) ∙ told in cc)
+      | true ↦ λ same. absurd (let gone : None ≡ Some b =
+          sym (ap (λ (t : Bool). if t then None else value_of n tree) same) ∙ told in cc)
       | false ↦ λ other. sym (ap (λ (t : Bool). if t then None else value_of n tree) other) ∙ told
     ] refl
 
 -- one without children is taken out
-pub keeps_without : (tree : List (ℕ × Account)) (m : ℕ) → Rises tree → children_of tree (Some m) ≡ [] → KeepsTree tree (without_entry m tree)
+pub keeps_without :
+    (tree : List (ℕ × Account)) (m : ℕ) → Rises tree → children_of tree (Some m) ≡ []
+    → KeepsTree tree (without_entry m tree)
 keeps_without tree m r none = record {
   rooted = rooted_without tree m r none;
   tree = λ is. let from = from_without tree m r in record {
@@ -128,35 +150,38 @@ keeps_without tree m r none = record {
   };
 }
 
-find_none : (test : ℕ × Account → Bool) (tree : List (ℕ × Account)) (n : ℕ) (b : Account) → find test tree ≡ None → value_of n tree ≡ Some b → test (n, b) ≡ false
+find_none :
+    (test : ℕ × Account → Bool) (tree : List (ℕ × Account)) (n : ℕ) (b : Account) → find test tree ≡ None
+    → value_of n tree ≡ Some b → test (n, b) ≡ false
 find_none test [] n b e f = absurd cc
 find_none test (x ∷ xs) n b e f =
     let Test : Bool → Type 0 = λ t. test x ≡ t → cond t (Some x) (find test xs) ≡ None → test (n, b) ≡ false in
-    let Same : Bool → Type 0 = λ t. (n == x.0) ≡ t → (if t then Some x.1 else value_of n xs) ≡ Some b → test x ≡ false → find test xs ≡ None → test (n, b) ≡ false in
+    let Same : Bool → Type 0 = λ t. (n == x.0) ≡ t → (if t then Some x.1 else value_of n xs) ≡ Some b → test x ≡ false
+    → find test xs ≡ None → test (n, b) ≡ false in
     elim (test x) as Test [
       | true ↦ λ t found. absurd cc
       | false ↦ λ t rest. elim (n == x.0) as Same [
         | true ↦ λ same value t rest.
-            ap (λ (k : ℕ). test (k, b)) (eqb-true n x.0 same) ∙ ap (λ (a : Account). test (x.0, a)) (sym (some_same x.1 b value)) ∙ t
+            ap (λ (k : ℕ). test (k, b)) (eqb-true n x.0 same) ∙ ap (λ (a : Account). test (x.0, a))
+            (sym (some_same x.1 b value)) ∙ t
         | false ↦ λ other value t rest. find_none test xs n b rest value
       ] refl f t rest
     ] refl e
 
-mapped_none : {X Y : Type 0} (f : X → Y) (o : Option X) → option_map f o ≡ None → o ≡ None
-mapped_none f None e = refl
-mapped_none f (Some x) e = absurd cc
-
-pointwise-same : (xs : List ℕ) → pointwise nat_eq xs xs ≡ true
+pub pointwise-same : (xs : List ℕ) → pointwise nat_eq xs xs ≡ true
 pointwise-same [] = refl
 pointwise-same (x ∷ xs) = ap (λ (t : Bool). t && pointwise nat_eq xs xs) (eq-eqb x x refl) ∙ pointwise-same xs
 
 -- where no name is taken, no other account has the parent and the name
 pub own_name :
     (tree : List (ℕ × Account)) (apart : Option ℕ) (p : ℕ) (name : List ℕ) → name_taken tree apart p name ≡ None
-    → (n : ℕ) (b : Account) → option_eq nat_eq apart (Some n) ≡ false → value_of n tree ≡ Some b → b.parent ≡ Some p → b.name ≡ name → ⊥
+    → (n : ℕ) (b : Account) → option_eq nat_eq apart (Some n) ≡ false → value_of n tree ≡ Some b → b.parent ≡ Some p
+    → b.name ≡ name → ⊥
 own_name tree apart p name free n b other value under named =
     let missing : find (is_namesake apart p name) tree ≡ None =
-    mapped_none (λ (entry : ℕ × Account). entry.0) (find (is_namesake apart p name) tree) (mapped_none (λ id. NameTaken id) (option_map (λ (entry : ℕ × Account). entry.0) (find (is_namesake apart p name) tree)) free) in
+    mapped_none (λ (entry : ℕ × Account). entry.0) (find (is_namesake apart p name) tree)
+    (mapped_none (λ id. NameTaken id)
+    (option_map (λ (entry : ℕ × Account). entry.0) (find (is_namesake apart p name) tree)) free) in
     let no : is_namesake apart p name (n, b) ≡ false = find_none (is_namesake apart p name) tree n b missing value in
     let yes : is_namesake apart p name (n, b) ≡ true =
     ap (λ (t : Bool). not t && (option_eq nat_eq b.parent (Some p) && pointwise nat_eq b.name name)) other
@@ -167,18 +192,23 @@ own_name tree apart p name free n b other value under named =
     cc
 
 -- what a check of kinds that answers Ok says
-pub fits_on_ok : {T : Type 0} (P : Type 0) (kind above : AccountKind) (r : Result T TreeRule) → IsAnswer (parent_kind (Some kind) (Some above)) r → (fits_under kind above ≡ true → P) → OnOk r P
+pub fits_on_ok :
+    {T : Type 0} (P : Type 0) (kind above : AccountKind) (r : Result T TreeRule)
+    → IsAnswer (parent_kind (Some kind) (Some above)) r → (fits_under kind above ≡ true → P) → OnOk r P
 fits_on_ok P kind above (Ok x) answer go =
     let T : Bool → Type 0 = λ t. fits_under kind above ≡ t → fits_under kind above ≡ true in
     go
     (elim (fits_under kind above) as T [
       | true ↦ λ e. e
       | false ↦ λ e. absurd
-          (let broken : Some ParentKind ≡ None = sym (ap (λ (t : Bool). if t then None else Some ParentKind) e) ∙ answer in cc)
+          (let broken : Some ParentKind ≡ None = sym (ap (λ (t : Bool). if t then None else Some ParentKind) e)
+          ∙ answer in cc)
     ] refl)
 fits_on_ok P kind above (Err rule) answer go = tt
 
-added_apart : (tree : List (ℕ × Account)) (m p : ℕ) (above : Account) → value_of p tree ≡ Some above → IsNone (value_of m tree) → (p == m) ≡ false
+added_apart :
+    (tree : List (ℕ × Account)) (m p : ℕ) (above : Account) → value_of p tree ≡ Some above → IsNone (value_of m tree)
+    → (p == m) ≡ false
 added_apart tree m p above there gone =
     let P : Bool → Type 0 = λ t. (p == m) ≡ t → (p == m) ≡ false in
     elim (p == m) as P [
@@ -190,7 +220,8 @@ added_apart tree m p above there gone =
 
 -- a new account is added by the rules
 pub keeps_added :
-    (tree : List (ℕ × Account)) (m : ℕ) (account : Account) (p : ℕ) (above : Account) → account.parent ≡ Some p → value_of p tree ≡ Some above
+    (tree : List (ℕ × Account)) (m : ℕ) (account : Account) (p : ℕ) (above : Account) → account.parent ≡ Some p
+    → value_of p tree ≡ Some above
     → name_taken tree None p account.name ≡ None → fits_under account.kind above.kind ≡ true → IsNone (value_of m tree)
     → KeepsTree tree (with_entry m account tree)
 keeps_added tree m account p above under there free kinds gone =
@@ -204,7 +235,8 @@ keeps_added tree m account p above under there free kinds gone =
             there = there;
             apart = added_apart tree m p above there gone;
             kinds = kinds;
-            same_kind = λ old e. absurd (let none : IsNone (Some old) = subst (λ (o : Option Account). IsNone o) e gone in cc);
+            same_kind = λ old e. absurd
+                (let none : IsNone (Some old) = subst (λ (o : Option Account). IsNone o) e gone in cc);
             own_name = λ n b other. own_name tree None p account.name free n b refl;
             rooted = rooted_added tree m account p is.rooted under some gone;
           }) is;
@@ -212,11 +244,14 @@ keeps_added tree m account p above under there free kinds gone =
 
 -- an account is moved by the rules
 pub keeps_moved :
-    (tree : List (ℕ × Account)) (m : ℕ) (name : List ℕ) (p : ℕ) (account was above : Account) → value_of m tree ≡ Some was → value_of p tree ≡ Some above
-    → name_taken tree (Some m) p name ≡ None → fits_under was.kind above.kind ≡ true → IsMoved tree m name p account → is_within tree m p ≡ false
+    (tree : List (ℕ × Account)) (m : ℕ) (name : List ℕ) (p : ℕ) (account was above : Account)
+    → value_of m tree ≡ Some was → value_of p tree ≡ Some above
+    → name_taken tree (Some m) p name ≡ None → fits_under was.kind above.kind ≡ true → IsMoved tree m name p account
+    → is_within tree m p ≡ false
     → IsRooted (with_entry m account tree) → KeepsTree tree (with_entry m account tree)
 keeps_moved tree m name p account was above before there free kinds moved apart rooted =
-    let kind_is : Some was.kind ≡ Some account.kind = sym (ap (option_map (λ account. account.kind)) before) ∙ moved.same_kind in
+    let kind_is : Some was.kind ≡ Some account.kind = sym (ap (option_map (λ account. account.kind)) before)
+    ∙ moved.same_kind in
     let kind : was.kind ≡ account.kind = cc in
     record {
       rooted = λ old. rooted;
@@ -227,7 +262,8 @@ keeps_moved tree m name p account was above before there free kinds moved apart 
             there = there;
             apart = (neither (p == m) (list_any (λ k. k == m) (ancestors tree p)) apart).0;
             kinds = subst (λ (k : AccountKind). fits_under k above.kind ≡ true) kind kinds;
-            same_kind = λ old e. let same : Some was ≡ Some old = sym before ∙ e in let one : was ≡ old = cc in sym (ap (λ (x : Account). x.kind) one) ∙ kind;
+            same_kind = λ old e. let same : Some was ≡ Some old = sym before ∙ e in let one : was ≡ old = cc in
+                sym (ap (λ (x : Account). x.kind) one) ∙ kind;
             own_name = λ n b other value parent named.
                 let differs : (m == n) ≡ false = grind (arith, nat_tests, other) in
                 own_name tree (Some m) p name free n b differs value parent (named ∙ moved.named);
@@ -241,11 +277,16 @@ tree_of_root m root top kind =
     let only : (n : ℕ) (a : Account) → value_of n ((m, root) ∷ []) ≡ Some a → (n ≡ m) × (root ≡ a) =
     λ n a e.
     let P : Bool → Type 0 = λ t. (n == m) ≡ t → (if t then Some root else None) ≡ Some a → (n ≡ m) × (root ≡ a) in
-    elim (n == m) as P [ true ↦ λ same told. (eqb-true n m same, some_same root a told) | false ↦ λ other told. absurd cc ] refl e in
+    elim (n == m) as P [
+      | true ↦ λ same told. (eqb-true n m same, some_same root a told)
+      | false ↦ λ other told.
+          absurd cc
+    ] refl e in
     record {
       rooted = rooted_top [] m root rooted_empty top refl;
       one_top = λ k l a b ka lb ta tb. (only k a ka).0 ∙ sym (only l b lb).0;
       top_is_root = λ n a na ta. subst (λ (x : Account). x.kind ≡ Root) (only n a na).1 kind;
       names_differ = λ k l a b ka lb parents names. (only k a ka).0 ∙ sym (only l b lb).0;
-      kinds_fit = λ n q a upper na up qu. absurd (not_top root q (ap (λ (x : Account). x.parent) (only n a na).1 ∙ up) top);
+      kinds_fit = λ n q a upper na up qu.
+          absurd (not_top root q (ap (λ (x : Account). x.parent) (only n a na).1 ∙ up) top);
     }

@@ -116,7 +116,7 @@ option_eq-true (Some m) None e = absurd cc
 option_eq-true (Some m) (Some n) e = ap (λ (k : ℕ). Some k) (eqb-true m n e)
 
 -- without children listed, no account has this parent
-no_child : (tree : List (ℕ × Account)) (m n : ℕ) → children_of tree (Some m) ≡ [] → parent_of tree n ≡ Some m → ⊥
+pub no_child : (tree : List (ℕ × Account)) (m n : ℕ) → children_of tree (Some m) ≡ [] → parent_of tree n ≡ Some m → ⊥
 no_child [] m n none up = cc
 no_child (e ∷ es) m n none up =
     let Kept : Bool → Type 0 = λ t. option_eq nat_eq e.1.parent (Some m) ≡ t → ⊥ in

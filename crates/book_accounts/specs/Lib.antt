@@ -1,3 +1,4 @@
+pub mod AccountRules
 pub mod Children
 pub mod Group
 pub mod Order

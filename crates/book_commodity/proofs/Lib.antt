@@ -1,4 +1,5 @@
 pub mod AmountLemmas
+pub mod CommodityRuleLemmas
 pub mod DayLemmas
 pub mod DayTextLemmas
 pub mod DrawnLemmas

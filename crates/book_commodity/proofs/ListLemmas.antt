@@ -14,6 +14,10 @@ pub mapped_some : {X Y : Type 0} (f : X → Y) (o : Option X) (y : Y) → option
 mapped_some f None y e = absurd cc
 mapped_some f (Some x) y e = (x, refl, cc)
 
+pub mapped_none : {X Y : Type 0} (f : X → Y) (o : Option X) → option_map f o ≡ None → o ≡ None
+mapped_none f None e = refl
+mapped_none f (Some x) e = absurd cc
+
 -- the item at a place, by its value
 pub drop_by : {X Y : Type 0} (f : X → Y) (xs : List X) (i : ℕ) (y : Y) → option_map f (slice_get xs i) ≡ Some y → (x : X) × (drop i xs ≡ x ∷ drop (i + 1) xs) × (f x ≡ y)
 drop_by f xs i y e = let r = mapped_some f (slice_get xs i) y e in (r.0, drop_at xs i r.0 r.1, r.2)

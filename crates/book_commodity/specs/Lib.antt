@@ -1,4 +1,5 @@
 pub mod Amount
+pub mod CommodityRules
 pub mod Currency
 pub mod Day
 pub mod Rules

@@ -1,3 +1,4 @@
 pub mod Balance
 pub mod Balances
 pub mod Check
+pub mod TransactionRules

@@ -1,9 +1,10 @@
 pub mod EditLemmas
 pub mod OutcomeLemmas
 pub mod PostLemmas
-pub mod SoundAccounts
-pub mod SoundCommodities
+pub mod SoundBook
+pub mod SoundCommands
+pub mod SoundFacts
 pub mod SoundOutcome
-pub mod SoundPosting
+pub mod SoundRules
 pub mod SoundStep
 pub mod Worked

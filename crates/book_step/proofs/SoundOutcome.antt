@@ -1,12 +1,8 @@
 -- What a step that is done says: no rule is broken, and the state is the one after the edit.
-use Rattle.std.proofs.Common.{◌≡◌, ℕ, ◌+◌, ◌^◌, ◌<◌, ◌≤◌, subst, List, [], ◌∷◌, ◌++◌, Option, Some, None, refl, arith}
+use Rattle.std.proofs.Common.{◌≡◌, ℕ, ◌+◌, ◌^◌, ◌<◌, List, [], ◌∷◌, ◌++◌, Option, Some, None, refl, subst, arith}
 use Rattle.std.proofs.lemmas.Bool.Decides.{nat_tests}
-use Rattle.std.proofs.lemmas.List.Elements.{All-weaker}
-use Rattle.book_commodity.specs.Rules.{first_broken}
-use Rattle.book_commodity.proofs.RuleLemmas.{none-front, none-back, not-broken}
-use Rattle.book_splits.specs.Balance.{splits_of}
-use Rattle.book_splits.specs.declared.split.Split.{Split}
-use Rattle.book_undo.specs.Book.{Book}
+use Rattle.book_commodity.specs.Rules.{AllKept, first_broken}
+use Rattle.book_commodity.proofs.RuleLemmas.{kept_back, kept_front, kept_of, not-broken}
 use Rattle.book_undo.specs.Edit.{edited}
 use Rattle.book_undo.specs.declared.edit.Edit.{Edit}
 use Rattle.book_step.specs.Outcome.{Outcome, Done, changed, changing, leaving, numbers, unless_broken}
@@ -14,48 +10,48 @@ use Rattle.book_step.specs.Soundness.{IsSoundBook, AreDrawn, IsSound}
 use Rattle.book_step.specs.State.{State}
 use Rattle.book_command.specs.declared.answer.Answer.{Answer}
 use Rattle.book_command.specs.declared.rule.Rule.{Rule}
-use Rattle.book_commodity.proofs.DrawnLemmas.{drawn_before}
 
-pub unless_done : (rule : Option Rule) (outcome : Outcome) (new : State) (answer : Answer) → unless_broken rule outcome ≡ Done new answer → (rule ≡ None) × (outcome ≡ Done new answer)
+pub unless_done :
+    (rule : Option Rule) (outcome : Outcome) (new : State) (answer : Answer)
+    → unless_broken rule outcome ≡ Done new answer
+    → (rule ≡ None) × (outcome ≡ Done new answer)
 unless_done None outcome new answer e = (refl, e)
 unless_done (Some rule) outcome new answer e = absurd cc
 
 -- The command broke no rule, and led to the new state by the edit.
 pub record IsChange (state : State) (rules : List (Option Rule)) (edit : Edit) (drawn : ℕ) (new : State) : Type 0 where
-  pub kept : first_broken rules ≡ None
+  pub kept : AllKept rules
   pub is : changed state edit drawn ≡ new
   pub next : state.next + drawn < 2 ^ 62
   pub version : state.version + 1 < 2 ^ 62
 
 pub changing_done :
-    (state : State) (rules : List (Option Rule)) (edit : Edit) (drawn : ℕ) (given : Answer) (new : State) (answer : Answer)
+    (state : State) (rules : List (Option Rule)) (edit : Edit) (drawn : ℕ) (given : Answer) (new : State)
+    (answer : Answer)
     → changing state rules edit drawn given ≡ Done new answer → IsChange state rules edit drawn new
 changing_done state rules edit drawn given new answer e =
     let last = numbers state drawn ∷ [] in
     let done = unless_done (first_broken (rules ++ last)) (Done (changed state edit drawn) given) new answer e in
-    let few = not-broken _ _ (none-back rules last done.0) in
+    let kept = kept_of (rules ++ last) done.0 in
+    let few = not-broken _ _ (kept_back rules last kept).0 in
     record {
-      kept = none-front rules last done.0;
+      kept = kept_front rules last kept;
       is = let both = done.1 in cc;
       next = grind (arith, nat_tests, few);
       version = grind (arith, nat_tests, few);
     }
 
-pub leaving_done : (state : State) (rules : List (Option Rule)) (given : Answer) (new : State) (answer : Answer) → leaving state rules given ≡ Done new answer → state ≡ new
-leaving_done state rules given new answer e = let both = (unless_done (first_broken rules) (Done state given) new answer e).1 in cc
-
--- Numbers stay below a greater next one.
-pub drawn_later : (book : Book) (next later : ℕ) → next ≤ later → AreDrawn book next → AreDrawn book later
-drawn_later book next later le are = record {
-  commodities = drawn_before next later book.commodities le are.commodities;
-  accounts = drawn_before next later book.accounts le are.accounts;
-  transactions = drawn_before next later book.transactions le are.transactions;
-  splits = All-weaker (λ (split : Split). split.id < next) (λ (split : Split). split.id < later) (λ split below. omega (arith, below, le)) (splits_of book.transactions) are.splits;
-}
+pub leaving_done :
+    (state : State) (rules : List (Option Rule)) (given : Answer) (new : State) (answer : Answer)
+    → leaving state rules given ≡ Done new answer → state ≡ new
+leaving_done state rules given new answer e =
+    let both = (unless_done (first_broken rules) (Done state given) new answer e).1 in cc
 
 -- A state that a command changes is sound where the book is after the edit, and its numbers are drawn.
 pub sound_after :
-    (state : State) (rules : List (Option Rule)) (edit : Edit) (drawn : ℕ) (new : State) → IsChange state rules edit drawn new
+    (state : State) (rules : List (Option Rule)) (edit : Edit) (drawn : ℕ) (new : State)
+    → IsChange state rules edit drawn new
     → IsSoundBook (edited edit state.book) → AreDrawn (edited edit state.book) (state.next + drawn) → IsSound new
 sound_after state rules edit drawn new change book are =
-    subst (λ (s : State). IsSound s) change.is (record { book = book; drawn = are; next = change.next; version = change.version })
+    subst (λ (s : State). IsSound s) change.is
+    (record { book = book; drawn = are; next = change.next; version = change.version })

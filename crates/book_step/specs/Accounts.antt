@@ -8,6 +8,7 @@ use Rattle.book_commodity.specs.Table.{value_of}
 use Rattle.book_commodity.specs.declared.commodity.Commodity.{Commodity}
 use Rattle.book_commodity.specs.declared.counted.Counted.TheVariants as counted
 use Rattle.book_commodity.specs.declared.kind.Kind.TheVariants as kind
+pub use Rattle.book_accounts.specs.AccountRules.{fits_basis, is_root}
 use Rattle.book_accounts.specs.Group.{is_security}
 use Rattle.book_accounts.specs.Rules.{add_rule, move_rule}
 use Rattle.book_accounts.specs.Tree.{children_of}
@@ -19,7 +20,7 @@ use Rattle.book_splits.specs.Balance.{has_splits}
 use Rattle.book_splits.specs.declared.transaction.Txn.{Txn}
 use Rattle.book_undo.specs.Book.{Book}
 use Rattle.book_undo.specs.declared.edit.Edit.TheVariants as edit
-use Rattle.book_step.specs.Commodities.{is_currency_of, unknown_commodity}
+use Rattle.book_step.specs.Commodities.{unknown_commodity}
 use Rattle.book_command.specs.Lifted.{of_tree_rule}
 use Rattle.book_step.specs.Outcome.{Outcome, Broken, changing, leaving}
 use Rattle.book_step.specs.State.{State}
@@ -41,13 +42,7 @@ abbrev pub unknown_given_commodity : List (ℕ × Commodity) → Option ℕ → 
 unknown_given_commodity commodities None = None
 unknown_given_commodity commodities (Some number) = unknown_commodity commodities number
 
--- Whether the basis fits the kind: a security account has a currency as its basis, in which it is bought and sold (GnuCash
--- Concepts Guide, buying shares); another account has none.
-abbrev pub fits_basis : List (ℕ × Commodity) → Bool → Option ℕ → Bool
-fits_basis commodities true (Some basis) = is_currency_of (value_of basis commodities)
-fits_basis commodities true None = false
-fits_basis commodities false basis = is_none basis
-
+-- The basis doesn't fit the kind.
 abbrev pub basis_shape : List (ℕ × Commodity) → Account → Option Rule
 basis_shape commodities account = broken_where (not (fits_basis commodities (is_security account.kind) account.basis)) BasisShape
 
@@ -73,10 +68,6 @@ account_add state account =
     changing state (add_rules state.book account) (edit.Account state.next account) 1 (answer.AccountAdd state.next)
 
 -- The root stays as it is (GnuCash SQL schema, table books: a book has one root account for good).
-abbrev pub is_root : AccountKind → Bool
-is_root account_kind.Root = true
-is_root _ = false
-
 abbrev pub root_stays : Account → Option Rule
 root_stays account = broken_where (is_root account.kind) Root
 

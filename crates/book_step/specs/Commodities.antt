@@ -1,7 +1,8 @@
 -- The commands on commodities.
 use Rattle.std.specs.Prelude.{ℕ, ◌+◌, ◌^◌, ◌==◌, nat_eq, nat_lt, not, Bool, false, ◌&&◌, ◌||◌, if◌then◌else◌, List, [], ◌∷◌, length, Option, Some, None, is_none, option_map, find}
 use lib.Pointwise.{pointwise}
-use Rattle.book_commodity.specs.Currency.{is_currency}
+use Rattle.book_commodity.specs.CommodityRules.{has_fraction, has_same_pair}
+pub use Rattle.book_commodity.specs.Currency.{is_currency_of}
 use Rattle.book_commodity.specs.Rules.{broken_where}
 use Rattle.book_commodity.specs.Table.{value_of}
 use Rattle.book_commodity.specs.declared.commodity.Commodity.{Commodity}
@@ -18,11 +19,6 @@ use Rattle.book_command.specs.declared.rule.Rule.TheVariants.{Unknown, NameTaken
 abbrev pub unknown_commodity : List (ℕ × Commodity) → ℕ → Option Rule
 unknown_commodity commodities number = broken_where (is_none (value_of number commodities)) (Unknown kind.Commodity number)
 
--- Whether a commodity of the book is a currency.
-abbrev pub is_currency_of : Option Commodity → Bool
-is_currency_of None = false
-is_currency_of (Some commodity) = is_currency commodity
-
 -- The commodity isn't a currency, as the currency of a book must be (GnuCash Manual, book currency).
 abbrev pub wrong_currency : List (ℕ × Commodity) → ℕ → Option Rule
 wrong_currency commodities number = broken_where (not (is_currency_of (value_of number commodities))) (WrongCurrency number)
@@ -36,7 +32,7 @@ book_currency state commodity =
 
 -- Whether a commodity has the space and the name of another.
 abbrev pub is_namesake : Commodity → ℕ × Commodity → Bool
-is_namesake commodity entry = pointwise nat_eq entry.1.space commodity.space && pointwise nat_eq entry.1.name commodity.name
+is_namesake commodity entry = has_same_pair commodity entry.1
 
 -- A commodity of the book has the space and the name already (GnuCash SQL schema, commodities: namespace and mnemonic are one
 -- commodity's); the least number of such is told.
@@ -45,7 +41,7 @@ name_taken commodities commodity = option_map (λ entry. NameTaken entry.0) (fin
 
 -- One unit is made of 1 to 10^9 smallest units (a limit of this project).
 abbrev pub fraction_shape : Commodity → Option Rule
-fraction_shape commodity = broken_where (nat_lt commodity.fraction 1 || nat_lt (10 ^ 9) commodity.fraction) FractionShape
+fraction_shape commodity = broken_where (not (has_fraction commodity)) FractionShape
 
 -- A book has at most 10,000 commodities (a limit of this project).
 abbrev pub too_many_commodities : List (ℕ × Commodity) → Option Rule

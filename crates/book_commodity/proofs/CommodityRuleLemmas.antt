@@ -1,0 +1,54 @@
+-- How the rules of commodities stay where a commodity is added, and what of the commodities the rules of other things
+-- see.
+use Rattle.std.proofs.Common.{◌≡◌, ℕ, ◌<◌, Bool, true, All, List, ◌∷◌, Option, Some, None, is_some, find, ap, ◌∙◌, refl}
+use Rattle.std.proofs.Common.{arith}
+use Rattle.std.proofs.lemmas.Bool.{not-true, not_from_false}
+use Rattle.book_commodity.specs.CommodityRules.{commodity_rules, has_fraction, has_same_pair}
+use Rattle.book_commodity.specs.Currency.{is_currency_of}
+use Rattle.book_commodity.specs.Rules.{EachKeeps}
+use Rattle.book_commodity.specs.Table.{value_of, with_entry}
+use Rattle.book_commodity.specs.declared.commodity.Commodity.{Commodity}
+use Rattle.book_commodity.proofs.DrawnLemmas.{drawn_below, value_kept}
+use Rattle.book_commodity.proofs.RuleLemmas.{each_with, none_before, none_before_with}
+
+-- What stood under a number still stands under it.
+pub record Stays {T : Type 0} (old new : List (ℕ × T)) : Type 0 where
+  pub each : (number : ℕ) (value : T) → value_of number old ≡ Some value → value_of number new ≡ Some value
+
+-- where a thing is put under a free number
+pub stays_with : {T : Type 0} (n : ℕ) (v : T) (es : List (ℕ × T)) → value_of n es ≡ None → Stays es (with_entry n v es)
+stays_with n v es free = record { each = λ m x there. value_kept m n v x es free there }
+
+-- so a thing that is there still is
+pub some_stays :
+    {T : Type 0} (found later : Option T) → ((x : T) → found ≡ Some x → later ≡ Some x) → is_some found ≡ true
+    → is_some later ≡ true
+some_stays None later same e = absurd cc
+some_stays (Some x) later same e = ap is_some (same x refl)
+
+-- and so is a currency
+pub currency_stays :
+    (found later : Option Commodity) → ((c : Commodity) → found ≡ Some c → later ≡ Some c) → is_currency_of found ≡ true
+    → is_currency_of later ≡ true
+currency_stays None later same e = absurd cc
+currency_stays (Some c) later same e = ap is_currency_of (same c refl) ∙ e
+
+-- a commodity that is added under a drawn number keeps its rules, and the others keep theirs
+pub commodities_with :
+    (n : ℕ) (new : Commodity) (es : List (ℕ × Commodity)) → All (λ (e : ℕ × Commodity). e.0 < n) es
+    → find (λ (e : ℕ × Commodity). has_same_pair new e.1) es ≡ None → has_fraction new ≡ true
+    → EachKeeps (commodity_rules es) es → EachKeeps (commodity_rules (with_entry n new es)) (with_entry n new es)
+commodities_with n new es below free fraction is =
+    let later = with_entry n new es in
+    let own = none_before (λ (e : ℕ × Commodity). has_same_pair new e.1) (has_same_pair new) n es
+    (λ e before other. other) free in
+    each_with (commodity_rules es) (commodity_rules later) n new es (
+      not_from_false _ (none_before_with (has_same_pair new) n n new es (λ before. absurd (omega (arith, before)))
+          own),
+      (fraction, tt),
+    )
+    (λ k c other there kept.
+    let drawn = drawn_below k n c es below there in
+    let once = none_before_with (has_same_pair c) k n new es (λ before. absurd (omega (arith, before, drawn)))
+    (not-true _ kept.0) in
+    (not_from_false _ once, kept.1)) is

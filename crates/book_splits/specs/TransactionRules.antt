@@ -1,0 +1,50 @@
+-- The rules that each transaction of a book keeps.
+use Rattle.std.specs.Prelude.{ℕ, ◌==◌, not, Bool, true, false, ◌&&◌, List, [], ◌∷◌, map, is_none}
+use Rattle.std.specs.List.{list_all, list_any}
+use Rattle.book_commodity.specs.Rules.{first_broken, stands_before}
+use Rattle.book_commodity.specs.declared.commodity.Commodity.{Commodity}
+use Rattle.book_accounts.specs.declared.account.Account.{Account}
+use Rattle.book_splits.specs.Check.{txn_rules}
+use Rattle.book_splits.specs.declared.split.Mark.{Mark}
+use Rattle.book_splits.specs.declared.split.Mark.TheVariants.{Reconciled}
+use Rattle.book_splits.specs.declared.split.Split.{Split}
+use Rattle.book_splits.specs.declared.transaction.Txn.{Txn}
+
+-- The numbers of the splits.
+abbrev pub numbers_of : List Split → List ℕ
+numbers_of splits = map (λ split. split.id) splits
+
+-- Whether a number is one of the list.
+abbrev pub is_among : List ℕ → ℕ → Bool
+is_among numbers number = list_any (λ other. other == number) numbers
+
+-- Whether each number stands once in the list.
+abbrev pub are_once : List ℕ → Bool
+are_once [] = true
+are_once (number ∷ more) = not (is_among more number) && are_once more
+
+-- Whether a split of one transaction has the number of a split of the other.
+abbrev pub share_numbers : Txn → Txn → Bool
+share_numbers transaction other = list_any (is_among (numbers_of other.splits)) (numbers_of transaction.splits)
+
+-- Whether it is the mark of a split that a reconciliation took in.
+abbrev pub is_reconciled : Mark → Bool
+is_reconciled Reconciled = true
+is_reconciled _ = false
+
+-- Whether a split is marked reconciled exactly where it names its reconciliation (GnuCash Manual, reconciling). A book
+-- has
+-- no reconciliations yet, so that no split is reconciled, and none names one.
+abbrev pub has_reconciliation_if_reconciled : Split → Bool
+has_reconciliation_if_reconciled split = not (is_reconciled split.mark) && is_none split.recon
+
+-- The rules of a transaction: it passes the check of transactions among the commodities and the accounts of the book;
+-- each
+-- of its splits has a number that no other of them has, and none of a transaction before it; and their marks are right.
+abbrev pub transaction_rules : List (ℕ × Commodity) → List (ℕ × Account) → List (ℕ × Txn) → ℕ → Txn → List Bool
+transaction_rules commodities accounts transactions number transaction =
+    is_none (first_broken (txn_rules commodities accounts transaction))
+    ∷ are_once (numbers_of transaction.splits)
+    ∷ not (stands_before (share_numbers transaction) number transactions)
+    ∷ list_all has_reconciliation_if_reconciled transaction.splits
+    ∷ []
