@@ -1,4 +1,5 @@
 pub mod BalanceLemmas
+pub mod BalanceTableLemmas
 pub mod CheckLemmas
-pub mod PostedLemmas
-pub mod Tables
+pub mod CountLemmas
+pub mod SplitLemmas

@@ -1,3 +1,5 @@
 pub mod Balance
 pub mod Balances
 pub mod Check
+pub mod Counted
+pub mod SplitCount

@@ -1,7 +1,7 @@
 use Rattle.std.proofs.Common.{◌≡◌, ◌==◌, true, false, sym, ◌∙◌, arith}
 use Rattle.std.proofs.lemmas.Bool.Decides.{nat_tests}
-use Rattle.book_splits.proofs.PostedLemmas.{any-here, any-later, any-end}
-use Rattle.book_splits.proofs.posted.stand_on.Goals as goal
+use Rattle.book_commodity.proofs.ListLemmas.{any-here, any-later, any-end}
+use Rattle.book_splits.proofs.account_splits.stand_on.Goals as goal
 
 pub returns-then-split-account : goal.returns-then-split-account
 returns-then-split-account c =

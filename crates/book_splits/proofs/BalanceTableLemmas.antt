@@ -6,6 +6,7 @@ use Rattle.std.proofs.lemmas.Bool.{eqb-true}
 use Rattle.std.proofs.lemmas.List.{take_more, take-append-drop, map-append, append-nil}
 use Rattle.std.proofs.Math.ListN.{length-append}
 use Rattle.std.proofs.lemmas.Bool.Decides.{nat_tests}
+use Rattle.book_commodity.proofs.ListLemmas.{take-item}
 use Rattle.book_commodity.specs.Table.{value_of, with_entry}
 use Rattle.book_commodity.proofs.TableLemmas.{value_of_with}
 use Rattle.std.proofs.lemmas.Int.{ints}
@@ -82,10 +83,7 @@ IsSmall-le balances few many le small = record {
 pub Counts-along : (balances : Balances) (before after : List Split) → before ≡ after → Counts balances before → Counts balances after
 Counts-along balances before after e counts = subst (λ (splits : List Split). Counts balances splits) e counts
 
--- one item more, as a loop reads it
-pub take-item : {X : Type 0} (xs : List X) (i : ℕ) (x : X) → i < length xs → x ≡ get_or xs i x → take i xs ++ x ∷ [] ≡ take (i + 1) xs
-take-item xs i x below is = ap (λ y. take i xs ++ y ∷ []) is ∙ sym (take_more xs i x below)
-
+-- one transaction more, as a loop reads it
 pub splits_of-item :
     (transactions : List (ℕ × Txn)) (i : ℕ) (entry : ℕ × Txn) → i < length transactions → entry ≡ get_or transactions i entry
     → splits_of (take i transactions) ++ entry.1.splits ≡ splits_of (take (i + 1) transactions)

@@ -1,8 +1,8 @@
 use Rattle.std.proofs.Common.{◌==◌, sym, ap, ◌∙◌, arith}
 use Rattle.std.specs.List.{list_any}
 use Rattle.book_splits.specs.Balance.{splits_of}
-use Rattle.book_splits.proofs.PostedLemmas.{any-splits-here, any-splits-later, any-splits-end}
-use Rattle.book_splits.proofs.posted.has_splits.Goals as goal
+use Rattle.book_splits.proofs.SplitLemmas.{any-splits-here, any-splits-later, any-splits-end}
+use Rattle.book_splits.proofs.account_splits.has_splits.Goals as goal
 
 pub loop-transaction-init : goal.loop-transaction-init
 loop-transaction-init c = ap (λ ts. list_any (λ split. split.account == c.args.account) (splits_of ts)) (sym c.as_slice-transaction-items.ensures)
