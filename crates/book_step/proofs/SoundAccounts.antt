@@ -25,7 +25,9 @@ use Rattle.book_splits.specs.declared.split.Split.{Split}
 use Rattle.book_undo.specs.Book.{Book}
 use Rattle.book_undo.specs.Edit.{edited}
 use Rattle.book_undo.specs.declared.edit.Edit.TheVariants as edit
-use Rattle.book_step.specs.Accounts.{account_add, account_edit, account_edit_at, account_edit_of, account_drop, account_drop_of, basis_shape, becomes_placeholder, fits_basis, is_as_before, is_root, moved_rule, not_empty, root_stays, too_many_accounts, unknown_given_account, unknown_given_commodity, with_given}
+use Rattle.book_undo.specs.declared.thing.Thing.TheVariants as thing
+use Rattle.book_undo.specs.declared.thing.ThingKind.TheVariants as thing_kind
+use Rattle.book_step.specs.Accounts.{account_add, account_edit, account_edit_at, account_edit_of, account_drop, account_drop_of, basis_shape, becomes_placeholder, fits_basis, is_root, moved_rule, not_empty, root_stays, stays, too_many_accounts, unknown_given_account, unknown_given_commodity, with_given}
 use Rattle.book_step.specs.Commodities.{unknown_commodity}
 use Rattle.book_command.specs.Lifted.{of_tree_rule}
 use Rattle.book_step.specs.Outcome.{Done, changing, leaving}
@@ -217,7 +219,7 @@ drawn_accounts book accounts next below are =
 -- ---- an account comes
 account_added :
     (book : Book) (n : ℕ) (account : Account) → AreDrawn book n → IsSome (value_of account.commodity book.commodities) → tree.add_rule book.accounts account ≡ None
-    → fits_basis book.commodities (is_security account.kind) account.basis ≡ true → length book.accounts + 1 ≤ 10000 → IsSoundBook book → IsSoundBook (edited (edit.Account n account) book)
+    → fits_basis book.commodities (is_security account.kind) account.basis ≡ true → length book.accounts + 1 ≤ 10000 → IsSoundBook book → IsSoundBook (edited (edit.Put n (thing.Account account)) book)
 account_added book n account are known fits based few is =
     let free = drawn_free n book.accounts are.accounts in
     let accounts = with_entry n account book.accounts in
@@ -247,7 +249,7 @@ account_add-sound state account new told is e =
     let last = too_many_accounts book.accounts ∷ [] in
     let shape = basis_shape book.commodities account ∷ [] in
     let rest = shape ++ last in
-    let added = edit.Account state.next account in
+    let added = edit.Put state.next (thing.Account account) in
     let change = changing_done state (known ++ (given ++ (fits ++ rest))) added 1 (answer.AccountAdd state.next) new told e in
     let past = none-back given (fits ++ rest) (none-back known (given ++ (fits ++ rest)) change.kept) in
     let some = some_of (value_of account.commodity book.commodities) (not-broken _ _ (none-front known (given ++ (fits ++ rest)) change.kept)) in
@@ -268,7 +270,7 @@ still_open old new has kept there before = grind (arith, nat_tests, kept, there,
 account_changed :
     (book : Book) (n : ℕ) (old new : Account) → value_of n book.accounts ≡ Some old → old.kind ≡ new.kind → old.commodity ≡ new.commodity
     → old.basis ≡ new.basis → is_root old.kind ≡ false → first_broken (moved_rule book.accounts n new new.parent ∷ []) ≡ None
-    → (not old.placeholder && (new.placeholder && has_splits book.transactions n)) ≡ false → IsSoundBook book → IsSoundBook (edited (edit.Account n new) book)
+    → (not old.placeholder && (new.placeholder && has_splits book.transactions n)) ≡ false → IsSoundBook book → IsSoundBook (edited (edit.Put n (thing.Account new)) book)
 account_changed book n old new there kind commodity basis other moved kept is =
     let accounts = with_entry n new book.accounts in
     sound_accounts book accounts
@@ -293,26 +295,26 @@ account_changed book n old new there kind commodity basis other moved kept is =
 
 account_edit_of-sound :
     (state : State) (n : ℕ) (given : GivenAccount) (old : Account) (new : State) (told : Answer) → value_of n state.book.accounts ≡ Some old → IsSound state
-    → account_edit_of state n given old (with_given old given) ≡ Done new told → IsSound new
+    → account_edit_of state n given old ≡ Done new told → IsSound new
 account_edit_of-sound state n given old new told there is e =
     let book = state.book in
     let account = with_given old given in
     let parent = unknown_given_account book.accounts given.parent ∷ [] in
-    let stays = root_stays old ∷ [] in
+    let fixed = root_stays old ∷ [] in
     let moved = moved_rule book.accounts n account account.parent ∷ [] in
     let last = becomes_placeholder book.transactions n old account ∷ [] in
-    let rules = parent ++ (stays ++ (moved ++ last)) in
-    let P : Bool → Type 0 = λ t. (if t then leaving state rules answer.AccountEdit else changing state rules (edit.Account n account) 0 answer.AccountEdit) ≡ Done new told → IsSound new in
-    elim (is_as_before old account) as P [
+    let rules = parent ++ (fixed ++ (moved ++ last)) in
+    let P : Bool → Type 0 = λ t. (if t then leaving state rules answer.AccountEdit else changing state rules (edit.Put n (thing.Account account)) 0 answer.AccountEdit) ≡ Done new told → IsSound new in
+    elim (stays old given).is as P [
       | true ↦ λ done. subst (λ (s : State). IsSound s) (leaving_done state rules answer.AccountEdit new told done) is
       | false ↦ λ done.
-          let change = changing_done state rules (edit.Account n account) 0 answer.AccountEdit new told done in
-          let past = none-back parent (stays ++ (moved ++ last)) change.kept in
-          let rest = none-back stays (moved ++ last) past in
+          let change = changing_done state rules (edit.Put n (thing.Account account)) 0 answer.AccountEdit new told done in
+          let past = none-back parent (fixed ++ (moved ++ last)) change.kept in
+          let rest = none-back fixed (moved ++ last) past in
           let later = drawn_later book state.next (state.next + 0) (omega arith) is.drawn in
           let below = drawn_below n state.next old book.accounts is.drawn.accounts there in
-          sound_after state rules (edit.Account n account) 0 new change
-          (account_changed book n old account there refl refl refl (not-broken _ _ (none-front stays (moved ++ last) past)) (none-front moved last rest)
+          sound_after state rules (edit.Put n (thing.Account account)) 0 new change
+          (account_changed book n old account there refl refl refl (not-broken _ _ (none-front fixed (moved ++ last) past)) (none-front moved last rest)
           (not-broken _ _ (none-back moved last rest)) is.book)
           (drawn_accounts book (with_entry n account book.accounts) (state.next + 0)
           (all_with (λ (e : ℕ × Account). e.0 < state.next + 0) n account book.accounts (omega (arith, below)) later.accounts) later)
@@ -330,7 +332,7 @@ account_edit-sound state n given new told is e = account_edit_at-sound state n g
 -- ---- an account goes
 account_gone :
     (book : Book) (n : ℕ) (old : Account) → value_of n book.accounts ≡ Some old → is_root old.kind ≡ false → children_of book.accounts (Some n) ≡ []
-    → has_splits book.transactions n ≡ false → IsSoundBook book → IsSoundBook (edited (edit.AccountGone n) book)
+    → has_splits book.transactions n ≡ false → IsSoundBook book → IsSoundBook (edited (edit.Gone thing_kind.Account n) book)
 account_gone book n old there other alone unused is =
     sound_accounts book (without_entry n book.accounts)
     (record {
@@ -349,15 +351,15 @@ account_drop_of-sound :
 account_drop_of-sound state n None new told there is e = absurd cc
 account_drop_of-sound state n (Some old) new told there is e =
     let book = state.book in
-    let stays = root_stays old ∷ [] in
+    let fixed = root_stays old ∷ [] in
     let last = not_empty book n ∷ [] in
-    let change = changing_done state (stays ++ last) (edit.AccountGone n) 0 answer.AccountDrop new told e in
+    let change = changing_done state (fixed ++ last) (edit.Gone thing_kind.Account n) 0 answer.AccountDrop new told e in
     let children = children_of book.accounts (Some n) in
-    let parts = or_parts (nat_lt 0 (length children)) (has_splits book.transactions n) (not-broken _ _ (none-back stays last change.kept)) in
+    let parts = or_parts (nat_lt 0 (length children)) (has_splits book.transactions n) (not-broken _ _ (none-back fixed last change.kept)) in
     let later = drawn_later book state.next (state.next + 0) (omega arith) is.drawn in
     let none : length children ≡ 0 = grind (arith, nat_tests, parts.0) in
-    sound_after state (stays ++ last) (edit.AccountGone n) 0 new change
-    (account_gone book n old there (not-broken _ _ (none-front stays last change.kept)) (nil_from_length children none) parts.1 is.book)
+    sound_after state (fixed ++ last) (edit.Gone thing_kind.Account n) 0 new change
+    (account_gone book n old there (not-broken _ _ (none-front fixed last change.kept)) (nil_from_length children none) parts.1 is.book)
     (drawn_accounts book (without_entry n book.accounts) (state.next + 0)
     (all_without (λ (e : ℕ × Account). e.0 < state.next + 0) n book.accounts later.accounts) later)
 

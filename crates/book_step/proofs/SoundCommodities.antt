@@ -12,6 +12,7 @@ use Rattle.book_splits.specs.declared.transaction.Txn.{Txn}
 use Rattle.book_undo.specs.Book.{Book}
 use Rattle.book_undo.specs.Edit.{edited}
 use Rattle.book_undo.specs.declared.edit.Edit.TheVariants as edit
+use Rattle.book_undo.specs.declared.thing.Thing.TheVariants as thing
 use Rattle.book_step.specs.Accounts.{fits_basis}
 use Rattle.book_step.specs.Commodities.{is_currency_of, unknown_commodity, wrong_currency, book_currency, name_taken, fraction_shape, too_many_commodities, commodity_add}
 use Rattle.book_step.specs.Outcome.{Done, changing, leaving}
@@ -91,7 +92,7 @@ book_currency-sound state currency new told is e =
 
 sound_commodity :
     (book : Book) (number : ℕ) (commodity : Commodity) → AreDrawn book number → length book.commodities + 1 ≤ 10000 → IsSoundBook book
-    → IsSoundBook (edited (edit.Commodity number commodity) book)
+    → IsSoundBook (edited (edit.Put number (thing.Commodity commodity)) book)
 sound_commodity book number commodity are few is =
     let free = drawn_free number book.commodities are.commodities in
     let kept = λ (currency : ℕ) (was : IsCurrencyOf book.commodities currency). currency_kept book.commodities currency number commodity free was in
@@ -114,7 +115,7 @@ sound_commodity book number commodity are few is =
       few_splits = is.few_splits;
     }
 
-drawn_commodity : (book : Book) (number : ℕ) (commodity : Commodity) → AreDrawn book number → AreDrawn (edited (edit.Commodity number commodity) book) (number + 1)
+drawn_commodity : (book : Book) (number : ℕ) (commodity : Commodity) → AreDrawn book number → AreDrawn (edited (edit.Put number (thing.Commodity commodity)) book) (number + 1)
 drawn_commodity book number commodity are =
     let later = drawn_later book number (number + 1) (omega arith) are in
     record {
@@ -128,7 +129,7 @@ pub commodity_add-sound : (state : State) (commodity : Commodity) (new : State) 
 commodity_add-sound state commodity new told is e =
     let before = name_taken state.book.commodities commodity ∷ fraction_shape commodity ∷ [] in
     let last = too_many_commodities state.book.commodities ∷ [] in
-    let added = edit.Commodity state.next commodity in
+    let added = edit.Put state.next (thing.Commodity commodity) in
     let change = changing_done state (before ++ last) added 1 (answer.CommodityAdd state.next) new told e in
     let few = not-broken _ _ (none-back before last change.kept) in
     sound_after state _ added 1 new change

@@ -1,5 +1,5 @@
 -- What a step that is done says: no rule is broken, and the state is the one after the edit.
-use Rattle.std.proofs.Common.{◌≡◌, ℕ, ◌+◌, ◌^◌, ◌<◌, ◌≤◌, subst, List, [], ◌∷◌, ◌++◌, Option, Some, None, refl, arith}
+use Rattle.std.proofs.Common.{◌≡◌, ℕ, ◌+◌, ◌^◌, ◌<◌, ◌≤◌, Bool, true, false, subst, List, [], ◌∷◌, ◌++◌, Option, Some, None, refl, arith}
 use Rattle.std.proofs.lemmas.Bool.Decides.{nat_tests}
 use Rattle.std.proofs.lemmas.List.Elements.{All-weaker}
 use Rattle.book_commodity.specs.Rules.{first_broken}
@@ -7,9 +7,9 @@ use Rattle.book_commodity.proofs.RuleLemmas.{none-front, none-back, not-broken}
 use Rattle.book_splits.specs.Balance.{splits_of}
 use Rattle.book_splits.specs.declared.split.Split.{Split}
 use Rattle.book_undo.specs.Book.{Book}
-use Rattle.book_undo.specs.Edit.{edited}
+use Rattle.book_undo.specs.Edit.{edited, is_unchanged}
 use Rattle.book_undo.specs.declared.edit.Edit.{Edit}
-use Rattle.book_step.specs.Outcome.{Outcome, Done, changed, changing, leaving, numbers, unless_broken}
+use Rattle.book_step.specs.Outcome.{Outcome, Done, changing, leaving, numbers, state_after, unless_broken, version_after}
 use Rattle.book_step.specs.Soundness.{IsSoundBook, AreDrawn, IsSound}
 use Rattle.book_step.specs.State.{State}
 use Rattle.book_command.specs.declared.answer.Answer.{Answer}
@@ -23,7 +23,7 @@ unless_done (Some rule) outcome new answer e = absurd cc
 -- The command broke no rule, and led to the new state by the edit.
 pub record IsChange (state : State) (rules : List (Option Rule)) (edit : Edit) (drawn : ℕ) (new : State) : Type 0 where
   pub kept : first_broken rules ≡ None
-  pub is : changed state edit drawn ≡ new
+  pub is : state_after state edit (state.next + drawn) ≡ new
   pub next : state.next + drawn < 2 ^ 62
   pub version : state.version + 1 < 2 ^ 62
 
@@ -32,7 +32,7 @@ pub changing_done :
     → changing state rules edit drawn given ≡ Done new answer → IsChange state rules edit drawn new
 changing_done state rules edit drawn given new answer e =
     let last = numbers state drawn ∷ [] in
-    let done = unless_done (first_broken (rules ++ last)) (Done (changed state edit drawn) given) new answer e in
+    let done = unless_done (first_broken (rules ++ last)) (Done (state_after state edit (state.next + drawn)) given) new answer e in
     let few = not-broken _ _ (none-back rules last done.0) in
     record {
       kept = none-front rules last done.0;
@@ -53,9 +53,13 @@ drawn_later book next later le are = record {
   splits = All-weaker (λ (split : Split). split.id < next) (λ (split : Split). split.id < later) (λ split below. omega (arith, below, le)) (splits_of book.transactions) are.splits;
 }
 
+version_below : (unchanged : Bool) (version : ℕ) → version + 1 < 2 ^ 62 → version_after unchanged version < 2 ^ 62
+version_below true version few = omega (arith, few)
+version_below false version few = few
+
 -- A state that a command changes is sound where the book is after the edit, and its numbers are drawn.
 pub sound_after :
     (state : State) (rules : List (Option Rule)) (edit : Edit) (drawn : ℕ) (new : State) → IsChange state rules edit drawn new
     → IsSoundBook (edited edit state.book) → AreDrawn (edited edit state.book) (state.next + drawn) → IsSound new
 sound_after state rules edit drawn new change book are =
-    subst (λ (s : State). IsSound s) change.is (record { book = book; drawn = are; next = change.next; version = change.version })
+    subst (λ (s : State). IsSound s) change.is (record { book = book; drawn = are; next = change.next; version = version_below (is_unchanged edit) state.version change.version })

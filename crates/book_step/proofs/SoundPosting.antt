@@ -19,6 +19,7 @@ use Rattle.book_splits.proofs.CheckLemmas.{sound_of}
 use Rattle.book_undo.specs.Book.{Book}
 use Rattle.book_undo.specs.Edit.{edited}
 use Rattle.book_undo.specs.declared.edit.Edit.TheVariants as edit
+use Rattle.book_undo.specs.declared.thing.Thing.TheVariants as thing
 use Rattle.book_command.specs.Lifted.{of_txn_rule}
 use Rattle.book_step.specs.Outcome.{Done}
 use Rattle.book_step.specs.Posting.{broken_by, new_splits, new_transaction, post, post_answer, too_many_splits, too_many_transactions}
@@ -106,7 +107,7 @@ splits_drawn number next (first ∷ more) le =
 -- ---- the book after a post
 sound_transaction :
     (book : Book) (n : ℕ) (transaction : Txn) → AreDrawn book n → IsFit book transaction → length book.transactions + 1 ≤ 200000
-    → length (splits_of book.transactions) + length transaction.splits ≤ 1000000 → IsSoundBook book → IsSoundBook (edited (edit.Transaction n transaction) book)
+    → length (splits_of book.transactions) + length transaction.splits ≤ 1000000 → IsSoundBook book → IsSoundBook (edited (edit.Put n (thing.Txn transaction)) book)
 sound_transaction book n transaction are fit few splits is = record {
   commodities_rise = is.commodities_rise;
   accounts_rise = is.accounts_rise;
@@ -127,7 +128,7 @@ sound_transaction book n transaction are fit few splits is = record {
 
 drawn_transaction :
     (book : Book) (n next : ℕ) (transaction : Txn) → n < next → All (λ (split : Split). split.id < next) transaction.splits → AreDrawn book n
-    → AreDrawn (edited (edit.Transaction n transaction) book) next
+    → AreDrawn (edited (edit.Put n (thing.Txn transaction)) book) next
 drawn_transaction book n next transaction below ids are =
     let later = drawn_later book n next (omega (arith, below)) are in
     record {
@@ -141,7 +142,7 @@ pub post-sound : (state : State) (day : ℤ) (given : GivenTxn) (new : State) (t
 post-sound state day given new told is e =
     let book = state.book in
     let transaction = new_transaction state.next day given in
-    let put = edit.Transaction state.next transaction in
+    let put = edit.Put state.next (thing.Txn transaction) in
     let drawn = 1 + length transaction.splits in
     let broken = broken_by book transaction ∷ [] in
     let transactions = too_many_transactions book ∷ [] in

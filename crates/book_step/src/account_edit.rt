@@ -1,57 +1,46 @@
-ghost use Rattle.std.specs.Prelude.{◌≡◌, ◌<◌, ◌^◌, [], ◌∷◌, IfOk, unwrap_or};
+ghost use Rattle.std.specs.Prelude.{◌≡◌, [], ◌∷◌, IfOk, unwrap_or};
 ghost use Rattle.book_commodity.specs.Rules.{TellsFirst};
 ghost use Rattle.book_accounts.specs.Tree.{IsRooted};
-ghost use Rattle.book_undo.specs.Book.{book_of};
-ghost use Rattle.book_step.specs.Accounts.{account_edit, account_edit_of, becomes_placeholder, edit_rules, is_as_before, moved_rule, with_given};
+ghost use Rattle.book_step.specs.Accounts.{account_edit, account_edit_of, becomes_placeholder, edit_rules, moved_rule, same_fields, with_given};
 ghost use Rattle.book_step.specs.Outcome.{StepsTo};
-ghost use Rattle.book_step.specs.State.{state_of};
 
 use crate::accounts::{check_given, check_not_root, known};
+use crate::present::Present;
 use crate::{Answer, GivenAccount, Refusal, Rule, Step};
 use book_accounts::{Account, Tree};
 use book_commodity::{OutOfMemory, Text};
 use book_splits::{Txns, has_splits};
-use book_undo::{Edit, Plain};
+use book_undo::{Edit, Thing};
 
 /// The account of this number gets what is given.
 pub(crate) fn account_edit(
-    plain: &Plain,
-    next: u64,
-    version: u64,
+    present: &Present,
     number: u64,
     given: GivenAccount,
 ) -> Result<Step, Refusal>
-    requires next { next < 2 ^ 62 }
-    requires version { version < 2 ^ 62 }
-    requires rooted { IsRooted plain.now.accounts.entries }
-    ensures { StepsTo (state_of plain.now next version) (account_edit (state_of plain.now next version) number given) result }
+    ensures { StepsTo present.now (account_edit present.now number given) result }
 {
-    let old = known(&plain.accounts, number)?;
-    account_edit_of(plain, next, version, number, given, old)
+    let old = known(present, number)?;
+    account_edit_of(present, number, given, old)
 }
 
 /// The same of an account that was found.
 fn account_edit_of(
-    plain: &Plain,
-    next: u64,
-    version: u64,
+    present: &Present,
     number: u64,
     given: GivenAccount,
     old: &Account,
 ) -> Result<Step, Refusal>
-    requires next { next < 2 ^ 62 }
-    requires version { version < 2 ^ 62 }
-    requires rooted { IsRooted plain.now.accounts.entries }
-    ensures { StepsTo (state_of plain.now next version) (account_edit_of (state_of plain.now next version) number given old.now (with_given old.now given)) result }
+    ensures { StepsTo present.now (account_edit_of present.now number given old.now) result }
 {
     let parent = given.parent;
     let new = with_given(old, given)?;
-    check_edit(plain, number, parent, old, &new)?;
-    if is_as_before(old, &new) {
-        return Ok(Step::leaving(next, Answer::AccountEdit));
+    check_edit(present, number, parent, old, &new)?;
+    if is_same(old, &new) {
+        return Ok(Step::leaving(present, Answer::AccountEdit));
     }
-    let edit = Edit::Account(number, new);
-    Step::changing(next, version, 0, edit, Answer::AccountEdit)
+    let edit = Edit::Put(number, Thing::Account(new));
+    Step::changing(present, 0, edit, Answer::AccountEdit)
 }
 
 /// The account with what is given, and with texts of its own.
@@ -81,33 +70,32 @@ fn text_or(given: Option<Text>, text: &Text) -> Result<Text, OutOfMemory>
     }
 }
 
-/// Whether an account that is edited stays as it was.
-fn is_as_before(old: &Account, new: &Account) -> bool
-    ensures { result ≡ is_as_before old.now new.now }
+/// Whether an account that is edited stays as it was, in all that an edit can give.
+fn is_same(old: &Account, new: &Account) -> bool
+    ensures { result ≡ (same_fields old.now new.now).is }
 {
-    old.name.as_str() == new.name.as_str()
-        && old.parent == new.parent
-        && old.code.as_str() == new.code.as_str()
-        && old.note.as_str() == new.note.as_str()
-        && old.hidden == new.hidden
-        && old.placeholder == new.placeholder
+    new.name.as_str() == old.name.as_str()
+        && new.parent == old.parent
+        && new.code.as_str() == old.code.as_str()
+        && new.note.as_str() == old.note.as_str()
+        && new.hidden == old.hidden
+        && new.placeholder == old.placeholder
 }
 
 /// An account of the book, for which this parent is given, keeps the rules of an edit.
 fn check_edit(
-    plain: &Plain,
+    present: &Present,
     number: u64,
     parent: Option<u64>,
     old: &Account,
     new: &Account,
 ) -> Result<(), Rule>
-    requires { IsRooted plain.now.accounts.entries }
-    ensures { TellsFirst (edit_rules (book_of plain.now) number parent old.now new.now) result }
+    ensures { TellsFirst (edit_rules present.now.book number parent old.now new.now) result }
 {
-    check_given(&plain.accounts, parent)?;
+    check_given(present, parent)?;
     check_not_root(old)?;
-    check_moved(&plain.accounts, number, new)?;
-    check_placeholder(&plain.transactions, number, old, new)
+    check_moved(&present.plain.accounts, number, new)?;
+    check_placeholder(&present.plain.transactions, number, old, new)
 }
 
 /// The account may stand in the tree with its new name under its new parent.
