@@ -2,5 +2,6 @@ pub mod Amount
 pub mod CommodityRules
 pub mod Currency
 pub mod Day
+pub mod Decision
 pub mod Rules
 pub mod Table

@@ -26,7 +26,7 @@ pub record IsPlanFor (state : State) (plan : Planned) : Type 0 where
   pub command : Command
   pub made : step state command ≡ Done (after state plan) plan.answer
 
--- a refusal comes where the step is that broken rule, or where memory was refused
+-- a refusal comes where the step is that broken rule, or out of memory
 abbrev pub IsRefusal : Outcome → Refusal → Type 0
 IsRefusal outcome (refusal.Broken rule) = outcome ≡ Broken rule
 IsRefusal outcome refusal.OutOfMemory = ⊤

@@ -1,26 +1,25 @@
-ghost use Rattle.std.specs.Prelude.{◌≡◌, ◌+◌, if◌then◌else◌, IfOk, IfErr};
+ghost use Rattle.std.specs.Prelude.{◌≡◌, IfOk, IfErr};
 ghost use Rattle.book_step.specs.Outcome.{Done};
 ghost use Rattle.book_step.specs.Soundness.{IsSound};
 ghost use Rattle.book_step.specs.State.{fresh_state};
 ghost use Rattle.book_step.specs.Step.{step as step_from};
-ghost use Rattle.book_undo.specs.Edit.{HasRoom};
+ghost use Rattle.book_undo.specs.Room.{HasRoom};
 ghost use Rattle.book_engine.specs.Planned.{after, IsPlanFor, IsRefusal};
 
 use crate::Plan;
+use crate::balances::with_balances;
 use crate::fresh::{FIRST_NUMBER, fresh_book};
+use crate::state::State;
 use book_commodity::OutOfMemory;
 use book_step::{Answer, Command, Refusal, Step, step_of};
-use book_undo::Plain;
 use std::alloc::Global;
 use std::marker::Model;
 
-/// A whole book in tables, the next number and the version.
+/// A machine with the state of a whole book.
 #[derive(Drop)]
 pub struct Engine {
     alloc: Global,
-    plain: Plain,
-    next: u64,
-    version: u64,
+    state: State,
 }
 
 impl Model for Engine {
@@ -38,44 +37,39 @@ impl Engine {
     pub fn begin(alloc: Global) -> Result<Engine, OutOfMemory>
         ensures { IfOk result (λ engine. engine.state ≡ fresh_state) }
     {
-        Ok(Engine {
-            alloc,
+        let state = State {
             plain: fresh_book(alloc)?,
             next: FIRST_NUMBER,
             version: 0,
-        })
+        };
+        Ok(Engine { alloc, state })
     }
 
     /// The count of the changes so far.
     pub fn version(&self) -> u64
         ensures { result ≡ self.now.state.version }
     {
-        self.version
+        self.state.version
     }
 
-    /// Tries all rules of the command and takes all memory that it needs. The state stays as it is.
-    /// Refused by the first rule that the command breaks, or for want of memory.
+    /// Tries all rules of the command, takes all memory that it needs and makes the whole answer. The state stays as it
+    /// is. Refused by the first rule that the command breaks, or out of memory.
     pub fn prepare(&mut self, command: Command) -> Result<Plan, Refusal>
         ensures planned { IfOk result (λ plan. step_from self.old.state command ≡ Done (after self.old.state plan) plan.answer) }
         ensures room { IfOk result (λ plan. HasRoom self.new.plain plan.edit) }
         ensures refused { IfErr result (IsRefusal (step_from self.old.state command)) }
         ensures unchanged { self.new.state ≡ self.old.state }
     {
-        let Step { edit, next, answer } = step_of(
-            self.alloc,
-            &self.plain,
-            self.next,
-            self.version,
-            command,
-        )?;
-        self.plain.reserve_for(&edit)?;
-        let version = self.version_after(edit.is_nothing());
-        Ok(Plan {
-            edit,
+        let State {
+            plain,
             next,
             version,
-            answer,
-        })
+        } = &mut self.state;
+        let step = step_of(self.alloc, plain, *next, *version, command)?;
+        let step = with_balances(self.alloc, plain, step)?;
+        plain.reserve_for(&step.edit)?;
+        let version = step.version_after(*version);
+        Ok(Plan { step, version })
     }
 
     /// Makes the change that was prepared and hands out its answer. It can't fail and takes no memory.
@@ -86,26 +80,11 @@ impl Engine {
         ensures answer { result ≡ plan.answer }
         ensures sound { IsSound self.new.state }
     {
-        let Plan {
-            edit,
-            next,
-            version,
-            answer,
-        } = plan;
-        self.plain.apply(edit);
-        self.next = next;
-        self.version = version;
+        let Plan { step, version } = plan;
+        let Step { edit, next, answer } = step;
+        self.state.plain.apply(edit);
+        self.state.next = next;
+        self.state.version = version;
         answer
-    }
-
-    /// The version after a command: only one that changes the book raises it.
-    fn version_after(&self, is_nothing: bool) -> u64
-        ensures { result ≡ (if is_nothing then self.now.state.version else self.now.state.version + 1) }
-    {
-        if is_nothing {
-            self.version
-        } else {
-            self.version + 1
-        }
     }
 }

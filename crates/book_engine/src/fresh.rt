@@ -1,5 +1,5 @@
 ghost use Rattle.std.specs.Prelude.{◌≡◌, IfOk};
-ghost use Rattle.book_undo.specs.Book.{book_of, IsCounted};
+ghost use Rattle.book_undo.specs.Book.{book_of};
 ghost use Rattle.book_step.specs.State.{euro as euro_is, fresh_book as fresh_book_is, root as root_is};
 
 use book_accounts::{Account, AccountKind};
@@ -47,8 +47,7 @@ fn root(alloc: Global) -> Result<Account, OutOfMemory>
 
 /// The fresh book: the euro and the root.
 pub(crate) fn fresh_book(alloc: Global) -> Result<Plain, OutOfMemory>
-    ensures book { IfOk result (λ plain. book_of plain ≡ fresh_book_is) }
-    ensures counted { IfOk result (λ plain. IsCounted plain) }
+    ensures { IfOk result (λ plain. book_of plain ≡ fresh_book_is) }
 {
     let mut plain = Plain::new(alloc, EURO);
     plain.commodities.reserve(1)?;

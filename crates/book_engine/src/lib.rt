@@ -3,9 +3,12 @@
 //! Contracts see an engine as the state of its book, its next number and its version, and the tables that hold it.
 #![tactic(auto)]
 
+mod balances;
 mod engine;
 mod fresh;
 mod plan;
+mod state;
 
+pub use book_command::{Answer, Command, GivenAccount, GivenSplit, GivenTxn, Refusal, Rule, What};
 pub use engine::Engine;
 pub use plan::Plan;

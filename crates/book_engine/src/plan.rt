@@ -1,17 +1,14 @@
 ghost use Rattle.std.specs.Prelude.{◌≡◌};
 
-use book_step::Answer;
-use book_undo::Edit;
+use book_step::{Answer, Step};
 use std::marker::Model;
 
-/// A command that breaks no rule, ready to be finished: the edit of the book, the next number and the version after
-/// it, and the answer.
+/// A command that breaks no rule, ready to be finished: its step, with the whole answer, and the version after it.
+/// Contracts see the edit of the book, the next number and the version after it, and the answer.
 #[derive(Drop)]
 pub struct Plan {
-    pub(crate) edit: Edit,
-    pub(crate) next: u64,
+    pub(crate) step: Step,
     pub(crate) version: u64,
-    pub(crate) answer: Answer,
 }
 
 impl Model for Plan {
@@ -19,7 +16,7 @@ impl Model for Plan {
 
     ghost Value = { Planned };
 
-    ghost view = { λ p. record { edit = p.edit; next = p.next; version = p.version; answer = p.answer } };
+    ghost view = { λ p. record { edit = p.step.edit; next = p.step.next; version = p.version; answer = p.step.answer } };
 }
 
 impl Plan {
@@ -27,7 +24,7 @@ impl Plan {
     pub fn answer(&self) -> &Answer
         ensures { result.now ≡ self.now.answer }
     {
-        &self.answer
+        &self.step.answer
     }
 
     /// The version after the command.

@@ -1,6 +1,7 @@
 pub mod BalanceLemmas
+pub mod BalanceTableLemmas
 pub mod CheckLemmas
-pub mod PostedLemmas
+pub mod CountLemmas
+pub mod SplitLemmas
 pub mod SuitsLemmas
-pub mod Tables
 pub mod TransactionRuleLemmas

@@ -1,4 +1,6 @@
 pub mod Balance
 pub mod Balances
 pub mod Check
+pub mod Counted
+pub mod SplitCount
 pub mod TransactionRules

@@ -1,21 +1,25 @@
 //! Transactions and their splits. A transaction moves value among accounts: each split gives one account
 //! a value, in the transaction's currency, and a quantity, in the account's commodity, and the values of
 //! a transaction sum to zero (GnuCash Concepts Guide, the accounting equation and double entry). `check_txn`
-//! tells the first rule that a transaction breaks, and `balances_after` sums the splits of accounts.
+//! reports the first rule that a transaction breaks, `Txns` is the table of a book's transactions, and
+//! `balances_after` sums the splits of accounts.
 #![tactic(auto)]
 
+mod account_splits;
 mod balances;
 mod check;
-mod posted;
+
 mod rule;
 mod split;
 #[cfg(test)]
 mod tests;
 mod transaction;
+mod transactions;
 
 pub use balances::balances_after;
 pub use check::check_txn;
-pub use posted::has_splits;
+pub use account_splits::has_splits;
 pub use rule::TxnRule;
 pub use split::{Mark, Split};
-pub use transaction::{Txn, Txns};
+pub use transaction::Txn;
+pub use transactions::Txns;

@@ -1,7 +1,7 @@
 ghost use Rattle.std.specs.Prelude.{◌≡◌, IfOk};
 
 use crate::Split;
-use book_commodity::{Day, Many, OutOfMemory, Table, Text};
+use book_commodity::{Day, Many, OutOfMemory, Text};
 
 /// A transaction: its currency, its day, the number and the description that a person gave it, and its splits in order.
 #[derive(Drop)]
@@ -12,9 +12,6 @@ pub struct Txn {
     pub description: Text,
     pub splits: Many<Split>,
 }
-
-/// The transactions of a book by their numbers.
-pub type Txns = Table<Txn>;
 
 impl Txn {
     /// An equal transaction with memory of its own.

@@ -1,6 +1,7 @@
-pub mod EditLemmas
+pub mod AccountEditLemmas
+pub mod AnswerLemmas
 pub mod OutcomeLemmas
-pub mod PostLemmas
+pub mod PostingLemmas
 pub mod SoundBook
 pub mod SoundCommands
 pub mod SoundFacts

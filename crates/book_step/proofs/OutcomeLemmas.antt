@@ -4,9 +4,9 @@ use Rattle.std.proofs.lemmas.Bool.Decides.{nat_tests}
 use Rattle.std.specs.Result.{IsErrAnd}
 use Rattle.book_commodity.specs.Rules.{first_broken}
 use Rattle.book_commodity.proofs.RuleLemmas.{first-here, first-past}
-use Rattle.book_undo.specs.Edit.{edited, is_nothing}
 use Rattle.book_undo.specs.declared.edit.Edit.{Edit}
-use Rattle.book_step.specs.Outcome.{Outcome, Broken, Done, StepsTo, after, changed, changing, leaving, numbers, unless_broken}
+use Rattle.book_step.specs.AnswerBalances.{without_balances}
+use Rattle.book_step.specs.Outcome.{Outcome, Broken, Done, StepsTo, after, but_balances, changing, leaving, numbers, state_after, unless_broken}
 use Rattle.book_step.specs.State.{State}
 use Rattle.book_command.specs.declared.answer.Answer.{Answer}
 use Rattle.book_command.specs.declared.refusal.Refusal.{Refusal}
@@ -25,13 +25,13 @@ refused state outcome rule (Err error) h e = subst (λ (error : Refusal). StepsT
 
 -- a change that keeps the limit of numbers is done
 pub done-changing :
-    (state : State) (edit : Edit) (drawn : ℕ) (answer : Answer)
+    (state : State) (edit : Edit) (drawn : ℕ) (whole answer : Answer)
     → first_broken (numbers state drawn ∷ []) ≡ None
-    → is_nothing edit ≡ false
-    → changing state [] edit drawn answer ≡ Done (after state (record { edit = edit; next = state.next + drawn; answer = answer })) answer
-done-changing state edit drawn answer e change =
-    ap (λ (broken : Option Rule). unless_broken broken (Done (changed state edit drawn) answer)) e
-    ∙ ap (λ (nothing : Bool). Done (record { book = edited edit state.book; next = state.next + drawn; version = if nothing then state.version else state.version + 1 }) answer) (sym change)
+    → without_balances whole ≡ answer
+    → but_balances (changing state [] edit drawn whole) ≡ Done (after state (record { edit = edit; next = state.next + drawn; answer = answer })) answer
+done-changing state edit drawn whole answer e same =
+    let new : State = state_after state edit (state.next + drawn) in
+    ap (λ (broken : Option Rule). but_balances (unless_broken broken (Done new whole))) e ∙ ap (λ (a : Answer). Done new a) same
 
 -- a broken rule is what a change comes to
 pub broken-changing :
@@ -39,7 +39,7 @@ pub broken-changing :
     → first_broken rules ≡ Some rule
     → changing state rules edit drawn answer ≡ Broken rule
 broken-changing state rules edit drawn answer rule e =
-    ap (λ (broken : Option Rule). unless_broken broken (Done (changed state edit drawn) answer)) (first-here rules (numbers state drawn ∷ []) rule e)
+    ap (λ (broken : Option Rule). unless_broken broken (Done (state_after state edit (state.next + drawn)) answer)) (first-here rules (numbers state drawn ∷ []) rule e)
 
 -- a change whose rules aren't broken comes to what it would without them
 pub past-changing :
@@ -49,8 +49,19 @@ pub past-changing :
     → StepsTo state (changing state rules edit drawn answer) result
 past-changing state rules edit drawn answer result e h =
     let same : changing state rules edit drawn answer ≡ changing state [] edit drawn answer =
-    ap (λ (broken : Option Rule). unless_broken broken (Done (changed state edit drawn) answer)) (first-past rules (numbers state drawn ∷ []) e) in
+    ap (λ (broken : Option Rule). unless_broken broken (Done (state_after state edit (state.next + drawn)) answer)) (first-past rules (numbers state drawn ∷ []) e) in
     subst (λ (outcome : Outcome). StepsTo state outcome result) (sym same) h
+
+-- the same of a change under the next number
+pub past-drawing :
+    (state : State) (number : ℕ) (rules : List (Option Rule)) (edit : ℕ → Edit) (drawn : ℕ) (answer : ℕ → Answer) (result : Result Step Refusal)
+    → number ≡ state.next
+    → first_broken rules ≡ None
+    → StepsTo state (changing state [] (edit number) drawn (answer number)) result
+    → StepsTo state (changing state rules (edit state.next) drawn (answer state.next)) result
+past-drawing state number rules edit drawn answer result next e h =
+    past-changing state rules (edit state.next) drawn (answer state.next) result e
+    (subst (λ (n : ℕ). StepsTo state (changing state [] (edit n) drawn (answer n)) result) next h)
 
 -- the same of a command that leaves the book
 pub broken-leaving :
@@ -73,7 +84,7 @@ pub broken-numbers :
     (state : State) (edit : Edit) (drawn : ℕ) (answer : Answer) (rule : Rule)
     → first_broken (numbers state drawn ∷ []) ≡ Some rule
     → changing state [] edit drawn answer ≡ Broken rule
-broken-numbers state edit drawn answer rule e = ap (λ (broken : Option Rule). unless_broken broken (Done (changed state edit drawn) answer)) e
+broken-numbers state edit drawn answer rule e = ap (λ (broken : Option Rule). unless_broken broken (Done (state_after state edit (state.next + drawn)) answer)) e
 
 -- which of two outcomes a comparison of numbers chooses
 pub chosen-same : (m n : ℕ) (same other : Outcome) → m ≡ n → (if m == n then same else other) ≡ same

@@ -7,13 +7,15 @@ use Rattle.book_commodity.proofs.DrawnLemmas.{drawn_below}
 use Rattle.book_accounts.specs.declared.account.Account.{Account}
 use Rattle.book_undo.specs.Edit.{edited}
 use Rattle.book_undo.specs.declared.edit.Edit.TheVariants as edit
+use Rattle.book_undo.specs.declared.thing.Thing.TheVariants as thing
+use Rattle.book_undo.specs.declared.thing.ThingKind.TheVariants as thing_kind
 use Rattle.book_command.specs.declared.answer.Answer.{Answer}
 use Rattle.book_command.specs.declared.answer.Answer.TheVariants as answer
 use Rattle.book_command.specs.declared.command.GivenAccount.{GivenAccount}
 use Rattle.book_command.specs.declared.command.GivenTxn.{GivenTxn}
 use Rattle.book_command.specs.declared.rule.Rule.{Rule}
 use Rattle.book_step.specs.Accounts.{account_add, account_drop, account_drop_of, account_edit, account_edit_at}
-use Rattle.book_step.specs.Accounts.{account_edit_of, add_rules, edit_rules, is_as_before, not_empty, root_stays}
+use Rattle.book_step.specs.Accounts.{account_edit_of, add_rules, edit_rules, not_empty, root_stays, stays}
 use Rattle.book_step.specs.Accounts.{with_given}
 use Rattle.book_step.specs.Commodities.{book_currency, commodity_add, fraction_shape, name_taken, too_many_commodities}
 use Rattle.book_step.specs.Commodities.{unknown_commodity, wrong_currency}
@@ -52,7 +54,7 @@ pub commodity_add-sound :
     → IsSound new
 commodity_add-sound state commodity new told is e =
     let book = state.book in
-    let put = edit.Commodity state.next commodity in
+    let put = edit.Put state.next (thing.Commodity commodity) in
     let rules = name_taken book.commodities commodity ∷ fraction_shape commodity
     ∷ too_many_commodities book.commodities ∷ [] in
     let change = changing_done state rules put 1 (answer.CommodityAdd state.next) new told e in
@@ -66,7 +68,7 @@ pub account_add-sound :
     → IsSound new
 account_add-sound state account new told is e =
     let book = state.book in
-    let put = edit.Account state.next account in
+    let put = edit.Put state.next (thing.Account account) in
     let change = changing_done state (add_rules book account) put 1 (answer.AccountAdd state.next) new told e in
     let later = drawn_later book state.next (state.next + 1) (omega arith) is.drawn in
     sound_after state (add_rules book account) put 1 new change
@@ -76,17 +78,17 @@ account_add-sound state account new told is e =
 account_edit_of-sound :
     (state : State) (n : ℕ) (given : GivenAccount) (old : Account) (new : State) (told : Answer)
     → value_of n state.book.accounts ≡ Some old → IsSound state
-    → account_edit_of state n given old (with_given old given) ≡ Done new told → IsSound new
+    → account_edit_of state n given old ≡ Done new told → IsSound new
 account_edit_of-sound state n given old new told there is e =
     let book = state.book in
     let account = with_given old given in
-    let put = edit.Account n account in
+    let put = edit.Put n (thing.Account account) in
     let rules = edit_rules book n given.parent old account in
     let same : IsEdited old account = record { kind = refl; commodity = refl; basis = refl } in
     let Chosen : Bool → Type 0 =
     λ t. (if t then leaving state rules answer.AccountEdit else changing state rules put 0 answer.AccountEdit) ≡ Done
     new told → IsSound new in
-    elim (is_as_before old account) as Chosen [
+    elim (stays old given).is as Chosen [
       | true ↦ λ done. subst (λ (s : State). IsSound s) (leaving_done state rules answer.AccountEdit new told done) is
       | false ↦ λ done.
           let change = changing_done state rules put 0 answer.AccountEdit new told done in
@@ -118,7 +120,7 @@ account_drop_of-sound :
 account_drop_of-sound state n None new told there is e = absurd cc
 account_drop_of-sound state n (Some old) new told there is e =
     let book = state.book in
-    let gone = edit.AccountGone n in
+    let gone = edit.Gone thing_kind.Account n in
     let rules = root_stays old ∷ not_empty book n ∷ [] in
     let change = changing_done state rules gone 0 answer.AccountDrop new told e in
     let later = drawn_later book state.next (state.next + 0) (omega arith) is.drawn in
@@ -138,7 +140,7 @@ pub post-sound :
 post-sound state day given new told is e =
     let book = state.book in
     let transaction = new_transaction state.next day given in
-    let put = edit.Transaction state.next transaction in
+    let put = edit.Put state.next (thing.Txn transaction) in
     let rules = post_rules book transaction in
     let drawn = 1 + length transaction.splits in
     let change = changing_done state rules put drawn (post_answer (edited put book) state.next transaction) new told

@@ -1,8 +1,8 @@
 -- The commands on accounts.
-use Rattle.std.specs.Prelude.{ℕ, ◌+◌, nat_eq, nat_lt, not, Bool, true, false, ◌&&◌, ◌||◌, if◌then◌else◌, List, [], ◌∷◌, length, Option, Some, None, is_none, option_map, unwrap_or}
-use Rattle.std.specs.Bool.{beq}
-use Rattle.std.specs.Option.{option_eq, option_or}
-use lib.Pointwise.{pointwise}
+use Rattle.std.specs.Prelude.{◌≡◌, ℕ, ◌+◌, nat_lt, not, Bool, true, false, ◌&&◌, ◌||◌, if◌then◌else◌, List, [], ◌∷◌, length, Option, Some, None, is_none, option_map, unwrap_or}
+use Rattle.std.specs.Option.{option_or}
+use Rattle.std.proofs.Common.{ap}
+use Rattle.book_commodity.specs.Decision.{Decision, as_well, both, same_flag, same_option, same_text}
 use Rattle.book_commodity.specs.Rules.{broken_where}
 use Rattle.book_commodity.specs.Table.{value_of}
 use Rattle.book_commodity.specs.declared.commodity.Commodity.{Commodity}
@@ -20,6 +20,8 @@ use Rattle.book_splits.specs.Balance.{has_splits}
 use Rattle.book_splits.specs.declared.transaction.Txn.{Txn}
 use Rattle.book_undo.specs.Book.{Book}
 use Rattle.book_undo.specs.declared.edit.Edit.TheVariants as edit
+use Rattle.book_undo.specs.declared.thing.Thing.TheVariants as thing
+use Rattle.book_undo.specs.declared.thing.ThingKind.TheVariants as thing_kind
 use Rattle.book_step.specs.Commodities.{unknown_commodity}
 use Rattle.book_command.specs.Lifted.{of_tree_rule}
 use Rattle.book_step.specs.Outcome.{Outcome, Broken, changing, leaving}
@@ -65,7 +67,7 @@ add_rules book account =
 -- A new account, under the next number.
 abbrev pub account_add : State → Account → Outcome
 account_add state account =
-    changing state (add_rules state.book account) (edit.Account state.next account) 1 (answer.AccountAdd state.next)
+    changing state (add_rules state.book account) (edit.Put state.next (thing.Account account)) 1 (answer.AccountAdd state.next)
 
 -- The root stays as it is (GnuCash SQL schema, table books: a book has one root account for good).
 abbrev pub root_stays : Account → Option Rule
@@ -85,15 +87,39 @@ with_given account given = record {
   basis = account.basis;
 }
 
--- Whether an account that is edited stays as it was.
-abbrev pub is_as_before : Account → Account → Bool
-is_as_before old new =
-    pointwise nat_eq old.name new.name
-    && (option_eq nat_eq old.parent new.parent
-    && (pointwise nat_eq old.code new.code
-    && (pointwise nat_eq old.note new.note
-    && (beq old.hidden new.hidden
-    && beq old.placeholder new.placeholder))))
+-- An account has what an edit can give as another has it.
+abbrev pub HasSameFields : Account → Account → Type 0
+HasSameFields old new =
+    (new.name ≡ old.name)
+    × ((new.parent ≡ old.parent)
+    × ((new.code ≡ old.code) × ((new.note ≡ old.note) × ((new.hidden ≡ old.hidden) × (new.placeholder ≡ old.placeholder)))))
+
+abbrev pub same_fields : (old new : Account) → Decision (HasSameFields old new)
+same_fields old new =
+    both (same_text new.name old.name)
+    (both (same_option new.parent old.parent)
+    (both (same_text new.code old.code)
+    (both (same_text new.note old.note) (both (same_flag new.hidden old.hidden) (same_flag new.placeholder old.placeholder)))))
+
+pub same_account : (old : Account) (given : GivenAccount) → HasSameFields old (with_given old given) → with_given old given ≡ old
+same_account old given same i = record {
+  name = same.0 i;
+  kind = old.kind;
+  commodity = old.commodity;
+  parent = same.1.0 i;
+  code = same.1.1.0 i;
+  note = same.1.1.1.0 i;
+  hidden = same.1.1.1.1.0 i;
+  placeholder = same.1.1.1.1.1 i;
+  basis = old.basis;
+}
+
+-- Whether an account stays as it is with what is given, that is, whether it is the same account with it.
+abbrev pub stays : (old : Account) (given : GivenAccount) → Decision (with_given old given ≡ old)
+stays old given =
+    as_well (same_account old given)
+    (λ same. (ap (λ a. a.name) same, (ap (λ a. a.parent) same, (ap (λ a. a.code) same, (ap (λ a. a.note) same, (ap (λ a. a.hidden) same, ap (λ a. a.placeholder) same))))))
+    (same_fields old (with_given old given))
 
 -- The rule of the tree that the account breaks with its new name and its new parent.
 abbrev pub moved_rule : List (ℕ × Account) → ℕ → Account → Option ℕ → Option Rule
@@ -115,21 +141,22 @@ edit_rules book number parent old new =
     ∷ becomes_placeholder book.transactions number old new
     ∷ []
 
-abbrev pub account_edit_of : State → ℕ → GivenAccount → Account → Account → Outcome
-account_edit_of state number given old new =
+abbrev pub account_edit_of : State → ℕ → GivenAccount → Account → Outcome
+account_edit_of state number given old =
+    let new = with_given old given in
     let rules = edit_rules state.book number given.parent old new in
-    if is_as_before old new then leaving state rules answer.AccountEdit
-    else changing state rules (edit.Account number new) 0 answer.AccountEdit
+    if (stays old given).is then leaving state rules answer.AccountEdit
+    else changing state rules (edit.Put number (thing.Account new)) 0 answer.AccountEdit
 
 abbrev pub account_edit_at : State → ℕ → GivenAccount → Option Account → Outcome
 account_edit_at state number given None = Broken (Unknown kind.Account number)
-account_edit_at state number given (Some old) = account_edit_of state number given old (with_given old given)
+account_edit_at state number given (Some old) = account_edit_of state number given old
 
 -- An account of the book gets what is given.
 abbrev pub account_edit : State → ℕ → GivenAccount → Outcome
 account_edit state number given = account_edit_at state number given (value_of number state.book.accounts)
 
--- An account with another under it, or with a split, can't go (GnuCash Manual, deleting an account: these must be moved first).
+-- An account with another under it, or with a split, can't be deleted (GnuCash Manual, deleting an account: these must be moved first).
 abbrev pub not_empty : Book → ℕ → Option Rule
 not_empty book number =
     broken_where (nat_lt 0 (length (children_of book.accounts (Some number))) || has_splits book.transactions number) (NotEmpty number)
@@ -137,8 +164,8 @@ not_empty book number =
 abbrev pub account_drop_of : State → ℕ → Option Account → Outcome
 account_drop_of state number None = Broken (Unknown kind.Account number)
 account_drop_of state number (Some account) =
-    changing state (root_stays account ∷ not_empty state.book number ∷ []) (edit.AccountGone number) 0 answer.AccountDrop
+    changing state (root_stays account ∷ not_empty state.book number ∷ []) (edit.Gone thing_kind.Account number) 0 answer.AccountDrop
 
--- An account goes: it is in the book, isn't the root, and has neither an account under it nor a split.
+-- An account is deleted: it is in the book, isn't the root, and has neither an account under it nor a split.
 abbrev pub account_drop : State → ℕ → Outcome
 account_drop state number = account_drop_of state number (value_of number state.book.accounts)

@@ -1,4 +1,5 @@
 pub mod Accounts
+pub mod AnswerBalances
 pub mod Commodities
 pub mod Outcome
 pub mod Posting

@@ -1,8 +1,8 @@
 -- The commands on transactions.
-use Rattle.std.specs.Prelude.{ℕ, ◌+◌, ℤ, nat_lt, List, [], ◌∷◌, Option, None, map, length, option_map}
+use Rattle.std.specs.Prelude.{ℕ, ◌+◌, ℤ, nat_lt, List, [], ◌∷◌, Option, Some, None, map, length, option_map}
 use Rattle.book_commodity.specs.Rules.{broken_where, first_broken}
 use Rattle.book_commodity.specs.declared.counted.Counted.TheVariants.{Transactions, Splits}
-use Rattle.book_splits.specs.Balance.{balance, splits_of}
+use Rattle.book_splits.specs.Balance.{splits_of}
 use Rattle.book_splits.specs.Check.{txn_rules}
 use Rattle.book_splits.specs.declared.split.Mark.TheVariants.{New}
 use Rattle.book_splits.specs.declared.split.Split.{Split}
@@ -10,7 +10,9 @@ use Rattle.book_splits.specs.declared.transaction.Txn.{Txn}
 use Rattle.book_undo.specs.Book.{Book}
 use Rattle.book_undo.specs.Edit.{edited}
 use Rattle.book_undo.specs.declared.edit.Edit.TheVariants as edit
+use Rattle.book_undo.specs.declared.thing.Thing.TheVariants as thing
 use Rattle.book_command.specs.Lifted.{of_txn_rule}
+use Rattle.book_step.specs.AnswerBalances.{balances_at}
 use Rattle.book_step.specs.Outcome.{Outcome, changing}
 use Rattle.book_step.specs.State.{State}
 use Rattle.book_command.specs.declared.answer.Answer.{Answer}
@@ -67,15 +69,13 @@ post_rules book transaction = broken_by book transaction ∷ too_many_transactio
 
 -- A post is answered with the numbers it drew, and for each split the balance of its account after the post.
 abbrev pub post_answer : Book → ℕ → Txn → Answer
-post_answer after number transaction = answer.Post
-    number
-    (map (λ split. split.id) transaction.splits)
-    (map (λ split. balance after.transactions split.account) transaction.splits)
+post_answer after number transaction =
+    answer.Post number (map (λ split. split.id) transaction.splits) (balances_at after.transactions (Some transaction))
 
 -- The transaction stands in the book, under the next number.
 abbrev pub post_of : State → Txn → Outcome
 post_of state transaction =
-    let change = edit.Transaction state.next transaction in
+    let change = edit.Put state.next (thing.Txn transaction) in
     changing state (post_rules state.book transaction) change (1 + length transaction.splits)
     (post_answer (edited change state.book) state.next transaction)
 

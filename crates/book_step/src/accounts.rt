@@ -1,59 +1,45 @@
-ghost use Rattle.std.specs.Prelude.{◌≡◌, ◌<◌, ◌^◌, [], ◌∷◌, Some, IfOk};
+ghost use Rattle.std.specs.Prelude.{◌≡◌, [], ◌∷◌, Some, IfOk};
 ghost use Rattle.book_commodity.specs.Rules.{TellsFirst};
 ghost use Rattle.book_commodity.specs.Table.{value_of};
-ghost use Rattle.book_undo.specs.Book.{book_of};
 ghost use Rattle.book_step.specs.Accounts.{account_add, account_drop, add_rules, basis_shape, fits_basis, not_empty, root_stays, too_many_accounts, unknown_account, unknown_given_account, unknown_given_commodity};
 ghost use Rattle.book_step.specs.Outcome.{StepsTo};
-ghost use Rattle.book_step.specs.State.{state_of};
 
 use crate::commodities::{check_known as check_known_commodity, is_currency};
+use crate::present::Present;
 use crate::{Answer, Refusal, Rule, Step};
 use book_accounts::{Account, AccountKind, Tree};
 use book_commodity::{Commodities, Counted, Kind};
 use book_splits::has_splits;
-use book_undo::{Edit, Plain};
+use book_undo::{Edit, Thing, ThingKind};
 
 const MAX_ACCOUNTS: usize = 10_000;
 
 /// The account stands in the book, under the next number.
-pub(crate) fn account_add(
-    plain: &Plain,
-    next: u64,
-    version: u64,
-    account: Account,
-) -> Result<Step, Refusal>
-    requires next { next < 2 ^ 62 }
-    requires version { version < 2 ^ 62 }
-    ensures { StepsTo (state_of plain.now next version) (account_add (state_of plain.now next version) account) result }
+pub(crate) fn account_add(present: &Present, account: Account) -> Result<Step, Refusal>
+    ensures { StepsTo present.now (account_add present.now account) result }
 {
-    check_new(plain, &account)?;
-    let edit = Edit::Account(next, account);
-    let answer = Answer::AccountAdd { account: next };
-    Step::changing(next, version, 1, edit, answer)
+    check_new(present, &account)?;
+    let number = present.next;
+    let edit = Edit::Put(number, Thing::Account(account));
+    Step::changing(present, 1, edit, Answer::AccountAdd { account: number })
 }
 
-/// The account of this number goes.
-pub(crate) fn account_drop(
-    plain: &Plain,
-    next: u64,
-    version: u64,
-    number: u64,
-) -> Result<Step, Refusal>
-    requires next { next < 2 ^ 62 }
-    requires version { version < 2 ^ 62 }
-    ensures { StepsTo (state_of plain.now next version) (account_drop (state_of plain.now next version) number) result }
+/// The account of this number is deleted.
+pub(crate) fn account_drop(present: &Present, number: u64) -> Result<Step, Refusal>
+    ensures { StepsTo present.now (account_drop present.now number) result }
 {
-    let account = known(&plain.accounts, number)?;
+    let account = known(present, number)?;
     check_not_root(account)?;
-    check_empty(plain, number)?;
-    let edit = Edit::AccountGone(number);
-    Step::changing(next, version, 0, edit, Answer::AccountDrop)
+    check_empty(present, number)?;
+    let edit = Edit::Gone(ThingKind::Account, number);
+    Step::changing(present, 0, edit, Answer::AccountDrop)
 }
 
 /// The account of this number has no account under it and no split.
-fn check_empty(plain: &Plain, number: u64) -> Result<(), Rule>
-    ensures { TellsFirst (not_empty (book_of plain.now) number ∷ []) result }
+fn check_empty(present: &Present, number: u64) -> Result<(), Rule>
+    ensures { TellsFirst (not_empty present.now.book number ∷ []) result }
 {
+    let plain = present.plain;
     if plain.accounts.has_children(number) || has_splits(&plain.transactions, number) {
         return Err(Rule::NotEmpty { account: number });
     }
@@ -61,11 +47,12 @@ fn check_empty(plain: &Plain, number: u64) -> Result<(), Rule>
 }
 
 /// A new account keeps its rules.
-fn check_new(plain: &Plain, account: &Account) -> Result<(), Rule>
-    ensures { TellsFirst (add_rules (book_of plain.now) account.now) result }
+fn check_new(present: &Present, account: &Account) -> Result<(), Rule>
+    ensures { TellsFirst (add_rules present.now.book account.now) result }
 {
+    let plain = present.plain;
     check_known_commodity(&plain.commodities, account.commodity)?;
-    check_given(&plain.accounts, account.parent)?;
+    check_given(present, account.parent)?;
     check_given_commodity(&plain.commodities, account.basis)?;
     plain.accounts.check_add(account)?;
     check_basis(&plain.commodities, account)?;
@@ -73,11 +60,11 @@ fn check_new(plain: &Plain, account: &Account) -> Result<(), Rule>
 }
 
 /// The account of this number, which is one of the book's.
-pub(crate) fn known(accounts: &Tree, number: u64) -> Result<&Account, Rule>
-    ensures there { IfOk result (λ account. value_of number accounts.now.entries ≡ Some account.now) }
-    ensures unknown { TellsFirst (unknown_account accounts.now.entries number ∷ []) result }
+pub(crate) fn known<'a>(present: &Present<'a>, number: u64) -> Result<&'a Account, Rule>
+    ensures there { IfOk result (λ account. value_of number present.now.book.accounts ≡ Some account.now) }
+    ensures unknown { TellsFirst (unknown_account present.now.book.accounts number ∷ []) result }
 {
-    match accounts.find(number) {
+    match present.plain.accounts.find(number) {
         Some(account) => Ok(account),
         None => Err(Rule::Unknown {
             kind: Kind::Account,
@@ -87,11 +74,11 @@ pub(crate) fn known(accounts: &Tree, number: u64) -> Result<&Account, Rule>
 }
 
 /// The account of this number is one of the book's, where a number is given.
-pub(crate) fn check_given(accounts: &Tree, number: Option<u64>) -> Result<(), Rule>
-    ensures { TellsFirst (unknown_given_account accounts.now.entries number ∷ []) result }
+pub(crate) fn check_given(present: &Present, number: Option<u64>) -> Result<(), Rule>
+    ensures { TellsFirst (unknown_given_account present.now.book.accounts number ∷ []) result }
 {
     if let Some(number) = number {
-        known(accounts, number)?;
+        known(present, number)?;
     }
     Ok(())
 }

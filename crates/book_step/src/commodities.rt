@@ -1,52 +1,37 @@
-ghost use Rattle.std.specs.Prelude.{◌≡◌, ◌<◌, ◌^◌, [], ◌∷◌, Some, find, length, option_map, slice_get};
+ghost use Rattle.std.specs.Prelude.{◌≡◌, ◌<◌, [], ◌∷◌, Some, find, length, option_map, slice_get};
 ghost use Rattle.book_commodity.specs.Rules.{TellsFirst};
 ghost use Rattle.book_commodity.specs.Table.{value_of};
-ghost use Rattle.book_step.specs.Commodities.{book_currency, commodity_add, fraction_shape, is_currency_of, is_namesake, name_taken, too_many_commodities, unknown_commodity, wrong_currency};
+ghost use Rattle.book_step.specs.Commodities.{add_rules, book_currency, commodity_add, currency_rules, is_currency_of, is_namesake, unknown_commodity};
 ghost use Rattle.book_step.specs.Outcome.{StepsTo};
-ghost use Rattle.book_step.specs.State.{state_of};
 
+use crate::present::Present;
 use crate::{Answer, Refusal, Rule, Step};
 use book_commodity::{Commodities, Commodity, Counted, Kind};
-use book_undo::{Edit, Plain};
+use book_undo::{Edit, Thing};
 
 const MAX_COMMODITIES: usize = 10_000;
 
 const MAX_FRACTION: u64 = 1_000_000_000;
 
 /// The book's currency becomes the commodity of this number, where that is a currency of the book.
-pub(crate) fn book_currency(
-    plain: &Plain,
-    next: u64,
-    version: u64,
-    commodity: u64,
-) -> Result<Step, Refusal>
-    requires next { next < 2 ^ 62 }
-    requires version { version < 2 ^ 62 }
-    ensures { StepsTo (state_of plain.now next version) (book_currency (state_of plain.now next version) commodity) result }
+pub(crate) fn book_currency(present: &Present, commodity: u64) -> Result<Step, Refusal>
+    ensures { StepsTo present.now (book_currency present.now commodity) result }
 {
-    check_currency(&plain.commodities, commodity)?;
-    if commodity == plain.currency {
-        return Ok(Step::leaving(next, Answer::BookCurrency));
+    check_currency(present, commodity)?;
+    if commodity == present.plain.currency {
+        return Ok(Step::leaving(present, Answer::BookCurrency));
     }
-    let edit = Edit::Currency(commodity);
-    Step::changing(next, version, 0, edit, Answer::BookCurrency)
+    Step::changing(present, 0, Edit::Currency(commodity), Answer::BookCurrency)
 }
 
 /// The commodity stands in the book, under the next number.
-pub(crate) fn commodity_add(
-    plain: &Plain,
-    next: u64,
-    version: u64,
-    commodity: Commodity,
-) -> Result<Step, Refusal>
-    requires next { next < 2 ^ 62 }
-    requires version { version < 2 ^ 62 }
-    ensures { StepsTo (state_of plain.now next version) (commodity_add (state_of plain.now next version) commodity) result }
+pub(crate) fn commodity_add(present: &Present, commodity: Commodity) -> Result<Step, Refusal>
+    ensures { StepsTo present.now (commodity_add present.now commodity) result }
 {
-    check_new(&plain.commodities, &commodity)?;
-    let edit = Edit::Commodity(next, commodity);
-    let answer = Answer::CommodityAdd { commodity: next };
-    Step::changing(next, version, 1, edit, answer)
+    check_new(present, &commodity)?;
+    let number = present.next;
+    let edit = Edit::Put(number, Thing::Commodity(commodity));
+    Step::changing(present, 1, edit, Answer::CommodityAdd { commodity: number })
 }
 
 /// The commodity of this number is one of the book's.
@@ -73,9 +58,10 @@ pub(crate) fn is_currency(commodities: &Commodities, number: u64) -> bool
 }
 
 /// The commodity of this number is one of the book's, and a currency.
-fn check_currency(commodities: &Commodities, number: u64) -> Result<(), Rule>
-    ensures { TellsFirst (unknown_commodity commodities.now.entries number ∷ wrong_currency commodities.now.entries number ∷ []) result }
+fn check_currency(present: &Present, number: u64) -> Result<(), Rule>
+    ensures { TellsFirst (currency_rules present.now.book number) result }
 {
+    let commodities = &present.plain.commodities;
     check_known(commodities, number)?;
     if !is_currency(commodities, number) {
         return Err(Rule::WrongCurrency { commodity: number });
@@ -84,9 +70,10 @@ fn check_currency(commodities: &Commodities, number: u64) -> Result<(), Rule>
 }
 
 /// A new commodity has a space and a name that no other has, and a fraction within its limits; and the book has room for it.
-fn check_new(commodities: &Commodities, commodity: &Commodity) -> Result<(), Rule>
-    ensures { TellsFirst (name_taken commodities.now.entries commodity.now ∷ fraction_shape commodity.now ∷ too_many_commodities commodities.now.entries ∷ []) result }
+fn check_new(present: &Present, commodity: &Commodity) -> Result<(), Rule>
+    ensures { TellsFirst (add_rules present.now.book commodity.now) result }
 {
+    let commodities = &present.plain.commodities;
     if let Some(id) = namesake(commodities, commodity) {
         return Err(Rule::NameTaken { id });
     }

@@ -3,10 +3,11 @@
 //! tells what a command comes to, and changes nothing.
 #![tactic(auto)]
 
+mod account_edit;
 mod accounts;
 mod commodities;
-mod editing;
 mod posting;
+mod present;
 mod step;
 #[cfg(test)]
 mod tests;

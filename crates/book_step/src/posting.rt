@@ -1,44 +1,37 @@
-ghost use Rattle.std.specs.Prelude.{◌≡◌, ◌+◌, ◌<◌, ◌≤◌, ◌^◌, [], ◌∷◌, All, IfOk, OnOk, length, map};
+ghost use Rattle.std.specs.Prelude.{◌≡◌, ◌+◌, ◌<◌, ◌≤◌, ◌^◌, [], ◌∷◌, IfOk, OnOk, length, map};
 ghost use Rattle.book_commodity.specs.Rules.{TellsFirst};
-ghost use Rattle.book_splits.specs.Balance.{splits_of};
-ghost use Rattle.book_undo.specs.Book.{IsCounted, book_of};
-ghost use Rattle.book_undo.specs.Edit.{edited};
+ghost use Rattle.book_undo.specs.Book.{book_of};
 ghost use Rattle.book_step.specs.Outcome.{StepsTo};
-ghost use Rattle.book_step.specs.Posting.{broken_by, new_split, new_splits, new_transaction, post, post_answer, post_rules, too_many_splits, too_many_transactions};
-ghost use Rattle.book_step.specs.State.{state_of};
+ghost use Rattle.book_step.specs.Posting.{broken_by, new_split, new_splits, new_transaction, post, post_rules, too_many_splits, too_many_transactions};
 
+use crate::present::Present;
 use crate::{Answer, GivenSplit, GivenTxn, Refusal, Rule, Step};
 use book_commodity::{Counted, Day, Many, OutOfMemory};
-use book_splits::{Mark, Split, Txn, balances_after, check_txn};
-use book_undo::{Edit, Plain};
+use book_splits::{Mark, Split, Txn, check_txn};
+use book_undo::{Edit, Plain, Thing};
 use std::alloc::Global;
 
 const MAX_TRANSACTIONS: usize = 200_000;
 
 const MAX_SPLITS: u64 = 1_000_000;
 
-/// A new transaction stands in the book, under the next number, its splits under those that follow.
+/// A new transaction stands in the book, under the next number, its splits under those that follow. The answer's
+/// balances are left empty.
 pub(crate) fn post(
     alloc: Global,
-    plain: &Plain,
-    next: u64,
-    version: u64,
+    present: &Present,
     day: Day,
     given: GivenTxn,
 ) -> Result<Step, Refusal>
-    requires next { next < 2 ^ 62 }
-    requires version { version < 2 ^ 62 }
-    requires drawn { All (λ entry. entry.0 < next) plain.now.transactions.entries }
-    requires counted { IsCounted plain.now }
-    requires few { length (splits_of plain.now.transactions.entries) ≤ 1000000 }
-    ensures { StepsTo (state_of plain.now next version) (post (state_of plain.now next version) day given) result }
+    ensures { StepsTo present.now (post present.now day given) result }
 {
-    let transaction = new_transaction(alloc, next, day, given)?;
-    check_post(plain, &transaction)?;
-    let answer = post_answer(alloc, plain, next, &transaction)?;
+    let number = present.next;
+    let transaction = new_transaction(alloc, number, day, given)?;
+    check_post(present, &transaction)?;
+    let answer = post_answer(alloc, number, transaction.splits.as_slice())?;
     let drawn = 1 + transaction.splits.len() as u64;
-    let edit = Edit::Transaction(next, transaction);
-    Step::changing(next, version, drawn, edit, answer)
+    let edit = Edit::Put(number, Thing::Txn(transaction));
+    Step::changing(present, drawn, edit, answer)
 }
 
 /// The transaction of a post that draws its number, the next for its first split, and so on.
@@ -93,15 +86,13 @@ fn new_split(number: u64, given: GivenSplit) -> Split
 }
 
 /// A post of the transaction keeps its rules.
-fn check_post(plain: &Plain, transaction: &Txn) -> Result<(), Rule>
-    requires counted { IsCounted plain.now }
-    requires few { length (splits_of plain.now.transactions.entries) ≤ 1000000 }
-    ensures rules { TellsFirst (post_rules (book_of plain.now) transaction.now) result }
+fn check_post(present: &Present, transaction: &Txn) -> Result<(), Rule>
+    ensures rules { TellsFirst (post_rules present.now.book transaction.now) result }
     ensures few { OnOk result (length transaction.now.splits ≤ 500) }
 {
-    check_transaction(plain, transaction)?;
-    check_transactions(plain)?;
-    check_splits(plain, transaction)
+    check_transaction(present.plain, transaction)?;
+    check_transactions(present.plain)?;
+    check_splits(present, transaction)
 }
 
 /// The transaction breaks no rule of transactions among the commodities and the accounts of the book.
@@ -127,12 +118,11 @@ fn check_transactions(plain: &Plain) -> Result<(), Rule>
 }
 
 /// The book has room for the splits of the transaction.
-fn check_splits(plain: &Plain, transaction: &Txn) -> Result<(), Rule>
-    requires counted { IsCounted plain.now }
-    requires few { length (splits_of plain.now.transactions.entries) ≤ 1000000 }
-    ensures { TellsFirst (too_many_splits (book_of plain.now) transaction.now ∷ []) result }
+fn check_splits(present: &Present, transaction: &Txn) -> Result<(), Rule>
+    ensures { TellsFirst (too_many_splits present.now.book transaction.now ∷ []) result }
 {
-    if transaction.splits.len() as u64 > MAX_SPLITS - plain.splits {
+    let room = MAX_SPLITS - present.plain.transactions.count_splits();
+    if transaction.splits.len() as u64 > room {
         return Err(Rule::Limit {
             which: Counted::Splits,
             at: MAX_SPLITS,
@@ -141,29 +131,14 @@ fn check_splits(plain: &Plain, transaction: &Txn) -> Result<(), Rule>
     Ok(())
 }
 
-/// The numbers that a post drew, and for each split the balance of its account after it.
-fn post_answer(
-    alloc: Global,
-    plain: &Plain,
-    number: u64,
-    transaction: &Txn,
-) -> Result<Answer, OutOfMemory>
-    requires drawn { All (λ entry. entry.0 < number) plain.now.transactions.entries }
-    requires few { length (splits_of plain.now.transactions.entries) ≤ 1000000 }
-    ensures { IfOk result (λ answer. answer ≡ post_answer (edited (Edit.Transaction number transaction.now) (book_of plain.now)) number transaction.now) }
-{
-    let splits = transaction.splits.as_slice();
-    Ok(Answer::Post {
-        transaction: number,
-        splits: numbers_of(alloc, splits)?,
-        balances: balances_after(alloc, &plain.transactions, splits)?,
-    })
-}
-
-/// The numbers of the splits, by place.
-fn numbers_of(alloc: Global, splits: &[Split]) -> Result<Many<u64>, OutOfMemory>
-    ensures { IfOk result (λ numbers. numbers ≡ map (λ split. split.id) splits.now) }
+/// The numbers that a post drew, its transaction's and those of its splits by place.
+fn post_answer(alloc: Global, number: u64, splits: &[Split]) -> Result<Answer, OutOfMemory>
+    ensures { IfOk result (λ answer. answer ≡ Answer.Post number (map (λ split. split.id) splits.now) []) }
 {
     let numbers = splits.iter().map(|split| split.id).collect(alloc)?;
-    Ok(Many::of(numbers))
+    Ok(Answer::Post {
+        transaction: number,
+        splits: Many::of(numbers),
+        balances: Many::new(alloc),
+    })
 }

@@ -1,17 +1,18 @@
 ghost use Rattle.std.specs.Prelude.{◌≡◌, ℕ, ◌<◌, ◌≤◌, ◌^◌, [], ◌∷◌, Ok, false};
 ghost use Rattle.book_commodity.specs.Rules.{TellsFirst};
-ghost use Rattle.book_undo.specs.Book.{IsCounted};
-ghost use Rattle.book_undo.specs.Edit.{is_nothing};
-ghost use Rattle.book_undo.specs.declared.plain.Plain.{Plain};
-ghost use Rattle.book_step.specs.Outcome.{StepsTo, changing, leaving, numbers};
+ghost use Rattle.book_undo.specs.Edit.{is_unchanged};
+ghost use Rattle.book_step.specs.AnswerBalances.{without_balances};
+ghost use Rattle.book_step.specs.Outcome.{StepsTo, changing, leaving, numbers, version_after};
 ghost use Rattle.book_step.specs.Soundness.{IsSound};
 ghost use Rattle.book_step.specs.State.{state_of};
 ghost use Rattle.book_step.specs.Step.{outcome, stale, step};
+ghost use Rattle.book_command.specs.declared.answer.Answer.{Answer};
 
+use crate::account_edit::account_edit;
 use crate::accounts::{account_add, account_drop};
 use crate::commodities::{book_currency, commodity_add};
-use crate::editing::account_edit;
 use crate::posting::post;
+use crate::present::Present;
 use crate::{Answer, Command, Refusal, Rule, What};
 use book_commodity::Counted;
 use book_undo::{Edit, Plain};
@@ -19,7 +20,8 @@ use std::alloc::Global;
 
 const NUMBERS_LIMIT: u64 = 1 << 62;
 
-/// What a command comes to that breaks no rule: the edit of the book, the next number after it, and the answer.
+/// What a command comes to that breaks no rule: the edit of the book, the next number after it, and the answer, whose
+/// balances are left empty.
 #[derive(Drop)]
 pub struct Step {
     pub edit: Edit,
@@ -29,43 +31,51 @@ pub struct Step {
 
 impl Step {
     /// The step that leaves the book as it is.
-    pub(crate) fn leaving(next: u64, answer: Answer) -> Step
-        ensures { (plain : Plain) → (version : ℕ) → StepsTo (state_of plain next version) (leaving (state_of plain next version) [] answer) (Ok result) }
+    pub(crate) fn leaving(present: &Present, answer: Answer) -> Step
+        ensures { (whole : Answer) → without_balances whole ≡ answer → StepsTo present.now (leaving present.now [] whole) (Ok result) }
     {
         Step {
-            edit: Edit::Nothing,
-            next,
+            edit: Edit::Unchanged,
+            next: present.next,
             answer,
         }
     }
 
     /// The step of an edit that draws so many numbers, and breaks no rule but, it may be, the limit of numbers.
     pub(crate) fn changing(
-        next: u64,
-        version: u64,
+        present: &Present,
         drawn: u64,
         edit: Edit,
         answer: Answer,
     ) -> Result<Step, Refusal>
-        requires next { next < 2 ^ 62 }
-        requires version { version < 2 ^ 62 }
         requires drawn { drawn ≤ 2 ^ 62 }
-        requires change { is_nothing edit ≡ false }
-        ensures { (plain : Plain) → StepsTo (state_of plain next version) (changing (state_of plain next version) [] edit drawn answer) result }
+        ensures { (whole : Answer) → without_balances whole ≡ answer → StepsTo present.now (changing present.now [] edit drawn whole) result }
     {
-        check_numbers(next, version, drawn)?;
+        check_numbers(present, drawn)?;
         Ok(Step {
             edit,
-            next: next + drawn,
+            next: present.next + drawn,
             answer,
         })
+    }
+
+    /// The version after the step, from the one before it: only a step that changes the book raises it.
+    pub fn version_after(&self, version: u64) -> u64
+        requires { version < 2 ^ 62 }
+        ensures { result ≡ version_after (is_unchanged self.now.edit) version }
+    {
+        if self.edit.is_unchanged() {
+            version
+        } else {
+            version + 1
+        }
     }
 }
 
 /// What the command comes to in a book with this next number and this version, all of which stay as they are. It is
-/// broken with the first rule in its order that it breaks, the version being asked first, and out of memory where that is
-/// refused for texts or the answer; else it is done by the step, after which the version is the same if the edit is
-/// nothing, and one more if not.
+/// broken with the first rule in its order that it breaks, the version being asked first; else it is done by the step,
+/// after which the version is the same if the edit changes nothing, and one more if not. The answer is whole but for its
+/// balances. Out of memory where there is none for texts or for the answer.
 pub fn step_of(
     alloc: Global,
     plain: &Plain,
@@ -73,55 +83,51 @@ pub fn step_of(
     version: u64,
     command: Command,
 ) -> Result<Step, Refusal>
-    requires sound { IsSound (state_of plain.now next version) }
-    requires counted { IsCounted plain.now }
+    requires { IsSound (state_of plain.now next version) }
     ensures { StepsTo (state_of plain.now next version) (step (state_of plain.now next version) command) result }
 {
+    let present = Present {
+        plain,
+        next,
+        version,
+    };
     let Command { at, what } = command;
-    check_version(version, at)?;
-    step_of_what(alloc, plain, next, version, what)
+    check_version(&present, at)?;
+    step_of_what(alloc, &present, what)
 }
 
 /// The same of what is asked, at the present version.
-fn step_of_what(
-    alloc: Global,
-    plain: &Plain,
-    next: u64,
-    version: u64,
-    what: What,
-) -> Result<Step, Refusal>
-    requires sound { IsSound (state_of plain.now next version) }
-    requires counted { IsCounted plain.now }
-    ensures { StepsTo (state_of plain.now next version) (outcome (state_of plain.now next version) what) result }
+fn step_of_what(alloc: Global, present: &Present, what: What) -> Result<Step, Refusal>
+    ensures { StepsTo present.now (outcome present.now what) result }
 {
     match what {
-        What::BookCurrency { commodity } => book_currency(plain, next, version, commodity),
-        What::CommodityAdd { commodity } => commodity_add(plain, next, version, commodity),
-        What::AccountAdd { account } => account_add(plain, next, version, account),
-        What::AccountEdit { account, given } => account_edit(plain, next, version, account, given),
-        What::AccountDrop { account } => account_drop(plain, next, version, account),
-        What::Post { day, given } => post(alloc, plain, next, version, day, given),
+        What::BookCurrency { commodity } => book_currency(present, commodity),
+        What::CommodityAdd { commodity } => commodity_add(present, commodity),
+        What::AccountAdd { account } => account_add(present, account),
+        What::AccountEdit { account, given } => account_edit(present, account, given),
+        What::AccountDrop { account } => account_drop(present, account),
+        What::Post { day, given } => post(alloc, present, day, given),
     }
 }
 
 /// The command is for the present version, where it is for one.
-fn check_version(version: u64, at: Option<u64>) -> Result<(), Rule>
-    ensures { (plain : Plain) → (next : ℕ) → TellsFirst (stale (state_of plain next version) at ∷ []) result }
+fn check_version(present: &Present, at: Option<u64>) -> Result<(), Rule>
+    ensures { TellsFirst (stale present.now at ∷ []) result }
 {
     match at {
-        Some(at) if at != version => Err(Rule::Stale { now: version }),
+        Some(at) if at != present.version => Err(Rule::Stale {
+            now: present.version,
+        }),
         _ => Ok(()),
     }
 }
 
 /// So many more numbers of things, and one more version, stay below the limit of numbers.
-fn check_numbers(next: u64, version: u64, drawn: u64) -> Result<(), Rule>
-    requires next { next < 2 ^ 62 }
-    requires version { version < 2 ^ 62 }
-    requires drawn { drawn ≤ 2 ^ 62 }
-    ensures { (plain : Plain) → TellsFirst (numbers (state_of plain next version) drawn ∷ []) result }
+fn check_numbers(present: &Present, drawn: u64) -> Result<(), Rule>
+    requires { drawn ≤ 2 ^ 62 }
+    ensures { TellsFirst (numbers present.now drawn ∷ []) result }
 {
-    if next + drawn >= NUMBERS_LIMIT || version + 1 >= NUMBERS_LIMIT {
+    if present.next + drawn >= NUMBERS_LIMIT || present.version + 1 >= NUMBERS_LIMIT {
         return Err(Rule::Limit {
             which: Counted::Numbers,
             at: NUMBERS_LIMIT,

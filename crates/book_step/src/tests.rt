@@ -1,13 +1,11 @@
-ghost use Rattle.std.specs.Prelude.{◌≡◌, ◌+◌, ◌<◌, ◌^◌, [], None, IfOk, false, if◌then◌else◌};
-ghost use Rattle.book_undo.specs.Book.{IsCounted};
-ghost use Rattle.book_undo.specs.Edit.{is_nothing};
+ghost use Rattle.std.specs.Prelude.{◌≡◌, [], None, IfOk, false};
 ghost use Rattle.book_step.specs.Soundness.{IsSound};
 ghost use Rattle.book_step.specs.State.{fresh_state, state_of};
 
 use crate::{Answer, Command, GivenAccount, GivenSplit, GivenTxn, Refusal, Rule, What, step_of};
 use book_accounts::{Account, AccountKind};
 use book_commodity::{Commodity, Day, Many, OutOfMemory, Text};
-use book_undo::{Edit, Plain};
+use book_undo::Plain;
 use std::alloc::Global;
 use std::test::Fail;
 
@@ -60,8 +58,7 @@ fn account(
 
 /// The machine in which each run begins.
 fn fresh(alloc: Global) -> Result<Machine, OutOfMemory>
-    ensures fresh { IfOk result (λ machine. state_of machine.plain machine.next machine.version ≡ fresh_state) }
-    ensures counted { IfOk result (λ machine. IsCounted machine.plain) }
+    ensures { IfOk result (λ machine. state_of machine.plain machine.next machine.version ≡ fresh_state) }
 {
     let mut plain = Plain::new(alloc, 1);
     plain.commodities.reserve(1)?;
@@ -79,25 +76,11 @@ fn fresh(alloc: Global) -> Result<Machine, OutOfMemory>
     })
 }
 
-/// The version after an edit.
-fn version_after(version: u64, edit: &Edit) -> u64
-    requires { version < 2 ^ 62 }
-    ensures { result ≡ (if is_nothing edit.now then version else version + 1) }
-{
-    if edit.is_nothing() {
-        version
-    } else {
-        version + 1
-    }
-}
-
 impl Machine {
     /// Takes the command, and changes the book by its step.
     fn take(&mut self, alloc: Global, what: What) -> Result<Answer, Refusal>
-        requires sound { IsSound (state_of self.old.plain self.old.next self.old.version) }
-        requires counted { IsCounted self.old.plain }
-        ensures sound { IsSound (state_of self.new.plain self.new.next self.new.version) }
-        ensures counted { IsCounted self.new.plain }
+        requires { IsSound (state_of self.old.plain self.old.next self.old.version) }
+        ensures { IsSound (state_of self.new.plain self.new.next self.new.version) }
     {
         let at = Some(self.version);
         let step = step_of(
@@ -108,7 +91,7 @@ impl Machine {
             Command { at, what },
         )?;
         self.plain.reserve_for(&step.edit)?;
-        self.version = version_after(self.version, &step.edit);
+        self.version = step.version_after(self.version);
         self.next = step.next;
         self.plain.apply(step.edit);
         Ok(step.answer)

@@ -1,2 +1,4 @@
 pub mod Book
 pub mod Edit
+pub mod Room
+pub mod Thing

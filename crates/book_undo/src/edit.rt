@@ -1,32 +1,26 @@
-use book_accounts::Account;
-use book_commodity::Commodity;
-use book_splits::Txn;
+use crate::{Thing, ThingKind};
 
-/// What becomes different in a book: nothing, or one thing under one number.
+/// What becomes different in a book.
 #[derive(Drop)]
 pub enum Edit {
     /// The book stays as it is.
-    Nothing,
-    /// The book's currency becomes this commodity.
+    Unchanged,
+    /// The book's currency becomes the commodity of this number.
     Currency(u64),
-    /// The commodity stands under the number.
-    Commodity(u64, Commodity),
-    /// The account stands under the number.
-    Account(u64, Account),
-    /// The account of this number is gone.
-    AccountGone(u64),
-    /// The transaction stands under the number.
-    Transaction(u64, Txn),
+    /// The thing stands under the number, instead of one of its kind that stood there.
+    Put(u64, Thing),
+    /// The thing of this kind under the number is deleted.
+    Gone(ThingKind, u64),
 }
 
 impl Edit {
     ghost use Rattle.std.specs.Prelude.{◌≡◌};
-    ghost use Rattle.book_undo.specs.Edit.{is_nothing};
+    ghost use Rattle.book_undo.specs.Edit.{is_unchanged};
 
-    /// Whether the book stays as it is.
-    pub fn is_nothing(&self) -> bool
-        ensures { result ≡ is_nothing self.now }
+    /// Whether it leaves the book as it is, since nothing becomes different.
+    pub fn is_unchanged(&self) -> bool
+        ensures { result ≡ is_unchanged self.now }
     {
-        matches!(self, Edit::Nothing)
+        matches!(self, Edit::Unchanged)
     }
 }

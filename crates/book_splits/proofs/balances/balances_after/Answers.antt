@@ -3,7 +3,7 @@ use Rattle.std.proofs.lemmas.Result.{IfOk-weaker}
 use Rattle.std.proofs.lemmas.List.Elements.{All-weaker}
 use Rattle.book_splits.specs.Balance.{splits_of}
 use Rattle.book_splits.specs.Balances.{balance_at, Counts}
-use Rattle.book_splits.proofs.Tables.{balances-are, Counts-along}
+use Rattle.book_splits.proofs.BalanceTableLemmas.{balances-are, Counts-along}
 use Rattle.book_splits.proofs.balances.balances_after.Goals as goal
 
 pub of_each-requires : goal.of_each-requires

@@ -1,28 +1,29 @@
-use Rattle.std.proofs.Common.{[], ◌∷◌, List, ℕ, Ok, Option, subst, sym}
+use Rattle.std.proofs.Common.{Ok, subst, sym, refl, ap, ◌∙◌}
 use Rattle.book_undo.specs.declared.edit.Edit.TheVariants as edit
-use Rattle.book_step.specs.Commodities.{unknown_commodity, wrong_currency}
+use Rattle.book_step.specs.Commodities.{currency_rules}
 use Rattle.book_step.specs.Outcome.{Outcome, StepsTo, changing, leaving}
-use Rattle.book_step.specs.State.{State, state_of}
+use Rattle.book_step.specs.State.{State}
 use Rattle.book_command.specs.declared.answer.Answer.TheVariants as answer
-use Rattle.book_command.specs.declared.rule.Rule.{Rule}
 use Rattle.book_step.proofs.OutcomeLemmas.{chosen-same, chosen-other, past-changing, past-leaving}
 use Rattle.book_step.proofs.commodities.book_currency.Goals as goal
 
-abbrev rules_of : State → ℕ → List (Option Rule)
-rules_of state commodity = unknown_commodity state.book.commodities commodity ∷ wrong_currency state.book.commodities commodity ∷ []
-
-pub returns-then-commodity-plain : goal.returns-then-commodity-plain
-returns-then-commodity-plain c =
-    let state = state_of c.args.plain.now c.args.next c.args.version in
-    let left = leaving state (rules_of state c.args.commodity) answer.BookCurrency in
-    let changed = changing state (rules_of state c.args.commodity) (edit.Currency c.args.commodity) 0 answer.BookCurrency in
-    subst (λ (outcome : Outcome). StepsTo state outcome (Ok c.leaving.result)) (sym (chosen-same c.args.commodity c.args.plain.now.currency left changed c.if-commodity-plain.true))
-    (past-leaving state (rules_of state c.args.commodity) answer.BookCurrency (Ok c.leaving.result) c.in_ok-check_currency.ensures (c.leaving.ensures c.args.plain.now c.args.version))
+pub returns-then-commodity-present : goal.returns-then-commodity-present
+returns-then-commodity-present c =
+    let state = c.args.present.now in
+    let rules = currency_rules state.book c.args.commodity in
+    let same = c.if-commodity-present.true ∙ ap (λ (s : State). s.book.currency) c.present.view_is in
+    let left = leaving state rules answer.BookCurrency in
+    let changed = changing state rules (edit.Currency c.args.commodity) 0 answer.BookCurrency in
+    subst (λ (outcome : Outcome). StepsTo state outcome (Ok c.leaving.result)) (sym (chosen-same c.args.commodity state.book.currency left changed same))
+    (past-leaving state rules answer.BookCurrency (Ok c.leaving.result) c.in_ok-check_currency.ensures (c.leaving.ensures answer.BookCurrency refl))
 
 pub returns : goal.returns
 returns c =
-    let state = state_of c.args.plain.now c.args.next c.args.version in
-    let left = leaving state (rules_of state c.args.commodity) answer.BookCurrency in
-    let changed = changing state (rules_of state c.args.commodity) (edit.Currency c.args.commodity) 0 answer.BookCurrency in
-    subst (λ (outcome : Outcome). StepsTo state outcome c.changing.result) (sym (chosen-other c.args.commodity c.args.plain.now.currency left changed c.if-commodity-plain.false))
-    (past-changing state (rules_of state c.args.commodity) (edit.Currency c.args.commodity) 0 answer.BookCurrency c.changing.result c.in_ok-check_currency.ensures (c.changing.ensures c.args.plain.now))
+    let state = c.args.present.now in
+    let rules = currency_rules state.book c.args.commodity in
+    let here = ap (λ (s : State). s.book.currency) c.present.view_is in
+    let left = leaving state rules answer.BookCurrency in
+    let changed = changing state rules (edit.Currency c.args.commodity) 0 answer.BookCurrency in
+    subst (λ (outcome : Outcome). StepsTo state outcome c.changing.result)
+    (sym (chosen-other c.args.commodity state.book.currency left changed (λ same. c.if-commodity-present.false (same ∙ sym here))))
+    (past-changing state rules (edit.Currency c.args.commodity) 0 answer.BookCurrency c.changing.result c.in_ok-check_currency.ensures (c.changing.ensures answer.BookCurrency refl))

@@ -5,7 +5,7 @@ use Rattle.std.proofs.lemmas.Iterator.Consumers.{YieldsList-end}
 use Rattle.book_splits.specs.declared.split.Split.{Split}
 use Rattle.book_step.specs.Posting.{new_split, new_splits}
 use Rattle.book_command.specs.declared.command.GivenSplit.{GivenSplit}
-use Rattle.book_step.proofs.PostLemmas.{new_splits-push}
+use Rattle.book_step.proofs.PostingLemmas.{new_splits-push}
 use Rattle.book_step.proofs.posting.new_splits.Goals as goal
 
 pub loop-split-preserved : goal.loop-split-preserved

@@ -4,5 +4,5 @@ use Rattle.book_step.specs.State.{State}
 use Rattle.book_step.proofs.SoundStep.{fresh-sound}
 use Rattle.book_step.proofs.tests.each_command_is_taken.Goals as goal
 
-pub take-requires-clause-sound : goal.take-requires-clause-sound
-take-requires-clause-sound g c = subst (λ (state : State). IsSound state) (sym c.in_ok-machine.ensures.fresh) fresh-sound
+pub take-requires : goal.take-requires
+take-requires g c = subst (λ (state : State). IsSound state) (sym c.in_ok-machine.ensures) fresh-sound

@@ -1,6 +1,6 @@
 use Rattle.std.proofs.Common.{rules, ◌+ℤ◌, sym, ◌∙◌}
 use Rattle.book_splits.specs.Balances.{Adds, Puts}
-use Rattle.book_splits.proofs.Tables.{Adds-put, IsSmall-more}
+use Rattle.book_splits.proofs.BalanceTableLemmas.{Adds-put, IsSmall-more}
 use Rattle.book_splits.proofs.balances.Balances.add.Goals as goal
 
 added : (c : goal.After-set) → Adds c.args.self.now c.set.new.self c.args.account c.args.quantity

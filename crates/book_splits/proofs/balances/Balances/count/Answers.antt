@@ -1,7 +1,8 @@
 use Rattle.std.proofs.Common.{rules, ◌≡◌, ℕ, ◌+◌, [], ◌∷◌, ◌++◌, take, ap, ◌∙◌, arith, append_assoc}
 use Rattle.book_splits.specs.declared.split.Split.{Split}
 use Rattle.book_splits.specs.Balances.{Adds}
-use Rattle.book_splits.proofs.Tables.{Counts-more, Adds-keeps, IsSmall-le, Counts-along, take-item}
+use Rattle.book_commodity.proofs.ListLemmas.{take-item}
+use Rattle.book_splits.proofs.BalanceTableLemmas.{Counts-more, Adds-keeps, IsSmall-le, Counts-along}
 use Rattle.book_splits.proofs.balances.Balances.count.Goals as goal
 
 pub loop-split-preserved : goal.loop-split-preserved

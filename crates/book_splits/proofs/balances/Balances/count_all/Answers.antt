@@ -1,7 +1,7 @@
 use Rattle.std.proofs.Common.{◌≡◌, ℕ, ◌+◌, ◌++◌, length, take, ap, ◌∙◌, arith, append_assoc}
 use Rattle.std.proofs.Math.ListN.{length-append}
 use Rattle.book_splits.specs.Balance.{splits_of}
-use Rattle.book_splits.proofs.Tables.{IsSmall-le, Counts-along, splits_of-item, length-splits_of-take}
+use Rattle.book_splits.proofs.BalanceTableLemmas.{IsSmall-le, Counts-along, splits_of-item, length-splits_of-take}
 use Rattle.book_splits.proofs.balances.Balances.count_all.Goals as goal
 
 pub count-requires : goal.count-requires

@@ -3,7 +3,7 @@ use Rattle.std.proofs.lemmas.List.{take_all}
 use Rattle.std.proofs.lemmas.List.Elements.{All-more, All-weaker}
 use Rattle.book_splits.specs.declared.split.Split.{Split}
 use Rattle.book_splits.specs.Balances.{balance_at, Puts}
-use Rattle.book_splits.proofs.Tables.{Puts-here, Puts-keeps, Puts-zero, IsSmall-zero}
+use Rattle.book_splits.proofs.BalanceTableLemmas.{Puts-here, Puts-keeps, Puts-zero, IsSmall-zero}
 use Rattle.book_splits.proofs.balances.Balances.of_accounts.Goals as goal
 
 pub loop-split-preserved : goal.loop-split-preserved

@@ -2,7 +2,7 @@ use Rattle.std.proofs.Common.{rules, ◌≡◌, [], ◌∷◌, ◌++◌, IsSome,
 use Rattle.std.proofs.lemmas.List.Elements.{All-get_or}
 use Rattle.book_splits.specs.declared.split.Split.{Split}
 use Rattle.book_splits.specs.Balances.{balance_at}
-use Rattle.book_splits.proofs.Tables.{IsSome-None, balances-more}
+use Rattle.book_splits.proofs.BalanceTableLemmas.{IsSome-None, balances-more}
 use Rattle.book_splits.proofs.balances.Balances.of_each.Goals as goal
 
 pub unreachable-requires : goal.unreachable-requires

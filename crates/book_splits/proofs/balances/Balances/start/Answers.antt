@@ -1,6 +1,6 @@
 use Rattle.std.proofs.Common.{pos, ap, ◌∙◌}
 use Rattle.book_commodity.specs.Table.{with_entry}
-use Rattle.book_splits.proofs.Tables.{Puts-with}
+use Rattle.book_splits.proofs.BalanceTableLemmas.{Puts-with}
 use Rattle.book_splits.proofs.balances.Balances.start.Goals as goal
 
 pub returns : goal.returns
