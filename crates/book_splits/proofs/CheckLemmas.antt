@@ -1,5 +1,6 @@
 -- Laws of rules asked in order, and what holds of a transaction that breaks none.
-use Rattle.std.proofs.Common.{◌≡◌, OnOk, ℕ, suc, ◌+◌, ◌<◌, ◌≤◌, pos, ◌+ℤ◌, List, [], ◌∷◌, ◌++◌, length, map, take, drop, get_or, Option, Some, None, Result, Ok, Err, All, sym, ap, subst, ◌∙◌, arith}
+use Rattle.std.proofs.Common.{◌≡◌, OnOk, ℕ, suc, ◌+◌, ◌<◌, ◌≤◌, pos, ◌+ℤ◌, List, [], ◌∷◌, ◌++◌, length, map, take}
+use Rattle.std.proofs.Common.{drop, get_or, Option, Some, None, Result, Ok, Err, All, sym, ap, subst, ◌∙◌, arith}
 use Rattle.std.proofs.Math.IntN.{+ℤ_idr}
 use Rattle.std.proofs.Math.Seq.{drop-cons}
 use Rattle.std.proofs.lemmas.Bool.{not-false}
@@ -12,7 +13,9 @@ use Rattle.book_commodity.proofs.RuleLemmas.{first-past, first-here, none-front,
 use Rattle.book_commodity.specs.declared.commodity.Commodity.{Commodity}
 use Rattle.book_accounts.specs.declared.account.Account.{Account}
 use Rattle.book_splits.specs.Balance.{total, sum_of_values}
-use Rattle.book_splits.specs.Check.{HasAmounts, IsSound, amount_limit, basis, placeholder, value_not_quantity, currency_rules, rules_of_splits, split_count, split_rules, txn_rules, unbalanced}
+use Rattle.book_splits.specs.Check.{HasAmounts, IsSound, amount_limit, basis, placeholder, value_not_quantity}
+use Rattle.book_splits.specs.Check.{currency_rules, rules_of_splits, split_count, split_rules, txn_rules}
+use Rattle.book_splits.specs.Check.{unbalanced}
 use Rattle.book_splits.specs.declared.rule.TxnRule.{TxnRule}
 use Rattle.book_splits.specs.declared.split.Split.{Split}
 use Rattle.book_splits.specs.declared.transaction.Txn.{Txn}
@@ -23,18 +26,22 @@ pub first-of_splits :
     (accounts : List (ℕ × Account)) (currency : ℕ) (splits : List Split) (place : ℕ) (split : Split) (rule : TxnRule)
     → place < length splits
     → split ≡ get_or splits place split
-    → first_broken (rules_of_splits accounts currency 0 splits) ≡ first_broken (rules_of_splits accounts currency place (drop place splits))
+    → first_broken (rules_of_splits accounts currency 0 splits)
+    ≡ first_broken (rules_of_splits accounts currency place (drop place splits))
     → first_broken (split_rules currency place split (value_of split.account accounts)) ≡ Some rule
     → first_broken (rules_of_splits accounts currency 0 splits) ≡ Some rule
 first-of_splits accounts currency splits place split rule below is before here =
     let rest : List Split = drop (suc place) splits in
-    let next : drop place splits ≡ split ∷ rest = drop-cons splits place split below ∙ ap (λ (s : Split). s ∷ rest) (sym is) in
+    let next : drop place splits ≡ split ∷ rest = drop-cons splits place split below
+    ∙ ap (λ (s : Split). s ∷ rest) (sym is) in
     before
     ∙ ap (λ (l : List Split). first_broken (rules_of_splits accounts currency place l)) next
-    ∙ first-here (split_rules currency place split (value_of split.account accounts)) (rules_of_splits accounts currency (place + 1) rest) rule here
+    ∙ first-here (split_rules currency place split (value_of split.account accounts))
+    (rules_of_splits accounts currency (place + 1) rest) rule here
 
 -- a split that breaks no rule has amounts within the limit
-amounts-of_split : (currency place : ℕ) (split : Split) (account : Option Account) → first_broken (split_rules currency place split account) ≡ None → HasAmounts split
+amounts-of_split : (currency place : ℕ) (split : Split) (account : Option Account)
+    → first_broken (split_rules currency place split account) ≡ None → HasAmounts split
 amounts-of_split currency place split None e = absurd cc
 amounts-of_split currency place split (Some account) e =
     let more = basis currency split account ∷ value_not_quantity currency place split account ∷ [] in
@@ -43,23 +50,29 @@ amounts-of_split currency place split (Some account) e =
     (grind (arith, nat_tests, kept), grind (arith, nat_tests, kept))
 
 -- and so have all splits that break none
-pub amounts_of : (accounts : List (ℕ × Account)) (currency place : ℕ) (splits : List Split) → first_broken (rules_of_splits accounts currency place splits) ≡ None → All HasAmounts splits
+pub amounts_of : (accounts : List (ℕ × Account)) (currency place : ℕ) (splits : List Split)
+    → first_broken (rules_of_splits accounts currency place splits) ≡ None → All HasAmounts splits
 amounts_of accounts currency place [] e = All-nil HasAmounts
 amounts_of accounts currency place (split ∷ more) e =
     let rules = split_rules currency place split (value_of split.account accounts) in
     All-cons HasAmounts split more
-    (amounts-of_split currency place split (value_of split.account accounts) (none-front rules (rules_of_splits accounts currency (place + 1) more) e))
-    (amounts_of accounts currency (place + 1) more (none-back rules (rules_of_splits accounts currency (place + 1) more) e))
+    (amounts-of_split currency place split (value_of split.account accounts)
+    (none-front rules (rules_of_splits accounts currency (place + 1) more) e))
+    (amounts_of accounts currency (place + 1) more
+    (none-back rules (rules_of_splits accounts currency (place + 1) more) e))
 
 balanced-of : (splits : List Split) → first_broken (unbalanced splits ∷ []) ≡ None → sum_of_values splits ≡ pos 0
-balanced-of splits e = let kept = not-broken _ _ e in (Decides-int_eq (sum_of_values splits) (pos 0)).0 (not-false _ kept)
+balanced-of splits e = let kept = not-broken _ _ e in (Decides-int_eq (sum_of_values splits) (pos 0)).0
+    (not-false _ kept)
 
-few-of : (splits : List Split) → first_broken (split_count splits ∷ []) ≡ None → (1 ≤ length splits) × (length splits ≤ 500)
+few-of : (splits : List Split) → first_broken (split_count splits ∷ []) ≡ None
+    → (1 ≤ length splits) × (length splits ≤ 500)
 few-of splits e =
     let kept = not-broken _ _ e in (grind (arith, nat_tests, kept), grind (arith, nat_tests, kept))
 
 -- a transaction that breaks no rule is balanced and within its limits
-pub sound_of : (commodities : List (ℕ × Commodity)) (accounts : List (ℕ × Account)) (txn : Txn) → first_broken (txn_rules commodities accounts txn) ≡ None → IsSound txn.splits
+pub sound_of : (commodities : List (ℕ × Commodity)) (accounts : List (ℕ × Account)) (txn : Txn)
+    → first_broken (txn_rules commodities accounts txn) ≡ None → IsSound txn.splits
 sound_of commodities accounts txn e =
     let count = split_count txn.splits ∷ [] in
     let currency = currency_rules txn.currency (value_of txn.currency commodities) in
@@ -76,13 +89,16 @@ sound_of commodities accounts txn e =
     }
 
 -- where a check tells that no rule is broken, so it is
-pub sound-told : {T : Type 0} (commodities : List (ℕ × Commodity)) (accounts : List (ℕ × Account)) (txn : Txn) (result : Result T TxnRule) → TellsFirst (txn_rules commodities accounts txn) result → OnOk result (IsSound txn.splits)
+pub sound-told : {T : Type 0} (commodities : List (ℕ × Commodity)) (accounts : List (ℕ × Account)) (txn : Txn)
+    (result : Result T TxnRule) → TellsFirst (txn_rules commodities accounts txn) result
+    → OnOk result (IsSound txn.splits)
 sound-told commodities accounts txn (Ok x) h = sound_of commodities accounts txn h
 sound-told commodities accounts txn (Err rule) h = tt
 
 -- the rules of a transaction whose splits break the first
 pub first-of_txn :
-    (commodities : List (ℕ × Commodity)) (accounts : List (ℕ × Account)) (txn : Txn) (splits : List Split) (rule : TxnRule)
+    (commodities : List (ℕ × Commodity)) (accounts : List (ℕ × Account)) (txn : Txn) (splits : List Split)
+    (rule : TxnRule)
     → splits ≡ txn.splits
     → first_broken (split_count splits ∷ []) ≡ None
     → first_broken (currency_rules txn.currency (value_of txn.currency commodities)) ≡ None
@@ -90,7 +106,9 @@ pub first-of_txn :
     → first_broken (txn_rules commodities accounts txn) ≡ Some rule
 first-of_txn commodities accounts txn splits rule same count currency here =
     let currencies = currency_rules txn.currency (value_of txn.currency commodities) in
-    let Here : List Split → Type 0 = λ given. first_broken (split_count given ∷ (currencies ++ (rules_of_splits accounts txn.currency 0 given ++ (unbalanced given ∷ [])))) ≡ Some rule in
+    let Here : List Split → Type 0 = λ given. first_broken
+    (split_count given ∷ (currencies
+    ++ (rules_of_splits accounts txn.currency 0 given ++ (unbalanced given ∷ [])))) ≡ Some rule in
     let rest = rules_of_splits accounts txn.currency 0 splits ++ (unbalanced splits ∷ []) in
     subst Here same
     (first-past (split_count splits ∷ []) (currencies ++ rest) count
@@ -99,7 +117,8 @@ first-of_txn commodities accounts txn splits rule same count currency here =
 
 -- what is told of a transaction whose other rules aren't broken is what is told of its balance
 pub tells-balance :
-    {T : Type 0} (commodities : List (ℕ × Commodity)) (accounts : List (ℕ × Account)) (txn : Txn) (splits : List Split) (result : Result T TxnRule)
+    {T : Type 0} (commodities : List (ℕ × Commodity)) (accounts : List (ℕ × Account)) (txn : Txn)
+    (splits : List Split) (result : Result T TxnRule)
     → splits ≡ txn.splits
     → first_broken (split_count splits ∷ []) ≡ None
     → first_broken (currency_rules txn.currency (value_of txn.currency commodities)) ≡ None
@@ -108,7 +127,9 @@ pub tells-balance :
     → TellsFirst (txn_rules commodities accounts txn) result
 tells-balance {T} commodities accounts txn splits result same count currency kept told =
     let currencies = currency_rules txn.currency (value_of txn.currency commodities) in
-    let Told : List Split → Type 0 = λ given. TellsFirst (split_count given ∷ (currencies ++ (rules_of_splits accounts txn.currency 0 given ++ (unbalanced given ∷ [])))) result in
+    let Told : List Split → Type 0 = λ given. TellsFirst
+    (split_count given ∷ (currencies
+    ++ (rules_of_splits accounts txn.currency 0 given ++ (unbalanced given ∷ [])))) result in
     let balance = unbalanced splits ∷ [] in
     let rest = rules_of_splits accounts txn.currency 0 splits in
     subst Told same
@@ -116,7 +137,8 @@ tells-balance {T} commodities accounts txn splits result same count currency kep
     (tells-past currencies (rest ++ balance) result currency
     (tells-past rest balance result kept told)))
 
-pub sum_of_values-take : (splits : List Split) (i : ℕ) (d : Split) → i < length splits → sum_of_values (take (i + 1) splits) ≡ sum_of_values (take i splits) +ℤ (get_or splits i d).value
+pub sum_of_values-take : (splits : List Split) (i : ℕ) (d : Split) → i < length splits
+    → sum_of_values (take (i + 1) splits) ≡ sum_of_values (take i splits) +ℤ (get_or splits i d).value
 sum_of_values-take splits i d below =
     ap sum_of_values (take_more splits i d below)
     ∙ ap total (map-append (λ split. split.value) (take i splits) (get_or splits i d ∷ []))
