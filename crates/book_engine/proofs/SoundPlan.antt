@@ -10,7 +10,8 @@ pub after-sound : (state : State) (plan : Planned) → IsSound state → IsPlanF
 after-sound state plan sound is = step-sound state is.command (after state plan) plan.answer sound is.made
 
 -- the same, of what stands for the state and the plan
-pub inside-sound : (inside kept : Kept) (parts plan : Planned) → inside ≡ kept → parts ≡ plan → IsSound inside.state → IsPlanFor kept.state plan → IsSound (after inside.state parts)
+pub inside-sound : (inside kept : Kept) (parts plan : Planned) → inside ≡ kept → parts ≡ plan → IsSound inside.state
+    → IsPlanFor kept.state plan → IsSound (after inside.state parts)
 inside-sound inside kept parts plan same_state same_plan sound is =
     subst (λ (k : Kept). IsSound (after k.state parts)) (sym same_state)
     (subst (λ (p : Planned). IsSound (after kept.state p)) (sym same_plan)

@@ -10,7 +10,10 @@ pub record Kept : Type 0 where
   pub plain : Plain
 
 abbrev pub kept_by : Inside → Kept
-kept_by engine = record { state = state_of engine.state.plain engine.state.next engine.state.version; plain = engine.state.plain }
+kept_by engine = record {
+  state = state_of engine.state.plain engine.state.next engine.state.version;
+  plain = engine.state.plain;
+}
 
 -- the state is sound
 abbrev pub IsKept : Inside → Type 0

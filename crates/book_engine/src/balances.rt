@@ -12,11 +12,7 @@ use std::alloc::Global;
 
 /// The step with the balances in its answer, which are those of the book that it leads to. One pass over the
 /// transactions where the answer has balances.
-pub(crate) fn with_balances(
-    alloc: Global,
-    plain: &Plain,
-    step: Step,
-) -> Result<Step, OutOfMemory>
+pub(crate) fn with_balances(alloc: Global, plain: &Plain, step: Step) -> Result<Step, OutOfMemory>
     requires few { length (splits_of plain.now.transactions.entries) ≤ 1000000 }
     requires posts { PostsAnswered (book_of plain.now) step.edit step.answer }
     ensures { IfOk result (λ whole. whole ≡ record step { answer = filled (edited step.edit (book_of plain.now)) step.answer }) }
@@ -62,7 +58,10 @@ fn posted_balances(
     requires posting { IsPosting (book_of plain.now) edit.now number }
     ensures { IfOk result (λ balances. balances ≡ balances_of (edited edit.now (book_of plain.now)) number) }
 {
-    let Edit::Put(_, Thing::Txn(transaction)) = edit else {
+    let Edit::Put(_, thing) = edit else {
+        unreachable!()
+    };
+    let Thing::Txn(transaction) = thing else {
         unreachable!()
     };
     balances_after(alloc, &plain.transactions, transaction.splits.as_slice())

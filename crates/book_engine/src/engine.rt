@@ -52,8 +52,8 @@ impl Engine {
         self.state.version
     }
 
-    /// Tries all rules of the command, takes all memory that it needs and makes the whole answer. The state stays as it
-    /// is. Refused by the first rule that the command breaks, or out of memory.
+    /// Tries all rules of the command, takes all memory that it needs and makes the whole answer. The state stays as
+    /// it is. Refused by the first rule that the command breaks, or out of memory.
     pub fn prepare(&mut self, command: Command) -> Result<Plan, Refusal>
         ensures planned { IfOk result (λ plan. step_from self.old.state command ≡ Done (after self.old.state plan) plan.answer) }
         ensures room { IfOk result (λ plan. HasRoom self.new.plain plan.edit) }

@@ -12,7 +12,8 @@ use Rattle.book_splits.specs.declared.transaction.Txn.{Txn}
 pub splits-with :
     (n : ℕ) (transaction : Txn) (ts : List (ℕ × Txn))
     → Rises ts
-    → length (splits_of (with_entry n transaction ts)) + splits_in (value_of n ts) ≡ length (splits_of ts) + length transaction.splits
+    → length (splits_of (with_entry n transaction ts)) + splits_in (value_of n ts)
+    ≡ length (splits_of ts) + length transaction.splits
 splits-with n transaction [] r = grind (arith, length-append transaction.splits [])
 splits-with n transaction (e ∷ es) r =
     let first = length-append e.1.splits (splits_of es) in
@@ -20,11 +21,21 @@ splits-with n transaction (e ∷ es) r =
     let front = length-append transaction.splits (e.1.splits ++ splits_of es) in
     let later = length-append e.1.splits (splits_of (with_entry n transaction es)) in
     let more = splits-with n transaction es r.1 in
-    grind (arith, nat_tests, first, here, front, later, more, λ (lt : n < e.0). above_value n es (above_less n e.0 es (omega arith) r.0))
+    grind (
+      arith,
+      nat_tests,
+      first,
+      here,
+      front,
+      later,
+      more,
+      λ (lt : n < e.0). above_value n es (above_less n e.0 es (omega arith) r.0),
+    )
 
 -- The splits of a transaction that is taken no longer count.
 pub splits-without :
-    (n : ℕ) (ts : List (ℕ × Txn)) → length (splits_of (without_entry n ts)) + splits_in (value_of n ts) ≡ length (splits_of ts)
+    (n : ℕ) (ts : List (ℕ × Txn))
+    → length (splits_of (without_entry n ts)) + splits_in (value_of n ts) ≡ length (splits_of ts)
 splits-without n [] = omega arith
 splits-without n (e ∷ es) =
     let first = length-append e.1.splits (splits_of es) in

@@ -21,7 +21,8 @@ pub record IsSmall (balances : Balances) (count : ℕ) : Type 0 where
 pub record Adds (old new : Balances) (account : ℕ) (quantity : ℤ) : Type 0 where
   pub sums :
       (a : ℕ)
-      → balance_at new a ≡ (if account == a then option_map (λ sum. sum +ℤ quantity) (balance_at old a) else balance_at old a)
+      → balance_at new a ≡ (if account == a then option_map (λ sum. sum +ℤ quantity)
+      (balance_at old a) else balance_at old a)
 
 -- the new table has this balance on an account, and every other balance as before
 pub record Puts (old new : Balances) (account : ℕ) (balance : ℤ) : Type 0 where

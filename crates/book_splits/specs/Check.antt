@@ -1,5 +1,6 @@
 -- The rules of a transaction, in the order in which they are asked.
-use Rattle.std.specs.Prelude.{◌≡◌, All, ℕ, ◌+◌, ◌^◌, ◌==◌, nat_lt, ◌≤◌, ℤ, pos, unsigned_abs, Bool, false, ◌&&◌, ◌||◌, not, List, [], ◌∷◌, ◌++◌, length, Option, Some, None}
+use Rattle.std.specs.Prelude.{◌≡◌, All, ℕ, ◌+◌, ◌^◌, ◌==◌, nat_lt, ◌≤◌, ℤ, pos, unsigned_abs, Bool, false, ◌&&◌}
+use Rattle.std.specs.Prelude.{◌||◌, not, List, [], ◌∷◌, ◌++◌, length, Option, Some, None}
 use Rattle.std.specs.Ordering.{int_eq}
 use Rattle.book_commodity.specs.Currency.{is_currency}
 use Rattle.book_commodity.specs.Table.{value_of}
@@ -11,7 +12,8 @@ use Rattle.book_accounts.specs.declared.account.Account.{Account}
 use Rattle.book_splits.specs.Balance.{sum_of_values}
 use Rattle.book_commodity.specs.Rules.{broken_where}
 use Rattle.book_splits.specs.declared.rule.TxnRule.{TxnRule}
-use Rattle.book_splits.specs.declared.rule.TxnRule.TheVariants.{SplitCount, Unknown, WrongCurrency, Placeholder, Limit, Basis, ValueNotQuantity, Unbalanced}
+use Rattle.book_splits.specs.declared.rule.TxnRule.TheVariants.{SplitCount, Unknown, WrongCurrency, Placeholder}
+use Rattle.book_splits.specs.declared.rule.TxnRule.TheVariants.{Limit, Basis, ValueNotQuantity, Unbalanced}
 use Rattle.book_splits.specs.declared.split.Split.{Split}
 use Rattle.book_splits.specs.declared.transaction.Txn.{Txn}
 
@@ -41,12 +43,14 @@ abbrev pub is_basis : ℕ → Option ℕ → Bool
 is_basis currency None = false
 is_basis currency (Some basis) = basis == currency
 
--- Each split on a security account stands in a transaction of the account's basis, so that its costs are in one currency.
+-- Each split on a security account stands in a transaction of the account's basis, so that its costs are in one
+-- currency.
 abbrev pub basis : ℕ → Split → Account → Option TxnRule
 basis currency split account =
     broken_where (is_security account.kind && not (is_basis currency account.basis)) (Basis split.account)
 
--- A split on an account in the transaction's currency has its value as its quantity (GnuCash SQL schema, table splits).
+-- A split on an account in the transaction's currency has its value as its quantity (GnuCash SQL schema, table
+-- splits).
 abbrev pub value_not_quantity : ℕ → ℕ → Split → Account → Option TxnRule
 value_not_quantity currency place split account =
     broken_where ((account.commodity == currency) && not (int_eq split.value split.quantity)) (ValueNotQuantity place)
@@ -55,13 +59,15 @@ value_not_quantity currency place split account =
 abbrev pub split_rules : ℕ → ℕ → Split → Option Account → List (Option TxnRule)
 split_rules currency place split None = Some (Unknown kind.Account split.account) ∷ []
 split_rules currency place split (Some account) =
-    placeholder split account ∷ amount_limit split ∷ basis currency split account ∷ value_not_quantity currency place split account ∷ []
+    placeholder split account ∷ amount_limit split ∷ basis currency split account
+    ∷ value_not_quantity currency place split account ∷ []
 
 -- The rules of splits from a place on, all of one split before those of the next.
 abbrev pub rules_of_splits : List (ℕ × Account) → ℕ → ℕ → List Split → List (Option TxnRule)
 rules_of_splits accounts currency place [] = []
 rules_of_splits accounts currency place (split ∷ more) =
-    split_rules currency place split (value_of split.account accounts) ++ rules_of_splits accounts currency (place + 1) more
+    split_rules currency place split (value_of split.account accounts)
+    ++ rules_of_splits accounts currency (place + 1) more
 
 -- The values of a transaction sum to zero (GnuCash Concepts Guide, double entry).
 abbrev pub unbalanced : List Split → Option TxnRule

@@ -1,4 +1,5 @@
-ghost use Rattle.std.specs.Prelude.{◌≡◌, ℕ, ◌+◌, ◌*◌, ◌≤◌, ◌^◌, ℤ, pos, ◌+ℤ◌, List, [], ◌∷◌, ◌++◌, ◌==◌, if◌then◌else◌, All, IfOk, OnOk, IfSome, IsSome, length, map, option_map};
+ghost use Rattle.std.specs.Prelude.{◌≡◌, ℕ, ◌+◌, ◌*◌, ◌≤◌, ◌^◌, ℤ, pos, ◌+ℤ◌, List, [], ◌∷◌, ◌++◌, ◌==◌};
+ghost use Rattle.std.specs.Prelude.{if◌then◌else◌, All, IfOk, OnOk, IfSome, IsSome, length, map, option_map};
 ghost use Rattle.book_splits.specs.Balance.{quantity_on, splits_of};
 ghost use Rattle.book_splits.specs.declared.split.Split.{Split};
 

@@ -1,7 +1,8 @@
 ghost use Rattle.std.specs.Prelude.{◌≡◌, [], ◌∷◌, OnOk};
 ghost use Rattle.book_commodity.specs.Table.{value_of};
 ghost use Rattle.book_splits.specs.Balance.{sum_of_values};
-ghost use Rattle.book_splits.specs.Check.{IsSound, currency_rules, is_over_limit, rules_of_splits, split_count, split_rules, txn_rules, unbalanced};
+ghost use Rattle.book_splits.specs.Check.{IsSound, currency_rules, is_over_limit, rules_of_splits, split_count};
+ghost use Rattle.book_splits.specs.Check.{split_rules, txn_rules, unbalanced};
 ghost use Rattle.book_commodity.specs.Rules.{TellsFirst};
 
 use crate::{Split, Txn, TxnRule};

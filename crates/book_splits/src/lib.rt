@@ -8,7 +8,6 @@
 mod account_splits;
 mod balances;
 mod check;
-
 mod rule;
 mod split;
 #[cfg(test)]
@@ -16,9 +15,9 @@ mod tests;
 mod transaction;
 mod transactions;
 
+pub use account_splits::has_splits;
 pub use balances::balances_after;
 pub use check::check_txn;
-pub use account_splits::has_splits;
 pub use rule::TxnRule;
 pub use split::{Mark, Split};
 pub use transaction::Txn;

@@ -3,7 +3,8 @@ ghost use Rattle.std.specs.Prelude.{◌≡◌, IfOk};
 use crate::Split;
 use book_commodity::{Day, Many, OutOfMemory, Text};
 
-/// A transaction: its currency, its day, the number and the description that a person gave it, and its splits in order.
+/// A transaction: its currency, its day, the number and the description that a person gave it, and its splits in
+/// order.
 #[derive(Drop)]
 pub struct Txn {
     pub currency: u64,

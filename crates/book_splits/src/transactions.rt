@@ -1,4 +1,5 @@
-ghost use Rattle.std.specs.Prelude.{◌≡◌, ◌+◌, ◌<◌, ◌≤◌, ◌^◌, [], length, if◌then◌else◌, is_none, is_some, IsNone, Some, OnOk, OnErr, slice_get, option_map};
+ghost use Rattle.std.specs.Prelude.{◌≡◌, ◌+◌, ◌<◌, ◌≤◌, ◌^◌, [], length, if◌then◌else◌, is_none, is_some, IsNone};
+ghost use Rattle.std.specs.Prelude.{Some, OnOk, OnErr, slice_get, option_map};
 ghost use Rattle.std.specs.Option.{option_copied};
 ghost use Rattle.book_commodity.specs.Table.{Rises, value_of, with_entry, without_entry};
 ghost use Rattle.book_splits.specs.Balance.{splits_of};
@@ -9,8 +10,8 @@ use book_commodity::{OutOfMemory, Table};
 use std::alloc::Global;
 use std::marker::Model;
 
-/// The transactions of a book by their numbers, and the count of all their splits. Contracts see the list of its entries,
-/// each a number with its transaction, and how many more transactions it has room for.
+/// The transactions of a book by their numbers, and the count of all their splits. Contracts see the list of its
+/// entries, each a number with its transaction, and how many more transactions it has room for.
 #[derive(Drop)]
 pub struct Txns {
     transactions: Table<Txn>,

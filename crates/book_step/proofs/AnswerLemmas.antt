@@ -1,5 +1,6 @@
 -- The answer to a command is what a step answers, with the balances of the book that the step leads to.
-use Rattle.std.proofs.Common.{◌≡◌, ℕ, ◌+◌, ◌<◌, ◌==◌, ℤ, All, Bool, true, false, if◌then◌else◌, inl, inr, List, [], ◌∷◌, ◌++◌, length, Option, Some, None, refl, sym, ap, subst, ◌∙◌}
+use Rattle.std.proofs.Common.{◌≡◌, ℕ, ◌+◌, ◌<◌, ◌==◌, ℤ, All, Bool, true, false, if◌then◌else◌, inl, inr, List, []}
+use Rattle.std.proofs.Common.{◌∷◌, ◌++◌, length, Option, Some, None, refl, sym, ap, subst, ◌∙◌}
 use Rattle.std.specs.Prelude.{⊤}
 use Rattle.book_commodity.specs.Rules.{first_broken}
 use Rattle.book_commodity.specs.Table.{Rises, value_of, with_entry}
@@ -12,10 +13,13 @@ use Rattle.book_undo.specs.declared.edit.Edit.{Edit}
 use Rattle.book_undo.specs.declared.edit.Edit.TheVariants as edit
 use Rattle.book_undo.specs.declared.thing.Thing.TheVariants as thing
 use Rattle.book_undo.specs.declared.thing.ThingKind.TheVariants as kind
-use Rattle.book_step.specs.Accounts.{account_drop_of, account_edit_at, add_rules, edit_rules, not_empty, root_stays, stays, with_given}
-use Rattle.book_step.specs.AnswerBalances.{IsPosting, PostsAnswered, balances_at, balances_of, with_balances, without_balances}
+use Rattle.book_step.specs.Accounts.{account_drop_of, account_edit_at, add_rules, edit_rules, not_empty, root_stays}
+use Rattle.book_step.specs.Accounts.{stays, with_given}
+use Rattle.book_step.specs.AnswerBalances.{IsPosting, PostsAnswered, balances_at, balances_of, with_balances}
+use Rattle.book_step.specs.AnswerBalances.{without_balances}
 use Rattle.book_step.specs.Commodities as commodities
-use Rattle.book_step.specs.Outcome.{Outcome, Broken, Done, but_balances, changing, leaving, numbers, state_after, unless_broken}
+use Rattle.book_step.specs.Outcome.{Outcome, Broken, Done, but_balances, changing, leaving, numbers, state_after}
+use Rattle.book_step.specs.Outcome.{unless_broken}
 use Rattle.book_step.specs.Posting.{new_transaction, post_answer, post_rules}
 use Rattle.book_step.specs.Soundness.{IsSound}
 use Rattle.book_step.specs.State.{State}
@@ -25,70 +29,92 @@ use Rattle.book_command.specs.declared.answer.Answer.TheVariants as answer
 use Rattle.book_command.specs.declared.command.Command.{Command}
 use Rattle.book_command.specs.declared.command.GivenAccount.{GivenAccount}
 use Rattle.book_command.specs.declared.command.What.{What}
-use Rattle.book_command.specs.declared.command.What.TheVariants.{BookCurrency, CommodityAdd, AccountAdd, AccountEdit, AccountDrop, Post}
+use Rattle.book_command.specs.declared.command.What.TheVariants.{BookCurrency, CommodityAdd, AccountAdd}
+use Rattle.book_command.specs.declared.command.What.TheVariants.{AccountEdit, AccountDrop, Post}
 use Rattle.book_command.specs.declared.rule.Rule.{Rule}
 
--- What a post's answer says of the states before and after it: its transaction got the next number, and the balances are
--- those after it. No other answer has balances.
+-- What a post's answer says of the states before and after it: its transaction got the next number, and the balances
+-- are those after it. No other answer has balances.
 abbrev pub HasBalances : State → State → Answer → Type 0
 HasBalances old new (answer.Post n splits balances) =
-    (n ≡ old.next) × ((transaction : Txn) × (new.book ≡ edited (edit.Put n (thing.Txn transaction)) old.book)) × (balances ≡ balances_of new.book n)
+    (n ≡ old.next) × ((transaction : Txn) × (new.book ≡ edited (edit.Put n (thing.Txn transaction)) old.book))
+    × (balances ≡ balances_of new.book n)
 HasBalances old new _ = ⊤
 
 -- ---- what a command is answered that breaks no rule
 unless_answered :
-    (rule : Option Rule) (state new : State) (given answer : Answer) → unless_broken rule (Done state given) ≡ Done new answer
+    (rule : Option Rule) (state new : State) (given answer : Answer)
+    → unless_broken rule (Done state given) ≡ Done new answer
     → (state ≡ new) × (given ≡ answer)
 unless_answered None state new given answer e = (cc, cc)
 unless_answered (Some rule) state new given answer e = absurd cc
 
 changing_answered :
-    (state : State) (rules : List (Option Rule)) (edit : Edit) (drawn : ℕ) (given : Answer) (new : State) (answer : Answer)
+    (state : State) (rules : List (Option Rule)) (edit : Edit) (drawn : ℕ) (given : Answer) (new : State)
+    (answer : Answer)
     → HasBalances state (state_after state edit (state.next + drawn)) given
     → changing state rules edit drawn given ≡ Done new answer → HasBalances state new answer
 changing_answered state rules edit drawn given new answer has e =
-    let both = unless_answered (first_broken (rules ++ numbers state drawn ∷ [])) (state_after state edit (state.next + drawn)) new given answer e in
-    subst (λ (a : Answer). HasBalances state new a) both.1 (subst (λ (s : State). HasBalances state s given) both.0 has)
+    let both = unless_answered (first_broken (rules ++ numbers state drawn ∷ []))
+    (state_after state edit (state.next + drawn)) new given answer e in
+    subst (λ (a : Answer). HasBalances state new a) both.1
+    (subst (λ (s : State). HasBalances state s given) both.0 has)
 
 leaving_answered :
     (state : State) (rules : List (Option Rule)) (given : Answer) (new : State) (answer : Answer)
     → HasBalances state state given → leaving state rules given ≡ Done new answer → HasBalances state new answer
 leaving_answered state rules given new answer has e =
     let both = unless_answered (first_broken rules) state new given answer e in
-    subst (λ (a : Answer). HasBalances state new a) both.1 (subst (λ (s : State). HasBalances state s given) both.0 has)
+    subst (λ (a : Answer). HasBalances state new a) both.1
+    (subst (λ (s : State). HasBalances state s given) both.0 has)
 
 either_answered :
-    (stay : Bool) (state : State) (rules : List (Option Rule)) (edit : Edit) (given : Answer) (new : State) (answer : Answer)
+    (stay : Bool) (state : State) (rules : List (Option Rule)) (edit : Edit) (given : Answer) (new : State)
+    (answer : Answer)
     → ((s : State) → HasBalances state s given)
-    → (if stay then leaving state rules given else changing state rules edit 0 given) ≡ Done new answer → HasBalances state new answer
-either_answered true state rules edit given new answer has e = leaving_answered state rules given new answer (has state) e
-either_answered false state rules edit given new answer has e = changing_answered state rules edit 0 given new answer (has (state_after state edit (state.next + 0))) e
+    → (if stay then leaving state rules given else changing state rules edit 0 given) ≡ Done new answer
+    → HasBalances state new answer
+either_answered true state rules edit given new answer has e = leaving_answered state rules given new answer
+    (has state) e
+either_answered false state rules edit given new answer has e = changing_answered state rules edit 0 given new
+    answer (has (state_after state edit (state.next + 0))) e
 
-edit_answered : (state : State) (n : ℕ) (given : GivenAccount) (found : Option Account) (new : State) (told : Answer) → account_edit_at state n given found ≡ Done new told → HasBalances state new told
+edit_answered : (state : State) (n : ℕ) (given : GivenAccount) (found : Option Account) (new : State)
+    (told : Answer) → account_edit_at state n given found ≡ Done new told → HasBalances state new told
 edit_answered state n given None new told e = absurd cc
 edit_answered state n given (Some old) new told e =
-    either_answered (stays old given).is state (edit_rules state.book n given.parent old (with_given old given)) (edit.Put n (thing.Account (with_given old given))) answer.AccountEdit new told (λ s. tt) e
+    either_answered (stays old given).is state (edit_rules state.book n given.parent old (with_given old given))
+    (edit.Put n (thing.Account (with_given old given))) answer.AccountEdit new told (λ s. tt) e
 
-drop_answered : (state : State) (n : ℕ) (found : Option Account) (new : State) (told : Answer) → account_drop_of state n found ≡ Done new told → HasBalances state new told
+drop_answered : (state : State) (n : ℕ) (found : Option Account) (new : State) (told : Answer)
+    → account_drop_of state n found ≡ Done new told → HasBalances state new told
 drop_answered state n None new told e = absurd cc
 drop_answered state n (Some old) new told e =
-    changing_answered state (root_stays old ∷ not_empty state.book n ∷ []) (edit.Gone kind.Account n) 0 answer.AccountDrop new told tt e
+    changing_answered state (root_stays old ∷ not_empty state.book n ∷ [])
+    (edit.Gone kind.Account n) 0 answer.AccountDrop new told tt e
 
-answered : (state : State) (what : What) (new : State) (told : Answer) → outcome state what ≡ Done new told → HasBalances state new told
+answered : (state : State) (what : What) (new : State) (told : Answer) → outcome state what ≡ Done new told
+    → HasBalances state new told
 answered state (BookCurrency commodity) new told e =
-    either_answered (commodity == state.book.currency) state (commodities.currency_rules state.book commodity) (edit.Currency commodity) answer.BookCurrency new told (λ s. tt) e
+    either_answered (commodity == state.book.currency) state (commodities.currency_rules state.book commodity)
+    (edit.Currency commodity) answer.BookCurrency new told (λ s. tt) e
 answered state (CommodityAdd commodity) new told e =
-    changing_answered state (commodities.add_rules state.book commodity) (edit.Put state.next (thing.Commodity commodity)) 1 (answer.CommodityAdd state.next) new told tt e
+    changing_answered state (commodities.add_rules state.book commodity)
+    (edit.Put state.next (thing.Commodity commodity)) 1 (answer.CommodityAdd state.next) new told tt e
 answered state (AccountAdd account) new told e =
-    changing_answered state (add_rules state.book account) (edit.Put state.next (thing.Account account)) 1 (answer.AccountAdd state.next) new told tt e
-answered state (AccountEdit account given) new told e = edit_answered state account given (value_of account state.book.accounts) new told e
-answered state (AccountDrop account) new told e = drop_answered state account (value_of account state.book.accounts) new told e
+    changing_answered state (add_rules state.book account) (edit.Put state.next (thing.Account account)) 1
+    (answer.AccountAdd state.next) new told tt e
+answered state (AccountEdit account given) new told e = edit_answered state account given
+    (value_of account state.book.accounts) new told e
+answered state (AccountDrop account) new told e = drop_answered state account
+    (value_of account state.book.accounts) new told e
 answered state (Post day given) new told e =
     let transaction = new_transaction state.next day given in
     let put = edit.Put state.next (thing.Txn transaction) in
     let entries = with_entry state.next transaction state.book.transactions in
     let here = value_here state.next state.next transaction state.book.transactions refl in
-    changing_answered state (post_rules state.book transaction) put (1 + length transaction.splits) (post_answer (edited put state.book) state.next transaction) new told
+    changing_answered state (post_rules state.book transaction) put (1 + length transaction.splits)
+    (post_answer (edited put state.book) state.next transaction) new told
     (refl, (transaction, refl), ap (balances_at entries) (sym here)) e
 
 -- ---- answers with and without balances
@@ -109,48 +135,59 @@ filled_again book answer.AccountDrop = refl
 filled_again book (answer.Post n splits balances) = refl
 
 -- An outcome but for its balances is one with balances.
-pub whole_of : (given : Outcome) (new : State) (short : Answer) → but_balances given ≡ Done new short → (whole : Answer) × (given ≡ Done new whole) × (without_balances whole ≡ short)
+pub whole_of : (given : Outcome) (new : State) (short : Answer) → but_balances given ≡ Done new short
+    → (whole : Answer) × (given ≡ Done new whole) × (without_balances whole ≡ short)
 whole_of (Broken rule) new short e = absurd cc
 whole_of (Done state whole) new short e =
     let same : state ≡ new = cc in
     let left : without_balances whole ≡ short = cc in
     (whole, ap (λ (s : State). Done s whole) same, left)
 
-step_answered : (state : State) (command : Command) (new : State) (told : Answer) → step state command ≡ Done new told → HasBalances state new told
-step_answered state command new told e = answered state command.what new told (past_version (stale state command.at) (outcome state command.what) new told e)
+step_answered : (state : State) (command : Command) (new : State) (told : Answer)
+    → step state command ≡ Done new told → HasBalances state new told
+step_answered state command new told e = answered state command.what new told
+    (past_version (stale state command.at) (outcome state command.what) new told e)
   where
-    past_version : (rule : Option Rule) (given : Outcome) (new : State) (told : Answer) → unless_broken rule given ≡ Done new told → given ≡ Done new told
+    past_version : (rule : Option Rule) (given : Outcome) (new : State) (told : Answer)
+        → unless_broken rule given ≡ Done new told → given ≡ Done new told
     past_version None given new told e = e
     past_version (Some rule) given new told e = absurd cc
 
 -- The machine's answer is what the step answers, with the balances of the new book.
 pub whole_step :
-    (state : State) (command : Command) (new : State) (short : Answer) → but_balances (step state command) ≡ Done new short
+    (state : State) (command : Command) (new : State) (short : Answer)
+    → but_balances (step state command) ≡ Done new short
     → step state command ≡ Done new (with_balances new.book short)
 whole_step state command new short e =
     let w = whole_of (step state command) new short e in
-    let same : with_balances new.book short ≡ w.0 = ap (with_balances new.book) (sym w.2) ∙ filled_again new.book w.0 ∙ filled state new w.0 (step_answered state command new w.0 w.1) in
+    let same : with_balances new.book short ≡ w.0 = ap (with_balances new.book) (sym w.2)
+    ∙ filled_again new.book w.0 ∙ filled state new w.0 (step_answered state command new w.0 w.1) in
     w.1 ∙ ap (λ (a : Answer). Done new a) (sym same)
 
 -- ---- the edit of a post
 -- An edit that leads to the book with a transaction under a new number puts that transaction there.
 only_put :
-    (book : Book) (change : Edit) (n : ℕ) (transaction : Txn) → Rises book.transactions → value_of n book.transactions ≡ None
+    (book : Book) (change : Edit) (n : ℕ) (transaction : Txn) → Rises book.transactions
+    → value_of n book.transactions ≡ None
     → value_of n (edited change book).transactions ≡ Some transaction → change ≡ edit.Put n (thing.Txn transaction)
 only_put book edit.Unchanged n transaction r free there = absurd cc
 only_put book (edit.Currency currency) n transaction r free there = absurd cc
 only_put book (edit.Put m (thing.Commodity commodity)) n transaction r free there = absurd cc
 only_put book (edit.Put m (thing.Account account)) n transaction r free there = absurd cc
-only_put book (edit.Put m (thing.Txn other)) n transaction r free there = elim (value_with n m other transaction book.transactions there) [
-  | inl here ↦ ap (λ (k : ℕ). edit.Put k (thing.Txn other)) (sym here.0) ∙ ap (λ (t : Txn). edit.Put n (thing.Txn t)) here.1
-  | inr old ↦ absurd (let none = old.1 in cc)
-]
+only_put book (edit.Put m (thing.Txn other)) n transaction r free there = elim
+    (value_with n m other transaction book.transactions there) [
+      | inl here ↦ ap (λ (k : ℕ). edit.Put k (thing.Txn other)) (sym here.0)
+          ∙ ap (λ (t : Txn). edit.Put n (thing.Txn t)) here.1
+      | inr old ↦ absurd (let none = old.1 in cc)
+    ]
 only_put book (edit.Gone kind.Commodity m) n transaction r free there = absurd cc
 only_put book (edit.Gone kind.Account m) n transaction r free there = absurd cc
-only_put book (edit.Gone kind.Txn m) n transaction r free there = let old = value_without n m transaction book.transactions r there in absurd cc
+only_put book (edit.Gone kind.Txn m) n transaction r free there = let old = value_without n m transaction
+    book.transactions r there in absurd cc
 
 posts_whole :
-    (state new : State) (change : Edit) (whole : Answer) → IsSound state → new.book ≡ edited change state.book → HasBalances state new whole
+    (state new : State) (change : Edit) (whole : Answer) → IsSound state → new.book ≡ edited change state.book
+    → HasBalances state new whole
     → PostsAnswered state.book change (without_balances whole)
 posts_whole state new change answer.BookCurrency is book has = tt
 posts_whole state new change (answer.CommodityAdd n) is book has = tt
@@ -171,8 +208,10 @@ posts_whole state new change (answer.Post n splits balances) is book has =
 
 -- Where a step answers a post, its edit puts the transaction.
 pub posts_answered :
-    (state : State) (command : Command) (new : State) (change : Edit) (short : Answer) → IsSound state → new.book ≡ edited change state.book
+    (state : State) (command : Command) (new : State) (change : Edit) (short : Answer) → IsSound state
+    → new.book ≡ edited change state.book
     → but_balances (step state command) ≡ Done new short → PostsAnswered state.book change short
 posts_answered state command new change short is book e =
     let w = whole_of (step state command) new short e in
-    subst (λ (a : Answer). PostsAnswered state.book change a) w.2 (posts_whole state new change w.0 is book (step_answered state command new w.0 w.1))
+    subst (λ (a : Answer). PostsAnswered state.book change a) w.2
+    (posts_whole state new change w.0 is book (step_answered state command new w.0 w.1))

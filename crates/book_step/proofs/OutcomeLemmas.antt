@@ -1,12 +1,14 @@
 -- What a step comes to, from what a check of its rules tells.
-use Rattle.std.proofs.Common.{◌≡◌, ℕ, ◌+◌, ◌==◌, Bool, false, if◌then◌else◌, List, [], ◌∷◌, Option, Some, None, Result, Ok, Err, sym, ap, subst, ◌∙◌, arith}
+use Rattle.std.proofs.Common.{◌≡◌, ℕ, ◌+◌, ◌==◌, Bool, false, if◌then◌else◌, List, [], ◌∷◌, Option, Some, None}
+use Rattle.std.proofs.Common.{Result, Ok, Err, sym, ap, subst, ◌∙◌, arith}
 use Rattle.std.proofs.lemmas.Bool.Decides.{nat_tests}
 use Rattle.std.specs.Result.{IsErrAnd}
 use Rattle.book_commodity.specs.Rules.{first_broken}
 use Rattle.book_commodity.proofs.RuleLemmas.{first-here, first-past}
 use Rattle.book_undo.specs.declared.edit.Edit.{Edit}
 use Rattle.book_step.specs.AnswerBalances.{without_balances}
-use Rattle.book_step.specs.Outcome.{Outcome, Broken, Done, StepsTo, after, but_balances, changing, leaving, numbers, state_after, unless_broken}
+use Rattle.book_step.specs.Outcome.{Outcome, Broken, Done, StepsTo, after, but_balances, changing, leaving, numbers}
+use Rattle.book_step.specs.Outcome.{state_after, unless_broken}
 use Rattle.book_step.specs.State.{State}
 use Rattle.book_command.specs.declared.answer.Answer.{Answer}
 use Rattle.book_command.specs.declared.refusal.Refusal.{Refusal}
@@ -28,10 +30,12 @@ pub done-changing :
     (state : State) (edit : Edit) (drawn : ℕ) (whole answer : Answer)
     → first_broken (numbers state drawn ∷ []) ≡ None
     → without_balances whole ≡ answer
-    → but_balances (changing state [] edit drawn whole) ≡ Done (after state (record { edit = edit; next = state.next + drawn; answer = answer })) answer
+    → but_balances (changing state [] edit drawn whole)
+    ≡ Done (after state (record { edit = edit; next = state.next + drawn; answer = answer })) answer
 done-changing state edit drawn whole answer e same =
     let new : State = state_after state edit (state.next + drawn) in
-    ap (λ (broken : Option Rule). but_balances (unless_broken broken (Done new whole))) e ∙ ap (λ (a : Answer). Done new a) same
+    ap (λ (broken : Option Rule). but_balances (unless_broken broken (Done new whole))) e
+    ∙ ap (λ (a : Answer). Done new a) same
 
 -- a broken rule is what a change comes to
 pub broken-changing :
@@ -39,22 +43,26 @@ pub broken-changing :
     → first_broken rules ≡ Some rule
     → changing state rules edit drawn answer ≡ Broken rule
 broken-changing state rules edit drawn answer rule e =
-    ap (λ (broken : Option Rule). unless_broken broken (Done (state_after state edit (state.next + drawn)) answer)) (first-here rules (numbers state drawn ∷ []) rule e)
+    ap (λ (broken : Option Rule). unless_broken broken (Done (state_after state edit (state.next + drawn)) answer))
+    (first-here rules (numbers state drawn ∷ []) rule e)
 
 -- a change whose rules aren't broken comes to what it would without them
 pub past-changing :
-    (state : State) (rules : List (Option Rule)) (edit : Edit) (drawn : ℕ) (answer : Answer) (result : Result Step Refusal)
+    (state : State) (rules : List (Option Rule)) (edit : Edit) (drawn : ℕ) (answer : Answer)
+    (result : Result Step Refusal)
     → first_broken rules ≡ None
     → StepsTo state (changing state [] edit drawn answer) result
     → StepsTo state (changing state rules edit drawn answer) result
 past-changing state rules edit drawn answer result e h =
     let same : changing state rules edit drawn answer ≡ changing state [] edit drawn answer =
-    ap (λ (broken : Option Rule). unless_broken broken (Done (state_after state edit (state.next + drawn)) answer)) (first-past rules (numbers state drawn ∷ []) e) in
+    ap (λ (broken : Option Rule). unless_broken broken (Done (state_after state edit (state.next + drawn)) answer))
+    (first-past rules (numbers state drawn ∷ []) e) in
     subst (λ (outcome : Outcome). StepsTo state outcome result) (sym same) h
 
 -- the same of a change under the next number
 pub past-drawing :
-    (state : State) (number : ℕ) (rules : List (Option Rule)) (edit : ℕ → Edit) (drawn : ℕ) (answer : ℕ → Answer) (result : Result Step Refusal)
+    (state : State) (number : ℕ) (rules : List (Option Rule)) (edit : ℕ → Edit) (drawn : ℕ) (answer : ℕ → Answer)
+    (result : Result Step Refusal)
     → number ≡ state.next
     → first_broken rules ≡ None
     → StepsTo state (changing state [] (edit number) drawn (answer number)) result
@@ -76,7 +84,8 @@ pub past-leaving :
     → StepsTo state (leaving state [] answer) result
     → StepsTo state (leaving state rules answer) result
 past-leaving state rules answer result e h =
-    let same : leaving state rules answer ≡ leaving state [] answer = ap (λ (broken : Option Rule). unless_broken broken (Done state answer)) e in
+    let same : leaving state rules answer
+    ≡ leaving state [] answer = ap (λ (broken : Option Rule). unless_broken broken (Done state answer)) e in
     subst (λ (outcome : Outcome). StepsTo state outcome result) (sym same) h
 
 -- the limit of numbers is the last rule of a change
@@ -84,7 +93,8 @@ pub broken-numbers :
     (state : State) (edit : Edit) (drawn : ℕ) (answer : Answer) (rule : Rule)
     → first_broken (numbers state drawn ∷ []) ≡ Some rule
     → changing state [] edit drawn answer ≡ Broken rule
-broken-numbers state edit drawn answer rule e = ap (λ (broken : Option Rule). unless_broken broken (Done (state_after state edit (state.next + drawn)) answer)) e
+broken-numbers state edit drawn answer rule e = ap
+    (λ (broken : Option Rule). unless_broken broken (Done (state_after state edit (state.next + drawn)) answer)) e
 
 -- which of two outcomes a comparison of numbers chooses
 pub chosen-same : (m n : ℕ) (same other : Outcome) → m ≡ n → (if m == n then same else other) ≡ same

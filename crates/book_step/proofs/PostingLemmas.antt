@@ -17,11 +17,13 @@ use Rattle.book_step.proofs.OutcomeLemmas.{broken-changing, past-changing}
 -- one split more draws the number behind those before
 pub new_splits-push :
     (number : ℕ) (given : List GivenSplit) (split : GivenSplit)
-    → new_splits number (given ++ split ∷ []) ≡ new_splits number given ++ new_split (number + length (new_splits number given)) split ∷ []
+    → new_splits number (given ++ split ∷ []) ≡ new_splits number given
+    ++ new_split (number + length (new_splits number given)) split ∷ []
 new_splits-push number [] split = ap (λ n. new_split n split ∷ []) (omega arith)
 new_splits-push number (x ∷ given) split =
     ap (λ splits. new_split number x ∷ splits)
-    (new_splits-push (number + 1) given split ∙ ap (λ n. new_splits (number + 1) given ++ new_split n split ∷ []) (omega arith))
+    (new_splits-push (number + 1) given split
+    ∙ ap (λ n. new_splits (number + 1) given ++ new_split n split ∷ []) (omega arith))
 
 -- a transaction that breaks a rule is refused
 pub post-broken :
@@ -30,7 +32,8 @@ pub post-broken :
     → post_of state transaction ≡ Broken rule
 post-broken state transaction rule e =
     let change = edit.Put state.next (thing.Txn transaction) in
-    broken-changing state (post_rules state.book transaction) change (1 + length transaction.splits) (post_answer (edited change state.book) state.next transaction) rule e
+    broken-changing state (post_rules state.book transaction) change (1 + length transaction.splits)
+    (post_answer (edited change state.book) state.next transaction) rule e
 
 -- one that breaks none is put into the book
 pub post-changed :
@@ -38,10 +41,12 @@ pub post-changed :
     → first_broken (post_rules state.book transaction) ≡ None
     → drawn ≡ 1 + length transaction.splits
     → (let change = edit.Put state.next (thing.Txn transaction) in
-    StepsTo state (changing state [] change drawn (post_answer (edited change state.book) state.next transaction)) result)
+    StepsTo state (changing state [] change drawn (post_answer (edited change state.book) state.next transaction))
+    result)
     → StepsTo state (post_of state transaction) result
 post-changed state transaction drawn result unbroken count h =
     let change = edit.Put state.next (thing.Txn transaction) in
     let whole = post_answer (edited change state.book) state.next transaction in
-    past-changing state (post_rules state.book transaction) change (1 + length transaction.splits) whole result unbroken
+    past-changing state (post_rules state.book transaction) change
+    (1 + length transaction.splits) whole result unbroken
     (subst (λ (n : ℕ). StepsTo state (changing state [] change n whole) result) count h)

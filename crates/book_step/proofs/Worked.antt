@@ -13,9 +13,11 @@ use Rattle.book_command.specs.declared.command.Command.{Command}
 use Rattle.book_command.specs.declared.command.GivenAccount.{GivenAccount}
 use Rattle.book_command.specs.declared.command.GivenSplit.{GivenSplit}
 use Rattle.book_command.specs.declared.command.What.{What}
-use Rattle.book_command.specs.declared.command.What.TheVariants.{BookCurrency, CommodityAdd, AccountAdd, AccountEdit, AccountDrop, Post}
+use Rattle.book_command.specs.declared.command.What.TheVariants.{BookCurrency, CommodityAdd, AccountAdd}
+use Rattle.book_command.specs.declared.command.What.TheVariants.{AccountEdit, AccountDrop, Post}
 use Rattle.book_command.specs.declared.rule.Rule.{Rule}
-use Rattle.book_command.specs.declared.rule.Rule.TheVariants.{Stale, NameTaken, Root, Cycle, SplitCount, Unbalanced, Limit}
+use Rattle.book_command.specs.declared.rule.Rule.TheVariants.{Stale, NameTaken, Root, Cycle, SplitCount, Unbalanced}
+use Rattle.book_command.specs.declared.rule.Rule.TheVariants.{Limit}
 
 abbrev now : What → Command
 now what = record { at = None; what = what }
@@ -68,22 +70,26 @@ broker = AccountAdd (record {
 })
 
 abbrev given : ℕ → ℤ → ℤ → GivenSplit
-given account value quantity = record { account = account; value = value; quantity = quantity; memo = []; action = []; id = None }
+given account value quantity = record
+    { account = account; value = value; quantity = quantity; memo = []; action = []; id = None }
 
 abbrev paid : ℤ → ℤ → What
-paid to from = Post (pos 19727) (record { currency = 1; num = []; description = codes "Pay"; splits = given 3 to to ∷ given 4 from from ∷ [] })
+paid to from = Post (pos 19727)
+    (record { currency = 1; num = []; description = codes "Pay"; splits = given 3 to to ∷ given 4 from from ∷ [] })
 
 abbrev two_accounts : List What
 two_accounts = account (codes "Bank") Bank None ∷ account (codes "Salary") Income None ∷ []
 
 salary :
-    last two_accounts (paid (pos 250000) (negsuc 249999)) ≡ Answered (answer.Post 5 (6 ∷ 7 ∷ []) (pos 250000 ∷ negsuc 249999 ∷ [])) 3
+    last two_accounts (paid (pos 250000) (negsuc 249999))
+    ≡ Answered (answer.Post 5 (6 ∷ 7 ∷ []) (pos 250000 ∷ negsuc 249999 ∷ [])) 3
 salary = refl
 
 unbalanced_post : last two_accounts (paid (pos 100) (negsuc 98)) ≡ Refused (Unbalanced (pos 1))
 unbalanced_post = refl
 
-amount_limit : last two_accounts (paid (pos 1000000000001) (negsuc 1000000000000)) ≡ Refused (Limit Amount 1000000000000)
+amount_limit : last two_accounts (paid (pos 1000000000001) (negsuc 1000000000000))
+    ≡ Refused (Limit Amount 1000000000000)
 amount_limit = refl
 
 abbrev acme : What
@@ -93,11 +99,13 @@ abbrev security : List What
 security = acme ∷ broker ∷ account (codes "Cash") Bank None ∷ []
 
 stock_split :
-    last security (Post (pos 19727) (record { currency = 1; num = []; description = []; splits = given 4 (pos 0) (pos 50) ∷ [] }))
+    last security (Post (pos 19727)
+    (record { currency = 1; num = []; description = []; splits = given 4 (pos 0) (pos 50) ∷ [] }))
     ≡ Answered (answer.Post 6 (7 ∷ []) (pos 50 ∷ [])) 4
 stock_split = refl
 
-no_split : last security (Post (pos 19727) (record { currency = 1; num = []; description = []; splits = [] })) ≡ Refused (SplitCount 0)
+no_split : last security (Post (pos 19727) (record { currency = 1; num = []; description = []; splits = [] }))
+    ≡ Refused (SplitCount 0)
 no_split = refl
 
 root_stays : last [] (AccountDrop 2) ≡ Refused Root
@@ -110,7 +118,14 @@ cycle : last two_accounts (AccountEdit 3 under_itself) ≡ Refused Cycle
 cycle = refl
 
 abbrev nothing : GivenAccount
-nothing = record { name = Some (codes "Bank"); parent = Some 2; code = None; note = None; hidden = Some false; placeholder = None }
+nothing = record {
+  name = Some (codes "Bank");
+  parent = Some 2;
+  code = None;
+  note = None;
+  hidden = Some false;
+  placeholder = None;
+}
 
 -- an edit without a change leaves the version
 as_before : last two_accounts (AccountEdit 3 nothing) ≡ Answered answer.AccountEdit 2
@@ -123,7 +138,8 @@ same_currency = refl
 name_taken : last two_accounts (account (codes "Bank") Bank None) ≡ Refused (NameTaken 3)
 name_taken = refl
 
-earlier_version : told (step (run fresh_state two_accounts) (record { at = Some 1; what = AccountDrop 9 })) ≡ Refused (Stale 2)
+earlier_version : told (step (run fresh_state two_accounts) (record { at = Some 1; what = AccountDrop 9 }))
+    ≡ Refused (Stale 2)
 earlier_version = refl
 
 dropped : last two_accounts (AccountDrop 3) ≡ Answered answer.AccountDrop 3

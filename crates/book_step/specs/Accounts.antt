@@ -1,5 +1,6 @@
 -- The commands on accounts.
-use Rattle.std.specs.Prelude.{◌≡◌, ℕ, ◌+◌, nat_lt, not, Bool, true, false, ◌&&◌, ◌||◌, if◌then◌else◌, List, [], ◌∷◌, length, Option, Some, None, is_none, option_map, unwrap_or}
+use Rattle.std.specs.Prelude.{◌≡◌, ℕ, ◌+◌, nat_lt, not, Bool, true, false, ◌&&◌, ◌||◌, if◌then◌else◌, List, [], ◌∷◌}
+use Rattle.std.specs.Prelude.{length, Option, Some, None, is_none, option_map, unwrap_or}
 use Rattle.std.specs.Option.{option_or}
 use Rattle.std.proofs.Common.{ap}
 use Rattle.book_commodity.specs.Decision.{Decision, as_well, both, same_flag, same_option, same_text}
@@ -31,7 +32,8 @@ use Rattle.book_command.specs.declared.command.GivenAccount.{GivenAccount}
 use Rattle.book_command.specs.declared.rule.Rule.{Rule}
 use Rattle.book_command.specs.declared.rule.Rule.TheVariants.{Unknown, Root, NotEmpty, BasisShape, Limit}
 
--- The account isn't one of the book's (GnuCash SQL schema, table accounts: what names an account names one that is there).
+-- The account isn't one of the book's (GnuCash SQL schema, table accounts: what names an account names one that is
+-- there).
 abbrev pub unknown_account : List (ℕ × Account) → ℕ → Option Rule
 unknown_account accounts number = broken_where (is_none (value_of number accounts)) (Unknown kind.Account number)
 
@@ -46,7 +48,8 @@ unknown_given_commodity commodities (Some number) = unknown_commodity commoditie
 
 -- The basis doesn't fit the kind.
 abbrev pub basis_shape : List (ℕ × Commodity) → Account → Option Rule
-basis_shape commodities account = broken_where (not (fits_basis commodities (is_security account.kind) account.basis)) BasisShape
+basis_shape commodities account = broken_where
+    (not (fits_basis commodities (is_security account.kind) account.basis)) BasisShape
 
 -- A book has at most 10,000 accounts (a limit of this project).
 abbrev pub too_many_accounts : List (ℕ × Account) → Option Rule
@@ -67,7 +70,8 @@ add_rules book account =
 -- A new account, under the next number.
 abbrev pub account_add : State → Account → Outcome
 account_add state account =
-    changing state (add_rules state.book account) (edit.Put state.next (thing.Account account)) 1 (answer.AccountAdd state.next)
+    changing state (add_rules state.book account) (edit.Put state.next (thing.Account account)) 1
+    (answer.AccountAdd state.next)
 
 -- The root stays as it is (GnuCash SQL schema, table books: a book has one root account for good).
 abbrev pub root_stays : Account → Option Rule
@@ -92,16 +96,19 @@ abbrev pub HasSameFields : Account → Account → Type 0
 HasSameFields old new =
     (new.name ≡ old.name)
     × ((new.parent ≡ old.parent)
-    × ((new.code ≡ old.code) × ((new.note ≡ old.note) × ((new.hidden ≡ old.hidden) × (new.placeholder ≡ old.placeholder)))))
+    × ((new.code ≡ old.code) ×
+    ((new.note ≡ old.note) × ((new.hidden ≡ old.hidden) × (new.placeholder ≡ old.placeholder)))))
 
 abbrev pub same_fields : (old new : Account) → Decision (HasSameFields old new)
 same_fields old new =
     both (same_text new.name old.name)
     (both (same_option new.parent old.parent)
     (both (same_text new.code old.code)
-    (both (same_text new.note old.note) (both (same_flag new.hidden old.hidden) (same_flag new.placeholder old.placeholder)))))
+    (both (same_text new.note old.note)
+    (both (same_flag new.hidden old.hidden) (same_flag new.placeholder old.placeholder)))))
 
-pub same_account : (old : Account) (given : GivenAccount) → HasSameFields old (with_given old given) → with_given old given ≡ old
+pub same_account : (old : Account) (given : GivenAccount) → HasSameFields old (with_given old given)
+    → with_given old given ≡ old
 same_account old given same i = record {
   name = same.0 i;
   kind = old.kind;
@@ -118,7 +125,13 @@ same_account old given same i = record {
 abbrev pub stays : (old : Account) (given : GivenAccount) → Decision (with_given old given ≡ old)
 stays old given =
     as_well (same_account old given)
-    (λ same. (ap (λ a. a.name) same, (ap (λ a. a.parent) same, (ap (λ a. a.code) same, (ap (λ a. a.note) same, (ap (λ a. a.hidden) same, ap (λ a. a.placeholder) same))))))
+    (λ same. (
+      ap (λ a. a.name) same,
+      (
+        ap (λ a. a.parent) same,
+        (ap (λ a. a.code) same, (ap (λ a. a.note) same, (ap (λ a. a.hidden) same, ap (λ a. a.placeholder) same))),
+      ),
+    ))
     (same_fields old (with_given old given))
 
 -- The rule of the tree that the account breaks with its new name and its new parent.
@@ -131,8 +144,8 @@ abbrev pub becomes_placeholder : List (ℕ × Txn) → ℕ → Account → Accou
 becomes_placeholder transactions number old new =
     broken_where (not old.placeholder && (new.placeholder && has_splits transactions number)) (NotEmpty number)
 
--- The rules of an edit: the new parent is in the book, the account isn't the root, it may stand in the tree with its new
--- name under its new parent, and it becomes a placeholder only where it has no split.
+-- The rules of an edit: the new parent is in the book, the account isn't the root, it may stand in the tree with its
+-- new name under its new parent, and it becomes a placeholder only where it has no split.
 abbrev pub edit_rules : Book → ℕ → Option ℕ → Account → Account → List (Option Rule)
 edit_rules book number parent old new =
     unknown_given_account book.accounts parent
@@ -156,15 +169,18 @@ account_edit_at state number given (Some old) = account_edit_of state number giv
 abbrev pub account_edit : State → ℕ → GivenAccount → Outcome
 account_edit state number given = account_edit_at state number given (value_of number state.book.accounts)
 
--- An account with another under it, or with a split, can't be deleted (GnuCash Manual, deleting an account: these must be moved first).
+-- An account with another under it, or with a split, can't be deleted (GnuCash Manual, deleting an account: these
+-- must be moved first).
 abbrev pub not_empty : Book → ℕ → Option Rule
 not_empty book number =
-    broken_where (nat_lt 0 (length (children_of book.accounts (Some number))) || has_splits book.transactions number) (NotEmpty number)
+    broken_where (nat_lt 0 (length (children_of book.accounts (Some number))) || has_splits book.transactions
+    number) (NotEmpty number)
 
 abbrev pub account_drop_of : State → ℕ → Option Account → Outcome
 account_drop_of state number None = Broken (Unknown kind.Account number)
 account_drop_of state number (Some account) =
-    changing state (root_stays account ∷ not_empty state.book number ∷ []) (edit.Gone thing_kind.Account number) 0 answer.AccountDrop
+    changing state (root_stays account ∷ not_empty state.book number ∷ [])
+    (edit.Gone thing_kind.Account number) 0 answer.AccountDrop
 
 -- An account is deleted: it is in the book, isn't the root, and has neither an account under it nor a split.
 abbrev pub account_drop : State → ℕ → Outcome

@@ -1,5 +1,6 @@
 -- What a command comes to: a broken rule, which leaves the state, or a state and an answer.
-use Rattle.std.specs.Prelude.{◌≡◌, ℕ, ◌+◌, ◌^◌, nat_lt, not, Bool, ◌||◌, if◌then◌else◌, List, [], ◌∷◌, ◌++◌, Option, Some, None, Result, Ok, Err, ⊤}
+use Rattle.std.specs.Prelude.{◌≡◌, ℕ, ◌+◌, ◌^◌, nat_lt, not, Bool, ◌||◌, if◌then◌else◌, List, [], ◌∷◌, ◌++◌, Option}
+use Rattle.std.specs.Prelude.{Some, None, Result, Ok, Err, ⊤}
 use Rattle.book_commodity.specs.Rules.{broken_where, first_broken}
 use Rattle.book_commodity.specs.declared.counted.Counted.TheVariants.{Numbers}
 use Rattle.book_undo.specs.Edit.{edited, is_unchanged}
@@ -26,9 +27,11 @@ unless_broken None outcome = outcome
 -- may not reach it.
 abbrev pub numbers : State → ℕ → Option Rule
 numbers state drawn =
-    broken_where (not (nat_lt (state.next + drawn) (2 ^ 62)) || not (nat_lt (state.version + 1) (2 ^ 62))) (Limit Numbers (2 ^ 62))
+    broken_where (not (nat_lt (state.next + drawn) (2 ^ 62)) || not (nat_lt (state.version + 1) (2 ^ 62)))
+    (Limit Numbers (2 ^ 62))
 
--- The version counts the changes: an edit that leaves the book as it is leaves the version, and another raises it by one.
+-- The version counts the changes: an edit that leaves the book as it is leaves the version, and another raises it by
+-- one.
 abbrev pub version_after : Bool → ℕ → ℕ
 version_after unchanged version = if unchanged then version else version + 1
 
@@ -44,7 +47,8 @@ state_after state edit next = record {
 -- limit of numbers the last.
 abbrev pub changing : State → List (Option Rule) → Edit → ℕ → Answer → Outcome
 changing state rules edit drawn answer =
-    unless_broken (first_broken (rules ++ numbers state drawn ∷ [])) (Done (state_after state edit (state.next + drawn)) answer)
+    unless_broken (first_broken (rules ++ numbers state drawn ∷ []))
+    (Done (state_after state edit (state.next + drawn)) answer)
 
 -- A command that leaves the book as it is: the first of its rules that is broken, or the same state.
 abbrev pub leaving : State → List (Option Rule) → Answer → Outcome

@@ -52,7 +52,8 @@ new_transaction number day given = record {
 
 -- The first rule of transactions that it breaks.
 abbrev pub broken_by : Book → Txn → Option Rule
-broken_by book transaction = option_map of_txn_rule (first_broken (txn_rules book.commodities book.accounts transaction))
+broken_by book transaction = option_map of_txn_rule
+    (first_broken (txn_rules book.commodities book.accounts transaction))
 
 -- A book has at most 200,000 transactions (a limit of this project).
 abbrev pub too_many_transactions : Book → Option Rule
@@ -61,11 +62,13 @@ too_many_transactions book = broken_where (nat_lt 200000 (length book.transactio
 -- A book has at most 1,000,000 splits (a limit of this project).
 abbrev pub too_many_splits : Book → Txn → Option Rule
 too_many_splits book transaction =
-    broken_where (nat_lt 1000000 (length (splits_of book.transactions) + length transaction.splits)) (Limit Splits 1000000)
+    broken_where (nat_lt 1000000 (length (splits_of book.transactions) + length transaction.splits))
+    (Limit Splits 1000000)
 
 -- The rules of a post.
 abbrev pub post_rules : Book → Txn → List (Option Rule)
-post_rules book transaction = broken_by book transaction ∷ too_many_transactions book ∷ too_many_splits book transaction ∷ []
+post_rules book transaction = broken_by book transaction ∷ too_many_transactions book
+    ∷ too_many_splits book transaction ∷ []
 
 -- A post is answered with the numbers it drew, and for each split the balance of its account after the post.
 abbrev pub post_answer : Book → ℕ → Txn → Answer

@@ -20,7 +20,8 @@ state_of plain next version = record { book = book_of plain; next = next; versio
 abbrev pub euro : Commodity
 euro = record { space = codes "CURRENCY"; name = codes "EUR"; full_name = []; fraction = 100 }
 
--- The account that all others stand under (GnuCash SQL schema, column root_account_guid of table books); it takes no splits.
+-- The account that all others stand under (GnuCash SQL schema, column root_account_guid of table books); it takes no
+-- splits.
 abbrev pub root : Account
 root = record {
   name = codes "Root";

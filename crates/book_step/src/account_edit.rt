@@ -1,7 +1,8 @@
 ghost use Rattle.std.specs.Prelude.{◌≡◌, [], ◌∷◌, IfOk, unwrap_or};
 ghost use Rattle.book_commodity.specs.Rules.{TellsFirst};
 ghost use Rattle.book_accounts.specs.Tree.{IsRooted};
-ghost use Rattle.book_step.specs.Accounts.{account_edit, account_edit_of, becomes_placeholder, edit_rules, moved_rule, same_fields, with_given};
+ghost use Rattle.book_step.specs.Accounts.{account_edit, account_edit_of, becomes_placeholder, edit_rules};
+ghost use Rattle.book_step.specs.Accounts.{moved_rule, same_fields, with_given};
 ghost use Rattle.book_step.specs.Outcome.{StepsTo};
 
 use crate::accounts::{check_given, check_not_root, known};

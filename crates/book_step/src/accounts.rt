@@ -1,7 +1,9 @@
 ghost use Rattle.std.specs.Prelude.{◌≡◌, [], ◌∷◌, Some, IfOk};
 ghost use Rattle.book_commodity.specs.Rules.{TellsFirst};
 ghost use Rattle.book_commodity.specs.Table.{value_of};
-ghost use Rattle.book_step.specs.Accounts.{account_add, account_drop, add_rules, basis_shape, fits_basis, not_empty, root_stays, too_many_accounts, unknown_account, unknown_given_account, unknown_given_commodity};
+ghost use Rattle.book_step.specs.Accounts.{account_add, account_drop, add_rules, basis_shape, fits_basis};
+ghost use Rattle.book_step.specs.Accounts.{not_empty, root_stays, too_many_accounts, unknown_account};
+ghost use Rattle.book_step.specs.Accounts.{unknown_given_account, unknown_given_commodity};
 ghost use Rattle.book_step.specs.Outcome.{StepsTo};
 
 use crate::commodities::{check_known as check_known_commodity, is_currency};

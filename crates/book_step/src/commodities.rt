@@ -1,7 +1,8 @@
 ghost use Rattle.std.specs.Prelude.{◌≡◌, ◌<◌, [], ◌∷◌, Some, find, length, option_map, slice_get};
 ghost use Rattle.book_commodity.specs.Rules.{TellsFirst};
 ghost use Rattle.book_commodity.specs.Table.{value_of};
-ghost use Rattle.book_step.specs.Commodities.{add_rules, book_currency, commodity_add, currency_rules, is_currency_of, is_namesake, unknown_commodity};
+ghost use Rattle.book_step.specs.Commodities.{add_rules, book_currency, commodity_add, currency_rules};
+ghost use Rattle.book_step.specs.Commodities.{is_currency_of, is_namesake, unknown_commodity};
 ghost use Rattle.book_step.specs.Outcome.{StepsTo};
 
 use crate::present::Present;
@@ -69,7 +70,8 @@ fn check_currency(present: &Present, number: u64) -> Result<(), Rule>
     Ok(())
 }
 
-/// A new commodity has a space and a name that no other has, and a fraction within its limits; and the book has room for it.
+/// A new commodity has a space and a name that no other has, and a fraction within its limits; and the book has room
+/// for it.
 fn check_new(present: &Present, commodity: &Commodity) -> Result<(), Rule>
     ensures { TellsFirst (add_rules present.now.book commodity.now) result }
 {

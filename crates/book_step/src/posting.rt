@@ -2,7 +2,8 @@ ghost use Rattle.std.specs.Prelude.{◌≡◌, ◌+◌, ◌<◌, ◌≤◌, ◌^
 ghost use Rattle.book_commodity.specs.Rules.{TellsFirst};
 ghost use Rattle.book_undo.specs.Book.{book_of};
 ghost use Rattle.book_step.specs.Outcome.{StepsTo};
-ghost use Rattle.book_step.specs.Posting.{broken_by, new_split, new_splits, new_transaction, post, post_rules, too_many_splits, too_many_transactions};
+ghost use Rattle.book_step.specs.Posting.{broken_by, new_split, new_splits, new_transaction, post, post_rules};
+ghost use Rattle.book_step.specs.Posting.{too_many_splits, too_many_transactions};
 
 use crate::present::Present;
 use crate::{Answer, GivenSplit, GivenTxn, Refusal, Rule, Step};

@@ -74,8 +74,8 @@ impl Step {
 
 /// What the command comes to in a book with this next number and this version, all of which stay as they are. It is
 /// broken with the first rule in its order that it breaks, the version being asked first; else it is done by the step,
-/// after which the version is the same if the edit changes nothing, and one more if not. The answer is whole but for its
-/// balances. Out of memory where there is none for texts or for the answer.
+/// after which the version is the same if the edit changes nothing, and one more if not. The answer is whole but for
+/// its balances. Out of memory where there is none for texts or for the answer.
 pub fn step_of(
     alloc: Global,
     plain: &Plain,

@@ -10,8 +10,8 @@ use Rattle.book_undo.specs.declared.thing.Thing.TheVariants as thing
 use Rattle.book_undo.specs.declared.thing.ThingKind.{ThingKind}
 use Rattle.book_undo.specs.declared.thing.ThingKind.TheVariants as kind
 
--- A book: its commodities, accounts and transactions, each under a number and by rising numbers, and the commodity that
--- is its currency (GnuCash SQL schema, tables commodities, accounts and transactions).
+-- A book: its commodities, accounts and transactions, each under a number and by rising numbers, and the commodity
+-- that is its currency (GnuCash SQL schema, tables commodities, accounts and transactions).
 pub record Book : Type 0 where
   pub commodities : List (ℕ × Commodity)
   pub accounts : List (ℕ × Account)
@@ -33,7 +33,8 @@ book_of plain = record {
 
 -- The thing of a kind that stands under a number, if there is one.
 abbrev pub thing_at : ThingKind → ℕ → Book → Option Thing
-thing_at kind.Commodity number book = option_map (λ commodity. thing.Commodity commodity) (value_of number book.commodities)
+thing_at kind.Commodity number book = option_map (λ commodity. thing.Commodity commodity)
+    (value_of number book.commodities)
 thing_at kind.Account number book = option_map (λ account. thing.Account account) (value_of number book.accounts)
 thing_at kind.Txn number book = option_map (λ transaction. thing.Txn transaction) (value_of number book.transactions)
 
@@ -43,9 +44,11 @@ with_currency currency book = record book { currency = currency }
 
 -- The book with a thing under a number, instead of one of its kind that stood there.
 abbrev pub with_thing : ℕ → Thing → Book → Book
-with_thing number (thing.Commodity commodity) book = record book { commodities = with_entry number commodity book.commodities }
+with_thing number (thing.Commodity commodity) book = record book
+    { commodities = with_entry number commodity book.commodities }
 with_thing number (thing.Account account) book = record book { accounts = with_entry number account book.accounts }
-with_thing number (thing.Txn transaction) book = record book { transactions = with_entry number transaction book.transactions }
+with_thing number (thing.Txn transaction) book = record book
+    { transactions = with_entry number transaction book.transactions }
 
 -- The book without the thing of a kind under a number.
 abbrev pub without_thing : ThingKind → ℕ → Book → Book

@@ -1,5 +1,6 @@
-//! The whole book as plain tables, and the edits that turn one book into another. An edit takes its memory before it is
-//! applied, and then can't fail. Public are the book as `Plain`, its things as `Thing` with their `ThingKind`, and `Edit`.
+//! The whole book as plain tables, and the edits that turn one book into another. An edit takes its memory before it
+//! is applied, and then can't fail. Public are the book as `Plain`, its things as `Thing` with their `ThingKind`, and
+//! `Edit`.
 #![tactic(auto)]
 
 mod edit;

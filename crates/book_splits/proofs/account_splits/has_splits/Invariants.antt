@@ -5,4 +5,5 @@ use Rattle.book_splits.proofs.account_splits.has_splits.Given as goal
 
 abbrev pub invariant-loop-transaction : goal.invariant-loop-transaction
 invariant-loop-transaction l =
-    stands_on l.transactions.entries l.account ≡ list_any (λ split. split.account == l.account) (splits_of (drop l.transaction-index l.transaction-items))
+    stands_on l.transactions.entries l.account
+    ≡ list_any (λ split. split.account == l.account) (splits_of (drop l.transaction-index l.transaction-items))

@@ -8,7 +8,8 @@ use Rattle.book_splits.proofs.balances.balances_after.Goals as goal
 
 pub of_each-requires : goal.of_each-requires
 of_each-requires c =
-    All-weaker (λ split. IsSome (balance_at c.in_ok-balances.balances split.account)) (λ split. IsSome (balance_at c.count.new.self split.account))
+    All-weaker (λ split. IsSome (balance_at c.in_ok-balances.balances split.account))
+    (λ split. IsSome (balance_at c.count.new.self split.account))
     (λ split had. c.count.ensures.kept split.account (c.count_all.ensures.kept split.account had))
     c.args.splits.now c.in_ok-balances.ensures.named
 

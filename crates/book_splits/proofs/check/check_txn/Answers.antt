@@ -7,18 +7,26 @@ use Rattle.book_splits.proofs.check.check_txn.Goals as goal
 pub returns-in_err-check_splits-clause-first_rule :
     goal.returns-in_err-check_splits-clause-first_rule
 returns-in_err-check_splits-clause-first_rule c =
-    let first : first_broken (txn_rules c.args.commodities.now.entries c.args.accounts.now.entries c.args.txn.now) ≡ Some c.in_err-check_splits.field-0.0 =
-    first-of_txn c.args.commodities.now.entries c.args.accounts.now.entries c.args.txn.now c.as_slice-splits.result.now c.in_err-check_splits.field-0.0
-    c.as_slice-splits.ensures c.in_ok-check_count.ensures c.in_ok-check_currency.ensures c.in_err-check_splits.ensures in
+    let first : first_broken (txn_rules c.args.commodities.now.entries c.args.accounts.now.entries c.args.txn.now)
+    ≡ Some c.in_err-check_splits.field-0.0 =
+    first-of_txn c.args.commodities.now.entries c.args.accounts.now.entries c.args.txn.now
+    c.as_slice-splits.result.now c.in_err-check_splits.field-0.0
+    c.as_slice-splits.ensures c.in_ok-check_count.ensures c.in_ok-check_currency.ensures
+    c.in_err-check_splits.ensures in
     search rules
 
-told : (c : goal.After-check_balance) → TellsFirst (txn_rules c.args.commodities.now.entries c.args.accounts.now.entries c.args.txn.now) c.check_balance.result
+told : (c : goal.After-check_balance)
+    → TellsFirst (txn_rules c.args.commodities.now.entries c.args.accounts.now.entries c.args.txn.now)
+    c.check_balance.result
 told c =
-    tells-balance c.args.commodities.now.entries c.args.accounts.now.entries c.args.txn.now c.as_slice-splits.result.now c.check_balance.result
-    c.as_slice-splits.ensures c.in_ok-check_count.ensures c.in_ok-check_currency.ensures c.in_ok-check_splits.ensures c.check_balance.ensures
+    tells-balance c.args.commodities.now.entries c.args.accounts.now.entries c.args.txn.now
+    c.as_slice-splits.result.now c.check_balance.result
+    c.as_slice-splits.ensures c.in_ok-check_count.ensures c.in_ok-check_currency.ensures
+    c.in_ok-check_splits.ensures c.check_balance.ensures
 
 pub returns-clause-first_rule : goal.returns-clause-first_rule
 returns-clause-first_rule c = told c
 
 pub returns-clause-sound : goal.returns-clause-sound
-returns-clause-sound c = sound-told c.args.commodities.now.entries c.args.accounts.now.entries c.args.txn.now c.check_balance.result (told c)
+returns-clause-sound c = sound-told c.args.commodities.now.entries c.args.accounts.now.entries c.args.txn.now
+    c.check_balance.result (told c)

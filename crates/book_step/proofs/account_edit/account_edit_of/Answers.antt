@@ -14,21 +14,33 @@ pub returns-in_err-check_edit : goal.returns-in_err-check_edit
 returns-in_err-check_edit c =
     let state = c.args.present.now in
     let rule = c.in_err-check_edit.field-0.0 in
-    let broken = subst (λ (new : Account). first_broken (edit_rules state.book c.args.number c.args.given.parent c.args.old.now new) ≡ Some rule) c.in_ok-new.ensures c.in_err-check_edit.ensures in
-    refused state (account_edit_of state c.args.number c.args.given c.args.old.now) rule c.from_residual-in_err-check_edit.result c.from_residual-in_err-check_edit.ensures.1
+    let broken = subst (λ (new : Account). first_broken
+    (edit_rules state.book c.args.number c.args.given.parent c.args.old.now new) ≡ Some rule)
+    c.in_ok-new.ensures c.in_err-check_edit.ensures in
+    refused state (account_edit_of state c.args.number c.args.given c.args.old.now) rule
+    c.from_residual-in_err-check_edit.result c.from_residual-in_err-check_edit.ensures.1
     (edit-broken state c.args.number c.args.given c.args.old.now rule broken)
 
 pub returns-then-is_same : goal.returns-then-is_same
 returns-then-is_same c =
     let state = c.args.present.now in
-    let kept = subst (λ (new : Account). first_broken (edit_rules state.book c.args.number c.args.given.parent c.args.old.now new) ≡ None) c.in_ok-new.ensures c.in_ok-check_edit.ensures in
-    let same = ap (λ (new : Account). (same_fields c.args.old.now new).is) (sym c.in_ok-new.ensures) ∙ sym c.is_same.ensures ∙ c.if-is_same.true in
-    edit-left state c.args.number c.args.given c.args.old.now (Ok c.leaving.result) kept same (c.leaving.ensures answer.AccountEdit refl)
+    let kept = subst (λ (new : Account). first_broken
+    (edit_rules state.book c.args.number c.args.given.parent c.args.old.now new) ≡ None) c.in_ok-new.ensures
+    c.in_ok-check_edit.ensures in
+    let same = ap (λ (new : Account). (same_fields c.args.old.now new).is) (sym c.in_ok-new.ensures)
+    ∙ sym c.is_same.ensures ∙ c.if-is_same.true in
+    edit-left state c.args.number c.args.given c.args.old.now (Ok c.leaving.result) kept same
+    (c.leaving.ensures answer.AccountEdit refl)
 
 pub returns : goal.returns
 returns c =
     let state = c.args.present.now in
-    let kept = subst (λ (new : Account). first_broken (edit_rules state.book c.args.number c.args.given.parent c.args.old.now new) ≡ None) c.in_ok-new.ensures c.in_ok-check_edit.ensures in
-    let other = ap (λ (new : Account). (same_fields c.args.old.now new).is) (sym c.in_ok-new.ensures) ∙ sym c.is_same.ensures ∙ c.if-is_same.false in
-    let changed = subst (λ (new : Account). StepsTo state (changing state [] (edit.Put c.args.number (thing.Account new)) 0 answer.AccountEdit) c.changing.result) c.in_ok-new.ensures (c.changing.ensures answer.AccountEdit refl) in
+    let kept = subst (λ (new : Account). first_broken
+    (edit_rules state.book c.args.number c.args.given.parent c.args.old.now new) ≡ None) c.in_ok-new.ensures
+    c.in_ok-check_edit.ensures in
+    let other = ap (λ (new : Account). (same_fields c.args.old.now new).is) (sym c.in_ok-new.ensures)
+    ∙ sym c.is_same.ensures ∙ c.if-is_same.false in
+    let changed = subst (λ (new : Account). StepsTo state
+    (changing state [] (edit.Put c.args.number (thing.Account new)) 0 answer.AccountEdit) c.changing.result)
+    c.in_ok-new.ensures (c.changing.ensures answer.AccountEdit refl) in
     edit-changed state c.args.number c.args.given c.args.old.now c.changing.result kept other changed

@@ -14,11 +14,13 @@ returns-in_err-check_new c =
     let rules = add_rules state.book c.args.account in
     let put = edit.Put state.next (thing.Account c.args.account) in
     let rule = c.in_err-check_new.field-0.0 in
-    refused state (changing state rules put 1 (answer.AccountAdd state.next)) rule c.from_residual.result c.from_residual.ensures.1
+    refused state (changing state rules put 1 (answer.AccountAdd state.next)) rule c.from_residual.result
+    c.from_residual.ensures.1
     (broken-changing state rules put 1 (answer.AccountAdd state.next) rule c.in_err-check_new.ensures)
 
 pub returns : goal.returns
 returns c =
     past-drawing c.args.present.now c.present.inside.next (add_rules c.args.present.now.book c.args.account)
     (λ n. edit.Put n (thing.Account c.args.account)) 1 (λ n. answer.AccountAdd n) c.changing.result
-    (ap (λ (state : State). state.next) c.present.view_is) c.in_ok-check_new.ensures (c.changing.ensures (answer.AccountAdd c.present.inside.next) refl)
+    (ap (λ (state : State). state.next) c.present.view_is) c.in_ok-check_new.ensures
+    (c.changing.ensures (answer.AccountAdd c.present.inside.next) refl)

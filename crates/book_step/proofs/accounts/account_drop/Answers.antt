@@ -14,7 +14,9 @@ returns c =
     let state = c.args.present.now in
     let root = root_stays c.in_ok-account.account.now ∷ [] in
     let rest = not_empty state.book c.args.number ∷ [] in
-    subst (λ (found : Option Account). StepsTo state (account_drop_of state c.args.number found) c.changing.result) (sym c.in_ok-account.ensures.there)
-    (past-changing state (root_stays c.in_ok-account.account.now ∷ rest) (edit.Gone kind.Account c.args.number) 0 answer.AccountDrop c.changing.result
+    subst (λ (found : Option Account). StepsTo state (account_drop_of state c.args.number found) c.changing.result)
+    (sym c.in_ok-account.ensures.there)
+    (past-changing state (root_stays c.in_ok-account.account.now ∷ rest)
+    (edit.Gone kind.Account c.args.number) 0 answer.AccountDrop c.changing.result
     (first-past root rest c.in_ok-check_not_root.ensures ∙ c.in_ok-check_empty.ensures)
     (c.changing.ensures answer.AccountDrop refl))

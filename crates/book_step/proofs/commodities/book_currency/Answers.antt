@@ -14,8 +14,10 @@ returns-then-commodity-present c =
     let same = c.if-commodity-present.true ∙ ap (λ (s : State). s.book.currency) c.present.view_is in
     let left = leaving state rules answer.BookCurrency in
     let changed = changing state rules (edit.Currency c.args.commodity) 0 answer.BookCurrency in
-    subst (λ (outcome : Outcome). StepsTo state outcome (Ok c.leaving.result)) (sym (chosen-same c.args.commodity state.book.currency left changed same))
-    (past-leaving state rules answer.BookCurrency (Ok c.leaving.result) c.in_ok-check_currency.ensures (c.leaving.ensures answer.BookCurrency refl))
+    subst (λ (outcome : Outcome). StepsTo state outcome (Ok c.leaving.result))
+    (sym (chosen-same c.args.commodity state.book.currency left changed same))
+    (past-leaving state rules answer.BookCurrency (Ok c.leaving.result) c.in_ok-check_currency.ensures
+    (c.leaving.ensures answer.BookCurrency refl))
 
 pub returns : goal.returns
 returns c =
@@ -25,5 +27,8 @@ returns c =
     let left = leaving state rules answer.BookCurrency in
     let changed = changing state rules (edit.Currency c.args.commodity) 0 answer.BookCurrency in
     subst (λ (outcome : Outcome). StepsTo state outcome c.changing.result)
-    (sym (chosen-other c.args.commodity state.book.currency left changed (λ same. c.if-commodity-present.false (same ∙ sym here))))
-    (past-changing state rules (edit.Currency c.args.commodity) 0 answer.BookCurrency c.changing.result c.in_ok-check_currency.ensures (c.changing.ensures answer.BookCurrency refl))
+    (sym (chosen-other c.args.commodity state.book.currency left changed
+    (λ same. c.if-commodity-present.false (same ∙ sym here))))
+    (past-changing state rules
+    (edit.Currency c.args.commodity) 0 answer.BookCurrency c.changing.result c.in_ok-check_currency.ensures
+    (c.changing.ensures answer.BookCurrency refl))

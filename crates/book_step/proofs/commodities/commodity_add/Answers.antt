@@ -11,4 +11,5 @@ pub returns : goal.returns
 returns c =
     past-drawing c.args.present.now c.present.inside.next (add_rules c.args.present.now.book c.args.commodity)
     (λ n. edit.Put n (thing.Commodity c.args.commodity)) 1 (λ n. answer.CommodityAdd n) c.changing.result
-    (ap (λ (state : State). state.next) c.present.view_is) c.in_ok-check_new.ensures (c.changing.ensures (answer.CommodityAdd c.present.inside.next) refl)
+    (ap (λ (state : State). state.next) c.present.view_is) c.in_ok-check_new.ensures
+    (c.changing.ensures (answer.CommodityAdd c.present.inside.next) refl)

@@ -15,13 +15,16 @@ loop-split-preserved c =
     c.len.ensures ∙ c.loop-split.splits.ok.0 ∙ ap (λ (splits : List Split). length splits) c.loop-split.invariant in
     c.in_ok-push.ensures.items
     ∙ ap (λ (splits : List Split). splits ++ c.new_split.result ∷ []) c.loop-split.invariant
-    ∙ ap (λ (split : Split). before ++ split ∷ []) (c.new_split.ensures ∙ ap (λ n. new_split (c.args.number + n) c.in-Some.split) count)
+    ∙ ap (λ (split : Split). before ++ split ∷ [])
+    (c.new_split.ensures ∙ ap (λ n. new_split (c.args.number + n) c.in-Some.split) count)
     ∙ sym (new_splits-push c.args.number c.loop-split.yielded c.in-Some.split)
 
 pub returns : goal.returns
 returns c =
     let given : List GivenSplit = c.args.given in
     let start = c.into_iter-split-iterator.ensures.into_iter_gives in
-    let all = YieldsList-from_vec given (start.0 ∙ c.into_vec-split-items.ensures) (start.1 ∙ c.into_vec-split-items.result.ok.0 ∙ ap length c.into_vec-split-items.ensures) in
-    let whole = YieldsList-end all c.loop-split.yielded c.loop-split.split-iterator c.loop-split.yielded_by c.next.result c.next.new.self c.in-None.is c.next.ensures.steps in
+    let all = YieldsList-from_vec given (start.0 ∙ c.into_vec-split-items.ensures)
+    (start.1 ∙ c.into_vec-split-items.result.ok.0 ∙ ap length c.into_vec-split-items.ensures) in
+    let whole = YieldsList-end all c.loop-split.yielded c.loop-split.split-iterator c.loop-split.yielded_by
+    c.next.result c.next.new.self c.in-None.is c.next.ensures.steps in
     c.of.ensures ∙ c.loop-split.invariant ∙ ap (new_splits c.args.number) (sym (map-id c.loop-split.yielded) ∙ whole.0)

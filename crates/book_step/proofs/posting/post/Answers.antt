@@ -18,7 +18,9 @@ returns-in_err-check_post c =
     let transaction = c.in_ok-transaction.transaction in
     let rule = c.in_err-check_post.field-0.0 in
     let result = c.from_residual-in_err-check_post.result in
-    let made = c.in_ok-transaction.ensures ∙ ap (λ (n : ℕ). new_transaction n c.args.day c.args.given) (ap (λ (s : State). s.next) c.present.view_is) in
+    let made = c.in_ok-transaction.ensures
+    ∙ ap (λ (n : ℕ). new_transaction n c.args.day c.args.given)
+    (ap (λ (s : State). s.next) c.present.view_is) in
     subst (λ (t : Txn). StepsTo state (post_of state t) result) made
     (refused state (post_of state transaction) rule result c.from_residual-in_err-check_post.ensures.1
     (post-broken state transaction rule c.in_err-check_post.ensures.rules))
@@ -33,7 +35,9 @@ returns c =
     let short = c.in_ok-answer.ensures
     ∙ ap (λ (n : ℕ). answer.Post n (map (λ split. split.id) c.as_slice.result.now) []) next
     ∙ ap (λ (splits : List Split). answer.Post state.next (map (λ split. split.id) splits) []) c.as_slice.ensures in
-    let changed = subst (λ (n : ℕ). StepsTo state (changing state [] (edit.Put n (thing.Txn transaction)) (1 + c.len.result) whole) c.changing.result) next
+    let changed = subst (λ (n : ℕ). StepsTo state
+    (changing state [] (edit.Put n (thing.Txn transaction)) (1 + c.len.result) whole) c.changing.result) next
     (c.changing.ensures whole (sym short)) in
     subst (λ (t : Txn). StepsTo state (post_of state t) c.changing.result) made
-    (post-changed state transaction (1 + c.len.result) c.changing.result c.in_ok-check_post.ensures.rules (ap (λ (n : ℕ). 1 + n) c.len.ensures) changed)
+    (post-changed state transaction (1 + c.len.result) c.changing.result c.in_ok-check_post.ensures.rules
+    (ap (λ (n : ℕ). 1 + n) c.len.ensures) changed)

@@ -5,4 +5,5 @@ use Rattle.book_step.proofs.SoundStep.{fresh-sound}
 use Rattle.book_engine.proofs.engine.Engine.begin.Goals as goal
 
 pub invariant_of-result : goal.invariant_of-result
-invariant_of-result c = subst (λ (book : Book). IsSound (record { book = book; next = 3; version = 0 })) (sym c.in_ok-fresh_book.ensures) fresh-sound
+invariant_of-result c = subst (λ (book : Book). IsSound (record { book = book; next = 3; version = 0 }))
+    (sym c.in_ok-fresh_book.ensures) fresh-sound

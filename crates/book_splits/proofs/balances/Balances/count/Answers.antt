@@ -13,8 +13,11 @@ loop-split-preserved c =
     take-item c.args.splits.now i split c.loop-split-test.true c.split-item.is in
     let adds : Adds c.loop-split.self c.add.new.self split.account split.quantity = search rules in
     record {
-      counted = λ before counts. Counts-along _ _ _ (append_assoc before (take i c.args.splits.now) (split ∷ []) ∙ ap (λ splits. before ++ splits) more)
-          (Counts-more c.loop-split.self c.add.new.self (before ++ take i c.args.splits.now) split adds (c.loop-split.invariant.counted before counts));
-      small = λ count small. IsSmall-le _ _ _ (omega arith) (c.add.ensures.small (count + i) (c.loop-split.invariant.small count small));
+      counted = λ before counts. Counts-along _ _ _
+          (append_assoc before (take i c.args.splits.now) (split ∷ []) ∙ ap (λ splits. before ++ splits) more)
+          (Counts-more c.loop-split.self c.add.new.self (before ++ take i c.args.splits.now) split adds
+          (c.loop-split.invariant.counted before counts));
+      small = λ count small. IsSmall-le _ _ _ (omega arith)
+          (c.add.ensures.small (count + i) (c.loop-split.invariant.small count small));
       kept = λ a had. Adds-keeps _ _ _ _ adds a (c.loop-split.invariant.kept a had);
     }

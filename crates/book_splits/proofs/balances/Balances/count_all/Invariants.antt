@@ -6,7 +6,8 @@ use Rattle.book_splits.proofs.balances.Balances.count_all.Given as goal
 
 abbrev pub invariant-loop-transaction : goal.invariant-loop-transaction
 invariant-loop-transaction l = record {
-  counted : (before : List Split) → Counts l.initial.self before → Counts l.self (before ++ splits_of (take l.transaction-index l.transactions));
+  counted : (before : List Split) → Counts l.initial.self before
+      → Counts l.self (before ++ splits_of (take l.transaction-index l.transactions));
   small : IsSmall l.self (length (splits_of (take l.transaction-index l.transactions)));
   kept : (a : ℕ) → IsSome (balance_at l.initial.self a) → IsSome (balance_at l.self a);
 }

@@ -5,5 +5,6 @@ use Rattle.book_splits.proofs.balances.Balances.set.Goals as goal
 
 pub returns : goal.returns
 returns c =
-    let put : c.put.new.self.entries ≡ with_entry c.args.account c.args.balance c.args.self.now.sums.entries = search rules in
+    let put : c.put.new.self.entries
+    ≡ with_entry c.args.account c.args.balance c.args.self.now.sums.entries = search rules in
     Puts-with _ _ c.args.account c.args.balance put

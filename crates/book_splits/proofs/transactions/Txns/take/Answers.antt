@@ -9,7 +9,9 @@ pub invariant_of-self : goal.invariant_of-self
 invariant_of-self c =
     let ts = c.self.inside.transactions.entries in
     let left = without_entry c.args.number ts in
-    let removed : c.count_in-removed.result ≡ splits_in (value_of c.args.number ts) = c.count_in-removed.ensures ∙ ap splits_in c.take-old.ensures.old in
-    count-less c.self.inside.splits (length (splits_of ts)) (length (splits_of left)) c.count_in-removed.result c.self.invariant c.count_in-removed.type_inv
+    let removed : c.count_in-removed.result ≡ splits_in (value_of c.args.number ts) = c.count_in-removed.ensures
+    ∙ ap splits_in c.take-old.ensures.old in
+    count-less c.self.inside.splits (length (splits_of ts))
+    (length (splits_of left)) c.count_in-removed.result c.self.invariant c.count_in-removed.type_inv
     (ap (λ n. length (splits_of left) + n) removed ∙ splits-without c.args.number ts)
     ∙ ap (λ es. length (splits_of es) % 2 ^ 64) (sym c.take-old.ensures.entries)

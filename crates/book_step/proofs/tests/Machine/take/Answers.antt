@@ -16,7 +16,11 @@ returns c =
     let command : Command = record { at = Some c.args.self.now.version; what = c.args.what } in
     let taken = c.in_ok-step.step in
     let new : State = after state taken in
-    let sound = step-sound state command new (with_balances new.book taken.answer) c.requires (whole_step state command new taken.answer c.in_ok-step.ensures) in
-    let book : book_of c.apply.new.self ≡ edited taken.edit state.book = c.apply.ensures ∙ ap (edited taken.edit) c.in_ok-reserve_for.ensures.book in
-    subst (λ (version : ℕ). IsSound (record { book = book_of c.apply.new.self; next = taken.next; version = version })) (sym c.version_after-self.ensures)
+    let sound = step-sound state command new (with_balances new.book taken.answer) c.requires
+    (whole_step state command new taken.answer c.in_ok-step.ensures) in
+    let book : book_of c.apply.new.self ≡ edited taken.edit state.book = c.apply.ensures
+    ∙ ap (edited taken.edit) c.in_ok-reserve_for.ensures.book in
+    subst (λ (version : ℕ). IsSound
+    (record { book = book_of c.apply.new.self; next = taken.next; version = version }))
+    (sym c.version_after-self.ensures)
     (subst (λ (b : Book). IsSound (record { book = b; next = taken.next; version = new.version })) (sym book) sound)
