@@ -1,7 +1,7 @@
 -- How each answer of a text came about, read from the text itself.
-use Rattle.std.specs.Prelude.{◌≡◌, ℕ, ◌+◌, ◌-◌, ◌^◌, ◌≤◌, ◌==◌, min, Bool, true, false, not, List, map, count_by, if◌then◌else◌, codes}
-use Rattle.std.specs.List.{list_all}
+use Rattle.std.specs.Prelude.{◌≡◌, ℕ, ◌+◌, ◌-◌, ◌^◌, ◌≤◌, min, Bool, true, false, List, map, count_by, if◌then◌else◌, codes}
 use Rattle.std.specs.Str.{bytes_eq}
+pub use Rattle.book_commodity.specs.OneLine.{is_one_line}
 use Rattle.book_lines.specs.Lines.{whole_lines}
 
 -- how a line was answered: by the machine, or not, since memory was refused or what is kept could not be changed
@@ -25,10 +25,6 @@ mark_of answer = if bytes_eq answer memory_answer then Memory else (if bytes_eq 
 -- the marks of a text of answers, one for each line feed
 abbrev pub marks : List ℕ → List Mark
 marks text = map mark_of (whole_lines text)
-
--- no line feed stands in the text
-abbrev pub is_one_line : List ℕ → Bool
-is_one_line text = list_all (λ byte. not (byte == 10)) text
 
 -- an answer that the machine may give: one line, and neither of the two texts that say why it gave none
 pub record IsTold (answer : List ℕ) : Type 0 where
