@@ -1,35 +1,36 @@
 -- How the machine of whole books answers a line: computed afresh from the state before it.
-use Rattle.std.specs.Prelude.{◌≡◌, ℕ, List}
+use Rattle.std.specs.Prelude.{◌≡◌, ℕ, List, Some}
+use Rattle.book_command.specs.declared.wire_error.WireError.TheVariants as fault
 use Rattle.book_lines.specs.Marks.{Mark}
 use Rattle.book_lines.specs.Transcript.{Answers}
 use Rattle.book_step.specs.State.{State}
 use Rattle.book_step.specs.Outcome.{Outcome, Broken, Done}
 use Rattle.book_step.specs.Step.{step}
 use Rattle.book_texts.specs.AnswerText.{answer_bytes}
+use Rattle.book_texts.specs.RefusedText.{fault_bytes, too_long_bytes}
 use Rattle.book_texts.specs.RuleText.{rule_bytes}
-use Rattle.book_wire.specs.Line.{Line, Asks, NotJson, NotCommand, NotBuilt, IsLine}
-use Rattle.book_wire.specs.Told.{fault_bytes, too_long_bytes}
+use Rattle.book_wire.specs.Asked.{Asked, Asks, NotJson, NotCommand, NotBuilt, LineAsks}
 
 -- An outcome as text: a broken rule with the version, which leaves the state; or the answer with the version after.
 abbrev pub IsOutcome : Outcome → State → List ℕ → State → Type 0
 IsOutcome (Broken rule) old text new = (text ≡ rule_bytes rule old.version) × (new ≡ old)
 IsOutcome (Done after answer) old text new = (text ≡ answer_bytes answer after.version) × (new ≡ after)
 
--- The reply to a line: the outcome of the step of the command that it asks, or the refusal of a line that asks none,
+-- The reply to what a line asks: the outcome of the step of its command, or the refusal of a line that asks for none,
 -- which leaves the state.
-abbrev pub IsReply : Line → State → List ℕ → State → Type 0
+abbrev pub IsReply : Asked → State → List ℕ → State → Type 0
 IsReply (Asks command) old text new = IsOutcome (step old command) old text new
-IsReply NotJson old text new = (text ≡ fault_bytes NotJson) × (new ≡ old)
-IsReply (NotCommand name) old text new = (text ≡ fault_bytes (NotCommand name)) × (new ≡ old)
-IsReply NotBuilt old text new = (text ≡ fault_bytes NotBuilt) × (new ≡ old)
+IsReply NotJson old text new = (fault_bytes fault.NotJson ≡ Some text) × (new ≡ old)
+IsReply (NotCommand name) old text new = (fault_bytes (fault.NotCommand name) ≡ Some text) × (new ≡ old)
+IsReply NotBuilt old text new = (fault_bytes fault.NotBuilt ≡ Some text) × (new ≡ old)
 
--- What the machine tells for the bytes of a line.
-pub record Tells (old : State) (bytes text : List ℕ) (new : State) : Type 0 where
-  pub line : Line
-  pub read : IsLine bytes line
-  pub reply : IsReply line old text new
+-- The machine replies to the bytes of a line by a text.
+pub record Replies (old : State) (bytes text : List ℕ) (new : State) : Type 0 where
+  pub asked : Asked
+  pub read : LineAsks bytes asked
+  pub reply : IsReply asked old text new
 
--- The machine answers a line as the mark says: a line for which memory was refused leaves the state, a line of more than
+-- The machine answers a line as the mark says: a line for which there was no memory leaves the state, a line of more than
 -- 8 MiB is refused by its length and leaves it too, and nothing is kept that could fail.
 abbrev pub answers : State → List ℕ → Mark → List ℕ → State → Type 0
-answers old line mark text new = Answers Tells too_long_bytes (λ before after. after ≡ before) (λ _ _. ⊥) old line mark text new
+answers old line mark text new = Answers Replies too_long_bytes (λ before after. after ≡ before) (λ _ _. ⊥) old line mark text new

@@ -2,14 +2,14 @@ ghost use Rattle.std.specs.Prelude.{◌≡◌, ℕ, ◌^◌, ◌<◌, ◌≤◌,
 ghost use Rattle.book_keeper.specs.Faults.{Rose};
 ghost use Rattle.book_lines.specs.Marks.{Mark, Answered, Memory, Keeper, IsAnswer, memory_answer, keeper_answer};
 ghost use Rattle.book_step.specs.Step.{step};
-ghost use Rattle.book_app.specs.Machine.{IsOutcome, Tells};
+ghost use Rattle.book_app.specs.Machine.{IsOutcome, Replies};
 
 use book_commodity::{Bytes, OutOfMemory};
 use book_engine::Engine;
 use book_lines::{Machine, Unanswered};
 use book_step::{Command, Refusal};
-use book_texts::{answer_text, rule_text};
-use book_wire::{WireError, command_of, too_long_text, wire_text};
+use book_texts::{answer_text, rule_text, too_long_text, wire_text};
+use book_wire::{WireError, command_of};
 use std::alloc::Global;
 
 /// The way in which this crate joins an engine to the lines.
@@ -38,7 +38,7 @@ fn reply(alloc: Global, engine: &mut Engine, command: Command) -> Result<Bytes, 
 
 /// The answer to a line, whatever its bytes are.
 fn answer_to(alloc: Global, engine: &mut Engine, line: &[u8]) -> Result<Bytes, OutOfMemory>
-    ensures told { IfOk result (λ text. IsAnswer text × Tells engine.old.state line.now text engine.new.state) }
+    ensures told { IfOk result (λ text. IsAnswer text × Replies engine.old.state line.now text engine.new.state) }
     ensures kept { OnErr result (engine.new.state ≡ engine.old.state) }
 {
     match command_of(alloc, line) {

@@ -5,7 +5,9 @@ use Rattle.book_accounts.specs.declared.rule.TreeRule.TheVariants as tree
 use Rattle.book_splits.specs.declared.rule.TxnRule.{TxnRule}
 use Rattle.book_splits.specs.declared.rule.TxnRule.TheVariants as transaction
 use Rattle.book_command.specs.declared.rule.Rule.{Rule}
-use Rattle.book_command.specs.declared.rule.Rule.TheVariants.{Unknown, NameTaken, Cycle, ParentKind, SplitCount, WrongCurrency, Placeholder, Limit, Basis, ValueNotQuantity, Unbalanced}
+use Rattle.book_command.specs.declared.rule.Rule.TheVariants.{Unknown, NameTaken, Cycle, ParentKind, SplitCount}
+use Rattle.book_command.specs.declared.rule.Rule.TheVariants.{WrongCurrency, Placeholder, Limit, Basis}
+use Rattle.book_command.specs.declared.rule.Rule.TheVariants.{ValueNotQuantity, Unbalanced}
 
 -- A rule of the tree has the same name and the same fields.
 abbrev pub of_tree_rule : TreeRule → Rule

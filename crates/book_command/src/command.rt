@@ -17,9 +17,9 @@ pub enum What {
     CommodityAdd { commodity: Commodity },
     /// A new account.
     AccountAdd { account: Account },
-    /// The account of this number gets what is given.
+    /// The account of this number has from now on what is given.
     AccountEdit { account: u64, given: GivenAccount },
-    /// The account of this number goes.
+    /// The account of this number is deleted.
     AccountDrop { account: u64 },
     /// A new transaction on the day.
     Post { day: Day, given: GivenTxn },
@@ -46,7 +46,8 @@ pub struct GivenTxn {
 }
 
 /// A split as a command gives it: its value is in smallest units of the transaction's currency, its quantity in
-/// smallest units of the account's commodity. Only an edit of a transaction gives a number, that of a split that stays.
+/// smallest units of the account's commodity. Only an edit of a transaction gives a number, that of a split that
+/// stays.
 #[derive(Drop)]
 pub struct GivenSplit {
     pub account: u64,

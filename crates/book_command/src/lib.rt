@@ -1,13 +1,16 @@
-//! What a command asks, what an accepted command is answered, and the rules that can refuse one, as plain types.
-//! Public are `Command` with its `What` and the values given in it, `Answer`, `Rule` and `Refusal`.
+//! What a command asks, what an accepted command is answered, the rules that can refuse one, and why a line is no
+//! command, as plain types. Public are `Command` with its `What` and the values given in it, `Answer`, `Rule`,
+//! `Refusal` and `WireError`.
 #![tactic(auto)]
 
 mod answer;
 mod command;
 mod refusal;
 mod rule;
+mod wire_error;
 
 pub use answer::Answer;
 pub use command::{Command, GivenAccount, GivenSplit, GivenTxn, What};
 pub use refusal::Refusal;
 pub use rule::Rule;
+pub use wire_error::WireError;

@@ -4,7 +4,7 @@ use crate::Rule;
 use book_commodity::OutOfMemory;
 use std::alloc::AllocError;
 
-/// Why a command was not accepted: a rule that it breaks, or memory that was refused. Nothing was changed.
+/// Why a command was not accepted: a rule that it breaks, or out of memory. Nothing was changed.
 #[derive(Clone, Copy, Debug, PartialEq, Eq)]
 pub enum Refusal {
     Broken(Rule),

@@ -1,5 +1,7 @@
 -- The day that a text names is the one day of the book whose text it is.
-use Rattle.std.proofs.Common.{◌≡◌, ℕ, ◌+◌, ◌-◌, ◌*◌, ◌/◌, ◌%◌, ◌&&◌, Bool, true, false, cond, List, Option, Some, None, refl, sym, ap, ◌∙◌, arith, rules, String, Global, string_bytes, ℤ, pos, negsuc, ◌≤ℤ◌, unsigned_abs, int_le}
+use Rattle.std.proofs.Common.{◌≡◌, ℕ, ◌+◌, ◌-◌, ◌*◌, ◌/◌, ◌%◌, ◌&&◌, Bool, true, false, cond, List, Option, Some}
+use Rattle.std.proofs.Common.{None, refl, sym, ap, ◌∙◌, arith, rules, String, Global, string_bytes, ℤ, pos, negsuc}
+use Rattle.std.proofs.Common.{◌≤ℤ◌, unsigned_abs, int_le}
 use Rattle.std.specs.Prelude.{IfSome, IfNone}
 use Rattle.std.specs.Str.{bytes_eq}
 use Rattle.std.proofs.lemmas.Int.{ints}
@@ -52,7 +54,8 @@ places_of_day : (day : ℤ) → IsDay day → day_in_places (day_text day) ≡ d
 unfolding day_text
 places_of_day day h =
     let date = date_of_day day h in
-    let positive : pos (unsigned_abs (year_of day)) ≡ year_of day = pos-unsigned_abs (year_of day) (omega (arith, signed_arith, date.0.0.0)) in
+    let positive : pos (unsigned_abs (year_of day))
+    ≡ year_of day = pos-unsigned_abs (year_of day) (omega (arith, signed_arith, date.0.0.0)) in
     places_of_date (unsigned_abs (year_of day)) (month_of day) (day_of_month day)
     ∙ rw positive date.1
 
@@ -66,7 +69,8 @@ none_if : (text : List ℕ) → ((day : ℤ) → IsDay day → text ≡ day_text
 unfolding day_named
 none_if text none =
     let day = day_in_places text in
-    let P : Bool → Bool → Type 0 = λ a b. is_day day ≡ a → bytes_eq text (day_text day) ≡ b → cond (a && b) (Some day) None ≡ None in
+    let P : Bool → Bool → Type 0 = λ a b. is_day day ≡ a → bytes_eq text (day_text day) ≡ b
+    → cond (a && b) (Some day) None ≡ None in
     elim (is_day day) as (λ a. P a (bytes_eq text (day_text day))) [
       | true ↦ elim (bytes_eq text (day_text day)) as (λ b. P true b) [
         | true ↦ λ e f. absurd (none day (is_day-true day e) ((bytes_eq-Decides text (day_text day)).0 f))
@@ -76,6 +80,7 @@ none_if text none =
     ] refl refl
 
 -- what reading a day's text gives is the day that the text names
-pub day_named_is : (text : List ℕ) (found : Option ℤ) → IfSome found (λ day. IsDay day × (text ≡ day_text day)) → IfNone found ((day : ℤ) → IsDay day → text ≡ day_text day → ⊥) → found ≡ day_named text
+pub day_named_is : (text : List ℕ) (found : Option ℤ) → IfSome found (λ day. IsDay day × (text ≡ day_text day))
+    → IfNone found ((day : ℤ) → IsDay day → text ≡ day_text day → ⊥) → found ≡ day_named text
 day_named_is text (Some day) here none = sym (named_if text day here.0 here.1)
 day_named_is text None here none = sym (none_if text none)

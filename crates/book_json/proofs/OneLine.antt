@@ -1,58 +1,23 @@
 -- The text of data is one line: it has no line feed.
-use Rattle.std.proofs.Common.{◌&&◌, ◌+◌, ◌++◌, ◌/◌, ◌%◌, ◌<◌, ◌==◌, ◌≡◌, ◌∙◌, ◌∷◌, Bool, List, [], arith, codes, cond, decimal, false, inl, inr, nat_lt, negsuc, not, pos, refl, suc, true, zero, ℕ, ℤ}
+use Rattle.std.proofs.Common.{◌+◌, ◌++◌, ◌/◌, ◌%◌, ◌<◌, ◌==◌, ◌≡◌, ◌∷◌, Bool, List, [], arith, cond, false, inl}
+use Rattle.std.proofs.Common.{inr, nat_lt, refl, true, ℕ}
 use Rattle.std.proofs.lemmas.Bool.Decides.{eqb_tells, nat_tests}
-use Rattle.std.proofs.lemmas.List.Folds.{list_all-append}
-use Rattle.std.specs.Fmt.{digit_glyph, digits, digits_onto, signed_decimal}
 use Rattle.std.specs.Char.{digit_char}
-use Rattle.std.specs.List.{list_all}
-use Rattle.std.specs.Str.{bytes_eq}
 use Rattle.json.specs.Print.{escape_letter, escape_byte, escape, quoted}
-use Rattle.serde_json.specs.Data.{Num, unsigned, negative, float, Data, null, boolean, number, string, array, object, Items, no_items, item, Members, no_members, member}
+use Rattle.serde_json.specs.Data.{Num, unsigned, negative, float, Data, null, boolean, number, string, array}
+use Rattle.serde_json.specs.Data.{object, Items, no_items, item, Members, no_members, member}
 use Rattle.serde_json.specs.Written.{number_text, comma_if, compact_text, items_text, members_text}
-
--- A byte is no line feed.
-abbrev pub no_feed : ℕ → Bool
-no_feed byte = not (byte == 10)
-
--- A text has no line feed.
-abbrev pub is_one_line : List ℕ → Bool
-is_one_line text = list_all no_feed text
-
-above-no_feed : (byte : ℕ) → 10 < byte → no_feed byte ≡ true
-above-no_feed byte above = elim (eqb_tells byte 10) [ inl t ↦ absurd (omega (arith, t.1)) | inr f ↦ rw f.0 refl ]
-
-both : (x y : Bool) → x ≡ true → y ≡ true → (x && y) ≡ true
-both x y p q = rw (p, q) refl
-
--- two texts in a row are one line where each is
-pub append-one_line : (xs ys : List ℕ) → is_one_line xs ≡ true → is_one_line ys ≡ true → is_one_line (xs ++ ys) ≡ true
-append-one_line xs ys p q = list_all-append no_feed xs ys ∙ both (is_one_line xs) (is_one_line ys) p q
-
-glyph-above : (digit : ℕ) → 10 < digit_glyph false digit
-glyph-above digit = elim (nat_lt digit 10) as (λ t. 10 < cond t (48 + digit) (87 + digit)) [ true ↦ omega arith | false ↦ omega arith ]
-
-digits_onto-one_line : (k n : ℕ) (behind : List ℕ) → is_one_line behind ≡ true → is_one_line (digits_onto k 10 false n behind) ≡ true
-digits_onto-one_line zero n behind h = h
-digits_onto-one_line (suc k) n behind h =
-    let glyph = digit_glyph false (n % 10) in
-    let first : is_one_line (glyph ∷ behind) ≡ true = both (no_feed glyph) (is_one_line behind) (above-no_feed glyph (glyph-above (n % 10))) h in
-    elim (n / 10 == 0) as (λ t. is_one_line (cond t (glyph ∷ behind) (digits_onto k 10 false (n / 10) (glyph ∷ behind))) ≡ true)
-    [ true ↦ first | false ↦ digits_onto-one_line k (n / 10) (glyph ∷ behind) first ]
-
-pub decimal-one_line : (n : ℕ) → is_one_line (decimal n) ≡ true
-unfolding digits
-decimal-one_line n = digits_onto-one_line 64 n [] refl
-
-pub signed_decimal-one_line : (z : ℤ) → is_one_line (signed_decimal z) ≡ true
-signed_decimal-one_line (pos n) = decimal-one_line n
-signed_decimal-one_line (negsuc n) = decimal-one_line (suc n)
+use Rattle.book_commodity.specs.OneLine.{no_feed, is_one_line}
+use Rattle.book_commodity.proofs.OneLine.{above-no_feed, both, append-one_line, decimal-one_line}
+use Rattle.book_commodity.proofs.OneLine.{signed_decimal-one_line}
 
 number-one_line : (n : Num) → is_one_line (number_text n) ≡ true
 number-one_line (unsigned n) = decimal-one_line n
 number-one_line (negative z) = signed_decimal-one_line z
 number-one_line (float x) = refl
 
-short-no_feed : (back form feed carriage tab : Bool) → no_feed (cond back 98 (cond form 102 (cond feed 110 (cond carriage 114 (cond tab 116 0))))) ≡ true
+short-no_feed : (back form feed carriage tab : Bool)
+    → no_feed (cond back 98 (cond form 102 (cond feed 110 (cond carriage 114 (cond tab 116 0))))) ≡ true
 short-no_feed true _ _ _ _ = refl
 short-no_feed false true _ _ _ = refl
 short-no_feed false false true _ _ = refl
@@ -63,25 +28,39 @@ short-no_feed false false false false false = refl
 letter-no_feed : (x : ℕ) → no_feed (escape_letter x) ≡ true
 letter-no_feed x = elim (eqb_tells x 34) [
   | inl t ↦ rw t.1 refl
-  | inr f ↦ elim (eqb_tells x 92) [ inl t ↦ rw t.1 refl | inr g ↦ rw (f.0, g.0) (short-no_feed (x == 8) (x == 12) (x == 10) (x == 13) (x == 9)) ]
+  | inr f ↦ elim (eqb_tells x 92) [
+    | inl t ↦ rw t.1 refl
+    | inr g ↦ rw (f.0, g.0)
+        (short-no_feed (x == 8) (x == 12) (x == 10) (x == 13) (x == 9))
+  ]
 ]
 
 digit_char-above : (digit : ℕ) → 10 < digit_char digit
-digit_char-above digit = elim (nat_lt digit 10) as (λ t. 10 < cond t (48 + digit) (87 + digit)) [ true ↦ omega arith | false ↦ omega arith ]
+digit_char-above digit = elim (nat_lt digit 10) as (λ t. 10 < cond t (48 + digit) (87 + digit))
+    [ true ↦ omega arith | false ↦ omega arith ]
 
 hex-one_line : (high low : ℕ) → is_one_line (92 ∷ 117 ∷ 48 ∷ 48 ∷ digit_char high ∷ digit_char low ∷ []) ≡ true
 hex-one_line high low =
-    both (no_feed (digit_char high)) (is_one_line (digit_char low ∷ [])) (above-no_feed (digit_char high) (digit_char-above high)) (both (no_feed (digit_char low)) true (above-no_feed (digit_char low) (digit_char-above low)) refl)
+    both (no_feed (digit_char high)) (is_one_line (digit_char low ∷ []))
+    (above-no_feed (digit_char high) (digit_char-above high))
+    (both (no_feed (digit_char low)) true (above-no_feed (digit_char low) (digit_char-above low)) refl)
 
-itself-one_line : (x : ℕ) (low : Bool) → nat_lt x 32 ≡ low → is_one_line (cond low (92 ∷ 117 ∷ 48 ∷ 48 ∷ digit_char (x / 16) ∷ digit_char (x % 16) ∷ []) (x ∷ [])) ≡ true
+itself-one_line : (x : ℕ) (low : Bool) → nat_lt x 32 ≡ low
+    → is_one_line (cond low (92 ∷ 117 ∷ 48 ∷ 48 ∷ digit_char (x / 16) ∷ digit_char (x % 16) ∷ []) (x ∷ [])) ≡ true
 itself-one_line x true e = hex-one_line (x / 16) (x % 16)
-itself-one_line x false e = let high : 10 < x = grind (arith, nat_tests) in both (no_feed x) true (above-no_feed x high) refl
+itself-one_line x false e = let high : 10 < x = grind (arith, nat_tests) in both (no_feed x) true
+    (above-no_feed x high) refl
 
 pub escape_byte-one_line : (x : ℕ) → is_one_line (escape_byte x) ≡ true
 unfolding escape_byte
 escape_byte-one_line x =
-    elim (nat_lt 0 (escape_letter x)) as (λ t. is_one_line (cond t (92 ∷ escape_letter x ∷ []) (cond (nat_lt x 32) (92 ∷ 117 ∷ 48 ∷ 48 ∷ digit_char (x / 16) ∷ digit_char (x % 16) ∷ []) (x ∷ []))) ≡ true)
-    [ true ↦ both (no_feed (escape_letter x)) true (letter-no_feed x) refl | false ↦ itself-one_line x (nat_lt x 32) refl ]
+    elim (nat_lt 0 (escape_letter x)) as
+    (λ t. is_one_line (cond t (92 ∷ escape_letter x ∷ [])
+    (cond (nat_lt x 32) (92 ∷ 117 ∷ 48 ∷ 48 ∷ digit_char (x / 16) ∷ digit_char (x % 16) ∷ []) (x ∷ []))) ≡ true) [
+      | true ↦ both (no_feed (escape_letter x)) true (letter-no_feed x) refl
+      | false ↦ itself-one_line x
+          (nat_lt x 32) refl
+    ]
 
 escape-one_line : (text : List ℕ) → is_one_line (escape text) ≡ true
 escape-one_line [] = refl
@@ -114,12 +93,8 @@ mutual
   pub members_text-one_line : (ms : Members) (later : Bool) → is_one_line (members_text later ms) ≡ true
   members_text-one_line no_members later = refl
   members_text-one_line (member k d ms) later =
-      append-one_line (comma_if later) (quoted k ++ 58 ∷ (compact_text d ++ members_text true ms)) (comma-one_line later)
+      append-one_line (comma_if later) (quoted k ++ 58 ∷ (compact_text d ++ members_text true ms))
+      (comma-one_line later)
       (append-one_line (quoted k) (58 ∷ (compact_text d ++ members_text true ms)) (quoted-one_line k)
-      (append-one_line (compact_text d) (members_text true ms) (compact_text-one_line d) (members_text-one_line ms true)))
-
--- A text is one line, and neither of the two that say why a line has no answer.
-pub record IsOwnLine (text : List ℕ) : Type 0 where
-  pub one_line : is_one_line text ≡ true
-  pub no_memory : bytes_eq text (codes "{\"refused\":\"memory\"}") ≡ false
-  pub no_keeper : bytes_eq text (codes "{\"refused\":\"keeper\"}") ≡ false
+      (append-one_line (compact_text d) (members_text true ms) (compact_text-one_line d)
+      (members_text-one_line ms true)))

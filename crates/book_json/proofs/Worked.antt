@@ -17,11 +17,13 @@ absent_note : purse (member (codes "owner") (number (unsigned 3)) no_members) �
 unfolding needed optional text ends whole
 absent_note = refl
 
-null_note : purse (member (codes "note") null (member (codes "owner") (number (unsigned 3)) no_members)) ≡ Err (codes "note")
+null_note : purse (member (codes "note") null (member (codes "owner") (number (unsigned 3)) no_members))
+    ≡ Err (codes "note")
 unfolding needed optional text ends whole
 null_note = refl
 
-not_listed : purse (member (codes "owner") (number (unsigned 3)) (member (codes "zoo") null no_members)) ≡ Err (codes "zoo")
+not_listed : purse (member (codes "owner") (number (unsigned 3)) (member (codes "zoo") null no_members))
+    ≡ Err (codes "zoo")
 unfolding needed optional text ends whole
 not_listed = refl
 
@@ -33,6 +35,7 @@ other_case : among ((codes "yes", true) ∷ (codes "no", false) ∷ []) (string 
 other_case = refl
 
 -- a line feed in a string is written as two other bytes
-note_text : compact_text (object (member (codes "note") (string (97 ∷ 10 ∷ 98 ∷ [])) no_members)) ≡ codes "{\"note\":\"a\\nb\"}"
+note_text : compact_text (object (member (codes "note") (string (97 ∷ 10 ∷ 98 ∷ [])) no_members))
+    ≡ codes "{\"note\":\"a\\nb\"}"
 unfolding serde_json_on_literals
 note_text = refl

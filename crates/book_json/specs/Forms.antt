@@ -1,10 +1,13 @@
 -- The forms of members: numbers, truths, texts, days, words of a table, lists of a form and objects inside.
-use Rattle.std.specs.Prelude.{ℕ, ◌+◌, ◌-◌, ◌*◌, ◌^◌, ◌&&◌, ℤ, pos, negsuc, List, [], ◌∷◌, slice_index, Bool, nat_lt, int_le, bytes_eq, if◌then◌else◌, Option, Some, None, option_map, option_and_then, Result, Ok, Err}
+use Rattle.std.specs.Prelude.{ℕ, ◌+◌, ◌-◌, ◌*◌, ◌^◌, ◌&&◌, ℤ, pos, negsuc, List, [], ◌∷◌, slice_index, Bool, nat_lt}
+use Rattle.std.specs.Prelude.{int_le, bytes_eq, if◌then◌else◌, Option, Some, None, option_map, option_and_then}
+use Rattle.std.specs.Prelude.{Result, Ok, Err}
 use Rattle.jiff_core.specs.Calendar.{days_from_civil}
 use Rattle.book_commodity.specs.Day.{day_text}
 use Rattle.serde_json.specs.Data.{Items, no_items, item}
 use Rattle.serde_json.specs.Find.{as_bool, as_number, as_str, as_array, as_object, as_u64, as_i64}
 use Rattle.book_json.specs.Members.{Form, Reader, complete}
+use Rattle.book_json.specs.Words.{named}
 
 -- Numbers of things and counts are below 2^62.
 abbrev pub below_limit : ℕ → Option ℕ
@@ -57,11 +60,6 @@ day_named text =
 -- The text of a day.
 unfoldable pub day_form : Form ℤ
 day_form d = option_and_then day_named (as_str d)
-
--- What the first row of that word stands for.
-abbrev pub named : {X : Type 0} → List (List ℕ × X) → List ℕ → Option X
-named [] text = None
-named (row ∷ rows) text = if bytes_eq text row.0 then Some row.1 else named rows text
 
 -- A text that is one of a table's words, byte for byte.
 abbrev pub among : {X : Type 0} → List (List ℕ × X) → Form X

@@ -1,5 +1,7 @@
--- Reading an object by its members: each is taken away by its name, one after another, and none may be left at the end.
-use Rattle.std.specs.Prelude.{ℕ, List, [], Bool, false, bytes_eq, if◌then◌else◌, Option, Some, None, unwrap_or, option_map, option_and_then, ok_or, Result, Ok, Err}
+-- Reading an object by its members: each is taken away by its name, one after another, and none may be left at the
+-- end.
+use Rattle.std.specs.Prelude.{ℕ, List, [], Bool, false, bytes_eq, if◌then◌else◌, Option, Some, None, unwrap_or}
+use Rattle.std.specs.Prelude.{option_map, option_and_then, ok_or, Result, Ok, Err}
 use Rattle.serde_json.specs.Data.{Data, Members, no_members, member}
 use Rattle.serde_json.specs.Find.{get_member, as_str, as_bool}
 

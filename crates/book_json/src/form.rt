@@ -1,9 +1,9 @@
 ghost use Rattle.std.specs.Prelude.{◌≡◌, ◌<◌, Option, IfOk, length};
 ghost use Rattle.serde_json.specs.Data.{Data};
 ghost use Rattle.serde_json.specs.View.{view};
-ghost use Rattle.book_json.specs.Forms.{whole, whole_signed, flag_form, text_form, filled, day_form, list};
+ghost use Rattle.book_json.specs.Forms.{whole, whole_signed, flag_form, text_form, filled, day_form};
 
-use book_commodity::{Day, Many, OutOfMemory, Text};
+use book_commodity::{Day, OutOfMemory, Text};
 use serde_json::Value;
 use std::alloc::Global;
 use std::marker::Model;
@@ -16,7 +16,7 @@ pub trait Form {
     /// What the data stands for, and none where it is of another form.
     ghost form: { Data → Option Self };
 
-    /// What the data stands for, `None` where it is of another form; an error only where memory is refused.
+    /// What the data stands for, `None` where it is of another form. The only error is out of memory.
     fn read(alloc: Global, value: Value) -> Result<Option<Self>, OutOfMemory>
         ensures { IfOk result (λ read. read ≡ form (view value)) };
 }
@@ -119,24 +119,5 @@ impl Form for Day {
             return Ok(None);
         };
         Ok(Day::of_text(text.as_bytes()))
-    }
-}
-
-/// A list whose items are all of the form.
-impl<F: Form + Drop> Form for Many<F> {
-    ghost form = { list F.form };
-
-    fn read(alloc: Global, value: Value) -> Result<Option<Many<F>>, OutOfMemory> {
-        let Value::Array(items) = value else {
-            return Ok(None);
-        };
-        let mut list = Many::new(alloc);
-        for item in items {
-            let Some(read) = F::read(alloc, item)? else {
-                return Ok(None);
-            };
-            list.push(read)?;
-        }
-        Ok(Some(list))
     }
 }

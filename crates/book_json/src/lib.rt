@@ -1,7 +1,8 @@
 //! Lines of JSON read as tables of members: a line is an object, each member is taken away by its name in the form
-//! that it has, and none may be left at the end. What fails first is told by its name. A reader of members is a few
-//! lines of `needed`, `optional`, `text` and `flag`, and its contract the same lines as a `do` block; the forms are
-//! numbers, truths, texts, days, words of a table, lists and objects inside. Nothing here knows any command.
+//! that it has, and none may be left at the end. The first member that fails is reported by its name. A reader is a
+//! few lines of `needed`, `optional`, `text`, `flag`, `word` and `objects`, and its contract the same lines as a `do`
+//! block. The forms are numbers, truths, texts, days, words of a table, objects inside and lists of them. Nothing
+//! here knows any command.
 #![tactic(auto)]
 
 mod fault;
@@ -13,10 +14,10 @@ mod word;
 
 pub use fault::Fault;
 pub use form::{Filled, Form};
-pub use inside::{Object, inner};
+pub use inside::Object;
 pub use object::{NotRead, object_of};
 pub use reading::Reading;
-pub use word::{Word, among};
+pub use word::{named, word_of};
 
 #[cfg(test)]
 mod tests;

@@ -1,10 +1,15 @@
-ghost use Rattle.std.specs.Prelude.{◌≡◌, Option};
-ghost use Rattle.serde_json.specs.View.{members_view};
-ghost use Rattle.book_json.specs.Members.{needed, optional, text, flag, absent, ends, complete};
+ghost use Rattle.std.specs.Prelude.{◌≡◌, Option, option_map};
+ghost use Rattle.serde_json.specs.Find.{get_member};
+ghost use Rattle.serde_json.specs.View.{members_view, view};
+ghost use Rattle.book_json.specs.Forms.{among, inner, list};
+ghost use Rattle.book_json.specs.Members.{without, needed, optional, text, flag, absent, ends, complete};
 ghost use Rattle.book_json.specs.Reads.{rest, IsFaultOf, Gives, Completes};
+ghost use Rattle.book_json.specs.Words.{rows_of};
 
+use crate::inside::list;
+use crate::word::among;
 use crate::{Fault, Form, Object};
-use book_commodity::Text;
+use book_commodity::{Many, Text};
 use serde_json::Value;
 use serde_json::value::Map;
 use std::alloc::Global;
@@ -25,14 +30,50 @@ impl Reading {
         Reading { alloc, members }
     }
 
+    /// Takes the member of that name away; `None` where it is absent.
+    fn take(&mut self, name: &str) -> Option<Value>
+        ensures member { option_map view result ≡ get_member name.now (rest self.old) }
+        ensures left { rest self.new ≡ without name.now (rest self.old) }
+    {
+        self.members.remove(name)
+    }
+
     /// The member of that name, which must stand; it fails where it is absent, and where it is of another form.
     pub fn needed<F: Form + Drop>(&mut self, name: &str) -> Result<F, Fault>
         ensures { Gives (needed F.form name.now (rest self.old)) result (rest self.new) }
     {
-        let Some(value) = self.members.remove(name) else {
+        let Some(value) = self.take(name) else {
             return Err(self.fault(name));
         };
         let Some(read) = F::read(self.alloc, value)? else {
+            return Err(self.fault(name));
+        };
+        Ok(read)
+    }
+
+    /// The member of that name by a table of words; it fails where it is absent, and where it is not the text of one
+    /// of the words.
+    pub fn word<W: Copy>(&mut self, name: &str, table: &[(&str, W)]) -> Result<W, Fault>
+        ensures { Gives (needed (among (rows_of table.now)) name.now (rest self.old)) result (rest self.new) }
+    {
+        let Some(value) = self.take(name) else {
+            return Err(self.fault(name));
+        };
+        let Some(read) = among(value, table) else {
+            return Err(self.fault(name));
+        };
+        Ok(read)
+    }
+
+    /// The member of that name, a list of objects of one table; it fails where it is absent, and where it or one of
+    /// its items is of another form.
+    pub fn objects<O: Object>(&mut self, name: &str) -> Result<Many<O::Value>, Fault>
+        ensures { Gives (needed (list (inner O.reader)) name.now (rest self.old)) result (rest self.new) }
+    {
+        let Some(value) = self.take(name) else {
+            return Err(self.fault(name));
+        };
+        let Some(read) = list::<O>(self.alloc, value)? else {
             return Err(self.fault(name));
         };
         Ok(read)
@@ -42,7 +83,7 @@ impl Reading {
     pub fn optional<F: Form + Drop>(&mut self, name: &str) -> Result<Option<F>, Fault>
         ensures { Gives (optional F.form name.now (rest self.old)) result (rest self.new) }
     {
-        let Some(value) = self.members.remove(name) else {
+        let Some(value) = self.take(name) else {
             return Ok(None);
         };
         let Some(read) = F::read(self.alloc, value)? else {
@@ -77,7 +118,7 @@ impl Reading {
     pub fn absent<X: Drop>(&mut self, name: &str) -> Result<Option<X>, Fault>
         ensures { Gives (absent name.now (rest self.old)) result (rest self.new) }
     {
-        let Some(_) = self.members.remove(name) else {
+        let Some(_) = self.take(name) else {
             return Ok(None);
         };
         Err(self.fault(name))
@@ -104,7 +145,7 @@ impl Reading {
     }
 
     /// What all members together stand for; the first that fails, where one does or one is left.
-    pub fn whole<O: Object + Drop>(mut self) -> Result<O, Fault>
+    pub fn whole<O: Object>(mut self) -> Result<O::Value, Fault>
         ensures { Completes (complete O.reader (rest self)) result }
     {
         let object = O::read(&mut self)?;

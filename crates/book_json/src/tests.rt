@@ -2,10 +2,10 @@
 ghost use Rattle.std.specs.Prelude.{◌≡◌, ◌∷◌, [], codes};
 ghost use Rattle.book_json.specs.Members.{needed, optional, text, flag, absent, gives, ◌>>=◌};
 ghost use Rattle.book_json.specs.Forms.{whole, whole_signed, filled, day_form, among, list, inner};
+ghost use Rattle.book_json.specs.Words.{rows_of};
 
-use crate::{Fault, Filled, Form, NotRead, Object, Reading, Word, among, inner, object_of};
+use crate::{Fault, Filled, NotRead, Object, Reading, object_of, word_of};
 use book_commodity::{Day, Many, OutOfMemory, Text};
-use serde_json::Value;
 use std::alloc::Global;
 
 /// What a purse is for.
@@ -15,27 +15,8 @@ enum Aim {
     Spending,
 }
 
-impl Word for Aim {
-    ghost use Rattle.book_json.specs.declared.tests.Aim.TheVariants.{Saving, Spending};
-
-    ghost words = { (codes "saving", Saving) ∷ (codes "spending", Spending) ∷ [] };
-
-    fn named(text: &str) -> Option<Aim> {
-        match text {
-            "saving" => Some(Aim::Saving),
-            "spending" => Some(Aim::Spending),
-            _ => None,
-        }
-    }
-}
-
-impl Form for Aim {
-    ghost form = { among ⟦<Aim as Word>⟧.words };
-
-    fn read(_alloc: Global, value: Value) -> Result<Option<Aim>, OutOfMemory> {
-        Ok(among(value))
-    }
-}
+/// The words of aims.
+const AIMS: [(&str, Aim); 2] = [("saving", Aim::Saving), ("spending", Aim::Spending)];
 
 /// One of the coins in a purse.
 #[derive(Drop)]
@@ -45,20 +26,17 @@ struct Coin {
 }
 
 impl Object for Coin {
-    ghost reader = { do amount ← needed whole_signed (codes "amount"); note ← text (codes "note"); gives (record { amount = amount; note = note }) };
+    type Value = Coin;
+
+    ghost reader = { do
+      amount ← needed whole_signed (codes "amount")
+      note ← text (codes "note")
+      gives (record { amount = amount; note = note }) };
 
     fn read(members: &mut Reading) -> Result<Coin, Fault> {
         let amount = members.needed("amount")?;
         let note = members.text("note")?;
         Ok(Coin { amount, note })
-    }
-}
-
-impl Form for Coin {
-    ghost form = { inner ⟦<Coin as Object>⟧.reader };
-
-    fn read(alloc: Global, value: Value) -> Result<Option<Coin>, OutOfMemory> {
-        inner(alloc, value)
     }
 }
 
@@ -75,15 +53,27 @@ struct Purse {
 }
 
 impl Object for Purse {
-    ghost reader = { do aim ← needed (among ⟦<Aim as Word>⟧.words) (codes "aim"); owner ← needed whole (codes "owner"); name ← needed filled (codes "name"); opened ← optional day_form (codes "opened"); shut ← flag (codes "shut"); coins ← needed (list (inner ⟦<Coin as Object>⟧.reader)) (codes "coins"); price ← absent (codes "price"); gives (record { aim = aim; owner = owner; name = name; opened = opened; shut = shut; coins = coins; price = price }) };
+    ghost use Rattle.book_json.specs.declared.tests.TheConstants.{AIMS};
+
+    type Value = Purse;
+
+    ghost reader = { do
+      aim ← needed (among (rows_of AIMS)) (codes "aim")
+      owner ← needed whole (codes "owner")
+      name ← needed filled (codes "name")
+      opened ← optional day_form (codes "opened")
+      shut ← flag (codes "shut")
+      coins ← needed (list (inner ⟦<Coin as Object>⟧.reader)) (codes "coins")
+      price ← absent (codes "price")
+      gives (record { aim = aim; owner = owner; name = name; opened = opened; shut = shut; coins = coins; price = price }) };
 
     fn read(members: &mut Reading) -> Result<Purse, Fault> {
-        let aim = members.needed("aim")?;
+        let aim = members.word("aim", &AIMS)?;
         let owner = members.needed("owner")?;
         let name = members.needed("name")?;
         let opened = members.optional("opened")?;
         let shut = members.flag("shut")?;
-        let coins = members.needed("coins")?;
+        let coins = members.objects::<Coin>("coins")?;
         let price = members.absent("price")?;
         Ok(Purse {
             aim,
@@ -267,8 +257,8 @@ fn nested(alloc: Global, lists: u32) -> Result<String, OutOfMemory> {
 
 /// Whether the values of one line are those that it spells.
 fn values_are_read(alloc: Global) -> Result<bool, OutOfMemory> {
-    let line =
-        r#"{"aim":"spending","owner":7,"name":"Elm","opened":"1970-01-02","shut":true,"coins":[{"amount":-2,"note":"a\nb"},{"amount":5}]}"#;
+    let line = r#"{"aim":"spending","owner":7,"name":"Elm","opened":"1970-01-02","shut":true,
+            "coins":[{"amount":-2,"note":"a\nb"},{"amount":5}]}"#;
     let Ok(members) = object_of(alloc, line.as_bytes()) else {
         return Ok(false);
     };
@@ -292,7 +282,7 @@ fn values_are_read(alloc: Global) -> Result<bool, OutOfMemory> {
         return Ok(false);
     };
     Ok(
-        aim == Aim::Spending
+        word_of(&AIMS, aim) == "spending"
             && owner == 7
             && name.as_str() == "Elm"
             && opened.number() == 1

@@ -1,8 +1,8 @@
 -- How each answer of a text came about, read from the text itself.
-use Rattle.std.specs.Prelude.{◌≡◌, ℕ, ◌+◌, ◌-◌, ◌^◌, ◌≤◌, ◌==◌, min, Bool, true, false, not, List, map, count_by}
+use Rattle.std.specs.Prelude.{◌≡◌, ℕ, ◌+◌, ◌-◌, ◌^◌, ◌≤◌, min, Bool, true, false, List, map, count_by}
 use Rattle.std.specs.Prelude.{if◌then◌else◌, codes}
-use Rattle.std.specs.List.{list_all}
 use Rattle.std.specs.Str.{bytes_eq}
+pub use Rattle.book_commodity.specs.OneLine.{is_one_line}
 use Rattle.book_lines.specs.Lines.{whole_lines}
 
 -- how a line was answered: by the machine, or not, since it was out of memory or what is kept could not be changed
@@ -27,10 +27,6 @@ mark_of answer = if bytes_eq answer memory_answer then Memory else
 -- the marks of a text of answers, one for each line feed
 abbrev pub marks : List ℕ → List Mark
 marks text = map mark_of (whole_lines text)
-
--- no line feed stands in the text
-abbrev pub is_one_line : List ℕ → Bool
-is_one_line text = list_all (λ byte. not (byte == 10)) text
 
 -- an answer that the machine may give: one line, and neither of the two texts that say why it gave none
 pub record IsAnswer (answer : List ℕ) : Type 0 where

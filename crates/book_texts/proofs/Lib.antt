@@ -1,2 +1,3 @@
+pub mod OwnLineLemmas
 pub mod PlainLemmas
-pub mod ToldLemmas
+pub mod Worked

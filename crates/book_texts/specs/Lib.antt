@@ -1,3 +1,9 @@
+pub mod Accounts
 pub mod AnswerText
-pub mod Pieces
+pub mod Commodities
+pub mod Fields
+pub mod Posting
+pub mod RefusedText
 pub mod RuleText
+pub mod Shown
+pub mod Words

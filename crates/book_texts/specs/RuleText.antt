@@ -1,48 +1,37 @@
--- What a command that would break a rule is answered: an object with the rule's name under "broken", its fields by
--- their names, and the version, which stays.
+-- The line that answers a command which would break a rule.
 use Rattle.std.specs.Prelude.{ℕ, List, [], ◌∷◌, codes}
-use Rattle.serde_json.specs.Data.{Data, string}
-use Rattle.serde_json.specs.Written.{compact_text}
+use Rattle.serde_json.specs.Data.{Members}
 use Rattle.book_command.specs.declared.rule.Rule.{Rule}
-use Rattle.book_command.specs.declared.rule.Rule.TheVariants.{Stale, Unknown, NameTaken, Cycle, ParentKind, Root, Placeholder, NotEmpty, FractionShape, BasisShape, SplitCount, WrongCurrency, Basis, ValueNotQuantity, Unbalanced, Limit}
-use Rattle.book_texts.specs.Pieces.{counted_word, kind_word, number_data, sum_data, told}
+use Rattle.book_command.specs.declared.rule.Rule.TheVariants.{Stale, Unknown, NameTaken, Cycle, ParentKind, Root}
+use Rattle.book_command.specs.declared.rule.Rule.TheVariants.{Placeholder, NotEmpty, FractionShape, BasisShape}
+use Rattle.book_command.specs.declared.rule.Rule.TheVariants.{SplitCount, WrongCurrency, Basis, ValueNotQuantity}
+use Rattle.book_command.specs.declared.rule.Rule.TheVariants.{Unbalanced, Limit}
+use Rattle.book_texts.specs.Fields.{broken, line_of}
+use Rattle.book_texts.specs.Shown.{number_data, sum_data}
+use Rattle.book_texts.specs.Words.{kind_data, limit_data}
 
--- A rule with no field, by its name.
-abbrev pub bare_data : List ℕ → ℕ → Data
-bare_data name version = told ((codes "broken", string name) ∷ (codes "version", number_data version) ∷ [])
+-- Each rule by its name and its own fields, with the version, which stays.
+abbrev pub rule_members : Rule → ℕ → Members
+rule_members (Stale now) = broken (codes "Stale") ((codes "now", number_data now) ∷ [])
+rule_members (Unknown kind id) = broken (codes "Unknown")
+    ((codes "kind", kind_data kind) ∷ (codes "id", number_data id) ∷ [])
+rule_members (NameTaken id) = broken (codes "NameTaken") ((codes "id", number_data id) ∷ [])
+rule_members Cycle = broken (codes "Cycle") []
+rule_members ParentKind = broken (codes "ParentKind") []
+rule_members Root = broken (codes "Root") []
+rule_members (Placeholder account) = broken (codes "Placeholder") ((codes "account", number_data account) ∷ [])
+rule_members (NotEmpty account) = broken (codes "NotEmpty") ((codes "account", number_data account) ∷ [])
+rule_members FractionShape = broken (codes "FractionShape") []
+rule_members BasisShape = broken (codes "BasisShape") []
+rule_members (SplitCount count) = broken (codes "SplitCount") ((codes "count", number_data count) ∷ [])
+rule_members (WrongCurrency commodity) = broken (codes "WrongCurrency")
+    ((codes "commodity", number_data commodity) ∷ [])
+rule_members (Basis account) = broken (codes "Basis") ((codes "account", number_data account) ∷ [])
+rule_members (ValueNotQuantity place) = broken (codes "ValueNotQuantity") ((codes "place", number_data place) ∷ [])
+rule_members (Unbalanced sum) = broken (codes "Unbalanced") ((codes "sum", sum_data sum) ∷ [])
+rule_members (Limit which at) = broken (codes "Limit")
+    ((codes "which", limit_data which) ∷ (codes "at", number_data at) ∷ [])
 
--- A rule that names an account, by its name.
-abbrev pub account_rule_data : List ℕ → ℕ → ℕ → Data
-account_rule_data name account version =
-    told ((codes "account", number_data account) ∷ (codes "broken", string name) ∷ (codes "version", number_data version) ∷ [])
-
--- Each broken rule as data.
-abbrev pub rule_data : Rule → ℕ → Data
-rule_data (Stale now) version =
-    told ((codes "broken", string (codes "Stale")) ∷ (codes "now", number_data now) ∷ (codes "version", number_data version) ∷ [])
-rule_data (Unknown kind id) version =
-    told ((codes "broken", string (codes "Unknown")) ∷ (codes "id", number_data id) ∷ (codes "kind", string (kind_word kind)) ∷ (codes "version", number_data version) ∷ [])
-rule_data (NameTaken id) version =
-    told ((codes "broken", string (codes "NameTaken")) ∷ (codes "id", number_data id) ∷ (codes "version", number_data version) ∷ [])
-rule_data Cycle version = bare_data (codes "Cycle") version
-rule_data ParentKind version = bare_data (codes "ParentKind") version
-rule_data Root version = bare_data (codes "Root") version
-rule_data (Placeholder account) version = account_rule_data (codes "Placeholder") account version
-rule_data (NotEmpty account) version = account_rule_data (codes "NotEmpty") account version
-rule_data FractionShape version = bare_data (codes "FractionShape") version
-rule_data BasisShape version = bare_data (codes "BasisShape") version
-rule_data (SplitCount count) version =
-    told ((codes "broken", string (codes "SplitCount")) ∷ (codes "count", number_data count) ∷ (codes "version", number_data version) ∷ [])
-rule_data (WrongCurrency commodity) version =
-    told ((codes "broken", string (codes "WrongCurrency")) ∷ (codes "commodity", number_data commodity) ∷ (codes "version", number_data version) ∷ [])
-rule_data (Basis account) version = account_rule_data (codes "Basis") account version
-rule_data (ValueNotQuantity place) version =
-    told ((codes "broken", string (codes "ValueNotQuantity")) ∷ (codes "place", number_data place) ∷ (codes "version", number_data version) ∷ [])
-rule_data (Unbalanced sum) version =
-    told ((codes "broken", string (codes "Unbalanced")) ∷ (codes "sum", sum_data sum) ∷ (codes "version", number_data version) ∷ [])
-rule_data (Limit which at) version =
-    told ((codes "at", number_data at) ∷ (codes "broken", string (codes "Limit")) ∷ (codes "version", number_data version) ∷ (codes "which", string (counted_word which)) ∷ [])
-
--- The line that answers a command which would break a rule: its text with no blank.
+-- Its line.
 abbrev pub rule_bytes : Rule → ℕ → List ℕ
-rule_bytes rule version = compact_text (rule_data rule version)
+rule_bytes rule version = line_of (rule_members rule version)

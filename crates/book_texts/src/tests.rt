@@ -1,7 +1,7 @@
-//! One answer of each command, and each rule once, byte by byte as written by hand.
-use crate::{answer_text, rule_text};
-use book_commodity::{Counted, Kind, Many, OutOfMemory};
-use book_command::{Answer, Rule};
+//! One answer of each command, and each rule and each refusal once, byte by byte as written by hand.
+use crate::{answer_text, rule_text, too_long_text, wire_text};
+use book_command::{Answer, Rule, WireError};
+use book_commodity::{Counted, Kind, Many, OutOfMemory, Text};
 use std::alloc::Global;
 
 /// A rule, the version that it is told with, and the line.
@@ -88,6 +88,11 @@ static RULES: [Row; 16] = [
     ),
 ];
 
+fn refused(alloc: Global, fault: &WireError, line: &str) -> Result<bool, OutOfMemory> {
+    let text = wire_text(alloc, fault)?;
+    Ok(text.as_slice() == line.as_bytes())
+}
+
 fn answered(alloc: Global, answer: &Answer, version: u64, line: &str) -> Result<bool, OutOfMemory> {
     let text = answer_text(alloc, answer, version)?;
     Ok(text.as_slice() == line.as_bytes())
@@ -131,5 +136,22 @@ fn writes_answers(rt: HostRuntime) -> Result<(), OutOfMemory> {
 #[test]
 fn writes_rules(rt: HostRuntime) -> Result<(), OutOfMemory> {
     assert_eq!(rt; misspelt(rt.alloc())?, None);
+    Ok(())
+}
+
+#[test]
+fn writes_refusals(rt: HostRuntime) -> Result<(), OutOfMemory> {
+    let alloc = rt.alloc();
+    let named = WireError::NotCommand {
+        field: Text::of(String::from_str(alloc, "a\"")?),
+    };
+    let field = r#"{"field":"a\"","refused":"not command"}"#;
+    assert!(rt; refused(alloc, &named, field)?);
+    assert!(rt; refused(alloc, &WireError::NotJson, r#"{"refused":"not json"}"#)?);
+    assert!(rt; refused(alloc, &WireError::NotBuilt, r#"{"refused":"not built"}"#)?);
+    assert_eq!(rt;
+        too_long_text(alloc, 8_388_609)?.as_slice(),
+        r#"{"length":8388609,"refused":"too long"}"#.as_bytes()
+    );
     Ok(())
 }

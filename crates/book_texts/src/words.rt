@@ -1,44 +1,76 @@
-ghost use Rattle.std.specs.Prelude.{◌≡◌};
-ghost use Rattle.book_texts.specs.Pieces.{counted_word, kind_word};
+ghost use Rattle.std.specs.Prelude.{◌≡◌, refl};
+ghost use Rattle.book_texts.specs.Words.{kind_data, kind_word, limit_data, limit_word};
 
+use crate::shown::Shown;
 use book_commodity::{Counted, Kind};
+use book_json::word_of;
+use serde_json::Value;
+use std::alloc::{AllocError, Global};
 
-/// The word for a kind of thing.
-pub fn kind_text(kind: Kind) -> &'static str
-    ensures { result.now ≡ kind_word kind }
-{
-    match kind {
-        Kind::Commodity => "commodity",
-        Kind::Account => "account",
-        Kind::Transaction => "transaction",
-        Kind::Split => "split",
-        Kind::Price => "price",
-        Kind::Schedule => "schedule",
-        Kind::Statement => "statement",
-        Kind::Line => "line",
-        Kind::Binding => "binding",
-        Kind::Reconciliation => "reconciliation",
+/// The words for kinds of things.
+const KINDS: [(&str, Kind); 10] = [
+    ("commodity", Kind::Commodity),
+    ("account", Kind::Account),
+    ("transaction", Kind::Transaction),
+    ("split", Kind::Split),
+    ("price", Kind::Price),
+    ("schedule", Kind::Schedule),
+    ("statement", Kind::Statement),
+    ("line", Kind::Line),
+    ("binding", Kind::Binding),
+    ("reconciliation", Kind::Reconciliation),
+];
+
+/// The words for what has a limit.
+const LIMITS: [(&str, Counted); 14] = [
+    ("amount", Counted::Amount),
+    ("transactions", Counted::Transactions),
+    ("splits", Counted::Splits),
+    ("accounts", Counted::Accounts),
+    ("commodities", Counted::Commodities),
+    ("prices", Counted::Prices),
+    ("schedules", Counted::Schedules),
+    ("lines", Counted::Lines),
+    ("statements", Counted::Statements),
+    ("bindings", Counted::Bindings),
+    ("recons", Counted::Recons),
+    ("days", Counted::Days),
+    ("window", Counted::Window),
+    ("numbers", Counted::Numbers),
+];
+
+/// A kind of thing, by its word.
+impl Shown for Kind {
+    ghost shown = { kind_data };
+
+    ghost plain = { λ kind. refl };
+
+    fn value(&self, alloc: Global) -> Result<Value, AllocError> {
+        Ok(Value::String(String::from_str(alloc, kind_text(*self))?))
     }
 }
 
-/// The word for what has a limit.
-pub fn counted_text(which: Counted) -> &'static str
-    ensures { result.now ≡ counted_word which }
-{
-    match which {
-        Counted::Amount => "amount",
-        Counted::Transactions => "transactions",
-        Counted::Splits => "splits",
-        Counted::Accounts => "accounts",
-        Counted::Commodities => "commodities",
-        Counted::Prices => "prices",
-        Counted::Schedules => "schedules",
-        Counted::Lines => "lines",
-        Counted::Statements => "statements",
-        Counted::Bindings => "bindings",
-        Counted::Recons => "recons",
-        Counted::Days => "days",
-        Counted::Window => "window",
-        Counted::Numbers => "numbers",
+/// What has a limit, by its word.
+impl Shown for Counted {
+    ghost shown = { limit_data };
+
+    ghost plain = { λ which. refl };
+
+    fn value(&self, alloc: Global) -> Result<Value, AllocError> {
+        Ok(Value::String(String::from_str(alloc, limit_text(*self))?))
     }
+}
+
+#[tactic(auto, unfolding(crate::specs::Words::kind_word))]
+fn kind_text(kind: Kind) -> &'static str
+    ensures { result.now ≡ kind_word kind }
+{
+    word_of(&KINDS, kind)
+}
+
+#[tactic(auto, unfolding(crate::specs::Words::limit_word))]
+fn limit_text(which: Counted) -> &'static str
+    ensures { result.now ≡ limit_word which }
+{
+    word_of(&LIMITS, which)
 }

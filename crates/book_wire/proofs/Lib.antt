@@ -1,4 +1,3 @@
-pub mod LineLemmas
+pub mod AskedLemmas
 pub mod StepLemmas
-pub mod ToldLemmas
 pub mod Worked

@@ -1,5 +1,6 @@
+pub mod Accounts
+pub mod Asked
 pub mod Commands
+pub mod Commodities
 pub mod Kinds
-pub mod Line
-pub mod Told
-pub mod Words
+pub mod Posting

@@ -1,28 +1,48 @@
 ghost use Rattle.std.specs.Prelude.{◌≡◌};
 ghost use Rattle.book_json.specs.Reads.{rest, Gives};
-ghost use Rattle.book_wire.specs.Commands.{account, account_add, account_edit, account_drop};
+ghost use Rattle.book_wire.specs.Accounts.{account, account_members};
 
-use crate::held::Held;
-use book_accounts::{Account, AccountKind};
+use crate::kinds::kind;
+use book_accounts::Account;
+use book_command::{GivenAccount, What};
 use book_commodity::Text;
 use book_json::{Fault, Filled, Reading};
-use book_command::{GivenAccount, What};
 
-/// The members of `account_add`.
-pub(crate) fn account_add(members: &mut Reading) -> Result<What, Fault>
-    ensures { Gives (account_add (rest members.old)) result (rest members.new) }
+/// The commands on accounts.
+#[derive(Clone, Copy)]
+pub(crate) enum AccountCommand {
+    AccountAdd,
+    AccountEdit,
+    AccountDrop,
+}
+
+impl AccountCommand {
+    /// What the command asks, of its members.
+    pub(crate) fn read(self, members: &mut Reading) -> Result<What, Fault>
+        ensures { Gives (account_members self (rest members.old)) result (rest members.new) }
+    {
+        match self {
+            AccountCommand::AccountAdd => account_add(members),
+            AccountCommand::AccountEdit => account_edit(members),
+            AccountCommand::AccountDrop => account_drop(members),
+        }
+    }
+}
+
+fn account_add(members: &mut Reading) -> Result<What, Fault>
+    ensures { Gives (account_members AccountCommand.AccountAdd (rest members.old)) result (rest members.new) }
 {
     let account = account(members)?;
     Ok(What::AccountAdd { account })
 }
 
 /// A new account.
-#[tactic(auto, unfolding(crate::specs::Commands::account))]
+#[tactic(auto, unfolding(crate::specs::Accounts::account))]
 fn account(members: &mut Reading) -> Result<Account, Fault>
     ensures { Gives (account (rest members.old)) result (rest members.new) }
 {
     let name = members.needed::<Filled>("name")?;
-    let kind = members.needed::<Held<AccountKind>>("kind")?;
+    let kind = kind(members)?;
     let commodity = members.needed("commodity")?;
     let parent = members.needed("parent")?;
     let code = members.text("code")?;
@@ -32,7 +52,7 @@ fn account(members: &mut Reading) -> Result<Account, Fault>
     let basis = members.optional("basis")?;
     Ok(Account {
         name: name.into_text(),
-        kind: kind.into_value(),
+        kind,
         commodity,
         parent: Some(parent),
         code,
@@ -43,9 +63,8 @@ fn account(members: &mut Reading) -> Result<Account, Fault>
     })
 }
 
-/// The members of `account_edit`.
-pub(crate) fn account_edit(members: &mut Reading) -> Result<What, Fault>
-    ensures { Gives (account_edit (rest members.old)) result (rest members.new) }
+fn account_edit(members: &mut Reading) -> Result<What, Fault>
+    ensures { Gives (account_members AccountCommand.AccountEdit (rest members.old)) result (rest members.new) }
 {
     let account = members.needed("account")?;
     let name = members.optional("name")?;
@@ -72,9 +91,8 @@ fn text_of(filled: Option<Filled>) -> Option<Text>
     filled.map(|filled| filled.into_text())
 }
 
-/// The members of `account_drop`.
-pub(crate) fn account_drop(members: &mut Reading) -> Result<What, Fault>
-    ensures { Gives (account_drop (rest members.old)) result (rest members.new) }
+fn account_drop(members: &mut Reading) -> Result<What, Fault>
+    ensures { Gives (account_members AccountCommand.AccountDrop (rest members.old)) result (rest members.new) }
 {
     let account = members.needed("account")?;
     Ok(What::AccountDrop { account })

@@ -1,21 +1,38 @@
 ghost use Rattle.book_json.specs.Reads.{rest, Gives};
-ghost use Rattle.book_wire.specs.Commands.{book_currency, commodity_add};
+ghost use Rattle.book_wire.specs.Commodities.{commodity_members};
 
+use book_command::What;
 use book_commodity::Commodity;
 use book_json::{Fault, Filled, Reading};
-use book_command::What;
 
-/// The members of `book_currency`.
-pub(crate) fn book_currency(members: &mut Reading) -> Result<What, Fault>
-    ensures { Gives (book_currency (rest members.old)) result (rest members.new) }
+/// The commands on commodities.
+#[derive(Clone, Copy)]
+pub(crate) enum CommodityCommand {
+    BookCurrency,
+    CommodityAdd,
+}
+
+impl CommodityCommand {
+    /// What the command asks, of its members.
+    pub(crate) fn read(self, members: &mut Reading) -> Result<What, Fault>
+        ensures { Gives (commodity_members self (rest members.old)) result (rest members.new) }
+    {
+        match self {
+            CommodityCommand::BookCurrency => book_currency(members),
+            CommodityCommand::CommodityAdd => commodity_add(members),
+        }
+    }
+}
+
+fn book_currency(members: &mut Reading) -> Result<What, Fault>
+    ensures { Gives (commodity_members CommodityCommand.BookCurrency (rest members.old)) result (rest members.new) }
 {
     let commodity = members.needed("commodity")?;
     Ok(What::BookCurrency { commodity })
 }
 
-/// The members of `commodity_add`.
-pub(crate) fn commodity_add(members: &mut Reading) -> Result<What, Fault>
-    ensures { Gives (commodity_add (rest members.old)) result (rest members.new) }
+fn commodity_add(members: &mut Reading) -> Result<What, Fault>
+    ensures { Gives (commodity_members CommodityCommand.CommodityAdd (rest members.old)) result (rest members.new) }
 {
     let space = members.needed::<Filled>("space")?;
     let name = members.needed::<Filled>("name")?;

@@ -1,23 +1,19 @@
-//! Lines of JSON read as commands: the words of commands, the members of each in their order, and the texts of the
-//! faults of a line that is no command. A line is read exactly as the tables in `specs/` say. Nothing here knows the
-//! book or how it is kept.
+//! Lines of JSON read as commands: the table of the commands' words, and the members of each command in their order. A
+//! line is read exactly as the tables in `specs/` say. Nothing here knows the book or how it is kept. Public is
+//! `command_of`; the texts that answer lines are handed on from the crates that make them.
 #![tactic(auto)]
 
 mod accounts;
-mod asked;
-mod command;
+mod commands;
 mod commodities;
-mod fault;
-mod held;
-mod kind;
+mod kinds;
 mod line;
-mod splits;
-mod told;
-mod transactions;
+mod posting;
 
-pub use fault::WireError;
+pub use book_command::WireError;
+pub use book_lines::{KEEPER, MEMORY};
+pub use book_texts::{answer_text, rule_text, wire_text};
 pub use line::command_of;
-pub use told::{too_long_text, wire_text};
 
 #[cfg(test)]
 mod tests;

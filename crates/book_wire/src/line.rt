@@ -1,21 +1,19 @@
 ghost use Rattle.std.specs.Prelude.{◌≡◌, IfSome};
 ghost use Rattle.book_json.specs.Reads.{rest};
-ghost use Rattle.book_wire.specs.Line.{line_of_members, line_of_result, IsRead};
+ghost use Rattle.book_wire.specs.Asked.{asked_of_members, asked_of_result, error_of_fault, IsRead};
 
-use crate::WireError;
-use crate::asked::Asked;
-use crate::command::command;
+use crate::commands::{command, command_named};
+use book_command::{Command, WireError};
 use book_commodity::Text;
-use book_json::{NotRead, Reading, object_of};
-use book_command::Command;
+use book_json::{Fault, NotRead, Reading, object_of};
 use std::alloc::Global;
 
-/// What the line asks, without its line feed; an error says why it is no command, or that memory was refused.
+/// What the line asks, without its line feed. An error says why it is no command, or that there was no memory.
 pub fn command_of(alloc: Global, line: &[u8]) -> Result<Command, WireError>
     ensures { IsRead line.now result }
 {
     match object_of(alloc, line) {
-        Ok(members) => command_of_members(alloc, members),
+        Ok(members) => command_of_members(members),
         Err(NotRead::NotJson) => Err(WireError::NotJson),
         Err(NotRead::NotObject) => Err(WireError::NotCommand {
             field: Text::new(alloc),
@@ -25,11 +23,28 @@ pub fn command_of(alloc: Global, line: &[u8]) -> Result<Command, WireError>
 }
 
 /// What the members of a line ask.
-fn command_of_members(alloc: Global, mut members: Reading) -> Result<Command, WireError>
-    ensures { IfSome (line_of_result result) (λ line. line_of_members (rest members) ≡ line) }
+fn command_of_members(mut members: Reading) -> Result<Command, WireError>
+    ensures { IfSome (asked_of_result result) (λ asked. asked_of_members (rest members) ≡ asked) }
 {
-    match members.needed("do")? {
-        Asked::Command(word) => Ok(command(alloc, word, &mut members)?),
-        Asked::Later => Err(WireError::NotBuilt),
+    let named = match command_named(&mut members) {
+        Ok(named) => named,
+        Err(fault) => return Err(error_of(fault)),
+    };
+    let Some(built) = named else {
+        return Err(WireError::NotBuilt);
+    };
+    match command(built, &mut members) {
+        Ok(command) => Ok(command),
+        Err(fault) => Err(error_of(fault)),
+    }
+}
+
+/// Why a line is no command, where a member of it fails.
+fn error_of(fault: Fault) -> WireError
+    ensures { result ≡ error_of_fault fault }
+{
+    match fault {
+        Fault::Member(field) => WireError::NotCommand { field },
+        Fault::OutOfMemory => WireError::OutOfMemory,
     }
 }

@@ -1,8 +1,8 @@
 //! Lines written by hand beside what they are read as: the fault that each is answered, or the values it gives.
-use crate::{WireError, command_of, too_long_text, wire_text};
+use crate::{WireError, command_of, wire_text};
 use book_accounts::AccountKind;
-use book_commodity::{Bytes, OutOfMemory};
 use book_command::{Command, GivenAccount, What};
+use book_commodity::{Bytes, OutOfMemory};
 use std::alloc::Global;
 
 /// A line, and the member that fails in it, or in brackets what else comes of it.
@@ -313,10 +313,6 @@ fn lines_are_read_as_commands(rt: HostRuntime) -> Result<(), OutOfMemory> {
     assert_eq!(rt;
         outcome(alloc, b"{\"do\":\"\xff\"}")?.as_slice(),
         r#"{"refused":"not json"}"#.as_bytes()
-    );
-    assert_eq!(rt;
-        too_long_text(alloc, 8_388_609)?.as_slice(),
-        r#"{"length":8388609,"refused":"too long"}"#.as_bytes()
     );
     Ok(())
 }

@@ -8,7 +8,7 @@ use Rattle.book_command.specs.declared.rule.Rule.{Rule}
 use Rattle.book_engine.specs.Planned.{after, IsRefusal}
 use Rattle.book_texts.specs.AnswerText.{answer_bytes}
 use Rattle.book_texts.specs.RuleText.{rule_bytes}
-use Rattle.book_texts.proofs.ToldLemmas.{answer-own_line, rule-own_line}
+use Rattle.book_texts.proofs.OwnLineLemmas.{answer-own_line, rule-own_line}
 use Rattle.book_app.specs.Machine.{IsOutcome}
 use Rattle.book_app.proofs.ReplyLemmas.{IsAnswer-own_line}
 use Rattle.book_app.proofs.reply.reply.Goals as goal

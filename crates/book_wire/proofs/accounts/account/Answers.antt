@@ -1,5 +1,5 @@
 use Rattle.std.proofs.Common.{rules}
-use Rattle.book_wire.specs.Commands.{account}
+use Rattle.book_wire.specs.Accounts.{account}
 use Rattle.book_wire.proofs.StepLemmas.{stop}
 use Rattle.book_wire.proofs.accounts.account.Goals as goal
 

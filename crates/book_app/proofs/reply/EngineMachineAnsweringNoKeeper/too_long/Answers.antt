@@ -1,9 +1,9 @@
 use Rattle.std.proofs.Common.{◌≡◌, Bool, MatchBool, length, ◌^◌, refl, sym, ap, subst, ◌∙◌}
 use Rattle.std.proofs.lemmas.Result.{IfOk-weaker}
 use Rattle.std.proofs.lemmas.Bool.{lt-ltb}
-use Rattle.book_wire.specs.Told.{too_long_bytes}
-use Rattle.book_wire.proofs.ToldLemmas.{too_long-own_line}
-use Rattle.book_app.specs.Machine.{Tells}
+use Rattle.book_texts.specs.RefusedText.{too_long_bytes}
+use Rattle.book_texts.proofs.OwnLineLemmas.{too_long-own_line}
+use Rattle.book_app.specs.Machine.{Replies}
 use Rattle.book_app.proofs.ReplyLemmas.{IsAnswer-own_line}
 use Rattle.book_app.proofs.reply.EngineMachineAnsweringNoKeeper.too_long.Goals as goal
 
@@ -13,7 +13,7 @@ returns-clause-answered c =
     (λ text is. (
       IsAnswer-own_line text _ is (too_long-own_line c.args.size),
       λ line size long.
-          subst (λ (t : Bool). MatchBool t ((text ≡ too_long_bytes (length line)) × (c.args.self.now.state ≡ c.args.self.now.state)) (Tells c.args.self.now.state line text c.args.self.now.state))
+          subst (λ (t : Bool). MatchBool t ((text ≡ too_long_bytes (length line)) × (c.args.self.now.state ≡ c.args.self.now.state)) (Replies c.args.self.now.state line text c.args.self.now.state))
           (sym (lt-ltb (2 ^ 23) (length line) long)) (is ∙ ap too_long_bytes (sym size), refl),
     ))
     c.too_long_text.ensures

@@ -7,4 +7,5 @@ returns-in-None g c = ends-none c.args.value c.args.self.now.members.entries c.i
 
 pub returns-in-Some : goal.returns-in-Some
 returns-in-Some g c =
-    fails _ _ _ _ (ends-first c.args.value c.args.self.now.members.entries _ _ c.in-Some.ensures.first ∙ ap Err (sym c.as_str.ensures.value)) c.fault.ensures
+    fails _ _ _ _ (ends-first c.args.value c.args.self.now.members.entries _ _ c.in-Some.ensures.first
+    ∙ ap Err (sym c.as_str.ensures.value)) c.fault.ensures

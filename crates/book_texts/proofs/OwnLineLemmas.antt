@@ -1,0 +1,113 @@
+-- Each answer is one line, and neither of the two that say why a line has no answer.
+use Rattle.std.proofs.Common.{◌&&◌, ◌==◌, ◌≡◌, ◌∷◌, Bool, List, [], Some, codes, false, get_or, refl, true, ℕ, subst}
+use Rattle.std.specs.Prelude.{bytes_eq}
+use Rattle.serde_json.proofs.OnLiterals.{serde_json_on_literals}
+use Rattle.serde_json.specs.Data.{object, string}
+use Rattle.book_commodity.specs.OneLine.{is_one_line}
+use Rattle.book_command.specs.declared.answer.Answer.{Answer}
+use Rattle.book_command.specs.declared.answer.Answer.TheVariants.{AccountAdd, AccountDrop, AccountEdit}
+use Rattle.book_command.specs.declared.answer.Answer.TheVariants.{BookCurrency, CommodityAdd, Post}
+use Rattle.book_command.specs.declared.rule.Rule.{Rule}
+use Rattle.book_command.specs.declared.rule.Rule.TheVariants.{Basis, BasisShape, Cycle, FractionShape, Limit}
+use Rattle.book_command.specs.declared.rule.Rule.TheVariants.{NameTaken, NotEmpty, ParentKind, Placeholder, Root}
+use Rattle.book_command.specs.declared.rule.Rule.TheVariants.{SplitCount, Stale, Unbalanced, Unknown}
+use Rattle.book_command.specs.declared.rule.Rule.TheVariants.{ValueNotQuantity, WrongCurrency}
+use Rattle.book_command.specs.declared.wire_error.WireError.{WireError}
+use Rattle.book_command.specs.declared.wire_error.WireError.TheVariants.{NotJson, NotCommand, NotBuilt, OutOfMemory}
+use Rattle.book_json.proofs.OneLine.{compact_text-one_line}
+use Rattle.book_texts.specs.AnswerText.{answer_bytes, answer_members}
+use Rattle.book_texts.specs.Fields.{refused}
+use Rattle.book_texts.specs.RefusedText.{fault_bytes, too_long_bytes}
+use Rattle.book_texts.specs.RuleText.{rule_bytes, rule_members}
+use Rattle.book_texts.specs.Shown.{number_data}
+
+-- A text is one line, and neither of the two that say why a line has no answer.
+pub record IsOwnLine (text : List ℕ) : Type 0 where
+  pub one_line : is_one_line text ≡ true
+  pub no_memory : bytes_eq text (codes "{\"refused\":\"memory\"}") ≡ false
+  pub no_keeper : bytes_eq text (codes "{\"refused\":\"keeper\"}") ≡ false
+
+first_false : (x : Bool) → (x && false) ≡ false
+first_false true = refl
+first_false false = refl
+
+second_false : (x y : Bool) → (x && (y && false)) ≡ false
+second_false x y = rw (first_false y) (first_false x)
+
+-- Where the byte after the brace and the quote is no `r`, a line is none of the two, which have "refused" there.
+no_refusal : (text : List ℕ) → is_one_line text ≡ true → (get_or text 2 0 == 114) ≡ false → IsOwnLine text
+no_refusal [] line other = record { one_line = line; no_memory = refl; no_keeper = refl }
+no_refusal (a ∷ []) line other = record
+    { one_line = line; no_memory = first_false (a == 123); no_keeper = first_false (a == 123) }
+no_refusal (a ∷ b ∷ []) line other =
+    record { one_line = line; no_memory = second_false (a == 123) (b == 34);
+        no_keeper = second_false (a == 123) (b == 34) }
+no_refusal (a ∷ b ∷ c ∷ more) line other =
+    record { one_line = line; no_memory = rw other (second_false (a == 123) (b == 34));
+        no_keeper = rw other (second_false (a == 123) (b == 34)) }
+
+answer-letter : (answer : Answer) (version : ℕ) → (get_or (answer_bytes answer version) 2 0 == 114) ≡ false
+unfolding serde_json_on_literals
+answer-letter BookCurrency version = refl
+answer-letter (CommodityAdd commodity) version = refl
+answer-letter (AccountAdd account) version = refl
+answer-letter AccountEdit version = refl
+answer-letter AccountDrop version = refl
+answer-letter (Post transaction splits balances) version = refl
+
+rule-letter : (rule : Rule) (version : ℕ) → (get_or (rule_bytes rule version) 2 0 == 114) ≡ false
+unfolding serde_json_on_literals
+rule-letter (Stale now) version = refl
+rule-letter (Unknown kind id) version = refl
+rule-letter (NameTaken id) version = refl
+rule-letter Cycle version = refl
+rule-letter ParentKind version = refl
+rule-letter Root version = refl
+rule-letter (Placeholder account) version = refl
+rule-letter (NotEmpty account) version = refl
+rule-letter FractionShape version = refl
+rule-letter BasisShape version = refl
+rule-letter (SplitCount count) version = refl
+rule-letter (WrongCurrency commodity) version = refl
+rule-letter (Basis account) version = refl
+rule-letter (ValueNotQuantity place) version = refl
+rule-letter (Unbalanced sum) version = refl
+rule-letter (Limit which at) version = refl
+
+pub answer-own_line : (answer : Answer) (version : ℕ) → IsOwnLine (answer_bytes answer version)
+answer-own_line answer version =
+    no_refusal (answer_bytes answer version) (compact_text-one_line (object (answer_members answer version)))
+        (answer-letter answer version)
+
+pub rule-own_line : (rule : Rule) (version : ℕ) → IsOwnLine (rule_bytes rule version)
+rule-own_line rule version = no_refusal (rule_bytes rule version)
+    (compact_text-one_line (object (rule_members rule version))) (rule-letter rule version)
+
+some_is : {X : Type 0} (x y : X) → Some x ≡ Some y → x ≡ y
+some_is x y e = cc
+
+-- So is the answer to each line that is no command.
+pub fault-own_line : (fault : WireError) (text : List ℕ) → fault_bytes fault ≡ Some text → IsOwnLine text
+unfolding fault_bytes serde_json_on_literals
+fault-own_line NotJson text is =
+    subst IsOwnLine (some_is _ _ is)
+        (record { one_line = compact_text-one_line (object (refused (codes "not json") [])); no_memory = refl;
+        no_keeper = refl })
+fault-own_line (NotCommand name) text is =
+    subst IsOwnLine (some_is _ _ is)
+    (record { one_line = compact_text-one_line
+        (object (refused (codes "not command") ((codes "field", string name) ∷ []))); no_memory = refl;
+        no_keeper = refl })
+fault-own_line NotBuilt text is =
+    subst IsOwnLine (some_is _ _ is)
+        (record { one_line = compact_text-one_line (object (refused (codes "not built") [])); no_memory = refl;
+        no_keeper = refl })
+fault-own_line OutOfMemory text is = absurd cc
+
+-- And the answer to a line that is too long.
+pub too_long-own_line : (length : ℕ) → IsOwnLine (too_long_bytes length)
+unfolding too_long_bytes serde_json_on_literals
+too_long-own_line length =
+    record { one_line = compact_text-one_line
+        (object (refused (codes "too long") ((codes "length", number_data length) ∷ []))); no_memory = refl;
+        no_keeper = refl }

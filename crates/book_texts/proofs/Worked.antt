@@ -1,0 +1,31 @@
+-- Lines at values written by hand.
+use Rattle.std.proofs.Common.{◌≡◌, [], ◌∷◌, Some, codes, refl}
+use Rattle.std.specs.Fmt.{digits}
+use Rattle.serde_json.proofs.OnLiterals.{serde_json_on_literals}
+use Rattle.book_command.specs.declared.rule.Rule.TheVariants.{Unknown}
+use Rattle.book_command.specs.declared.wire_error.WireError.TheVariants.{NotCommand}
+use Rattle.book_commodity.specs.declared.counted.Counted.TheVariants.{Numbers}
+use Rattle.book_commodity.specs.declared.kind.Kind.TheVariants.{Reconciliation}
+use Rattle.book_texts.specs.RefusedText.{fault_bytes, too_long_bytes}
+use Rattle.book_texts.specs.RuleText.{rule_bytes}
+use Rattle.book_texts.specs.Words.{kind_word, limit_word}
+
+-- the number stands before the kind, in byte order
+unknown_bytes : rule_bytes (Unknown Reconciliation 7) 9
+    ≡ codes "{\"broken\":\"Unknown\",\"id\":7,\"kind\":\"reconciliation\",\"version\":9}"
+unfolding digits kind_word serde_json_on_literals
+unknown_bytes = refl
+
+last_limit : limit_word Numbers ≡ codes "numbers"
+unfolding limit_word
+last_limit = refl
+
+-- a quote in a name stands behind a backslash
+not_command_bytes : fault_bytes (NotCommand (97 ∷ 34 ∷ []))
+    ≡ Some (codes "{\"field\":\"a\\\"\",\"refused\":\"not command\"}")
+unfolding fault_bytes serde_json_on_literals
+not_command_bytes = refl
+
+long_bytes : too_long_bytes 9000000 ≡ codes "{\"length\":9000000,\"refused\":\"too long\"}"
+unfolding digits too_long_bytes serde_json_on_literals
+long_bytes = refl

@@ -1,0 +1,13 @@
+-- The answers of the commands on commodities, each with the version after it.
+use Rattle.std.specs.Prelude.{ℕ, [], ◌∷◌, codes}
+use Rattle.serde_json.specs.Data.{Members}
+use Rattle.book_texts.specs.Fields.{answered}
+use Rattle.book_texts.specs.Shown.{number_data}
+
+-- `book_currency` has no field of its own.
+abbrev pub book_currency : ℕ → Members
+book_currency = answered (codes "book_currency") []
+
+-- `commodity_add`: the number of the new commodity.
+abbrev pub commodity_add : ℕ → ℕ → Members
+commodity_add commodity = answered (codes "commodity_add") ((codes "commodity", number_data commodity) ∷ [])

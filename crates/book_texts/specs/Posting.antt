@@ -1,0 +1,14 @@
+-- The answers of the commands on transactions, each with the version after it.
+use Rattle.std.specs.Prelude.{ℕ, ℤ, List, [], ◌∷◌, codes}
+use Rattle.serde_json.specs.Data.{Members}
+use Rattle.book_texts.specs.Fields.{answered}
+use Rattle.book_texts.specs.Shown.{list_data, number_data, sum_data}
+
+-- `post`: the number of the new transaction, the numbers of its splits, and the balances of their accounts.
+abbrev pub post : ℕ → List ℕ → List ℤ → ℕ → Members
+post transaction splits balances =
+    answered (codes "post")
+    ((codes "balances", list_data sum_data balances)
+    ∷ (codes "splits", list_data number_data splits)
+    ∷ (codes "transaction", number_data transaction)
+    ∷ [])
