@@ -13,8 +13,8 @@ use Rattle.book_app.specs.Machine.{IsOutcome}
 use Rattle.book_app.proofs.ReplyLemmas.{IsAnswer-own_line}
 use Rattle.book_app.proofs.reply.reply.Goals as goal
 
-pub returns-in_ok-text-in-Ok-clause-told : goal.returns-in_ok-text-in-Ok-clause-told
-returns-in_ok-text-in-Ok-clause-told c =
+pub returns-in_ok-text-in-Ok-clause-answered : goal.returns-in_ok-text-in-Ok-clause-answered
+returns-in_ok-text-in-Ok-clause-answered c =
     let old : State = c.args.engine.now.state in
     let text : List ℕ = c.in_ok-text-in-Ok.text in
     let is : text ≡ answer_bytes c.in-Ok.plan.answer c.in-Ok.plan.version =
@@ -25,8 +25,8 @@ returns-in_ok-text-in-Ok-clause-told c =
       subst (λ (o : Outcome). IsOutcome o old text c.finish.new.self.state) (sym c.in-Ok.ensures.planned) (is, new),
     )
 
-pub returns-in-Err-Broken-clause-told : goal.returns-in-Err-Broken-clause-told
-returns-in-Err-Broken-clause-told c =
+pub returns-in-Err-Broken-clause-answered : goal.returns-in-Err-Broken-clause-answered
+returns-in-Err-Broken-clause-answered c =
     let old : State = c.args.engine.now.state in
     let version : c.version-in-Err-Broken.result ≡ old.version =
     c.version-in-Err-Broken.ensures ∙ ap (λ (s : State). s.version) c.prepare.ensures.unchanged in
