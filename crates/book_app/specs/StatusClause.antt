@@ -27,9 +27,9 @@ StatusClause old bytes read left text new OutputFault = RunClause answers old by
 StatusClause old bytes read left text new Usage = IsUntouched old read text new
 StatusClause old bytes read left text new Memory = IsUntouched old read text new
 
--- A run from a state. There are the bytes that the input had left, as far as it reports them: what was read, at most one
--- byte past the limit, and then what it has left now. There are the text that the output gained, as far as it reports it,
--- and the last state. Of these holds what belongs to the status.
+-- A run from a state. There are the bytes that the input had left, as far as it reports them: what was read, at most
+-- one byte past the limit, and then what it has left now. There are the text that the output gained, as far as it
+-- reports it, and the last state. Of these holds what belongs to the status.
 pub record IsBookRun
     (first : State) (input_before input_after : Option (List ℕ)) (output_before output_after : List ℕ → Type 0)
     (status : Status) : Type 0 where

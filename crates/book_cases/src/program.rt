@@ -8,8 +8,8 @@ use std::io;
 use std::io::{BufRead, Eprint, ErrorKind, Input, Lines, Print};
 use std::process::{ExitCode, Termination};
 
-/// A host with these words and this input. It takes what is written and what is said on standard error, and notes
-/// whether these are the bytes and the line that a test expects.
+/// A host with these words, whose input is a salary. It takes what is written and what is said on standard error, and
+/// notes whether these are the bytes and the line that a test expects.
 #[derive(Drop)]
 struct Host {
     alloc: Global,
@@ -23,12 +23,17 @@ struct Host {
 }
 
 impl Host {
-    fn new(alloc: Global, line: &'static str) -> Host {
+    fn new(
+        alloc: Global,
+        words: &'static [&'static [u8]],
+        output: &'static str,
+        line: &'static str,
+    ) -> Host {
         Host {
             alloc,
-            words: &[],
-            input: b"",
-            output: b"",
+            words,
+            input: SALARY.as_bytes(),
+            output: output.as_bytes(),
             line,
             written: Cell::new(0),
             lines: Cell::new(0),
@@ -144,10 +149,7 @@ static ROWS: [Row; 4] = [
 #[test]
 fn words_and_streams(rt: HostRuntime) {
     for (words, output, line, lines, number) in ROWS {
-        let mut host = Host::new(rt.alloc(), line);
-        host.words = words;
-        host.input = SALARY.as_bytes();
-        host.output = output.as_bytes();
+        let host = Host::new(rt.alloc(), words, output, line);
         let code = run_program(&host).report(&host);
         assert_eq!(rt; code, ExitCode::from(number));
         assert_eq!(rt; host.written.get(), output.len());
@@ -169,7 +171,7 @@ static ENDS: [(Status, &str, u32, u8); 6] = [
 #[test]
 fn lines_on_standard_error(rt: HostRuntime) {
     for (status, line, lines, number) in ENDS {
-        let host = Host::new(rt.alloc(), line);
+        let host = Host::new(rt.alloc(), &[], "", line);
         let code = status.report(&host);
         assert_eq!(rt; code, ExitCode::from(number));
         assert_eq!(rt; host.lines.get(), lines);

@@ -6,7 +6,11 @@ use Rattle.book_app.specs.Machine.{answers}
 use Rattle.book_app.proofs.main_call.run_lines.Goals as goal
 
 -- the engine's answers are those of the machine of whole books on its state
-machine : Maps (λ (old : Kept) (line : List ℕ) (mark : Mark) (text : List ℕ) (new : Kept). answers old.state line mark text new.state) answers (λ k. k.state)
+machine :
+    Maps
+    (λ (old : Kept) (line : List ℕ) (mark : Mark) (text : List ℕ) (new : Kept).
+    answers old.state line mark text new.state)
+    answers (λ k. k.state)
 machine = record { each = λ old line mark text new h. h }
 
 pub returns-clause-run : goal.returns-clause-run
