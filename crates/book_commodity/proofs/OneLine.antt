@@ -28,9 +28,9 @@ digits_onto-one_line zero n behind h = h
 digits_onto-one_line (suc k) n behind h =
     let glyph = digit_glyph false (n % 10) in
     let first : is_one_line (glyph ∷ behind)
-        ≡ true = both (no_feed glyph) (is_one_line behind) (above-no_feed glyph (glyph-above (n % 10))) h in
+    ≡ true = both (no_feed glyph) (is_one_line behind) (above-no_feed glyph (glyph-above (n % 10))) h in
     elim (n / 10 == 0) as (λ t. is_one_line
-        (cond t (glyph ∷ behind) (digits_onto k 10 false (n / 10) (glyph ∷ behind))) ≡ true)
+    (cond t (glyph ∷ behind) (digits_onto k 10 false (n / 10) (glyph ∷ behind))) ≡ true)
     [ true ↦ first | false ↦ digits_onto-one_line k (n / 10) (glyph ∷ behind) first ]
 
 -- a number in decimal digits is one line

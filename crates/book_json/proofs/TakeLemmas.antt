@@ -43,12 +43,6 @@ pub fails : {X : Type 0} (read : Result (X × Members) (List ℕ)) (name : List 
 fails read name (Member found) left is of = is ∙ ap Err (sym of)
 fails read name OutOfMemory left is of = tt
 
--- want of memory needs no cause
-pub no_memory : {X : Type 0} (read : Result (X × Members) (List ℕ)) (fault : Fault) (left : Members)
-    → fault ≡ OutOfMemory → Gives read (Err fault) left
-no_memory read (Member found) left is = absurd cc
-no_memory read OutOfMemory left is = tt
-
 pub needed-absent : {X : Type 0} (form : Form X) (name : List ℕ) (ms : Members) → get_member name ms ≡ None
     → needed form name ms ≡ Err name
 unfolding needed

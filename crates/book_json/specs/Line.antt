@@ -12,7 +12,7 @@ use Rattle.book_json.specs.declared.reading.Reading.{Reading}
 abbrev pub IsJson : List ℕ → Data → Type 0
 IsJson line d = IsUtf8 line × (read line ≡ Some d)
 
--- The members of the object that the line is, or why it is none; want of memory needs no cause.
+-- The members of the object that the line is, or why it is none; out of memory needs no cause.
 abbrev pub IsObjectOf : List ℕ → Result Reading NotRead → Type 0
 IsObjectOf line (Ok reading) = IsJson line (object (rest reading))
 IsObjectOf line (Err NotJson) = (d : Data) → IsJson line d → ⊥

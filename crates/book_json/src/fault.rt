@@ -6,7 +6,7 @@ use std::alloc::AllocError;
 pub enum Fault {
     /// The member of this name fails: it is needed and absent, of another form, or not asked for.
     Member(Text),
-    /// Memory was refused.
+    /// Out of memory.
     OutOfMemory,
 }
 

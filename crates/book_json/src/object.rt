@@ -11,7 +11,7 @@ pub enum NotRead {
     NotJson,
     /// It is JSON, but no object.
     NotObject,
-    /// Memory was refused.
+    /// Out of memory.
     OutOfMemory,
 }
 

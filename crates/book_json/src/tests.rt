@@ -1,8 +1,7 @@
 //! A small command read by its table of members, from lines written by hand that it takes or must refuse.
-ghost use Rattle.std.specs.Prelude.{◌≡◌, ◌∷◌, [], codes};
+ghost use Rattle.std.specs.Prelude.{codes};
 ghost use Rattle.book_json.specs.Members.{needed, optional, text, flag, absent, gives, ◌>>=◌};
 ghost use Rattle.book_json.specs.Forms.{whole, whole_signed, filled, day_form, among, list, inner};
-ghost use Rattle.book_json.specs.Words.{rows_of};
 
 use crate::{Fault, Filled, NotRead, Object, Reading, object_of, word_of};
 use book_commodity::{Day, Many, OutOfMemory, Text};
@@ -53,19 +52,28 @@ struct Purse {
 }
 
 impl Object for Purse {
-    ghost use Rattle.book_json.specs.declared.tests.TheConstants.{AIMS};
+    ghost use Rattle.std.specs.Prelude.{[], ◌∷◌};
+    ghost use Rattle.book_json.specs.declared.tests.Aim.TheVariants.{Saving, Spending};
 
     type Value = Purse;
 
     ghost reader = { do
-      aim ← needed (among (rows_of AIMS)) (codes "aim")
+      aim ← needed (among ((codes "saving", Saving) ∷ (codes "spending", Spending) ∷ [])) (codes "aim")
       owner ← needed whole (codes "owner")
       name ← needed filled (codes "name")
       opened ← optional day_form (codes "opened")
       shut ← flag (codes "shut")
       coins ← needed (list (inner ⟦<Coin as Object>⟧.reader)) (codes "coins")
       price ← absent (codes "price")
-      gives (record { aim = aim; owner = owner; name = name; opened = opened; shut = shut; coins = coins; price = price }) };
+      gives (record {
+        aim = aim;
+        owner = owner;
+        name = name;
+        opened = opened;
+        shut = shut;
+        coins = coins;
+        price = price;
+      }) };
 
     fn read(members: &mut Reading) -> Result<Purse, Fault> {
         let aim = members.word("aim", &AIMS)?;
@@ -90,7 +98,7 @@ impl Object for Purse {
 /// A line, and the name of the member that fails, or in brackets what else is to come of it.
 type Row = (&'static str, &'static str);
 
-static ROWS: [Row; 36] = [
+static ROWS: [Row; 37] = [
     (
         r#"{"aim":"saving","owner":3,"name":"Oak","coins":[]}"#,
         "(read)",
@@ -206,6 +214,10 @@ static ROWS: [Row; 36] = [
     (
         r#"{"aim":"saving","owner":3,"name":"Oak","coins":[],"also":1,"":2}"#,
         "",
+    ),
+    (
+        r#"{"aim":"saving","owner":3,"name":"\ud800","coins":[]}"#,
+        "(not JSON)",
     ),
     (r#"{}"#, "aim"),
     (r#"[]"#, "(no object)"),

@@ -40,11 +40,17 @@ no_refusal [] line other = record { one_line = line; no_memory = refl; no_keeper
 no_refusal (a ∷ []) line other = record
     { one_line = line; no_memory = first_false (a == 123); no_keeper = first_false (a == 123) }
 no_refusal (a ∷ b ∷ []) line other =
-    record { one_line = line; no_memory = second_false (a == 123) (b == 34);
-        no_keeper = second_false (a == 123) (b == 34) }
+    record {
+      one_line = line;
+      no_memory = second_false (a == 123) (b == 34);
+      no_keeper = second_false (a == 123) (b == 34);
+    }
 no_refusal (a ∷ b ∷ c ∷ more) line other =
-    record { one_line = line; no_memory = rw other (second_false (a == 123) (b == 34));
-        no_keeper = rw other (second_false (a == 123) (b == 34)) }
+    record {
+      one_line = line;
+      no_memory = rw other (second_false (a == 123) (b == 34));
+      no_keeper = rw other (second_false (a == 123) (b == 34));
+    }
 
 answer-letter : (answer : Answer) (version : ℕ) → (get_or (answer_bytes answer version) 2 0 == 114) ≡ false
 unfolding serde_json_on_literals
@@ -77,7 +83,7 @@ rule-letter (Limit which at) version = refl
 pub answer-own_line : (answer : Answer) (version : ℕ) → IsOwnLine (answer_bytes answer version)
 answer-own_line answer version =
     no_refusal (answer_bytes answer version) (compact_text-one_line (object (answer_members answer version)))
-        (answer-letter answer version)
+    (answer-letter answer version)
 
 pub rule-own_line : (rule : Rule) (version : ℕ) → IsOwnLine (rule_bytes rule version)
 rule-own_line rule version = no_refusal (rule_bytes rule version)
@@ -91,23 +97,35 @@ pub fault-own_line : (fault : WireError) (text : List ℕ) → fault_bytes fault
 unfolding fault_bytes serde_json_on_literals
 fault-own_line NotJson text is =
     subst IsOwnLine (some_is _ _ is)
-        (record { one_line = compact_text-one_line (object (refused (codes "not json") [])); no_memory = refl;
-        no_keeper = refl })
+    (record {
+      one_line = compact_text-one_line (object (refused (codes "not json") []));
+      no_memory = refl;
+      no_keeper = refl;
+    })
 fault-own_line (NotCommand name) text is =
     subst IsOwnLine (some_is _ _ is)
-    (record { one_line = compact_text-one_line
-        (object (refused (codes "not command") ((codes "field", string name) ∷ []))); no_memory = refl;
-        no_keeper = refl })
+    (record {
+      one_line = compact_text-one_line
+          (object (refused (codes "not command") ((codes "field", string name) ∷ [])));
+      no_memory = refl;
+      no_keeper = refl;
+    })
 fault-own_line NotBuilt text is =
     subst IsOwnLine (some_is _ _ is)
-        (record { one_line = compact_text-one_line (object (refused (codes "not built") [])); no_memory = refl;
-        no_keeper = refl })
+    (record {
+      one_line = compact_text-one_line (object (refused (codes "not built") []));
+      no_memory = refl;
+      no_keeper = refl;
+    })
 fault-own_line OutOfMemory text is = absurd cc
 
 -- And the answer to a line that is too long.
 pub too_long-own_line : (length : ℕ) → IsOwnLine (too_long_bytes length)
 unfolding too_long_bytes serde_json_on_literals
 too_long-own_line length =
-    record { one_line = compact_text-one_line
-        (object (refused (codes "too long") ((codes "length", number_data length) ∷ []))); no_memory = refl;
-        no_keeper = refl }
+    record {
+      one_line = compact_text-one_line
+          (object (refused (codes "too long") ((codes "length", number_data length) ∷ [])));
+      no_memory = refl;
+      no_keeper = refl;
+    }

@@ -17,7 +17,7 @@ plain_at : (o : Ordering) (k l : List ℕ) (d e : Data) (ms : Members) → has_f
     → members_have_float (member l e ms) ≡ false
     → members_have_float (member l e (put k d ms)) ≡ false
     → members_have_float (match_ordering o (member k d (member l e ms)) (member l d ms) (member l e (put k d ms)))
-        ≡ false
+    ≡ false
 plain_at Less k l d e ms new old later = rw new old
 plain_at Equal k l d e ms new old later = rw new (second (has_float e) (members_have_float ms) old)
 plain_at Greater k l d e ms new old later = later
@@ -29,4 +29,4 @@ put-plain k d no_members new old = rw new refl
 put-plain k d (member l e ms) new old =
     plain_at (slice_cmp nat_cmp k l) k l d e ms new old
     (rw (first (has_float e) (members_have_float ms) old)
-        (put-plain k d ms new (second (has_float e) (members_have_float ms) old)))
+    (put-plain k d ms new (second (has_float e) (members_have_float ms) old)))

@@ -4,7 +4,7 @@ use book_command::{Answer, Rule, WireError};
 use book_commodity::{Counted, Kind, Many, OutOfMemory, Text};
 use std::alloc::Global;
 
-/// A rule, the version that it is told with, and the line.
+/// A rule, the version that stands with it, and the line.
 type Row = (Rule, u64, &'static str);
 
 static RULES: [Row; 16] = [

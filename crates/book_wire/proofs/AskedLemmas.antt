@@ -11,7 +11,8 @@ same_asked : (bytes : List ℕ) (one other : Asked) → DataAsks bytes one → D
 same_asked bytes one other p q = sym p.2 ∙ (ap asked_of_data (same_data bytes p.0 q.0 p.1 q.1) ∙ q.2)
 
 -- A line asks what its data asks, or is no JSON.
-pub LineAsks-cases : (bytes : List ℕ) (asked : Asked) → LineAsks bytes asked → DataAsks bytes asked ⊎ (((d : Data) → IsJson bytes d → ⊥) × (asked ≡ NotJson))
+pub LineAsks-cases : (bytes : List ℕ) (asked : Asked) → LineAsks bytes asked
+    → DataAsks bytes asked ⊎ (((d : Data) → IsJson bytes d → ⊥) × (asked ≡ NotJson))
 LineAsks-cases bytes (Asks command) is = inl is
 LineAsks-cases bytes NotJson none = inr (none, refl)
 LineAsks-cases bytes (NotCommand name) is = inl is
@@ -21,6 +22,8 @@ LineAsks-cases bytes NotBuilt is = inl is
 pub asked-unique : (bytes : List ℕ) (one other : Asked) → LineAsks bytes one → LineAsks bytes other → one ≡ other
 asked-unique bytes one other p q =
     elim (LineAsks-cases bytes one p) [
-      | inl first ↦ elim (LineAsks-cases bytes other q) [ inl second ↦ same_asked bytes one other first second | inr none ↦ absurd (none.0 first.0 first.1) ]
-      | inr none ↦ elim (LineAsks-cases bytes other q) [ inl second ↦ absurd (none.0 second.0 second.1) | inr too ↦ none.1 ∙ sym too.1 ]
+      | inl first ↦ elim (LineAsks-cases bytes other q)
+          [ inl second ↦ same_asked bytes one other first second | inr none ↦ absurd (none.0 first.0 first.1) ]
+      | inr none ↦ elim (LineAsks-cases bytes other q)
+          [ inl second ↦ absurd (none.0 second.0 second.1) | inr too ↦ none.1 ∙ sym too.1 ]
     ]

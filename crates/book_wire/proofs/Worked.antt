@@ -14,11 +14,14 @@ unfolding needed
 no_word = refl
 
 -- whether a command is built is asked before its other members are read
-later_word : asked_of_data (object (member (codes "at") null (member (codes "do") (string (codes "undo")) no_members))) ≡ NotBuilt
+later_word : asked_of_data
+    (object (member (codes "at") null (member (codes "do") (string (codes "undo")) no_members))) ≡ NotBuilt
 unfolding needed command_form
 later_word = refl
 
 -- the version is read before the members of the command
-version_first : asked_of_data (object (member (codes "at") null (member (codes "do") (string (codes "account_drop")) no_members))) ≡ NotCommand (codes "at")
+version_first : asked_of_data
+    (object (member (codes "at") null (member (codes "do") (string (codes "account_drop")) no_members)))
+    ≡ NotCommand (codes "at")
 unfolding needed optional command_form whole
 version_first = refl

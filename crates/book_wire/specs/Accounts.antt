@@ -21,7 +21,17 @@ account = do
   hidden ← flag (codes "hidden")
   placeholder ← flag (codes "placeholder")
   basis ← optional whole (codes "basis")
-  gives (record { name = name; kind = kind; commodity = commodity; parent = Some parent; code = code; note = note; hidden = hidden; placeholder = placeholder; basis = basis })
+  gives (record {
+    name = name;
+    kind = kind;
+    commodity = commodity;
+    parent = Some parent;
+    code = code;
+    note = note;
+    hidden = hidden;
+    placeholder = placeholder;
+    basis = basis;
+  })
 
 -- The account that is added; an account with what it is to have from now on; the account that is deleted.
 abbrev pub account_members : AccountCommand → Reader What
@@ -36,7 +46,15 @@ account_members AccountEdit = do
   note ← optional text_form (codes "note")
   hidden ← optional flag_form (codes "hidden")
   placeholder ← optional flag_form (codes "placeholder")
-  gives (what.AccountEdit account (record { name = name; parent = parent; code = code; note = note; hidden = hidden; placeholder = placeholder }))
+  gives (what.AccountEdit account
+      (record {
+        name = name;
+        parent = parent;
+        code = code;
+        note = note;
+        hidden = hidden;
+        placeholder = placeholder;
+      }))
 account_members AccountDrop = do
   account ← needed whole (codes "account")
   gives (what.AccountDrop account)

@@ -12,8 +12,8 @@ use Rattle.book_command.specs.declared.wire_error.WireError.TheVariants as wire
 use Rattle.book_wire.specs.Commands.{command, command_form}
 use Rattle.book_wire.specs.declared.commands.Built.{Built}
 
--- A line asks for a command; or it is no JSON, or no command, where the member of this name fails; or its command is not
--- built yet.
+-- A line asks for a command; or it is no JSON, or no command, where the member of this name fails; or its command is
+-- not built yet.
 pub data Asked : Type 0 where
   Asks : Command → Asked
   NotJson : Asked

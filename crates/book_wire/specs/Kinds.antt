@@ -1,7 +1,9 @@
 -- The words of the kinds of accounts.
 use Rattle.std.specs.Prelude.{ℕ, List, [], ◌∷◌, codes}
 use Rattle.book_accounts.specs.declared.kind.AccountKind.{AccountKind}
-use Rattle.book_accounts.specs.declared.kind.AccountKind.TheVariants.{Root, Asset, Bank, Cash, Credit, Liability, Stock, Mutual, Receivable, Payable, Income, Expense, Equity}
+use Rattle.book_accounts.specs.declared.kind.AccountKind.TheVariants.{Root, Asset, Bank, Cash, Credit, Liability}
+use Rattle.book_accounts.specs.declared.kind.AccountKind.TheVariants.{Stock, Mutual, Receivable, Payable, Income}
+use Rattle.book_accounts.specs.declared.kind.AccountKind.TheVariants.{Expense, Equity}
 use Rattle.book_json.specs.Members.{Form}
 use Rattle.book_json.specs.Forms.{among}
 

@@ -17,7 +17,14 @@ split = do
   quantity ← optional whole_signed (codes "quantity")
   memo ← text (codes "memo")
   action ← text (codes "action")
-  gives (record { account = account; value = value; quantity = unwrap_or quantity value; memo = memo; action = action; id = None })
+  gives (record {
+    account = account;
+    value = value;
+    quantity = unwrap_or quantity value;
+    memo = memo;
+    action = action;
+    id = None;
+  })
 
 -- A transaction, but for its day.
 unfoldable pub transaction : Reader GivenTxn

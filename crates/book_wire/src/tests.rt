@@ -122,7 +122,9 @@ static ROWS: [Row; 47] = [
 ];
 
 const LATER: &str =
-    "edit drop mark price_set price_drop schedule_add schedule_drop schedule_run bind import line_match line_add line_dismiss line_reopen match_auto reconcile reconcile_statement undo redo register trial sheet income lots gains lines statements recons due price status";
+    "edit drop mark price_set price_drop schedule_add schedule_drop schedule_run bind import line_match line_add \
+     line_dismiss line_reopen match_auto reconcile reconcile_statement undo redo register trial sheet income lots \
+     gains lines statements recons due price status";
 
 const KINDS: &str =
     "ROOT ASSET BANK CASH CREDIT LIABILITY STOCK MUTUAL RECEIVABLE PAYABLE INCOME EXPENSE EQUITY";
@@ -269,7 +271,8 @@ fn what_is_given_of_an_account_is_read(alloc: Global) -> bool {
 fn a_post_is_read(alloc: Global) -> bool {
     let Some(what) = asked(
         alloc,
-        r#"{"do":"post","at":6,"day":"1970-01-02","currency":1,"description":"Pay\u00e9","splits":[{"account":3,"value":-5},{"action":"Buy","memo":"m","quantity":7,"value":5,"account":4}]}"#,
+        r#"{"do":"post","at":6,"day":"1970-01-02","currency":1,"description":"Pay\u00e9",
+            "splits":[{"account":3,"value":-5},{"action":"Buy","memo":"m","quantity":7,"value":5,"account":4}]}"#,
     ) else {
         return false;
     };

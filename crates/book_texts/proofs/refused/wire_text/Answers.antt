@@ -7,4 +7,4 @@ pub returns-in-NotBuilt : goal.returns-in-NotBuilt
 unfolding fault_bytes
 returns-in-NotBuilt c =
     IfOk-weaker c.refused-in-NotBuilt.result _ _
-        (λ text is. ap fault_bytes c.in-NotBuilt.is ∙ ap Some (sym is)) c.refused-in-NotBuilt.ensures
+    (λ text is. ap fault_bytes c.in-NotBuilt.is ∙ ap Some (sym is)) c.refused-in-NotBuilt.ensures

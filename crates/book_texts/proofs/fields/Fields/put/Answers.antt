@@ -9,5 +9,5 @@ invariant_of-result c =
     record {
       plain = ap members_have_float c.in_ok-put.ensures.ok
           ∙ put-plain c.args.name.now (view c.args.value)
-              (members_view c.args.self.members.entries) c.requires c.args.self.plain;
+          (members_view c.args.self.members.entries) c.requires c.args.self.plain;
     }
