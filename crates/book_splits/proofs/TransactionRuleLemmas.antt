@@ -57,8 +57,7 @@ transactions_beside old new accounts ts stays =
 -- ---- where accounts change
 
 -- An account takes splits as another did before it: what the rules of a split see of it is the same, and it doesn't
--- become a
--- placeholder.
+-- become a placeholder.
 pub record TakesAs (old new : Account) : Type 0 where
   pub kind : old.kind ≡ new.kind
   pub commodity : old.commodity ≡ new.commodity

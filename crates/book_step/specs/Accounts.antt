@@ -1,5 +1,5 @@
 -- The commands on accounts.
-use Rattle.std.specs.Prelude.{ℕ, ◌+◌, nat_eq, nat_lt, not, Bool, true, false, ◌&&◌, ◌||◌, if◌then◌else◌, List, [], ◌∷◌, length, Option, Some, None, is_none, option_map, unwrap_or}
+use Rattle.std.specs.Prelude.{ℕ, ◌+◌, nat_eq, nat_lt, not, Bool, ◌&&◌, ◌||◌, if◌then◌else◌, List, [], ◌∷◌, length, Option, Some, None, is_none, option_map, unwrap_or}
 use Rattle.std.specs.Bool.{beq}
 use Rattle.std.specs.Option.{option_eq, option_or}
 use lib.Pointwise.{pointwise}
@@ -13,8 +13,6 @@ use Rattle.book_accounts.specs.Group.{is_security}
 use Rattle.book_accounts.specs.Rules.{add_rule, move_rule}
 use Rattle.book_accounts.specs.Tree.{children_of}
 use Rattle.book_accounts.specs.declared.account.Account.{Account}
-use Rattle.book_accounts.specs.declared.kind.AccountKind.{AccountKind}
-use Rattle.book_accounts.specs.declared.kind.AccountKind.TheVariants as account_kind
 use Rattle.book_accounts.specs.declared.rule.TreeRule.TheVariants as tree
 use Rattle.book_splits.specs.Balance.{has_splits}
 use Rattle.book_splits.specs.declared.transaction.Txn.{Txn}
