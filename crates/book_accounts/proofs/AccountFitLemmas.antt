@@ -1,9 +1,7 @@
 -- An account that is added or moved by the rules of the tree fits into the book, and the tree stays rooted.
-use Rattle.std.proofs.Common.{◌≡◌, ◌≢◌, ℕ, ◌==◌, nat_eq, Bool, true, false, if◌then◌else◌, List, [], ◌∷◌, Option, Some}
+use Rattle.std.proofs.Common.{◌≡◌, ℕ, ◌==◌, Bool, true, false, if◌then◌else◌, List, [], ◌∷◌, Option, Some}
 use Rattle.std.proofs.Common.{None, IsTrue, IsSome, IsNone, is_none, is_some, option_map, refl, sym, ap, subst, ◌∙◌}
-use Rattle.std.specs.Option.{option_eq}
 use Rattle.std.proofs.lemmas.Bool.{eqb-true, ne_eqb}
-use Rattle.book_commodity.specs.Rules.{first_broken}
 use Rattle.book_commodity.specs.Table.{Rises, value_of, with_entry}
 use Rattle.book_commodity.specs.declared.commodity.Commodity.{Commodity}
 use Rattle.book_commodity.proofs.DrawnLemmas.{value_kept}

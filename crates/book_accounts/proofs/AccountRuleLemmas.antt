@@ -1,5 +1,5 @@
 -- How the rules of accounts stay where a commodity is added, and where an account is put or taken.
-use Rattle.std.proofs.Common.{◌≡◌, ◌≢◌, ℕ, ◌<◌, ◌==◌, nat_eq, ◌&&◌, ◌||◌, not, Bool, true, false, List, [], ◌∷◌, Option}
+use Rattle.std.proofs.Common.{◌≡◌, ◌≢◌, ℕ, nat_eq, ◌&&◌, ◌||◌, not, Bool, true, false, List, [], ◌∷◌, Option}
 use Rattle.std.proofs.Common.{Some, None, IsSome, IsTrue, if◌then◌else◌, is_none, is_some, option_map, find, refl, sym}
 use Rattle.std.proofs.Common.{ap, subst, ◌∙◌, eq-eqb, arith}
 use Rattle.std.specs.Bool.{beq}

@@ -1,5 +1,5 @@
 -- Accounts that keep their rules are rooted, and form one tree.
-use Rattle.std.proofs.Common.{◌≡◌, ℕ, zero, suc, ◌==◌, nat_eq, ◌||◌, Bool, true, false, cond, if◌then◌else◌, List, []}
+use Rattle.std.proofs.Common.{◌≡◌, ℕ, zero, suc, nat_eq, ◌||◌, Bool, true, false, cond, if◌then◌else◌, List, []}
 use Rattle.std.proofs.Common.{◌∷◌, length, Option, Some, None, IsSome, is_none, option_map, find, refl, sym, ap, subst}
 use Rattle.std.proofs.Common.{◌∙◌, ◌<◌, ◌&&◌, eq-eqb, inl, inr, arith}
 use lib.Pointwise.{pointwise}

@@ -1,5 +1,5 @@
 -- How a tree's accounts are looked through place by place, and the accounts above an account one by one.
-use Rattle.std.proofs.Common.{◌≡◌, nat_eq, ℕ, ◌+◌, ◌<◌, ◌==◌, ◌||◌, Bool, true, false, cond, List, [], ◌∷◌, length, drop, map, filter, Option, Some, None, option_map, slice_get, sym, ap, ◌∙◌, arith}
+use Rattle.std.proofs.Common.{◌≡◌, nat_eq, ℕ, ◌+◌, ◌<◌, ◌==◌, ◌||◌, Bool, true, false, cond, List, ◌∷◌, length, drop, map, filter, Option, Some, None, option_map, slice_get, sym, ap, ◌∙◌, arith}
 use Rattle.std.specs.Option.{option_eq}
 use Rattle.std.specs.List.{list_any}
 use Rattle.book_commodity.specs.Table.{Rises}

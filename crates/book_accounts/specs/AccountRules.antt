@@ -23,8 +23,7 @@ is_root Root = true
 is_root _ = false
 
 -- Whether the basis fits the kind: a security account has a currency as its basis, in which it is bought and sold
--- (GnuCash
--- Concepts Guide, buying shares); another account has none.
+-- (GnuCash Concepts Guide, buying shares); another account has none.
 abbrev pub fits_basis : List (ℕ × Commodity) → Bool → Option ℕ → Bool
 fits_basis commodities true (Some basis) = is_currency_of (value_of basis commodities)
 fits_basis commodities true None = false
@@ -72,10 +71,8 @@ abbrev pub leads_to_root : List (ℕ × Account) → ℕ → Bool
 leads_to_root accounts number = list_any (is_root_number accounts) (number ∷ ancestors accounts number)
 
 -- The rules of an account: its commodity is in the book; its basis fits its kind; it has a parent unless it is the
--- root,
--- which takes no splits and is the only one; the parent is there and of a fitting kind; no sibling before it has its
--- name;
--- and its parents lead up to the root.
+-- root, which takes no splits and is the only one; the parent is there and of a fitting kind; no sibling before it has
+-- its name; and its parents lead up to the root.
 abbrev pub account_rules : List (ℕ × Commodity) → List (ℕ × Account) → ℕ → Account → List Bool
 account_rules commodities accounts number account =
     is_some (value_of account.commodity commodities)

@@ -1,6 +1,6 @@
 -- How the rules of commodities stay where a commodity is added, and what of the commodities the rules of other things
 -- see.
-use Rattle.std.proofs.Common.{◌≡◌, ℕ, ◌<◌, Bool, true, All, List, ◌∷◌, Option, Some, None, is_some, find, ap, ◌∙◌, refl}
+use Rattle.std.proofs.Common.{◌≡◌, ℕ, ◌<◌, true, All, List, Option, Some, None, is_some, find, ap, ◌∙◌, refl}
 use Rattle.std.proofs.Common.{arith}
 use Rattle.std.proofs.lemmas.Bool.{not-true, not_from_false}
 use Rattle.book_commodity.specs.CommodityRules.{commodity_rules, has_fraction, has_same_pair}

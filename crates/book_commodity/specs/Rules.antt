@@ -30,8 +30,7 @@ AllHold [] = ⊤
 AllHold (test ∷ more) = IsTrue test × AllHold more
 
 -- Whether a thing with a smaller number passes the test. What may stand once is broken at the greater of two numbers:
--- the
--- thing there has one before it.
+-- the thing there has one before it.
 abbrev pub stands_before : {T : Type 0} → (T → Bool) → ℕ → List (ℕ × T) → Bool
 stands_before test number entries = list_any (λ entry. nat_lt entry.0 number && test entry.1) entries
 

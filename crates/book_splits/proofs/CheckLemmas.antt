@@ -1,5 +1,5 @@
 -- Laws of rules asked in order, and what holds of a transaction that breaks none.
-use Rattle.std.proofs.Common.{◌≡◌, OnOk, ℕ, suc, ◌+◌, ◌<◌, ◌≤◌, pos, ◌+ℤ◌, List, [], ◌∷◌, ◌++◌, length, map, take, drop}
+use Rattle.std.proofs.Common.{◌≡◌, OnOk, ℕ, suc, ◌+◌, ◌<◌, pos, ◌+ℤ◌, List, [], ◌∷◌, ◌++◌, length, map, take, drop}
 use Rattle.std.proofs.Common.{get_or, Option, Some, None, Result, Ok, Err, All, sym, ap, subst, ◌∙◌, arith}
 use Rattle.std.proofs.Math.IntN.{+ℤ_idr}
 use Rattle.std.proofs.Math.Seq.{drop-cons}
@@ -14,7 +14,7 @@ use Rattle.book_commodity.proofs.RuleLemmas.{none_broken, not-broken, tells-past
 use Rattle.book_commodity.specs.declared.commodity.Commodity.{Commodity}
 use Rattle.book_accounts.specs.declared.account.Account.{Account}
 use Rattle.book_splits.specs.Balance.{total, sum_of_values}
-use Rattle.book_splits.specs.Check.{HasAmounts, IsSound, amount_limit, basis, placeholder, value_not_quantity}
+use Rattle.book_splits.specs.Check.{HasAmounts, IsSound}
 use Rattle.book_splits.specs.Check.{currency_rules, rules_of_splits, split_count, split_rules, txn_rules, unbalanced}
 use Rattle.book_splits.specs.declared.rule.TxnRule.{TxnRule}
 use Rattle.book_splits.specs.declared.split.Split.{Split}

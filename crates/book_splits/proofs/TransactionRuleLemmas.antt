@@ -1,12 +1,11 @@
 -- How the rules of transactions stay where a commodity is added, where accounts change, and where a transaction is
 -- added.
-use Rattle.std.proofs.Common.{◌≡◌, ◌≢◌, ℕ, ◌+◌, ◌<◌, ◌==◌, nat_lt, ◌&&◌, not, Bool, true, false, All, List, [], ◌∷◌}
-use Rattle.std.proofs.Common.{◌++◌, length, map, Option, Some, None, IsTrue, is_none, if◌then◌else◌, refl, sym, ap}
+use Rattle.std.proofs.Common.{◌≡◌, ℕ, ◌+◌, ◌<◌, ◌==◌, nat_lt, ◌&&◌, not, Bool, true, false, All, List, [], ◌∷◌}
+use Rattle.std.proofs.Common.{◌++◌, Option, Some, None, IsTrue, is_none, if◌then◌else◌, refl, sym, ap}
 use Rattle.std.proofs.Common.{subst, ◌∙◌, eq-eqb, arith}
 use Rattle.std.specs.List.{list_all, list_any}
 use Rattle.std.specs.Ordering.{int_eq}
 use Rattle.std.proofs.lemmas.Bool.{and_right, ne_eqb, not-true, not_from_false, or_from, or_left, or_right}
-use Rattle.std.proofs.lemmas.Bool.Decides.{nat_tests}
 use Rattle.std.proofs.lemmas.List.Elements.{All-nil, All-cons, All-head, All-tail}
 use Rattle.std.proofs.lemmas.List.Folds.{list_any-append}
 use Rattle.book_commodity.specs.Rules.{AllKept, EachKeeps, broken_where, first_broken, stands_before}
@@ -23,7 +22,6 @@ use Rattle.book_splits.specs.Balance.{has_splits, splits_of}
 use Rattle.book_splits.specs.Check.{currency_rules, is_basis, rules_of_splits, split_rules, txn_rules}
 use Rattle.book_splits.specs.TransactionRules.{are_once, has_reconciliation_if_reconciled, is_among, numbers_of}
 use Rattle.book_splits.specs.TransactionRules.{share_numbers, transaction_rules}
-use Rattle.book_splits.specs.declared.rule.TxnRule.{TxnRule}
 use Rattle.book_splits.specs.declared.rule.TxnRule.TheVariants.{Placeholder, Basis, ValueNotQuantity}
 use Rattle.book_splits.specs.declared.split.Split.{Split}
 use Rattle.book_splits.specs.declared.transaction.Txn.{Txn}
@@ -59,8 +57,7 @@ transactions_beside old new accounts ts stays =
 -- ---- where accounts change
 
 -- An account takes splits as another did before it: what the rules of a split see of it is the same, and it doesn't
--- become a
--- placeholder.
+-- become a placeholder.
 pub record TakesAs (old new : Account) : Type 0 where
   pub kind : old.kind ≡ new.kind
   pub commodity : old.commodity ≡ new.commodity

@@ -33,14 +33,13 @@ is_reconciled Reconciled = true
 is_reconciled _ = false
 
 -- Whether a split is marked reconciled exactly where it names its reconciliation (GnuCash Manual, reconciling). A book
--- has
--- no reconciliations yet, so that no split is reconciled, and none names one.
+-- has no reconciliations yet, so that no split is reconciled, and none names one.
 abbrev pub has_reconciliation_if_reconciled : Split → Bool
 has_reconciliation_if_reconciled split = not (is_reconciled split.mark) && is_none split.recon
 
 -- The rules of a transaction: it passes the check of transactions among the commodities and the accounts of the book;
--- each
--- of its splits has a number that no other of them has, and none of a transaction before it; and their marks are right.
+-- each of its splits has a number that no other of them has, and none of a transaction before it; and their marks are
+-- right.
 abbrev pub transaction_rules : List (ℕ × Commodity) → List (ℕ × Account) → List (ℕ × Txn) → ℕ → Txn → List Bool
 transaction_rules commodities accounts transactions number transaction =
     is_none (first_broken (txn_rules commodities accounts transaction))

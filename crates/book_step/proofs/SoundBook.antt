@@ -1,6 +1,5 @@
 -- A change of one table leaves a book sound, where what is put keeps its rules and the rules that look at it are kept.
--- Which
--- rules look at what of which table:
+-- Which rules look at what of which table:
 --
 --     rules of        commodities              accounts                        transactions
 --     a commodity     those before it
@@ -9,9 +8,8 @@
 --     the book        its currency             the root, the ways up to it     the count of splits
 --
 -- So a new commodity asks nothing of the others, since what was there stays; another account in the place of one asks
--- that the
--- kinds stay, and that it takes splits as that did; and a new transaction asks that its splits have numbers of their
--- own.
+-- that the kinds stay, and that it takes splits as that did; and a new transaction asks that its splits have numbers of
+-- their own.
 use Rattle.std.proofs.Common.{◌≡◌, ℕ, ◌+◌, ◌<◌, ◌≤◌, All, List, [], ◌∷◌, ◌++◌, length, Some, None, IsTrue, true, false}
 use Rattle.std.proofs.Common.{is_some, find, refl, sym, ap, ◌∙◌, append_assoc, append-nil, arith}
 use Rattle.std.proofs.Math.ListN.{length-append}

@@ -1,5 +1,5 @@
 -- Each command leads from sound states to sound states.
-use Rattle.std.proofs.Common.{◌≡◌, ℕ, ◌+◌, ◌==◌, ℤ, Bool, true, false, if◌then◌else◌, List, [], ◌∷◌, length, Option}
+use Rattle.std.proofs.Common.{◌≡◌, ℕ, ◌+◌, ◌==◌, ℤ, Bool, true, false, if◌then◌else◌, [], ◌∷◌, length, Option}
 use Rattle.std.proofs.Common.{Some, None, refl, subst, arith}
 use Rattle.book_commodity.specs.Table.{value_of}
 use Rattle.book_commodity.specs.declared.commodity.Commodity.{Commodity}
@@ -13,7 +13,6 @@ use Rattle.book_command.specs.declared.answer.Answer.{Answer}
 use Rattle.book_command.specs.declared.answer.Answer.TheVariants as answer
 use Rattle.book_command.specs.declared.command.GivenAccount.{GivenAccount}
 use Rattle.book_command.specs.declared.command.GivenTxn.{GivenTxn}
-use Rattle.book_command.specs.declared.rule.Rule.{Rule}
 use Rattle.book_step.specs.Accounts.{account_add, account_drop, account_drop_of, account_edit, account_edit_at}
 use Rattle.book_step.specs.Accounts.{account_edit_of, add_rules, edit_rules, not_empty, root_stays, stays}
 use Rattle.book_step.specs.Accounts.{with_given}

@@ -1,12 +1,11 @@
 -- What a command puts into a sound book keeps the rules there, since it keeps those of the command.
 use Rattle.std.proofs.Common.{◌≡◌, ℕ, ◌+◌, ◌<◌, ◌≤◌, ◌==◌, ◌&&◌, not, nat_lt, ℤ, All, Bool, true, false, List, [], ◌∷◌}
-use Rattle.std.proofs.Common.{length, Option, Some, None, IsTrue, is_none, is_some, refl, sym, ap, subst, ◌∙◌, arith}
+use Rattle.std.proofs.Common.{length, Option, Some, None, IsTrue, is_none, is_some, refl, subst, arith}
 use Rattle.std.specs.List.{list_all}
 use Rattle.std.proofs.lemmas.Bool.{not-false, not_from_false, and_from, or_from, ne_eqb, or_parts}
 use Rattle.std.proofs.lemmas.Bool.Decides.{nat_tests}
 use Rattle.std.proofs.lemmas.List.{nil_from_length}
-use Rattle.std.proofs.lemmas.List.Elements.{All-nil, All-cons, All-head, All-tail, All-weaker}
-use Rattle.book_commodity.specs.CommodityRules.{has_fraction}
+use Rattle.std.proofs.lemmas.List.Elements.{All-nil, All-cons, All-head, All-tail}
 use Rattle.book_commodity.specs.Rules.{AllKept, first_broken}
 use Rattle.book_commodity.specs.Table.{value_of, with_entry, without_entry}
 use Rattle.book_commodity.specs.declared.commodity.Commodity.{Commodity}
@@ -22,18 +21,16 @@ use Rattle.book_accounts.specs.declared.account.Account.{Account}
 use Rattle.book_accounts.specs.declared.kind.AccountKind.{AccountKind}
 use Rattle.book_accounts.proofs.AccountFitLemmas.{fit_added, fit_moved}
 use Rattle.book_accounts.proofs.AccountRuleLemmas.{IsFit, by_name}
-use Rattle.book_splits.specs.Balance.{has_splits, splits_of}
+use Rattle.book_splits.specs.Balance.{has_splits}
 use Rattle.book_splits.specs.Check.{txn_rules}
 use Rattle.book_splits.specs.TransactionRules.{are_once, has_reconciliation_if_reconciled, is_among, numbers_of}
 use Rattle.book_splits.specs.declared.split.Split.{Split}
-use Rattle.book_splits.specs.declared.transaction.Txn.{Txn}
 use Rattle.book_splits.proofs.SuitsLemmas.{suits_moved, suits_stays}
 use Rattle.book_splits.proofs.TransactionRuleLemmas.{TakesAs}
 use Rattle.book_undo.specs.Book.{Book}
 use Rattle.book_command.specs.Lifted.{of_tree_rule, of_txn_rule}
 use Rattle.book_command.specs.declared.command.GivenSplit.{GivenSplit}
 use Rattle.book_command.specs.declared.command.GivenTxn.{GivenTxn}
-use Rattle.book_command.specs.declared.rule.Rule.{Rule}
 use Rattle.book_step.specs.Accounts.{add_rules, edit_rules, moved_rule, not_empty, root_stays}
 use Rattle.book_step.specs.Commodities.{fraction_shape, name_taken, too_many_commodities, unknown_commodity}
 use Rattle.book_step.specs.Commodities.{wrong_currency}

@@ -14,8 +14,6 @@ use Rattle.book_accounts.specs.Group.{is_security}
 use Rattle.book_accounts.specs.Rules.{add_rule, move_rule}
 use Rattle.book_accounts.specs.Tree.{children_of}
 use Rattle.book_accounts.specs.declared.account.Account.{Account}
-use Rattle.book_accounts.specs.declared.kind.AccountKind.{AccountKind}
-use Rattle.book_accounts.specs.declared.kind.AccountKind.TheVariants as account_kind
 use Rattle.book_accounts.specs.declared.rule.TreeRule.TheVariants as tree
 use Rattle.book_splits.specs.Balance.{has_splits}
 use Rattle.book_splits.specs.declared.transaction.Txn.{Txn}

@@ -13,11 +13,9 @@ use Rattle.book_undo.specs.Book.{Book}
 use Rattle.book_step.specs.State.{State}
 
 -- A book is sound: its commodities, its accounts and its transactions keep the rules of their kinds; there are at most
--- 10,000
--- commodities, 10,000 accounts, and 200,000 transactions with 1,000,000 splits (limits of this project); there is a
--- root, and
--- the accounts are rooted; and the book's currency is one of its commodities, and a currency (GnuCash Manual, book
--- currency).
+-- 10,000 commodities, 10,000 accounts, and 200,000 transactions with 1,000,000 splits (limits of this project); there
+-- is a root, and each account has a way up, as follows from its rules; and the book's currency is one of its
+-- commodities, and a currency (GnuCash Manual, book currency).
 pub record IsSoundBook (book : Book) : Type 0 where
   pub commodities : IsSoundTable (commodity_rules book.commodities) 10000 book.commodities
   pub accounts : IsSoundTable (account_rules book.commodities book.accounts) 10000 book.accounts
@@ -36,8 +34,7 @@ pub record AreDrawn (book : Book) (next : ℕ) : Type 0 where
   pub splits : All (λ split. split.id < next) (splits_of book.transactions)
 
 -- A state is sound: so is its book, the numbers are drawn below the next, and neither that nor the version reaches 2^62
--- (a
--- limit of this project).
+-- (a limit of this project).
 pub record IsSound (state : State) : Type 0 where
   pub book : IsSoundBook state.book
   pub drawn : AreDrawn state.book state.next
