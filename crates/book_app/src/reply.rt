@@ -22,7 +22,8 @@ pub struct Nothing;
 
 /// The text of a command's outcome. The text is made before the change, so that no answered change is lost for memory.
 fn reply(alloc: Global, engine: &mut Engine, command: Command) -> Result<Bytes, OutOfMemory>
-    ensures told { IfOk result (λ text. IsTold text × IsOutcome (step engine.old.state command) engine.old.state text engine.new.state) }
+    ensures answered { IfOk result (λ text. IsTold text
+        × IsOutcome (step engine.old.state command) engine.old.state text engine.new.state) }
     ensures kept { OnErr result (engine.new.state ≡ engine.old.state) }
 {
     match engine.prepare(command) {
@@ -38,7 +39,7 @@ fn reply(alloc: Global, engine: &mut Engine, command: Command) -> Result<Bytes, 
 
 /// The answer to a line, whatever its bytes are.
 fn answer_to(alloc: Global, engine: &mut Engine, line: &[u8]) -> Result<Bytes, OutOfMemory>
-    ensures told { IfOk result (λ text. IsTold text × Replies engine.old.state line.now text engine.new.state) }
+    ensures answered { IfOk result (λ text. IsTold text × Replies engine.old.state line.now text engine.new.state) }
     ensures kept { OnErr result (engine.new.state ≡ engine.old.state) }
 {
     match command_of(alloc, line) {
