@@ -16,7 +16,8 @@ own_line-mark bytes own = rw (own.no_memory, own.no_keeper) refl
 
 -- a text that is such a line is one that the machine may give
 pub IsAnswer-own_line : (text bytes : List ℕ) → text ≡ bytes → IsOwnLine bytes → IsAnswer text
-IsAnswer-own_line text bytes is own = subst (λ (t : List ℕ). IsAnswer t) (sym is) (record { one_line = own.one_line; mark = own_line-mark bytes own })
+IsAnswer-own_line text bytes is own = subst (λ (t : List ℕ). IsAnswer t) (sym is)
+    (record { one_line = own.one_line; mark = own_line-mark bytes own })
 
 -- so is the answer to a line that is no command
 pub IsAnswer-fault : (fault : WireError) (text : List ℕ) → fault_bytes fault ≡ Some text → IsAnswer text
@@ -36,12 +37,15 @@ pub replies-fault :
     → IfOk result (λ text. IsAnswer text × Replies state bytes text state)
 replies-fault state bytes wire.NotJson result read text_is =
     IfOk-weaker result _ _
-    (λ text is. (IsAnswer-fault wire.NotJson text is, record { asked = NotJson; read = read; reply = (is, refl) })) text_is
+    (λ text is. (IsAnswer-fault wire.NotJson text is, record { asked = NotJson; read = read; reply = (is, refl) }))
+        text_is
 replies-fault state bytes (wire.NotCommand name) result read text_is =
     IfOk-weaker result _ _
-    (λ text is. (IsAnswer-fault (wire.NotCommand name) text is, record { asked = NotCommand name; read = read; reply = (is, refl) })) text_is
+    (λ text is. (IsAnswer-fault (wire.NotCommand name) text is,
+        record { asked = NotCommand name; read = read; reply = (is, refl) })) text_is
 replies-fault state bytes wire.NotBuilt result read text_is =
     IfOk-weaker result _ _
-    (λ text is. (IsAnswer-fault wire.NotBuilt text is, record { asked = NotBuilt; read = read; reply = (is, refl) })) text_is
+    (λ text is. (IsAnswer-fault wire.NotBuilt text is, record { asked = NotBuilt; read = read; reply = (is, refl) }))
+        text_is
 replies-fault state bytes wire.OutOfMemory result read text_is =
     IfOk-weaker result _ _ (λ text is. absurd (no_text text is)) text_is

@@ -30,7 +30,8 @@ pub record Replies (old : State) (bytes text : List ℕ) (new : State) : Type 0 
   pub read : LineAsks bytes asked
   pub reply : IsReply asked old text new
 
--- The machine answers a line as the mark says: a line for which there was no memory leaves the state, a line of more than
--- 8 MiB is refused by its length and leaves it too, and nothing is kept that could fail.
+-- The machine answers a line as the mark says: a line for which there was no memory leaves the state, a line of more
+-- than 8 MiB is refused by its length and leaves it too, and nothing is kept that could fail.
 abbrev pub answers : State → List ℕ → Mark → List ℕ → State → Type 0
-answers old line mark text new = Answers Replies too_long_bytes (λ before after. after ≡ before) (λ _ _. ⊥) old line mark text new
+answers old line mark text new = Answers Replies too_long_bytes (λ before after. after ≡ before)
+    (λ _ _. ⊥) old line mark text new

@@ -22,7 +22,8 @@ pub struct NoKeeper;
 
 /// The text of a command's outcome. The text is made before the change, so that no answered change is lost for memory.
 fn reply(alloc: Global, engine: &mut Engine, command: Command) -> Result<Bytes, OutOfMemory>
-    ensures answered { IfOk result (λ text. IsAnswer text × IsOutcome (step engine.old.state command) engine.old.state text engine.new.state) }
+    ensures answered { IfOk result (λ text. IsAnswer text
+        × IsOutcome (step engine.old.state command) engine.old.state text engine.new.state) }
     ensures kept { OnErr result (engine.new.state ≡ engine.old.state) }
 {
     match engine.prepare(command) {
