@@ -202,7 +202,7 @@ posts_whole state new change (answer.Post n splits balances) is book has =
     ap (λ (b : Book). value_of n b.transactions) (sym book ∙ has.1.1) ∙ value_here n n transaction entries refl in
     record {
       transaction = transaction;
-      puts = only_put state.book change n transaction is.book.transactions_rise (drawn_free n entries above) there;
+      puts = only_put state.book change n transaction is.book.transactions.rise (drawn_free n entries above) there;
       above = above;
     }
 
