@@ -80,7 +80,7 @@ impl Tree {
         self.accounts.value_at(place)
     }
 
-    /// Makes room for so many more accounts; the accounts stay, and no room is lost where memory is refused.
+    /// Makes room for so many more accounts; the accounts stay, and no room is lost when out of memory.
     pub fn reserve(&mut self, extra: usize) -> Result<(), OutOfMemory>
         ensures room { OnOk result (extra ≤ self.new.spare) }
         ensures full { OnErr result (self.old.spare < extra) }

@@ -1,5 +1,6 @@
 -- Decisions: a truth value that says whether a fact holds, with the reason.
-use Rattle.std.specs.Prelude.{◌≡◌, ℕ, Bool, true, false, ◌&&◌, if◌then◌else◌, nat_eq, List, Option, Some, None, is_some, unwrap_or, refl}
+use Rattle.std.specs.Prelude.{◌≡◌, ℕ, Bool, true, false, ◌&&◌, if◌then◌else◌, nat_eq, List, Option, Some, None}
+use Rattle.std.specs.Prelude.{is_some, unwrap_or, refl}
 use Rattle.std.proofs.Common.{ap}
 use Rattle.std.specs.Bool.{Decides, beq}
 use Rattle.std.specs.Cmp.{booleans_Decides, unsigned_Decides}
@@ -21,8 +22,14 @@ both_decide false false d e = (λ h. (d.0 h, e.0 h), λ h. d.1 h.0)
 pub options_decide : (m n : Option ℕ) → Decides (option_eq nat_eq m n) (m ≡ n)
 options_decide None None = (λ h. refl, λ h. refl)
 options_decide None (Some n) = (λ h. ap (λ (t : Bool). if t then Some n else None) h, λ h. ap is_some h)
-options_decide (Some m) None = (λ h. ap (λ (t : Bool). if t then None else Some m) h, λ h. ap (λ (o : Option ℕ). if is_some o then false else true) h)
-options_decide (Some m) (Some n) = (λ h. ap (λ (k : ℕ). Some k) ((unsigned_Decides m n).0 h), λ h. (unsigned_Decides m n).1 (ap (λ (o : Option ℕ). unwrap_or o m) h))
+options_decide (Some m) None = (
+  λ h. ap (λ (t : Bool). if t then None else Some m) h,
+  λ h. ap (λ (o : Option ℕ). if is_some o then false else true) h,
+)
+options_decide (Some m) (Some n) = (
+  λ h. ap (λ (k : ℕ). Some k) ((unsigned_Decides m n).0 h),
+  λ h. (unsigned_Decides m n).1 (ap (λ (o : Option ℕ). unwrap_or o m) h),
+)
 
 -- Two facts hold.
 abbrev pub both : {P Q : Type 0} → Decision P → Decision Q → Decision (P × Q)
@@ -34,7 +41,10 @@ as_well onward back p = record { is = p.is; decides = (λ h. onward (p.decides.0
 
 -- Two texts are the same.
 abbrev pub same_text : (m n : List ℕ) → Decision (m ≡ n)
-same_text m n = record { is = pointwise nat_eq m n; decides = slice_eq-Decides unsigned_Decides m n (pointwise nat_eq m n) refl }
+same_text m n = record {
+  is = pointwise nat_eq m n;
+  decides = slice_eq-Decides unsigned_Decides m n (pointwise nat_eq m n) refl;
+}
 
 -- Two numbers that may be absent are the same.
 abbrev pub same_option : (m n : Option ℕ) → Decision (m ≡ n)

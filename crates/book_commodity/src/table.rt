@@ -77,7 +77,7 @@ impl<T> Table<T> {
         &self.rows[place].1
     }
 
-    /// Makes room for so many more entries; the entries stay, and no room is lost where memory is refused.
+    /// Makes room for so many more entries; the entries stay, and no room is lost when out of memory.
     pub fn reserve(&mut self, extra: usize) -> Result<(), OutOfMemory>
         ensures room { OnOk result (extra ≤ self.new.spare) }
         ensures full { OnErr result (self.old.spare < extra) }

@@ -3,6 +3,7 @@ ghost use Rattle.book_splits.specs.Balance.{splits_of};
 ghost use Rattle.book_undo.specs.Book.{book_of};
 ghost use Rattle.book_undo.specs.Edit.{edited};
 ghost use Rattle.book_step.specs.AnswerBalances.{IsPosting, PostsAnswered, balances_of, with_balances as filled};
+ghost use Rattle.book_engine.specs.Planned.{whole_step};
 
 use book_commodity::{Many, OutOfMemory};
 use book_splits::balances_after;
@@ -15,7 +16,7 @@ use std::alloc::Global;
 pub(crate) fn with_balances(alloc: Global, plain: &Plain, step: Step) -> Result<Step, OutOfMemory>
     requires few { length (splits_of plain.now.transactions.entries) ≤ 1000000 }
     requires posts { PostsAnswered (book_of plain.now) step.edit step.answer }
-    ensures { IfOk result (λ whole. whole ≡ record step { answer = filled (edited step.edit (book_of plain.now)) step.answer }) }
+    ensures { IfOk result (λ whole. whole ≡ whole_step (book_of plain.now) step) }
 {
     let Step { edit, next, answer } = step;
     let answer = answer_with_balances(alloc, plain, &edit, answer)?;

@@ -1,10 +1,9 @@
 ghost use Rattle.std.specs.Prelude.{◌≡◌, IfOk, IfErr};
-ghost use Rattle.book_step.specs.Outcome.{Done};
 ghost use Rattle.book_step.specs.Soundness.{IsSound};
 ghost use Rattle.book_step.specs.State.{fresh_state};
 ghost use Rattle.book_step.specs.Step.{step as step_from};
 ghost use Rattle.book_undo.specs.Room.{HasRoom};
-ghost use Rattle.book_engine.specs.Planned.{after, IsPlanFor, IsRefusal};
+ghost use Rattle.book_engine.specs.Planned.{after, IsPlanFor, IsRefusal, IsStepOf};
 
 use crate::Plan;
 use crate::balances::with_balances;
@@ -55,7 +54,7 @@ impl Engine {
     /// Tries all rules of the command, takes all memory that it needs and makes the whole answer. The state stays as
     /// it is. Refused by the first rule that the command breaks, or out of memory.
     pub fn prepare(&mut self, command: Command) -> Result<Plan, Refusal>
-        ensures planned { IfOk result (λ plan. step_from self.old.state command ≡ Done (after self.old.state plan) plan.answer) }
+        ensures planned { IfOk result (IsStepOf self.old.state command) }
         ensures room { IfOk result (λ plan. HasRoom self.new.plain plan.edit) }
         ensures refused { IfErr result (IsRefusal (step_from self.old.state command)) }
         ensures unchanged { self.new.state ≡ self.old.state }

@@ -12,11 +12,11 @@ pub struct Plan {
 }
 
 impl Model for Plan {
-    ghost use Rattle.book_engine.specs.Planned.{Planned};
+    ghost use Rattle.book_engine.specs.Planned.{Planned, planned_by};
 
     ghost Value = { Planned };
 
-    ghost view = { λ p. record { edit = p.step.edit; next = p.step.next; version = p.version; answer = p.step.answer } };
+    ghost view = { planned_by };
 }
 
 impl Plan {

@@ -5,7 +5,7 @@ use Rattle.std.proofs.Common.{arith, w64, length, take, drop, map, get_or, â—Œ<â
 use mir.Val.{SFits}
 use Rattle.std.proofs.Common.{eq-eqb}
 use Rattle.std.proofs.lemmas.Bool.{eqb-true}
-use Rattle.std.proofs.lemmas.List.{take_more, take-append-drop, map-append, append-nil}
+use Rattle.std.proofs.lemmas.List.{take-append-drop, map-append, append-nil}
 use Rattle.std.proofs.Math.ListN.{length-append}
 use Rattle.std.proofs.lemmas.Bool.Decides.{nat_tests}
 use Rattle.book_commodity.proofs.ListLemmas.{take-item}

@@ -112,8 +112,8 @@ pub sound-told :
     {T : Type 0} (commodities : List (ℕ × Commodity)) (accounts : List (ℕ × Account)) (txn : Txn)
     (result : Result T TxnRule) → TellsFirst (txn_rules commodities accounts txn) result
     → OnOk result (IsSound txn.splits)
-sound-told commodities accounts txn (Ok x) h = sound_of commodities accounts txn h
-sound-told commodities accounts txn (Err rule) h = tt
+sound-kept commodities accounts txn (Ok x) h = sound_of commodities accounts txn h
+sound-kept commodities accounts txn (Err rule) h = tt
 
 -- the rules of a transaction whose splits break the first
 pub first-of_txn :
@@ -135,8 +135,8 @@ first-of_txn commodities accounts txn splits rule same count currency here =
     ∙ first-past currencies rest currency
     ∙ first-here (rules_of_splits accounts txn.currency 0 splits) (unbalanced splits ∷ []) rule here)
 
--- what is told of a transaction whose other rules aren't broken is what is told of its balance
-pub tells-balance :
+-- where the other rules of a transaction are kept, what a check reports of its balance is what it reports of all
+pub reports-balance :
     {T : Type 0} (commodities : List (ℕ × Commodity)) (accounts : List (ℕ × Account)) (txn : Txn)
     (splits : List Split) (result : Result T TxnRule)
     → splits ≡ txn.splits
@@ -145,17 +145,17 @@ pub tells-balance :
     → first_broken (rules_of_splits accounts txn.currency 0 splits) ≡ None
     → TellsFirst (unbalanced splits ∷ []) result
     → TellsFirst (txn_rules commodities accounts txn) result
-tells-balance {T} commodities accounts txn splits result same count currency kept told =
+reports-balance {T} commodities accounts txn splits result same count currency kept reported =
     let currencies = currency_rules txn.currency (value_of txn.currency commodities) in
     let Told : List Split → Type 0 =
     λ given. TellsFirst (split_count given
     ∷ (currencies ++ (rules_of_splits accounts txn.currency 0 given ++ (unbalanced given ∷ [])))) result in
     let balance = unbalanced splits ∷ [] in
     let rest = rules_of_splits accounts txn.currency 0 splits in
-    subst Told same
+    subst Reported same
     (tells-past (split_count splits ∷ []) (currencies ++ (rest ++ balance)) result count
     (tells-past currencies (rest ++ balance) result currency
-    (tells-past rest balance result kept told)))
+    (tells-past rest balance result kept reported)))
 
 pub sum_of_values-take :
     (splits : List Split) (i : ℕ) (d : Split) → i < length splits

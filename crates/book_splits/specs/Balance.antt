@@ -18,13 +18,17 @@ abbrev pub splits_of : List (ℕ × Txn) → List Split
 splits_of [] = []
 splits_of (entry ∷ more) = entry.1.splits ++ splits_of more
 
--- whether a split stands on an account
+-- whether an account has a split
 abbrev pub has_splits : List (ℕ × Txn) → ℕ → Bool
 has_splits transactions account = list_any (λ split. split.account == account) (splits_of transactions)
 
 -- what the splits give to an account: the sum of the quantities of those that name it
 abbrev pub quantity_on : ℕ → List Split → ℤ
 quantity_on account splits = total (map (λ split. split.quantity) (filter (λ split. split.account == account) splits))
+
+-- what these splits give to the accounts of some splits, by place
+abbrev pub balances_in : List Split → List Split → List ℤ
+balances_in all splits = map (λ split. quantity_on split.account all) splits
 
 -- the balance of an account over all days
 abbrev pub balance : List (ℕ × Txn) → ℕ → ℤ

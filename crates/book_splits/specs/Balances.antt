@@ -1,5 +1,6 @@
 -- What a table of balances says of the splits that were counted into it.
-use Rattle.std.specs.Prelude.{◌≡◌, ℕ, ◌==◌, ℤ, ◌+ℤ◌, List, Option, Some, IfSome, option_map, if◌then◌else◌}
+use Rattle.std.specs.Prelude.{◌≡◌, ℕ, ◌==◌, ℤ, ◌+ℤ◌, List, Option, Some, IfSome, IsSome, All, map, ◌++◌, option_map}
+use Rattle.std.specs.Prelude.{if◌then◌else◌}
 use Rattle.book_commodity.specs.Table.{value_of}
 use Rattle.book_splits.specs.Balance.{quantity_on, IsWithin}
 use Rattle.book_splits.specs.declared.balances.Balances.{Balances}
@@ -16,6 +17,18 @@ pub record Counts (balances : Balances) (splits : List Split) : Type 0 where
 -- each balance in the table is small enough to be the sum of so many amounts of 64 bits
 pub record IsSmall (balances : Balances) (count : ℕ) : Type 0 where
   pub sums : (account : ℕ) → IfSome (balance_at balances account) (IsWithin count)
+
+-- the table has the account of each of the splits
+abbrev pub HasAccounts : Balances → List Split → Type 0
+HasAccounts balances splits = All (λ split. IsSome (balance_at balances split.account)) splits
+
+-- these are the balances of the accounts of the splits, by place
+abbrev pub AreBalances : Balances → List Split → List ℤ → Type 0
+AreBalances balances splits sums = map (λ sum. Some sum) sums ≡ map (λ split. balance_at balances split.account) splits
+
+-- the splits are counted into the new table, besides those in the old one
+abbrev pub CountsMore : Balances → Balances → List Split → Type 0
+CountsMore old new splits = (before : List Split) → Counts old before → Counts new (before ++ splits)
 
 -- the new table has one quantity more on an account, where it has that account
 pub record Adds (old new : Balances) (account : ℕ) (quantity : ℤ) : Type 0 where

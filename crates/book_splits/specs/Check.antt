@@ -62,12 +62,15 @@ split_rules currency place split (Some account) =
     placeholder split account ∷ amount_limit split ∷ basis currency split account
     ∷ value_not_quantity currency place split account ∷ []
 
+-- The rules of a split at a place among these accounts.
+abbrev pub rules_at : List (ℕ × Account) → ℕ → ℕ → Split → List (Option TxnRule)
+rules_at accounts currency place split = split_rules currency place split (value_of split.account accounts)
+
 -- The rules of splits from a place on, all of one split before those of the next.
 abbrev pub rules_of_splits : List (ℕ × Account) → ℕ → ℕ → List Split → List (Option TxnRule)
 rules_of_splits accounts currency place [] = []
 rules_of_splits accounts currency place (split ∷ more) =
-    split_rules currency place split (value_of split.account accounts)
-    ++ rules_of_splits accounts currency (place + 1) more
+    rules_at accounts currency place split ++ rules_of_splits accounts currency (place + 1) more
 
 -- The values of a transaction sum to zero (GnuCash Concepts Guide, double entry).
 abbrev pub unbalanced : List Split → Option TxnRule

@@ -4,7 +4,7 @@ ghost use Rattle.book_splits.specs.Balance.{has_splits as stands_on};
 
 use crate::{Split, Txns};
 
-/// Whether a split of the transactions stands on the account.
+/// Whether the account has a split of the transactions.
 pub fn has_splits(transactions: &Txns, account: u64) -> bool
     ensures { result ≡ stands_on transactions.now.entries account }
 {
@@ -16,7 +16,7 @@ pub fn has_splits(transactions: &Txns, account: u64) -> bool
     false
 }
 
-/// Whether one of the splits stands on the account.
+/// Whether the account has one of the splits.
 fn stand_on(splits: &[Split], account: u64) -> bool
     ensures { result ≡ list_any (λ split. split.account == account) splits.now }
 {

@@ -1,7 +1,6 @@
 ghost use Rattle.std.specs.Prelude.{◌≡◌, ℕ, ◌+◌, ◌*◌, ◌≤◌, ◌^◌, ℤ, pos, ◌+ℤ◌, List, [], ◌∷◌, ◌++◌, ◌==◌};
 ghost use Rattle.std.specs.Prelude.{if◌then◌else◌, All, IfOk, OnOk, IfSome, IsSome, length, map, option_map};
-ghost use Rattle.book_splits.specs.Balance.{quantity_on, splits_of};
-ghost use Rattle.book_splits.specs.declared.split.Split.{Split};
+ghost use Rattle.book_splits.specs.Balance.{balances_in, splits_of};
 
 use crate::{Split, Txn, Txns};
 use book_commodity::{Many, OutOfMemory, Table};
@@ -14,11 +13,12 @@ struct Balances {
 }
 
 impl Balances {
-    ghost use Rattle.book_splits.specs.Balances.{balance_at, Adds, Counts, IsSmall, Puts};
+    ghost use Rattle.book_splits.specs.Balances.{balance_at, Adds, AreBalances, Counts, CountsMore, HasAccounts};
+    ghost use Rattle.book_splits.specs.Balances.{IsSmall, Puts};
 
     /// A balance of zero for each account that the splits name.
     fn of_accounts(alloc: Global, splits: &[Split]) -> Result<Balances, OutOfMemory>
-        ensures named { IfOk result (λ balances. All (λ split. IsSome (balance_at balances split.account)) splits.now) }
+        ensures named { IfOk result (λ balances. HasAccounts balances splits.now) }
         ensures zero { IfOk result (λ balances. Counts balances []) }
         ensures small { IfOk result (λ balances. IsSmall balances 0) }
     {
@@ -69,7 +69,7 @@ impl Balances {
     /// Counts the splits into the balances of their accounts.
     fn count(&mut self, splits: &[Split])
         requires { IsSmall self.old (2 ^ 62) }
-        ensures counted { (before : List Split) → Counts self.old before → Counts self.new (before ++ splits.now) }
+        ensures counted { CountsMore self.old self.new splits.now }
         ensures small { (count : ℕ) → IsSmall self.old count → IsSmall self.new (count + length splits.now) }
         ensures kept { (a : ℕ) → IsSome (balance_at self.old a) → IsSome (balance_at self.new a) }
     {
@@ -82,7 +82,7 @@ impl Balances {
     fn count_all(&mut self, transactions: &[(u64, Txn)])
         requires zero { IsSmall self.old 0 }
         requires few { length (splits_of transactions.now) ≤ 2 ^ 61 }
-        ensures counted { (before : List Split) → Counts self.old before → Counts self.new (before ++ splits_of transactions.now) }
+        ensures counted { CountsMore self.old self.new (splits_of transactions.now) }
         ensures small { IsSmall self.new (length (splits_of transactions.now)) }
         ensures kept { (a : ℕ) → IsSome (balance_at self.old a) → IsSome (balance_at self.new a) }
     {
@@ -93,8 +93,8 @@ impl Balances {
 
     /// The balances of the accounts of the splits, in the order of the splits.
     fn of_each(&self, alloc: Global, splits: &[Split]) -> Result<Many<i128>, OutOfMemory>
-        requires { All (λ split. IsSome (balance_at self.now split.account)) splits.now }
-        ensures { IfOk result (λ balances. map (λ sum. Some sum) balances ≡ map (λ split. balance_at self.now split.account) splits.now) }
+        requires { HasAccounts self.now splits.now }
+        ensures { IfOk result (AreBalances self.now splits.now) }
     {
         let mut balances = Vec::new(alloc);
         for split in splits {
@@ -115,7 +115,7 @@ pub fn balances_after(
     splits: &[Split],
 ) -> Result<Many<i128>, OutOfMemory>
     requires few { length (splits_of transactions.now.entries) ≤ 2 ^ 61 }
-    ensures { IfOk result (λ balances. balances ≡ map (λ split. quantity_on split.account (splits_of transactions.now.entries ++ splits.now)) splits.now) }
+    ensures { IfOk result (λ sums. sums ≡ balances_in (splits_of transactions.now.entries ++ splits.now) splits.now) }
 {
     let mut balances = Balances::of_accounts(alloc, splits)?;
     balances.count_all(transactions.as_slice());

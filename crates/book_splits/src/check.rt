@@ -1,8 +1,9 @@
 ghost use Rattle.std.specs.Prelude.{◌≡◌, [], ◌∷◌, OnOk};
 ghost use Rattle.book_commodity.specs.Table.{value_of};
 ghost use Rattle.book_splits.specs.Balance.{sum_of_values};
-ghost use Rattle.book_splits.specs.Check.{IsSound, currency_rules, is_over_limit, rules_of_splits, split_count};
-ghost use Rattle.book_splits.specs.Check.{split_rules, txn_rules, unbalanced};
+ghost use Rattle.book_splits.specs.Check.{IsSound, currency_rules, is_over_limit, rules_at, rules_of_splits};
+ghost use Rattle.book_splits.specs.Check.{split_count};
+ghost use Rattle.book_splits.specs.Check.{txn_rules, unbalanced};
 ghost use Rattle.book_commodity.specs.Rules.{TellsFirst};
 
 use crate::{Split, Txn, TxnRule};
@@ -71,7 +72,7 @@ fn check_splits(accounts: &Tree, currency: u64, splits: &[Split]) -> Result<(), 
 
 /// The split at a place keeps its rules.
 fn check_split(accounts: &Tree, currency: u64, place: usize, split: &Split) -> Result<(), TxnRule>
-    ensures { TellsFirst (split_rules currency place split.now (value_of split.now.account accounts.now.entries)) result }
+    ensures { TellsFirst (rules_at accounts.now.entries currency place split.now) result }
 {
     let Some(account) = accounts.find(split.account) else {
         return Err(TxnRule::Unknown {

@@ -78,7 +78,7 @@ fn transaction(alloc: Global, day: Day, given: &[(u64, i64, i64)]) -> Result<Txn
     })
 }
 
-/// What the check tells of such a transaction, and of a copy of it out of a table.
+/// What the check reports of a copy of such a transaction that stood in a table.
 fn answer(
     alloc: Global,
     day: Day,

@@ -15,7 +15,7 @@ use Rattle.book_undo.specs.declared.thing.Thing.TheVariants as thing
 use Rattle.book_undo.specs.declared.thing.ThingKind.TheVariants as kind
 use Rattle.book_step.specs.Accounts.{account_drop_of, account_edit_at, add_rules, edit_rules, not_empty, root_stays}
 use Rattle.book_step.specs.Accounts.{stays, with_given}
-use Rattle.book_step.specs.AnswerBalances.{IsPosting, PostsAnswered, balances_at, balances_of, with_balances}
+use Rattle.book_step.specs.AnswerBalances.{PostsAnswered, balances_at, balances_of, with_balances}
 use Rattle.book_step.specs.AnswerBalances.{without_balances}
 use Rattle.book_step.specs.Commodities as commodities
 use Rattle.book_step.specs.Outcome.{Outcome, Broken, Done, but_balances, changing, leaving, numbers, state_after}
@@ -80,41 +80,41 @@ either_answered false state rules edit given new answer has e = changing_answere
     answer (has (state_after state edit (state.next + 0))) e
 
 edit_answered : (state : State) (n : ℕ) (given : GivenAccount) (found : Option Account) (new : State)
-    (told : Answer) → account_edit_at state n given found ≡ Done new told → HasBalances state new told
-edit_answered state n given None new told e = absurd cc
-edit_answered state n given (Some old) new told e =
+    (reply : Answer) → account_edit_at state n given found ≡ Done new reply → HasBalances state new reply
+edit_answered state n given None new reply e = absurd cc
+edit_answered state n given (Some old) new reply e =
     either_answered (stays old given).is state (edit_rules state.book n given.parent old (with_given old given))
-    (edit.Put n (thing.Account (with_given old given))) answer.AccountEdit new told (λ s. tt) e
+    (edit.Put n (thing.Account (with_given old given))) answer.AccountEdit new reply (λ s. tt) e
 
-drop_answered : (state : State) (n : ℕ) (found : Option Account) (new : State) (told : Answer)
-    → account_drop_of state n found ≡ Done new told → HasBalances state new told
-drop_answered state n None new told e = absurd cc
-drop_answered state n (Some old) new told e =
+drop_answered : (state : State) (n : ℕ) (found : Option Account) (new : State) (reply : Answer)
+    → account_drop_of state n found ≡ Done new reply → HasBalances state new reply
+drop_answered state n None new reply e = absurd cc
+drop_answered state n (Some old) new reply e =
     changing_answered state (root_stays old ∷ not_empty state.book n ∷ [])
-    (edit.Gone kind.Account n) 0 answer.AccountDrop new told tt e
+    (edit.Gone kind.Account n) 0 answer.AccountDrop new reply tt e
 
-answered : (state : State) (what : What) (new : State) (told : Answer) → outcome state what ≡ Done new told
-    → HasBalances state new told
-answered state (BookCurrency commodity) new told e =
+answered : (state : State) (what : What) (new : State) (reply : Answer) → outcome state what ≡ Done new reply
+    → HasBalances state new reply
+answered state (BookCurrency commodity) new reply e =
     either_answered (commodity == state.book.currency) state (commodities.currency_rules state.book commodity)
-    (edit.Currency commodity) answer.BookCurrency new told (λ s. tt) e
-answered state (CommodityAdd commodity) new told e =
+    (edit.Currency commodity) answer.BookCurrency new reply (λ s. tt) e
+answered state (CommodityAdd commodity) new reply e =
     changing_answered state (commodities.add_rules state.book commodity)
-    (edit.Put state.next (thing.Commodity commodity)) 1 (answer.CommodityAdd state.next) new told tt e
-answered state (AccountAdd account) new told e =
+    (edit.Put state.next (thing.Commodity commodity)) 1 (answer.CommodityAdd state.next) new reply tt e
+answered state (AccountAdd account) new reply e =
     changing_answered state (add_rules state.book account) (edit.Put state.next (thing.Account account)) 1
-    (answer.AccountAdd state.next) new told tt e
-answered state (AccountEdit account given) new told e = edit_answered state account given
-    (value_of account state.book.accounts) new told e
-answered state (AccountDrop account) new told e = drop_answered state account
-    (value_of account state.book.accounts) new told e
-answered state (Post day given) new told e =
+    (answer.AccountAdd state.next) new reply tt e
+answered state (AccountEdit account given) new reply e = edit_answered state account given
+    (value_of account state.book.accounts) new reply e
+answered state (AccountDrop account) new reply e = drop_answered state account
+    (value_of account state.book.accounts) new reply e
+answered state (Post day given) new reply e =
     let transaction = new_transaction state.next day given in
     let put = edit.Put state.next (thing.Txn transaction) in
     let entries = with_entry state.next transaction state.book.transactions in
     let here = value_here state.next state.next transaction state.book.transactions refl in
     changing_answered state (post_rules state.book transaction) put (1 + length transaction.splits)
-    (post_answer (edited put state.book) state.next transaction) new told
+    (post_answer (edited put state.book) state.next transaction) new reply
     (refl, (transaction, refl), ap (balances_at entries) (sym here)) e
 
 -- ---- answers with and without balances
@@ -143,15 +143,15 @@ whole_of (Done state whole) new short e =
     let left : without_balances whole ≡ short = cc in
     (whole, ap (λ (s : State). Done s whole) same, left)
 
-step_answered : (state : State) (command : Command) (new : State) (told : Answer)
-    → step state command ≡ Done new told → HasBalances state new told
-step_answered state command new told e = answered state command.what new told
-    (past_version (stale state command.at) (outcome state command.what) new told e)
+step_answered : (state : State) (command : Command) (new : State) (reply : Answer)
+    → step state command ≡ Done new reply → HasBalances state new reply
+step_answered state command new reply e = answered state command.what new reply
+    (past_version (stale state command.at) (outcome state command.what) new reply e)
   where
-    past_version : (rule : Option Rule) (given : Outcome) (new : State) (told : Answer)
-        → unless_broken rule given ≡ Done new told → given ≡ Done new told
-    past_version None given new told e = e
-    past_version (Some rule) given new told e = absurd cc
+    past_version : (rule : Option Rule) (given : Outcome) (new : State) (reply : Answer)
+        → unless_broken rule given ≡ Done new reply → given ≡ Done new reply
+    past_version None given new reply e = e
+    past_version (Some rule) given new reply e = absurd cc
 
 -- The machine's answer is what the step answers, with the balances of the new book.
 pub whole_step :

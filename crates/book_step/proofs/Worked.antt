@@ -22,14 +22,14 @@ use Rattle.book_command.specs.declared.rule.Rule.TheVariants.{Limit}
 abbrev now : What → Command
 now what = record { at = None; what = what }
 
--- what an outcome tells: a rule, or an answer with the version after
-data Told : Type 0 where
-  Refused : Rule → Told
-  Answered : Answer → ℕ → Told
+-- what an outcome says: a rule, or an answer with the version after
+data Reply : Type 0 where
+  Refused : Rule → Reply
+  Answered : Answer → ℕ → Reply
 
-abbrev told : Outcome → Told
-told (Broken rule) = Refused rule
-told (Done state answer) = Answered answer state.version
+abbrev reply : Outcome → Reply
+reply (Broken rule) = Refused rule
+reply (Done state answer) = Answered answer state.version
 
 abbrev after : State → Outcome → State
 after state (Broken rule) = state
@@ -39,9 +39,9 @@ abbrev run : State → List What → State
 run state [] = state
 run state (what ∷ more) = run (after state (step state (now what))) more
 
--- what the last command tells after the others
-abbrev last : List What → What → Told
-last before what = told (step (run fresh_state before) (now what))
+-- what the last command comes to after the others
+abbrev last : List What → What → Reply
+last before what = reply (step (run fresh_state before) (now what))
 
 abbrev account : List ℕ → AccountKind → Option ℕ → What
 account name kind basis = AccountAdd (record {
@@ -138,7 +138,7 @@ same_currency = refl
 name_taken : last two_accounts (account (codes "Bank") Bank None) ≡ Refused (NameTaken 3)
 name_taken = refl
 
-earlier_version : told (step (run fresh_state two_accounts) (record { at = Some 1; what = AccountDrop 9 }))
+earlier_version : reply (step (run fresh_state two_accounts) (record { at = Some 1; what = AccountDrop 9 }))
     ≡ Refused (Stale 2)
 earlier_version = refl
 

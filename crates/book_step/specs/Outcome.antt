@@ -69,3 +69,14 @@ abbrev pub StepsTo : State → Outcome → Result Step Refusal → Type 0
 StepsTo state outcome (Ok step) = but_balances outcome ≡ Done (after state step) step.answer
 StepsTo state outcome (Err (refusal.Broken rule)) = outcome ≡ Broken rule
 StepsTo state outcome (Err refusal.OutOfMemory) = ⊤
+
+-- What a call makes of a command that breaks no rule and changes the book by an edit, whose answer is this one but for
+-- its balances.
+abbrev pub ChangesBy : State → Edit → ℕ → Answer → Result Step Refusal → Type 0
+ChangesBy state edit drawn answer result =
+    (whole : Answer) → without_balances whole ≡ answer → StepsTo state (changing state [] edit drawn whole) result
+
+-- The same of a command that leaves the book as it is.
+abbrev pub LeavesBy : State → Answer → Step → Type 0
+LeavesBy state answer step =
+    (whole : Answer) → without_balances whole ≡ answer → StepsTo state (leaving state [] whole) (Ok step)

@@ -1,6 +1,6 @@
-//! What a command asks, what it is answered, and the rules that can refuse it, as plain types; in `specs/` the meaning
-//! of them all: the state of the machine, and the step that each command takes on it, by family; and `step_of`, which
-//! tells what a command comes to, and changes nothing.
+//! The step that each command takes on a book. In `specs/` stands what a command comes to, family by family, and the
+//! state of the machine; `step_of` reports what a command comes to in a book, and changes nothing. The types of
+//! commands, answers and rules come from `book_command`. Public are these, `Step` and `step_of`.
 #![tactic(auto)]
 
 mod account_edit;

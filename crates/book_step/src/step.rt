@@ -1,12 +1,10 @@
-ghost use Rattle.std.specs.Prelude.{◌≡◌, ℕ, ◌<◌, ◌≤◌, ◌^◌, [], ◌∷◌, Ok, false};
+ghost use Rattle.std.specs.Prelude.{◌≡◌, ◌<◌, ◌≤◌, ◌^◌, [], ◌∷◌};
 ghost use Rattle.book_commodity.specs.Rules.{TellsFirst};
 ghost use Rattle.book_undo.specs.Edit.{is_unchanged};
-ghost use Rattle.book_step.specs.AnswerBalances.{without_balances};
-ghost use Rattle.book_step.specs.Outcome.{StepsTo, changing, leaving, numbers, version_after};
+ghost use Rattle.book_step.specs.Outcome.{ChangesBy, LeavesBy, StepsTo, numbers, version_after};
 ghost use Rattle.book_step.specs.Soundness.{IsSound};
 ghost use Rattle.book_step.specs.State.{state_of};
 ghost use Rattle.book_step.specs.Step.{outcome, stale, step};
-ghost use Rattle.book_command.specs.declared.answer.Answer.{Answer};
 
 use crate::account_edit::account_edit;
 use crate::accounts::{account_add, account_drop};
@@ -32,7 +30,7 @@ pub struct Step {
 impl Step {
     /// The step that leaves the book as it is.
     pub(crate) fn leaving(present: &Present, answer: Answer) -> Step
-        ensures { (whole : Answer) → without_balances whole ≡ answer → StepsTo present.now (leaving present.now [] whole) (Ok result) }
+        ensures { LeavesBy present.now answer result }
     {
         Step {
             edit: Edit::Unchanged,
@@ -49,7 +47,7 @@ impl Step {
         answer: Answer,
     ) -> Result<Step, Refusal>
         requires drawn { drawn ≤ 2 ^ 62 }
-        ensures { (whole : Answer) → without_balances whole ≡ answer → StepsTo present.now (changing present.now [] edit drawn whole) result }
+        ensures { ChangesBy present.now edit drawn answer result }
     {
         check_numbers(present, drawn)?;
         Ok(Step {

@@ -1,6 +1,6 @@
 ghost use Rattle.std.specs.Prelude.{◌≡◌, [], None, IfOk, false};
 ghost use Rattle.book_step.specs.Soundness.{IsSound};
-ghost use Rattle.book_step.specs.State.{fresh_state, state_of};
+ghost use Rattle.book_step.specs.State.{euro, fresh_state, root, state_of};
 
 use crate::{Answer, Command, GivenAccount, GivenSplit, GivenTxn, Refusal, Rule, What, step_of};
 use book_accounts::{Account, AccountKind};
@@ -24,7 +24,7 @@ fn text(alloc: Global, text: &str) -> Result<Text, OutOfMemory>
 }
 
 fn commodity(alloc: Global, space: &str, name: &str) -> Result<Commodity, OutOfMemory>
-    ensures { IfOk result (λ given. given ≡ record { space = space.now; name = name.now; full_name = []; fraction = 100 }) }
+    ensures { IfOk result (λ given. given ≡ record euro { space = space.now; name = name.now }) }
 {
     Ok(Commodity {
         space: text(alloc, space)?,
@@ -34,24 +34,18 @@ fn commodity(alloc: Global, space: &str, name: &str) -> Result<Commodity, OutOfM
     })
 }
 
-fn account(
-    alloc: Global,
-    name: &str,
-    kind: AccountKind,
-    parent: Option<u64>,
-    placeholder: bool,
-) -> Result<Account, OutOfMemory>
-    ensures { IfOk result (λ given. given ≡ record { name = name.now; kind = kind; commodity = 1; parent = parent; code = []; note = []; hidden = false; placeholder = placeholder; basis = None }) }
+fn root(alloc: Global) -> Result<Account, OutOfMemory>
+    ensures { IfOk result (λ given. given ≡ root) }
 {
     Ok(Account {
-        name: text(alloc, name)?,
-        kind,
+        name: text(alloc, "Root")?,
+        kind: AccountKind::Root,
         commodity: 1,
-        parent,
+        parent: None,
         code: Text::new(alloc),
         note: Text::new(alloc),
         hidden: false,
-        placeholder,
+        placeholder: true,
         basis: None,
     })
 }
@@ -66,9 +60,7 @@ fn fresh(alloc: Global) -> Result<Machine, OutOfMemory>
         .commodities
         .put(1, commodity(alloc, "CURRENCY", "EUR")?);
     plain.accounts.reserve(1)?;
-    plain
-        .accounts
-        .put(2, account(alloc, "Root", AccountKind::Root, None, true)?);
+    plain.accounts.put(2, root(alloc)?);
     Ok(Machine {
         plain,
         next: 3,
@@ -99,7 +91,13 @@ impl Machine {
 }
 
 fn bank(alloc: Global, name: &str) -> Result<What, OutOfMemory> {
-    let account = account(alloc, name, AccountKind::Bank, Some(2), false)?;
+    let account = Account {
+        name: text(alloc, name)?,
+        kind: AccountKind::Bank,
+        parent: Some(2),
+        placeholder: false,
+        ..root(alloc)?
+    };
     Ok(What::AccountAdd { account })
 }
 

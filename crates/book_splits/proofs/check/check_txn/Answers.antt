@@ -1,7 +1,7 @@
 use Rattle.std.proofs.Common.{◌≡◌, rules, Some}
 use Rattle.book_splits.specs.Check.{txn_rules}
 use Rattle.book_commodity.specs.Rules.{TellsFirst, first_broken}
-use Rattle.book_splits.proofs.CheckLemmas.{first-of_txn, tells-balance, sound-told}
+use Rattle.book_splits.proofs.CheckLemmas.{first-of_txn, reports-balance, sound-kept}
 use Rattle.book_splits.proofs.check.check_txn.Goals as goal
 
 pub returns-in_err-check_splits-clause-first_rule :
@@ -15,18 +15,18 @@ returns-in_err-check_splits-clause-first_rule c =
     c.in_err-check_splits.ensures in
     search rules
 
-told : (c : goal.After-check_balance)
+reported : (c : goal.After-check_balance)
     → TellsFirst (txn_rules c.args.commodities.now.entries c.args.accounts.now.entries c.args.txn.now)
     c.check_balance.result
-told c =
-    tells-balance c.args.commodities.now.entries c.args.accounts.now.entries c.args.txn.now
+reported c =
+    reports-balance c.args.commodities.now.entries c.args.accounts.now.entries c.args.txn.now
     c.as_slice-splits.result.now c.check_balance.result
     c.as_slice-splits.ensures c.in_ok-check_count.ensures c.in_ok-check_currency.ensures
     c.in_ok-check_splits.ensures c.check_balance.ensures
 
 pub returns-clause-first_rule : goal.returns-clause-first_rule
-returns-clause-first_rule c = told c
+returns-clause-first_rule c = reported c
 
 pub returns-clause-sound : goal.returns-clause-sound
-returns-clause-sound c = sound-told c.args.commodities.now.entries c.args.accounts.now.entries c.args.txn.now
-    c.check_balance.result (told c)
+returns-clause-sound c = sound-kept c.args.commodities.now.entries c.args.accounts.now.entries c.args.txn.now
+    c.check_balance.result (reported c)
