@@ -1,7 +1,8 @@
 //! The outside as the book meets it: a source of bytes, a sink of bytes, and what can go wrong with them.
-//! Each tells by ghost members what it has left, what it was given and how often it failed, so that
-//! contracts above speak of the bytes themselves. `MemSource` and `MemSink` tell all of it and fail where
-//! they are told to; `FileSource` and `StreamSink` join std's readers and writers and tell their faults alone.
+//! Each reports by ghost members what it has left, what it was given and how often it failed, so that
+//! contracts above speak of the bytes themselves. `MemSource` and `MemSink` report all of it and fail at chosen
+//! calls; `FileSource` and `StreamSink` join std's readers and writers, report the bytes that these report, and
+//! count a fault for each call that fails. A call that succeeds hides no fault.
 #![tactic(auto)]
 
 mod calls;

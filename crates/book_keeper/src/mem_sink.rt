@@ -36,7 +36,8 @@ impl Model for MemSink {
 
 impl MemSink {
     /// A sink with room for so many bytes. The calls whose numbers, counted from 1, stand in `fail` are to
-    /// fail; so does one with bytes where no room is left. Only this call takes memory.
+    /// fail; so does one with bytes where no room is left. Only this call takes memory: OutOfMemory where there is
+    /// not enough.
     pub fn new(alloc: Global, room: usize, fail: Many<u64>) -> Result<MemSink, OutOfMemory>
         ensures { IfOk result (λ sink.
             sink ≡ record { written = []; room = room; fail = fail; calls = 0; faults = 0 }) }

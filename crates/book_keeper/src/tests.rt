@@ -10,7 +10,7 @@ fn second_call(alloc: Global) -> Result<Many<u64>, Fail> {
 }
 
 #[test]
-fn a_source_gives_its_bytes_in_pieces_and_fails_where_it_is_told(
+fn a_source_gives_its_bytes_in_pieces_and_fails_at_chosen_calls(
     rt: HostRuntime,
 ) -> Result<(), Fail> {
     let bytes = Bytes::of(Vec::from_slice(rt.alloc(), b"abcdefg")?);
@@ -31,7 +31,7 @@ fn a_source_gives_its_bytes_in_pieces_and_fails_where_it_is_told(
 }
 
 #[test]
-fn a_sink_takes_what_fits_and_fails_where_it_is_told(rt: HostRuntime) -> Result<(), Fail> {
+fn a_sink_takes_what_fits_and_fails_at_chosen_calls(rt: HostRuntime) -> Result<(), Fail> {
     let mut sink = MemSink::new(rt.alloc(), 5, second_call(rt.alloc())?)?;
     assert_eq!(rt; write_all(&mut sink, b"abc"), Ok(()));
     assert_eq!(rt; sink.write(b"d"), Err(Failed));

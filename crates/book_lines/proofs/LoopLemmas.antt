@@ -3,7 +3,7 @@ use Rattle.std.proofs.Common.{◌≡◌, ℕ, ◌+◌, ◌<◌, ◌≤◌, true,
 use Rattle.std.proofs.Common.{arith, append_assoc, length-append}
 use Rattle.book_keeper.proofs.StreamLemmas.{Wrote-nil, Wrote-append}
 use Rattle.book_lines.specs.Lines.{ended, left_over, rest_line, sent}
-use Rattle.book_lines.specs.Marks.{Mark, marks, is_one_line, RoseForEach}
+use Rattle.book_lines.specs.Marks.{marks, is_one_line, RoseForEach}
 use Rattle.book_lines.specs.Transcript.{AnswerRelation, Run}
 use Rattle.book_lines.specs.Room.{Seen, seen}
 use Rattle.book_lines.specs.RunClause.{Moment}

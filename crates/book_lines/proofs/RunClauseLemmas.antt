@@ -6,7 +6,7 @@ use Rattle.std.specs.Io.KnownBytes.{Consumes, IsAtEnd}
 use Rattle.book_keeper.specs.Stream.{Are}
 use Rattle.book_keeper.proofs.StreamLemmas.{Are-some, Are-end, Are-Consumes}
 use Rattle.book_lines.specs.Lines.{ended, whole_lines, last_piece, rest_line, all_lines, sent, lines, AreAll}
-use Rattle.book_lines.specs.Marks.{Mark, marks}
+use Rattle.book_lines.specs.Marks.{marks}
 use Rattle.book_lines.specs.Transcript.{AnswerRelation, Run}
 use Rattle.book_lines.specs.Room.{Seen}
 use Rattle.book_lines.specs.RunClause.{Moment, IsAnswered, IsBroken, IsRun}
