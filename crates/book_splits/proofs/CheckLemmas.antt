@@ -107,8 +107,8 @@ sound_of commodities accounts txn e =
       few = grind (arith, nat_tests, count);
     }
 
--- where a check tells that no rule is broken, so it is
-pub sound-told :
+-- where a check reports that no rule is broken, the splits are sound
+pub sound-kept :
     {T : Type 0} (commodities : List (ℕ × Commodity)) (accounts : List (ℕ × Account)) (txn : Txn)
     (result : Result T TxnRule) → TellsFirst (txn_rules commodities accounts txn) result
     → OnOk result (IsSound txn.splits)
@@ -147,7 +147,7 @@ pub reports-balance :
     → TellsFirst (txn_rules commodities accounts txn) result
 reports-balance {T} commodities accounts txn splits result same count currency kept reported =
     let currencies = currency_rules txn.currency (value_of txn.currency commodities) in
-    let Told : List Split → Type 0 =
+    let Reported : List Split → Type 0 =
     λ given. TellsFirst (split_count given
     ∷ (currencies ++ (rules_of_splits accounts txn.currency 0 given ++ (unbalanced given ∷ [])))) result in
     let balance = unbalanced splits ∷ [] in
