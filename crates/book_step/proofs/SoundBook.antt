@@ -1,11 +1,11 @@
 -- A change of one table leaves a book sound, where what is put keeps its rules and the rules that look at it are kept.
 -- Which rules look at what of which table:
 --
---     rules of        commodities              accounts                        transactions
+--     rules of        commodities              accounts                            transactions
 --     a commodity     those before it
---     an account      its own, its basis       its parent, those before it
---     a transaction   its currency             those of its splits             the splits of those before it
---     the book        its currency             the root, the ways up to it     the count of splits
+--     an account      its own, its basis       those before it, those above it
+--     a transaction   its currency             those of its splits                 the splits of those before it
+--     the book        its currency             the root                            the count of splits
 --
 -- So a new commodity asks nothing of the others, since what was there stays; another account in the place of one asks
 -- that the kinds stay, and that it takes splits as that did; and a new transaction asks that its splits have numbers of
