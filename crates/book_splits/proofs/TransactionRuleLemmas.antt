@@ -20,7 +20,7 @@ use Rattle.book_accounts.specs.declared.account.Account.{Account}
 use Rattle.book_accounts.specs.declared.kind.AccountKind.{AccountKind}
 use Rattle.book_splits.specs.Balance.{has_splits, splits_of}
 use Rattle.book_splits.specs.Check.{currency_rules, is_basis, rules_of_splits, split_rules, txn_rules}
-use Rattle.book_splits.specs.TransactionRules.{are_once, has_reconciliation_if_reconciled, is_among, numbers_of}
+use Rattle.book_splits.specs.TransactionRules.{are_once, is_among, is_unmarked, numbers_of}
 use Rattle.book_splits.specs.TransactionRules.{share_numbers, transaction_rules}
 use Rattle.book_splits.specs.declared.rule.TxnRule.TheVariants.{Placeholder, Basis, ValueNotQuantity}
 use Rattle.book_splits.specs.declared.split.Split.{Split}
@@ -189,7 +189,7 @@ pub record IsFit (commodities : List (ℕ × Commodity)) (accounts : List (ℕ �
   pub check : first_broken (txn_rules commodities accounts new) ≡ None
   pub once : are_once (numbers_of new.splits) ≡ true
   pub above : All (λ (number : ℕ). n < number) (numbers_of new.splits)
-  pub marks : list_all has_reconciliation_if_reconciled new.splits ≡ true
+  pub marks : list_all is_unmarked new.splits ≡ true
 
 pub transactions_with :
     (commodities : List (ℕ × Commodity)) (accounts : List (ℕ × Account)) (n : ℕ) (new : Txn) (ts : List (ℕ × Txn))

@@ -6,7 +6,7 @@ use Rattle.book_commodity.specs.declared.commodity.Commodity.{Commodity}
 use Rattle.book_accounts.specs.declared.account.Account.{Account}
 use Rattle.book_splits.specs.Check.{txn_rules}
 use Rattle.book_splits.specs.declared.split.Mark.{Mark}
-use Rattle.book_splits.specs.declared.split.Mark.TheVariants.{Reconciled}
+use Rattle.book_splits.specs.declared.split.Mark.TheVariants.{New}
 use Rattle.book_splits.specs.declared.split.Split.{Split}
 use Rattle.book_splits.specs.declared.transaction.Txn.{Txn}
 
@@ -27,23 +27,23 @@ are_once (number ∷ more) = not (is_among more number) && are_once more
 abbrev pub share_numbers : Txn → Txn → Bool
 share_numbers transaction other = list_any (is_among (numbers_of other.splits)) (numbers_of transaction.splits)
 
--- Whether it is the mark of a split that a reconciliation took in.
-abbrev pub is_reconciled : Mark → Bool
-is_reconciled Reconciled = true
-is_reconciled _ = false
+-- Whether it is the mark of a split that was not compared with a bank statement yet.
+abbrev pub is_new : Mark → Bool
+is_new New = true
+is_new _ = false
 
--- Whether a split is marked reconciled exactly where it names its reconciliation (GnuCash Manual, reconciling). A book
--- has no reconciliations yet, so that no split is reconciled, and none names one.
-abbrev pub has_reconciliation_if_reconciled : Split → Bool
-has_reconciliation_if_reconciled split = not (is_reconciled split.mark) && is_none split.recon
+-- Whether a split is unmarked: it is new, and names no reconciliation (GnuCash Manual, reconciling). No command marks a
+-- split yet.
+abbrev pub is_unmarked : Split → Bool
+is_unmarked split = is_new split.mark && is_none split.recon
 
 -- The rules of a transaction: it passes the check of transactions among the commodities and the accounts of the book;
--- each of its splits has a number that no other of them has, and none of a transaction before it; and their marks are
--- right.
+-- each of its splits has a number that no other of them has, and none of a transaction before it; and they are
+-- unmarked.
 abbrev pub transaction_rules : List (ℕ × Commodity) → List (ℕ × Account) → List (ℕ × Txn) → ℕ → Txn → List Bool
 transaction_rules commodities accounts transactions number transaction =
     is_none (first_broken (txn_rules commodities accounts transaction))
     ∷ are_once (numbers_of transaction.splits)
     ∷ not (stands_before (share_numbers transaction) number transactions)
-    ∷ list_all has_reconciliation_if_reconciled transaction.splits
+    ∷ list_all is_unmarked transaction.splits
     ∷ []

@@ -23,7 +23,7 @@ use Rattle.book_accounts.proofs.AccountFitLemmas.{fit_added, fit_moved}
 use Rattle.book_accounts.proofs.AccountRuleLemmas.{IsFit, by_name}
 use Rattle.book_splits.specs.Balance.{has_splits}
 use Rattle.book_splits.specs.Check.{txn_rules}
-use Rattle.book_splits.specs.TransactionRules.{are_once, has_reconciliation_if_reconciled, is_among, numbers_of}
+use Rattle.book_splits.specs.TransactionRules.{are_once, is_among, is_unmarked, numbers_of}
 use Rattle.book_splits.specs.declared.split.Split.{Split}
 use Rattle.book_splits.proofs.SuitsLemmas.{suits_moved, suits_stays}
 use Rattle.book_splits.proofs.TransactionRuleLemmas.{TakesAs}
@@ -165,7 +165,7 @@ new_once number (first ∷ more) =
 
 -- and are new
 new_marks :
-    (number : ℕ) (given : List GivenSplit) → list_all has_reconciliation_if_reconciled (new_splits number given) ≡ true
+    (number : ℕ) (given : List GivenSplit) → list_all is_unmarked (new_splits number given) ≡ true
 new_marks number [] = refl
 new_marks number (first ∷ more) = new_marks (number + 1) more
 
