@@ -38,6 +38,7 @@ impl<W: Write> StreamSink<W> {
             Wrote (may_hold W.contents self.old) (may_hold W.contents self.new) (take count bytes.now)) }
         ensures unchanged { OnErr result (Wrote (may_hold W.contents self.old) (may_hold W.contents self.new) []) }
         ensures faults { self.new.faults ≡ self.old.faults }
+        ensures reports { OnOk result (self.new.unflushed ≡ self.old.unflushed) }
     {
         let count = write_some(&mut self.writer, bytes)?;
         if count == 0 && !bytes.is_empty() {
@@ -65,6 +66,7 @@ impl<W: Write> Sink for StreamSink<W> {
             Wrote (may_hold W.contents self.old) (may_hold W.contents self.new) (take count bytes.now)) }
         ensures unchanged { OnErr result (Wrote (may_hold W.contents self.old) (may_hold W.contents self.new) []) }
         ensures wrote { OnOk result (self.new.faults ≡ self.old.faults) }
+        ensures reports { OnOk result (self.new.unflushed ≡ self.old.unflushed) }
         ensures failed { OnErr result (self.new.faults ≡ next_count self.old.faults) }
         ensures cause { HasCause self.old.faults self.new.faults result }
     {
