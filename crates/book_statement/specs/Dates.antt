@@ -21,5 +21,5 @@ year_of_two digits = if nat_lt digits 80 then 2000 + digits else 1900 + digits
 unfoldable pub short_date : List ℕ → Option ℤ
 short_date text =
     if has_digits 6 6 text
-    then date (year_of_two (number (take 2 text))) (number (take 2 (drop 2 text))) (number (drop 4 text))
+    then date (year_of_two (number (take 2 text))) (number (take 2 (drop 2 text))) (number (take 2 (drop 4 text)))
     else None

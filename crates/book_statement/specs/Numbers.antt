@@ -8,7 +8,7 @@ use Rattle.book_statement.specs.Checks.{Check, check}
 -- only digits, from `least` to `most` of them
 abbrev pub has_digits : ℕ → ℕ → List ℕ → Bool
 has_digits least most text =
-    list_all is_ascii_digit text && (nat_le least (length text) && nat_le (length text) most)
+    nat_le least (length text) && nat_le (length text) most && list_all is_ascii_digit text
 
 -- the number that digits spell, behind a number that others before them spelled
 unfoldable pub number_onto : ℕ → List ℕ → ℕ

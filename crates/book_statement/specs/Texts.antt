@@ -16,9 +16,10 @@ byte_order_mark = 239 ∷ 187 ∷ 191 ∷ []
 abbrev pub without_mark : List ℕ → List ℕ
 without_mark text = if starts_with nat_eq text byte_order_mark then drop 3 text else text
 
--- the text of a file: its bytes where they are UTF-8, else each byte as the character of its number (ISO 8859-1)
+-- the text of a file: its bytes where they are UTF-8, without one byte order mark in front; else each byte as the
+-- character of its number (ISO 8859-1), of which none is the mark
 unfoldable pub text_of_bytes : List ℕ → List ℕ
-text_of_bytes bytes = without_mark (if is_utf8 bytes then bytes else encode_utf8_all bytes)
+text_of_bytes bytes = if is_utf8 bytes then without_mark bytes else encode_utf8_all bytes
 
 -- a byte in front of the first line
 abbrev pub onto_first : ℕ → List (List ℕ) → List (List ℕ)

@@ -5,12 +5,9 @@ use crate::numbers::{has_digits, number};
 use book_commodity::Day;
 
 /// The day of a date; `None` where the calendar has no such date, or its year is not from 1900 to 2199.
-pub fn day_of_date(year: u32, month: u32, day: u32) -> Option<Day>
+pub fn day_of_date(year: u16, month: u32, day: u32) -> Option<Day>
     ensures { result ≡ date year month day }
 {
-    if year < 1900 || year > 2199 {
-        return None;
-    }
     Day::of_parts(year as i32, month, day)
 }
 
@@ -22,12 +19,12 @@ pub fn short_date(text: &[u8]) -> Option<Day>
     if !has_digits(text, 6, 6) {
         return None;
     }
-    let year = year_of_two(number(&text[..2]) as u32);
-    day_of_date(year, number(&text[2..4]) as u32, number(&text[4..]) as u32)
+    let year = year_of_two(number(&text[..2]) as u16);
+    day_of_date(year, number(&text[2..4]) as u32, number(&text[4..6]) as u32)
 }
 
 /// The year that two digits stand for.
-pub fn year_of_two(digits: u32) -> u32
+pub fn year_of_two(digits: u16) -> u16
     requires { digits < 100 }
     ensures { result ≡ year_of_two digits }
 {

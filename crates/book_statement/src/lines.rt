@@ -1,4 +1,4 @@
-ghost use Rattle.std.specs.Prelude.{◌≡◌, ◌<◌, ◌∷◌, length};
+ghost use Rattle.std.specs.Prelude.{◌≡◌, ◌<◌, ◌≤◌, ◌==◌, take, slice_index, ◌∷◌, length, position};
 ghost use Rattle.std.specs.Str.Lines.{strip_carriage_return};
 ghost use Rattle.book_statement.specs.Texts.{lines_of, without_spaces, trimmed};
 
@@ -10,7 +10,7 @@ pub fn next_line(text: &str) -> (&str, &str)
     ensures lines { lines_of text.now ≡ result.0.now ∷ lines_of result.1.now }
     ensures shorter { length result.1.now < length text.now }
 {
-    match text.as_bytes().iter().position(|byte| *byte == b'\n') {
+    match line_feed(text.as_bytes()) {
         Some(end) => (trimmed(text_before(text, end)), text_behind(text, end)),
         None => (trimmed(text), ""),
     }
@@ -38,13 +38,29 @@ fn without_return(line: &str) -> &str
 fn without_spaces(line: &str) -> &str
     ensures { result.now ≡ without_spaces line.now }
 {
-    let bytes = line.as_bytes();
-    let mut end = bytes.len();
-    while end > 0 && bytes[end - 1] == b' ' {
-        end -= 1;
-    }
-    if end == bytes.len() {
+    let end = kept_len(line.as_bytes());
+    if end == line.len() {
         return line;
     }
     text_before(line, end)
+}
+
+/// How many bytes stand before the spaces at the line's end.
+fn kept_len(line: &[u8]) -> usize
+    ensures kept { take result line.now ≡ without_spaces line.now }
+    ensures within { result ≤ length line.now }
+    ensures space { result < length line.now → slice_index line.now result ≡ 32 }
+{
+    let mut end = line.len();
+    while end > 0 && line[end - 1] == b' ' {
+        end -= 1;
+    }
+    end
+}
+
+/// The place of the first line feed.
+fn line_feed(text: &[u8]) -> Option<usize>
+    ensures { result ≡ position (λ b. b == 10) text.now }
+{
+    text.iter().position(|byte| *byte == b'\n')
 }

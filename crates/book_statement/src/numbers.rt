@@ -1,4 +1,6 @@
 ghost use Rattle.std.specs.Prelude.{◌≡◌, ◌<◌, ◌≤◌, ◌^◌, IsTrue, length, pos};
+ghost use Rattle.std.specs.Char.{is_ascii_digit};
+ghost use Rattle.std.specs.List.{list_all};
 ghost use Rattle.book_statement.specs.Checks.{Tells};
 ghost use Rattle.book_statement.specs.Currencies.{IsFraction};
 ghost use Rattle.book_statement.specs.Numbers.{has_digits, number, number_onto, units, unit_checks};
@@ -12,12 +14,19 @@ pub const LARGEST_AMOUNT: u64 = 1_000_000_000_000;
 pub fn has_digits(text: &[u8], least: usize, most: usize) -> bool
     ensures { result ≡ has_digits least most text.now }
 {
-    text.iter().all(|byte| byte.is_ascii_digit()) && least <= text.len() && text.len() <= most
+    least <= text.len() && text.len() <= most && are_digits(text)
+}
+
+fn are_digits(text: &[u8]) -> bool
+    ensures { result ≡ list_all is_ascii_digit text.now }
+{
+    text.iter().all(|byte| byte.is_ascii_digit())
 }
 
 /// The number that at most 19 digits spell.
 pub fn number(digits: &[u8]) -> u64
-    requires { IsTrue (has_digits 0 19 digits.now) }
+    requires digits { IsTrue (list_all is_ascii_digit digits.now) }
+    requires few { length digits.now ≤ 19 }
     ensures value { result ≡ number digits.now }
     ensures bound { result < 10 ^ length digits.now }
 {

@@ -6,11 +6,10 @@ pub fn after_chars(text: &[u8], count: usize) -> &[u8]
     ensures { result.now ≡ after_chars count text.now }
 {
     let mut rest = text;
-    for _ in 0..count {
-        if rest.is_empty() {
-            return rest;
-        }
+    let mut left = count;
+    while left > 0 && !rest.is_empty() {
         rest = past_continuations(&rest[1..]);
+        left -= 1;
     }
     rest
 }

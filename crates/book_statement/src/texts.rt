@@ -1,5 +1,5 @@
 ghost use Rattle.std.specs.Prelude.{◌≡◌, ◌++◌, IfOk, encode_utf8_all, string_bytes};
-ghost use Rattle.book_statement.specs.Texts.{add_piece, text_of_bytes};
+ghost use Rattle.book_statement.specs.Texts.{add_piece, text_of_bytes, without_mark};
 
 use book_commodity::{OutOfMemory, Text};
 use std::alloc::Global;
@@ -11,11 +11,18 @@ pub fn as_text(alloc: Global, bytes: &[u8]) -> Result<Text, OutOfMemory>
     ensures { IfOk result (λ text. text ≡ text_of_bytes bytes.now) }
 {
     match str::from_utf8(bytes) {
-        Ok(text) => {
-            let text = text.strip_prefix('\u{feff}').unwrap_or(text);
-            Ok(Text::of(String::from_str(alloc, text)?))
-        }
+        Ok(text) => Ok(Text::of(String::from_str(alloc, without_mark(text))?)),
         Err(_) => Ok(Text::of(characters(alloc, bytes)?)),
+    }
+}
+
+/// The text without one byte order mark in front.
+fn without_mark(text: &str) -> &str
+    ensures { result.now ≡ without_mark text.now }
+{
+    match text.strip_prefix("\u{feff}") {
+        Some(rest) => rest,
+        None => text,
     }
 }
 
