@@ -1,0 +1,8 @@
+pub mod AmountLemmas
+pub mod ContextLemmas
+pub mod FieldLemmas
+pub mod ReaderLemmas
+pub mod ReadingLemmas
+pub mod RecordLemmas
+pub mod SummaryLemmas
+pub mod TreeLemmas
