@@ -6,3 +6,4 @@ pub mod ReadingLemmas
 pub mod RecordLemmas
 pub mod SummaryLemmas
 pub mod TreeLemmas
+mod WorkedRows
