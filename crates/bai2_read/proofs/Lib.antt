@@ -1,5 +1,6 @@
 pub mod AmountLemmas
 pub mod ContextLemmas
+pub mod ExtentLemmas
 pub mod FieldLemmas
 pub mod ReaderLemmas
 pub mod ReadingLemmas

@@ -2,6 +2,7 @@ pub mod After
 pub mod Amounts
 pub mod Context
 pub mod Details
+pub mod Extent
 pub mod Fields
 pub mod Kinds
 pub mod Lines

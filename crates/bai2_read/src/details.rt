@@ -1,8 +1,8 @@
 ghost use Rattle.std.specs.Prelude.{◌≡◌, ◌<◌, IfOk};
-ghost use Rattle.bai2_read.specs.Details.{bank_reference, customer_reference, detail_amount, full_count, funds_part, is_complete, is_type, line_of, own_text};
+ghost use Rattle.bai2_read.specs.Details.{bank_reference, customer_reference, detail_amount, full_count, funds_part, is_type, line_of, own_text};
 
 use crate::amounts::{amount, line_amount};
-use crate::fields::{after_fields, field, field_count, field_text, text_after};
+use crate::fields::{after_fields, field, field_text, text_after};
 use crate::funds::{further, value_day};
 use crate::texts::copy_of;
 use book_commodity::{Day, Many, OutOfMemory, Text};
@@ -22,14 +22,6 @@ pub fn full_count(body: &[u8]) -> usize
     ensures { result ≡ full_count body.now }
 {
     5 + further(funds_part(body))
-}
-
-/// Whether the fields of a detail reach its customer reference.
-#[tactic(auto, unfolding(crate::specs::Details::is_complete))]
-pub fn is_complete(body: &[u8]) -> bool
-    ensures { result ≡ is_complete body.now }
-{
-    full_count(body) <= field_count(body)
 }
 
 /// The bank reference of a detail.

@@ -8,6 +8,7 @@ mod checks;
 mod context;
 mod days;
 mod details;
+mod extent;
 mod fields;
 mod funds;
 mod kind;

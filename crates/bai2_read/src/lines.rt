@@ -1,4 +1,5 @@
 ghost use Rattle.std.specs.Prelude.{◌≡◌};
+ghost use Rattle.bai2_read.specs.Summaries.{BeginsField};
 ghost use Rattle.bai2_read.specs.Kinds.{body_of, is_record, kind_of, kind_of_code, without_slash};
 
 use crate::kind::Kind;
@@ -9,6 +10,7 @@ use book_statement::{text_before, text_behind};
 pub fn record_of(line: &str) -> (Kind, &str)
     ensures kind { result.0 ≡ kind_of line.now }
     ensures body { result.1.now ≡ body_of line.now }
+    ensures begins { BeginsField result.1.now }
 {
     if line.is_empty() {
         return (Kind::Blank, "");

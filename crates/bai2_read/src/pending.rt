@@ -1,4 +1,4 @@
-use crate::details::is_complete;
+use crate::extent::Extent;
 use crate::fields::text_after;
 use crate::kind::Kind;
 use crate::sums::count_on;
@@ -16,20 +16,25 @@ pub struct Pending {
     lines: u64,
     body: Text,
     text: Text,
+    extent: Extent,
 }
 
 impl Model for Pending {
+    ghost use Rattle.bai2_read.specs.Extent.{HasExtent};
     ghost use Rattle.bai2_read.specs.Records.{Record};
 
     ghost Value = { Record };
 
     ghost view = { λ p. record { line = p.line; kind = p.kind; lines = p.lines; body = p.body; text = p.text } };
+
+    ghost invariant = { λ p. HasExtent p.kind p.body p.extent.fields p.extent.full };
 }
 
 impl Pending {
     ghost use Rattle.std.specs.Prelude.{◌≡◌, [], IfOk};
     ghost use Rattle.bai2_read.specs.Kinds.{continues};
-    ghost use Rattle.bai2_read.specs.Records.{is_full, with_more, whole};
+    ghost use Rattle.bai2_read.specs.Records.{whole, with_more};
+    ghost use Rattle.bai2_read.specs.Summaries.{BeginsField};
 
     /// The record of a line without continuations.
     pub fn begin(alloc: Global, line: u64, kind: Kind, body: &str) -> Result<Pending, OutOfMemory>
@@ -41,6 +46,7 @@ impl Pending {
             lines: 1,
             body: copy_of(alloc, body)?,
             text: Text::new(alloc),
+            extent: Extent::of(kind, body.as_bytes()),
         })
     }
 
@@ -58,24 +64,33 @@ impl Pending {
         )
     }
 
-    /// Whether the record takes no more fields.
-    fn is_full(&self) -> bool
-        ensures { result ≡ is_full self.now.kind self.now.body }
+    /// The record with one continuation more, which has these fields.
+    pub fn with_more(self, alloc: Global, more: &str) -> Result<Pending, OutOfMemory>
+        requires { BeginsField more.now }
+        ensures { IfOk result (λ longer. longer ≡ with_more self more.now) }
     {
-        matches!(self.kind, Kind::Detail) && is_complete(self.body.as_str().as_bytes())
-    }
-
-    /// Adds a continuation with these fields.
-    pub fn go_on(&mut self, alloc: Global, body: &str) -> Result<(), OutOfMemory>
-        ensures { IfOk result (λ _. self.new ≡ with_more self.old body.now) }
-    {
-        self.lines = count_on(self.lines, 1)?;
-        if self.is_full() {
-            let piece = text_after(body, 0);
-            add_piece(alloc, &mut self.text, piece)
+        let Pending {
+            line,
+            kind,
+            lines,
+            mut body,
+            mut text,
+            mut extent,
+        } = self;
+        if extent.is_full(kind) {
+            add_piece(alloc, &mut text, text_after(more, 0))?;
         } else {
-            append(alloc, &mut self.body, body)
+            append(alloc, &mut body, more)?;
+            extent = extent.grown(kind, body.as_str().as_bytes(), more.as_bytes())?;
         }
+        Ok(Pending {
+            line,
+            kind,
+            lines: count_on(lines, 1)?,
+            body,
+            text,
+            extent,
+        })
     }
 
     /// Its first line, counted from 1.

@@ -19,6 +19,7 @@ impl Reader {
     ghost use Rattle.book_statement.specs.Checks.{Gives};
     ghost use Rattle.bai2_read.specs.Context.{context};
     ghost use Rattle.bai2_read.specs.Kinds.{body_of, kind_of};
+    ghost use Rattle.bai2_read.specs.Summaries.{BeginsField};
     ghost use Rattle.bai2_read.specs.Steps.{Steps, begun, end_result, fault_of, faults_of_continuation, faults_of_line, next, settled, went_on};
 
     /// Before the first line.
@@ -58,15 +59,24 @@ impl Reader {
         number: u64,
         body: &str,
     ) -> Result<(), ReadError>
+        requires { BeginsField body.now }
         ensures { Steps (faults_of_continuation known.now.entries self.old) (went_on number body.now self.old) result self.new }
     {
-        match &mut self.pending {
-            Some(record) if record.may_go_on() => match record.go_on(alloc, body) {
-                Ok(()) => Ok(()),
-                Err(_) => Err(ReadError::OutOfMemory),
-            },
-            _ => self.begin(alloc, known, number, Kind::Continuation, body),
+        let goes_on = match &self.pending {
+            Some(record) => record.may_go_on(),
+            None => false,
+        };
+        if !goes_on {
+            return self.begin(alloc, known, number, Kind::Continuation, body);
         }
+        let Some(record) = self.pending.take() else {
+            unreachable!()
+        };
+        let Ok(record) = record.with_more(alloc, body) else {
+            return Err(ReadError::OutOfMemory);
+        };
+        self.pending = Some(record);
+        Ok(())
     }
 
     /// Begins a record; the one before it is complete.
