@@ -93,12 +93,12 @@ lines_push records r =
     let day = fold_push (λ (found : ℤ) (s : Record). cond (is_group_header s.kind) (day_in s.body) found) (pos 0) records r in
     ap (lines_on (day_of (records ++ r ∷ []))) part
     ∙ elim (cases_Bool (begins Account r.kind)) [
-        | inl anew ↦ rw anew (append-nil (lines_in (day_of (records ++ r ∷ [])) r.kind r.body r.text) ∙ no_line r.kind (day_of (records ++ r ∷ [])) r.body r.text anew)
-        | inr goes ↦ rw goes
+      | inl anew ↦ rw anew (append-nil (lines_in (day_of (records ++ r ∷ [])) r.kind r.body r.text) ∙ no_line r.kind (day_of (records ++ r ∷ [])) r.body r.text anew)
+      | inr goes ↦ rw goes
           (flat_push (λ (s : Record). lines_in (day_of (records ++ r ∷ [])) s.kind s.body s.text) (section Account records) r
           ∙ ap (λ (z : ℤ). lines_on z (section Account records) ++ lines_in z r.kind r.body r.text)
-            (day ∙ ap (λ (b : Bool). cond b (day_in r.body) (day_of records)) (same_day r.kind goes)))
-      ]
+          (day ∙ ap (λ (b : Bool). cond b (day_in r.body) (day_of records)) (same_day r.kind goes)))
+    ]
 
 -- what the records say with one record more
 pub context_push : (records : List Record) (r : Record) → context (records ++ r ∷ []) ≡ after (context records) r

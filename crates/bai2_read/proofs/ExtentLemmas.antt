@@ -26,16 +26,16 @@ after_fields_append n [] more below = absurd (omega arith)
 after_fields_append n (b ∷ bs) more below =
     elim (cases_Bool (b == 44)) [
       | inr other ↦
-        let same : field_count (b ∷ bs) ≡ field_count bs = count_cons b bs ∙ ap (λ t. cond t 1 0 + field_count bs) other ∙ omega arith in
-        rw other (after_fields_append n bs more (omega (arith, same)))
+          let same : field_count (b ∷ bs) ≡ field_count bs = count_cons b bs ∙ ap (λ t. cond t 1 0 + field_count bs) other ∙ omega arith in
+          rw other (after_fields_append n bs more (omega (arith, same)))
       | inl comma ↦
-        let one : field_count (b ∷ bs) ≡ 1 + field_count bs = count_cons b bs ∙ ap (λ t. cond t 1 0 + field_count bs) comma in
-        elim (cases_Bool (n == 0)) [
-          | inl none ↦ rw (comma, none) refl
-          | inr some ↦
-            let positive : n ≡ 0 → ⊥ = eqb-false n 0 some in
-            rw (comma, some) (after_fields_append (n - 1) bs more (omega (arith, one)))
-        ]
+          let one : field_count (b ∷ bs) ≡ 1 + field_count bs = count_cons b bs ∙ ap (λ t. cond t 1 0 + field_count bs) comma in
+          elim (cases_Bool (n == 0)) [
+            | inl none ↦ rw (comma, none) refl
+            | inr some ↦
+                let positive : n ≡ 0 → ⊥ = eqb-false n 0 some in
+                rw (comma, some) (after_fields_append (n - 1) bs more (omega (arith, one)))
+          ]
     ]
 
 -- and the fields behind them are as many less
@@ -44,21 +44,21 @@ after_fields_count n [] = omega arith
 after_fields_count n (b ∷ bs) =
     elim (cases_Bool (b == 44)) [
       | inr other ↦
-        let same : field_count (b ∷ bs) ≡ field_count bs = count_cons b bs ∙ ap (λ t. cond t 1 0 + field_count bs) other ∙ omega arith in
-        let next : after_fields n (b ∷ bs) ≡ after_fields n bs = rw other refl in
-        ap field_count next ∙ after_fields_count n bs ∙ ap (λ m. m - n) (sym same)
+          let same : field_count (b ∷ bs) ≡ field_count bs = count_cons b bs ∙ ap (λ t. cond t 1 0 + field_count bs) other ∙ omega arith in
+          let next : after_fields n (b ∷ bs) ≡ after_fields n bs = rw other refl in
+          ap field_count next ∙ after_fields_count n bs ∙ ap (λ m. m - n) (sym same)
       | inl comma ↦
-        let one : field_count (b ∷ bs) ≡ 1 + field_count bs = count_cons b bs ∙ ap (λ t. cond t 1 0 + field_count bs) comma in
-        elim (cases_Bool (n == 0)) [
-          | inl none ↦
-            let all : after_fields n (b ∷ bs) ≡ b ∷ bs = rw (comma, none) refl in
-            let zero_ : n ≡ 0 = eqb-true n 0 none in
-            ap field_count all ∙ omega (arith, zero_)
-          | inr some ↦
-            let positive : n ≡ 0 → ⊥ = eqb-false n 0 some in
-            let next : after_fields n (b ∷ bs) ≡ after_fields (n - 1) bs = rw (comma, some) refl in
-            ap field_count next ∙ after_fields_count (n - 1) bs ∙ omega (arith, one)
-        ]
+          let one : field_count (b ∷ bs) ≡ 1 + field_count bs = count_cons b bs ∙ ap (λ t. cond t 1 0 + field_count bs) comma in
+          elim (cases_Bool (n == 0)) [
+            | inl none ↦
+                let all : after_fields n (b ∷ bs) ≡ b ∷ bs = rw (comma, none) refl in
+                let zero_ : n ≡ 0 = eqb-true n 0 none in
+                ap field_count all ∙ omega (arith, zero_)
+            | inr some ↦
+                let positive : n ≡ 0 → ⊥ = eqb-false n 0 some in
+                let next : after_fields n (b ∷ bs) ≡ after_fields (n - 1) bs = rw (comma, some) refl in
+                ap field_count next ∙ after_fields_count (n - 1) bs ∙ omega (arith, one)
+          ]
     ]
 
 -- what stands before the first comma, by the first byte
@@ -138,10 +138,10 @@ grown_extent kind old body more fields full is begins known enough detail =
     elim enough [
       | inl four ↦ (counted, λ _. k.1 four ∙ sym (full_count_append old more (omega (arith, k.0)) begins) ∙ ap full_count (sym is))
       | inr none ↦
-        let nothing : more ≡ [] = nil_from_length more none in
-        let same : old ≡ body = sym (append-nil old) ∙ ap (λ l. old ++ l) (sym nothing) ∙ sym is in
-        let zero_ : field_count more ≡ 0 = ap field_count nothing in
-        (counted, λ four. k.1 (omega (arith, zero_)) ∙ ap full_count same)
+          let nothing : more ≡ [] = nil_from_length more none in
+          let same : old ≡ body = sym (append-nil old) ∙ ap (λ l. old ++ l) (sym nothing) ∙ sym is in
+          let zero_ : field_count more ≡ 0 = ap field_count nothing in
+          (counted, λ four. k.1 (omega (arith, zero_)) ∙ ap full_count same)
     ]
 
 -- whether a detail is complete, by its extent

@@ -15,4 +15,3 @@ after_more n body i below =
 pub count_more : (body : List ℕ) (i : ℕ) → i < length body
     → field_count (drop i body) ≡ cond (get_or body i 0 == 44) 1 0 + field_count (drop (i + 1) body)
 count_more body i below = sum_by-drop_more (λ b. cond (b == 44) 1 0) body i 0 below
-

@@ -50,9 +50,9 @@ closes known done None sound none = record { said = refl; sound = sound }
 closes known done (Some b) sound none = record {
   said = sym (context_push done (whole_of b));
   sound =
-    ap first_fault (places_push known done (whole_of b))
-    ∙ first_fault-past (places known done) (record_place known (context done) (whole_of b) ∷ []) sound
-    ∙ none;
+      ap first_fault (places_push known done (whole_of b))
+      ∙ first_fault-past (places known done) (record_place known (context done) (whole_of b) ∷ []) sound
+      ∙ none;
 }
 
 -- the records behind a complete one play no part in its fault
@@ -70,7 +70,7 @@ fault_stays known lines done r more fault sound fails =
     let found : first_fault (places known all ++ end) ≡ Some fault =
     ap (λ (ps : List Place). first_fault (ps ++ end)) split
     ∙ first_fault-here (places known done ++ (here ++ later)) end fault
-      (first_fault-past (places known done) (here ++ later) sound ∙ first_fault-here here later fault fails) in
+    (first_fault-past (places known done) (here ++ later) sound ∙ first_fault-here here later fault fails) in
     ap (λ (f : Option StatementFault). unless_fault f ((context all).statements)) found
 
 -- a fault of the last record is that of the file, whatever stands behind it
@@ -108,10 +108,10 @@ go_on_known known line body done None sound none = begin_known known line Contin
 go_on_known known line body done (Some b) sound none =
     elim (cases_Bool (continues b.kind)) [
       | inl goes ↦ rw goes (record {
-          said = refl;
-          sound = sound;
-          pending = ap Some (sym (whole_push b.line b.kind b.body b.more (record { line = line; body = body })));
-        })
+        said = refl;
+        sound = sound;
+        pending = ap Some (sym (whole_push b.line b.kind b.body b.more (record { line = line; body = body })));
+      })
       | inr ends ↦ rw ends (begin_known known line Continuation body done (Some b) sound (rw ends at none))
     ]
 
@@ -201,7 +201,7 @@ result_closed known lines done (Some b) sound =
     let found : first_fault (places known all ++ end (context all)) ≡ option_or (first_fault here) (first_fault (end (context all))) =
     first_fault-append (places known all) (end (context all))
     ∙ ap (λ f. option_or f (first_fault (end (context all))))
-      (ap first_fault (places_push known done r) ∙ first_fault-past (places known done) here sound) in
+    (ap first_fault (places_push known done r) ∙ first_fault-past (places known done) here sound) in
     ap (λ f. unless_fault f ((context all).statements)) found
     ∙ ap (λ (c : Context). unless_fault (option_or (first_fault here) (first_fault (end c))) c.statements) (context_push done r)
 

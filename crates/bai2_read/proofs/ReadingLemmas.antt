@@ -41,10 +41,10 @@ next_so_far known reader new lines after rest text line behind so cut is step = 
   tree = add after (kind_of line) (body_of line) so.tree;
   knows = next_known known after (kind_of line) (body_of line) reader new so.tree so.knows step.0 step.1;
   whole =
-    so.whole
-    ∙ ap (λ (ls : List (List ℕ)). fill so.tree (part_after lines ls)) cut
-    ∙ fill_add (lines + 1) (kind_of line) (body_of line) so.tree (part_after (lines + 1) (texts.lines_of behind))
-    ∙ ap (λ (n : ℕ). fill (add n (kind_of line) (body_of line) so.tree) (part_after n (texts.lines_of behind))) (sym is);
+      so.whole
+      ∙ ap (λ (ls : List (List ℕ)). fill so.tree (part_after lines ls)) cut
+      ∙ fill_add (lines + 1) (kind_of line) (body_of line) so.tree (part_after (lines + 1) (texts.lines_of behind))
+      ∙ ap (λ (n : ℕ). fill (add n (kind_of line) (body_of line) so.tree) (part_after n (texts.lines_of behind))) (sym is);
   count = omega (arith, so.count, ap length cut, is);
 }
 
@@ -58,9 +58,9 @@ pub fault_so_far :
 fault_so_far known reader lines after rest text line behind fault so cut is fails =
     let total = length (texts.lines_of text) in
     ap (result_of known total)
-      (so.whole
-      ∙ ap (λ (ls : List (List ℕ)). fill so.tree (part_after lines ls)) cut
-      ∙ fill_add (lines + 1) (kind_of line) (body_of line) so.tree (part_after (lines + 1) (texts.lines_of behind)))
+    (so.whole
+    ∙ ap (λ (ls : List (List ℕ)). fill so.tree (part_after lines ls)) cut
+    ∙ fill_add (lines + 1) (kind_of line) (body_of line) so.tree (part_after (lines + 1) (texts.lines_of behind)))
     ∙ next_fault known (lines + 1) (kind_of line) (body_of line) reader so.tree fault so.knows fails (part_after (lines + 1) (texts.lines_of behind)) total
 
 pub end_so_far : (known : Known) (reader : Reader) (lines : ℕ) (rest text : List ℕ) → SoFar known reader lines rest text → rest ≡ []

@@ -39,5 +39,5 @@ whole_push line kind body more m =
     let lines : 1 + length (more ++ m ∷ []) ≡ 1 + length more + 1 = omega (arith, length_push more m) in
     let fields = fields_push kind body more m in
     let text = ap joined (pieces_push kind body more m)
-      ∙ joined_cond (is_full kind (fields_with kind body more)) (pieces_with kind body more) (piece_of m.body) in
+    ∙ joined_cond (is_full kind (fields_with kind body more)) (pieces_with kind body more) (piece_of m.body) in
     cc (lines, fields, text)

@@ -12,9 +12,9 @@ items_after-rest n (b ∷ bs) =
     elim (cases_Bool (b == 44)) [
       | inr other ↦ rw other (items_after-rest n bs)
       | inl comma ↦ elim (cases_Bool (n == 0)) [
-          | inl none ↦ rw (comma, none) (rw comma refl)
-          | inr some ↦ rw (comma, some) (items_after-rest (n - 1) bs)
-        ]
+        | inl none ↦ rw (comma, none) (rw comma refl)
+        | inr some ↦ rw (comma, some) (items_after-rest (n - 1) bs)
+      ]
     ]
 
 -- what stands behind fields begins with a comma, or is empty
@@ -24,9 +24,9 @@ after_fields-begins n (b ∷ bs) =
     elim (cases_Bool (b == 44)) [
       | inr other ↦ rw other (after_fields-begins n bs)
       | inl comma ↦ elim (cases_Bool (n == 0)) [
-          | inl none ↦ rw (comma, none) (λ h. eqb-true b 44 comma)
-          | inr some ↦ rw (comma, some) (after_fields-begins (n - 1) bs)
-        ]
+        | inl none ↦ rw (comma, none) (λ h. eqb-true b 44 comma)
+        | inr some ↦ rw (comma, some) (after_fields-begins (n - 1) bs)
+      ]
     ]
 
 pub length-after_fields-le : (n : ℕ) (body : List ℕ) → length (after_fields n body) ≤ length body
@@ -35,9 +35,9 @@ length-after_fields-le n (b ∷ bs) =
     elim (cases_Bool (b == 44)) [
       | inr other ↦ rw other (let le : length (after_fields n bs) ≤ length bs = length-after_fields-le n bs in omega arith)
       | inl comma ↦ elim (cases_Bool (n == 0)) [
-          | inl none ↦ rw (comma, none) (omega arith)
-          | inr some ↦ rw (comma, some) (let le : length (after_fields (n - 1) bs) ≤ length bs = length-after_fields-le (n - 1) bs in omega arith)
-        ]
+        | inl none ↦ rw (comma, none) (omega arith)
+        | inr some ↦ rw (comma, some) (let le : length (after_fields (n - 1) bs) ≤ length bs = length-after_fields-le (n - 1) bs in omega arith)
+      ]
     ]
 
 -- what is known of the text behind an item
@@ -54,11 +54,11 @@ behind_item (b ∷ bs) some comma wide =
     let rest : after_fields (width (b ∷ bs)) (b ∷ bs) ≡ after_fields (width (b ∷ bs) - 1) bs = rw (is_comma, not_none) refl in
     record {
       items =
-        (let first : items_after 0 (b ∷ bs) ≡ (b ∷ bs) ∷ items_after (width (b ∷ bs) - 1) bs = rw is_comma refl in
-        first ∙ ap (λ l. (b ∷ bs) ∷ l) (items_after-rest (width (b ∷ bs) - 1) bs ∙ ap (items_after 0) (sym rest)));
+          (let first : items_after 0 (b ∷ bs) ≡ (b ∷ bs) ∷ items_after (width (b ∷ bs) - 1) bs = rw is_comma refl in
+          first ∙ ap (λ l. (b ∷ bs) ∷ l) (items_after-rest (width (b ∷ bs) - 1) bs ∙ ap (items_after 0) (sym rest)));
       shorter =
-        (let le : length (after_fields (width (b ∷ bs) - 1) bs) ≤ length bs = length-after_fields-le (width (b ∷ bs) - 1) bs in
-        omega (arith, ap length rest));
+          (let le : length (after_fields (width (b ∷ bs) - 1) bs) ≤ length bs = length-after_fields-le (width (b ∷ bs) - 1) bs in
+          omega (arith, ap length rest));
       begins = after_fields-begins (width (b ∷ bs)) (b ∷ bs);
     }
 

@@ -61,8 +61,8 @@ fill_begun line kind body done None part = refl
 fill_begun line kind body done (Some b) part =
     elim (cases_Bool (continues b.kind)) [
       | inl goes ↦ rw goes
-        (ap (λ l. done ++ whole b.line b.kind b.body l ∷ with_record line kind body [] part) (append-nil b.more)
-        ∙ sym (append_assoc done (whole_of b ∷ []) (with_record line kind body [] part)))
+          (ap (λ l. done ++ whole b.line b.kind b.body l ∷ with_record line kind body [] part) (append-nil b.more)
+          ∙ sym (append_assoc done (whole_of b ∷ []) (with_record line kind body [] part)))
       | inr ends ↦ rw ends (sym (append_assoc done (whole_of b ∷ []) (with_record line kind body [] part)))
     ]
 
@@ -73,9 +73,9 @@ fill_continued line body done None part = refl
 fill_continued line body done (Some b) part =
     elim (cases_Bool (continues b.kind)) [
       | inl goes ↦ rw goes (rw goes
-        (ap (λ l. done ++ whole b.line b.kind b.body l ∷ part.records) (sym (append_assoc b.more (record { line = line; body = body } ∷ []) part.loose))))
+          (ap (λ l. done ++ whole b.line b.kind b.body l ∷ part.records) (sym (append_assoc b.more (record { line = line; body = body } ∷ []) part.loose))))
       | inr ends ↦ rw ends
-        (sym (append_assoc done (whole_of b ∷ []) (whole line Continuation body part.loose ∷ part.records)))
+          (sym (append_assoc done (whole_of b ∷ []) (whole line Continuation body part.loose ∷ part.records)))
     ]
 
 pub fill_add : (line : ℕ) (kind : Kind) (body : List ℕ) (t : Tree) (part : Part) → fill t (in_front line kind body part) ≡ fill (add line kind body t) part

@@ -40,14 +40,37 @@ one_account group =
 one_account_is :
     reading dollar (one_account (codes "98,1040000,1,6/"))
     ≡ Ok (record {
-        account_text = codes "123456789"; number = codes "1"; currency = codes "USD"; opening = Some (pos 500000);
-        closing = Some (pos 515000); day = pos 19727; ties = Some true;
-        lines =
-          record { day = pos 19727; value_day = pos 19727; amount = pos 20000; kind = codes "165"; ref_own = codes "C1";
-            ref_bank = codes "B1"; text = codes "DEPOSIT"; category = []; parts = [] }
-          ∷ record { day = pos 19727; value_day = pos 19727; amount = negsuc 4999; kind = codes "475"; ref_own = codes "1234";
-            ref_bank = []; text = codes "CHECK"; category = []; parts = [] } ∷ []
-      } ∷ [])
+      account_text = codes "123456789";
+      number = codes "1";
+      currency = codes "USD";
+      opening = Some (pos 500000);
+      closing = Some (pos 515000);
+      day = pos 19727;
+      ties = Some true;
+      lines =
+          record {
+            day = pos 19727;
+            value_day = pos 19727;
+            amount = pos 20000;
+            kind = codes "165";
+            ref_own = codes "C1";
+            ref_bank = codes "B1";
+            text = codes "DEPOSIT";
+            category = [];
+            parts = [];
+          }
+          ∷ record {
+            day = pos 19727;
+            value_day = pos 19727;
+            amount = negsuc 4999;
+            kind = codes "475";
+            ref_own = codes "1234";
+            ref_bank = [];
+            text = codes "CHECK";
+            category = [];
+            parts = [];
+          } ∷ [];
+    } ∷ [])
 unfolding days_from_civil day_count days_of_years days_of_months fraction_of date short_date number_onto amount line_amount total statement_with bank_reference customer_reference detail_amount full_count is_complete line_of own_text count field funds_date funds_form further value_day body_of kind_of account_checks checks detail_checks end_place file_checks group_checks record_place trailer_checks given_amount has_amount has_date has_form item_amount width
 one_account_is = refl
 

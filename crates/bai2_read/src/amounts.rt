@@ -51,7 +51,11 @@ pub fn amount(text: &[u8]) -> i64
     ensures value { result ≡ amount text.now }
     ensures size { IsSmall result }
 {
-    if is_given(text) { signed_number(text) } else { 0 }
+    if is_given(text) {
+        signed_number(text)
+    } else {
+        0
+    }
 }
 
 /// Whether the text is a control total: an optional sign and 1 to 18 digits.
@@ -66,7 +70,11 @@ pub fn is_total(text: &[u8]) -> bool
 pub fn total(text: &[u8]) -> i64
     ensures { result ≡ total text.now }
 {
-    if is_total(text) { signed_number(text) } else { 0 }
+    if is_total(text) {
+        signed_number(text)
+    } else {
+        0
+    }
 }
 
 /// Whether details of this type are credits.

@@ -14,7 +14,9 @@ use crate::statements::currency_with;
 use crate::summaries::{have_amounts, have_dates, have_forms};
 use crate::tally::Tally;
 use book_commodity::Commodities;
-use book_statement::{Bad, CountOf, Level, MAX_LINES, MAX_STATEMENTS, StatementFault, fraction_of, short_date};
+use book_statement::{
+    Bad, CountOf, Level, MAX_LINES, MAX_STATEMENTS, StatementFault, fraction_of, short_date,
+};
 
 /// Whether a record may stand behind one of another kind.
 fn may_follow(before: Kind, kind: Kind) -> bool

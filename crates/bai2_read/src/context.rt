@@ -109,9 +109,11 @@ impl Context {
 
     /// Adds the statement of the account, which is complete; its lines move there.
     fn keep_statement(&mut self, alloc: Global) -> Result<(), OutOfMemory>
-        ensures { IfOk result (λ _. self.new ≡ record self.old { lines = [];
-            statements = self.old.statements
-                ++ statement_with self.old.number self.old.day self.old.currency self.old.account self.old.lines ∷ [] }) }
+        ensures { IfOk result (λ _. self.new ≡ record self.old {
+          lines = [];
+          statements = self.old.statements
+              ++ statement_with self.old.number self.old.day self.old.currency self.old.account self.old.lines ∷ [];
+        }) }
     {
         let lines = mem::replace(&mut self.lines, Many::new(alloc));
         let currency = self.currency.as_str();

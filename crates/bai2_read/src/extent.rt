@@ -29,7 +29,11 @@ impl Extent {
             return Extent { fields: 0, full: 0 };
         }
         let fields = field_count(body) as u64;
-        let full = if fields < 4 { 0 } else { full_count(body) as u64 };
+        let full = if fields < 4 {
+            0
+        } else {
+            full_count(body) as u64
+        };
         Extent { fields, full }
     }
 

@@ -20,6 +20,8 @@ mod statements;
 mod summaries;
 mod sums;
 mod tally;
+#[cfg(test)]
+mod tests;
 mod texts;
 
 pub use reading::read_bai2;

@@ -40,10 +40,7 @@ fn sum_of_lines(lines: &[StatementLine]) -> i128
 fn do_tie(opens: i64, closes: i64, lines: &[StatementLine]) -> bool
     ensures { result ≡ int_eq (opens +ℤ sum_of_lines lines.now) closes }
 {
-    is_equal(
-        i128::from(opens) + sum_of_lines(lines),
-        i128::from(closes),
-    )
+    is_equal(i128::from(opens) + sum_of_lines(lines), i128::from(closes))
 }
 
 fn is_equal(a: i128, b: i128) -> bool

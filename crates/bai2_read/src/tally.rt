@@ -49,7 +49,11 @@ impl Tally {
         ensures { IfOk result (λ sums. sums ≡ next_tally level self entry.now) }
     {
         let kind = entry.kind();
-        let start = if begins(level, kind) { Tally::none() } else { self };
+        let start = if begins(level, kind) {
+            Tally::none()
+        } else {
+            self
+        };
         let total = amount_in(level, kind, entry.body().as_bytes());
         start.with(total, part_in(level, kind), entry.lines())
     }

@@ -27,8 +27,8 @@ loop-rest-preserved c =
     let shorter = c.behind-rest.ensures.shorter in
     record {
       whole =
-        sum_more (sum_of_items (items c.args.body.now)) before c.item_amount.result after c.loop-rest.rest.now c.behind-rest.result.now
-        c.loop-rest.invariant.whole c.behind-rest.ensures.rest c.item_amount.ensures.value added;
+          sum_more (sum_of_items (items c.args.body.now)) before c.item_amount.result after c.loop-rest.rest.now c.behind-rest.result.now
+          c.loop-rest.invariant.whole c.behind-rest.ensures.rest c.item_amount.ensures.value added;
       begins = c.behind-rest.ensures.comma;
       shorter = omega arith;
       low = omega (arith, ints);
