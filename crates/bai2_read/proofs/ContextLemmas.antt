@@ -1,22 +1,20 @@
 -- What the records say with one record more.
 use Rattle.std.proofs.Common.{◌≡◌, ℕ, ◌+◌, ◌<◌, Bool, true, false, cond, List, [], ◌∷◌, ◌++◌, length, take, get_or, refl, sym, ap, ◌∙◌, append_assoc, pos, ◌+ℤ◌, ◌||◌, inl, inr}
-use Rattle.std.specs.Prelude.{ℤ, fold, sum_by}
+use Rattle.std.specs.Prelude.{ℤ, sum_by}
 use Rattle.std.specs.List.{flat_map, list_any}
 use Rattle.std.proofs.lemmas.Bool.{cases_Bool}
 use Rattle.std.proofs.lemmas.List.{append-nil}
 use Rattle.std.proofs.lemmas.List.Sums.{fold_more, fold_push, sum_by_push}
 use Rattle.book_statement.specs.declared.level.Level.{Level}
 use Rattle.book_statement.specs.declared.level.Level.TheVariants.{Account, Group, File}
-use Rattle.book_statement.specs.declared.statement.Statement.{Statement}
 use Rattle.book_statement.specs.declared.statement_line.StatementLine.{StatementLine}
 use Rattle.book_statement.proofs.ListLemmas.{each_after-push}
-use Rattle.bai2_read.specs.After.{added, after, next_lines, next_statements, next_tally, no_tally}
+use Rattle.bai2_read.specs.After.{added, after, next_lines, next_tally, no_tally}
 use Rattle.bai2_read.specs.Context.{account_of, amount_in, context, currency_in, currency_of, day_in, day_of, from_last, number_in, last_kind, lines_in, lines_of, number_of, part_in, section, statements_at, statements_of, sum_of_lines, sum_over, tally}
 use Rattle.bai2_read.specs.Kinds.{begins, is_account_header, is_file_header, is_group_header}
 use Rattle.bai2_read.specs.Records.{Record}
-use Rattle.bai2_read.specs.declared.context.Context.{Context}
 use Rattle.bai2_read.specs.declared.kind.Kind.{Kind}
-use Rattle.bai2_read.specs.declared.kind.Kind.TheVariants.{Blank, FileHeader, GroupHeader, AccountHeader, Detail, AccountTrailer, Continuation, GroupTrailer, FileTrailer, Unknown, NoRecord}
+use Rattle.bai2_read.specs.declared.kind.Kind.TheVariants.{Blank, GroupHeader, Detail}
 use Rattle.bai2_read.specs.declared.tally.Tally.{Tally}
 
 -- the sum of lines with one line more

@@ -1,5 +1,5 @@
 -- How far the fields of a detail reach, with more fields behind them.
-use Rattle.std.proofs.Common.{◌≡◌, ℕ, ◌+◌, ◌-◌, ◌*◌, ◌<◌, ◌≤◌, ◌==◌, nat_le, Bool, true, false, cond, List, [], ◌∷◌, ◌++◌, length, take, drop, suc, not, refl, sym, ap, ◌∙◌, arith, inl, inr, ◌⊎◌}
+use Rattle.std.proofs.Common.{◌≡◌, ℕ, ◌+◌, ◌-◌, ◌*◌, ◌<◌, ◌≤◌, ◌==◌, nat_le, true, false, cond, List, [], ◌∷◌, ◌++◌, length, take, drop, suc, not, refl, sym, ap, ◌∙◌, arith, inl, inr, ◌⊎◌}
 use Rattle.std.proofs.lemmas.Bool.{cases_Bool, eq-eqb, eqb-false, eqb-true, lt-leb}
 use Rattle.std.specs.List.{prefix_len}
 use Rattle.std.proofs.lemmas.List.{append-nil, nil_from_length}
@@ -7,7 +7,6 @@ use Rattle.std.proofs.lemmas.List.Sums.{sum_by-append, sum_by-cons}
 use Rattle.bai2_read.specs.Details.{full_count, is_complete}
 use Rattle.bai2_read.specs.Extent.{HasExtent}
 use Rattle.bai2_read.specs.Fields.{after_fields, count, field, field_count, fields_of_funds, funds_of, further, up_to_comma}
-use Rattle.bai2_read.specs.Kinds.{is_detail}
 use Rattle.bai2_read.specs.Summaries.{BeginsField}
 use Rattle.bai2_read.specs.declared.funds.Funds.{Funds}
 use Rattle.bai2_read.specs.declared.funds.Funds.TheVariants.{Simple, Distributed, ValueDated, Spread, Strange}

@@ -1,21 +1,19 @@
 -- What a reader knows of the lines read so far, and what it knows with one line more.
-use Rattle.std.proofs.Common.{◌≡◌, ℕ, ◌+◌, Bool, true, false, cond, List, [], ◌∷◌, ◌++◌, length, Option, Some, None, Result, Ok, Err, refl, sym, ap, subst, ◌∙◌, append_assoc, inl, inr}
+use Rattle.std.proofs.Common.{◌≡◌, ℕ, List, [], ◌∷◌, ◌++◌, Option, Some, None, Err, refl, sym, ap, subst, ◌∙◌, append_assoc, inl, inr}
 use Rattle.std.specs.Option.{option_or}
 use Rattle.std.proofs.lemmas.Bool.{cases_Bool}
 use Rattle.std.proofs.lemmas.List.{append-nil}
-use Rattle.book_statement.specs.Checks.{Gives, Place, first_bad, first_fault, unless_fault}
+use Rattle.book_statement.specs.Checks.{Place, first_fault, unless_fault}
 use Rattle.book_statement.specs.Lists.{each_after}
 use Rattle.book_statement.specs.declared.fault.StatementFault.{StatementFault}
-use Rattle.book_statement.specs.declared.statement.Statement.{Statement}
 use Rattle.book_statement.proofs.CheckLemmas.{first_fault-append, first_fault-here, first_fault-past}
 use Rattle.book_statement.proofs.ListLemmas.{each_after-append, each_after-push}
-use Rattle.bai2_read.specs.After.{after}
 use Rattle.bai2_read.specs.Context.{context}
 use Rattle.bai2_read.specs.Kinds.{continues}
 use Rattle.bai2_read.specs.Lines.{Part}
 use Rattle.bai2_read.specs.Reading.{Known, end_place, places, record_place, result_of}
-use Rattle.bai2_read.specs.Records.{More, Record, whole, with_more}
-use Rattle.bai2_read.specs.Steps.{begun, context_with, end_result, fault_of, fault_with, faults_of_continuation, faults_of_line, has_more, next, pending_with, went_on}
+use Rattle.bai2_read.specs.Records.{Record, whole}
+use Rattle.bai2_read.specs.Steps.{context_with, end_result, fault_with, faults_of_continuation, faults_of_line, next, went_on}
 use Rattle.bai2_read.specs.declared.context.Context.{Context}
 use Rattle.bai2_read.specs.declared.kind.Kind.{Kind}
 use Rattle.bai2_read.specs.declared.kind.Kind.TheVariants.{Blank, FileHeader, GroupHeader, AccountHeader, Detail, AccountTrailer, Continuation, GroupTrailer, FileTrailer, Unknown, NoRecord}

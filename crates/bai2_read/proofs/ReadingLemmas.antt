@@ -1,5 +1,5 @@
 -- What is known of a text whose first lines were read.
-use Rattle.std.proofs.Common.{◌≡◌, ℕ, ◌+◌, ◌≤◌, List, [], ◌∷◌, length, Option, Some, None, Result, Ok, Err, refl, sym, ap, ◌∙◌, arith}
+use Rattle.std.proofs.Common.{◌≡◌, ℕ, ◌+◌, List, [], ◌∷◌, length, Some, None, Ok, Err, refl, sym, ap, ◌∙◌, arith}
 use Rattle.book_statement.specs.Checks.{Gives}
 use Rattle.book_statement.specs.Texts as texts
 use Rattle.book_statement.specs.declared.fault.StatementFault.{StatementFault}

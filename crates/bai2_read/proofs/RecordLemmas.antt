@@ -1,11 +1,10 @@
 -- A record with one continuation more.
-use Rattle.std.proofs.Common.{◌≡◌, ℕ, ◌+◌, Bool, true, false, cond, List, [], ◌∷◌, ◌++◌, length, refl, sym, ap, ◌∙◌, inl, inr, arith}
-use Rattle.std.specs.Prelude.{map}
+use Rattle.std.proofs.Common.{◌≡◌, ℕ, ◌+◌, Bool, true, false, cond, List, [], ◌∷◌, ◌++◌, length, refl, ap, ◌∙◌, inl, inr, arith}
 use Rattle.std.proofs.lemmas.Bool.{cases_Bool}
 use Rattle.std.proofs.lemmas.List.{length_push, map_push}
 use Rattle.book_statement.specs.Texts.{add_piece, joined}
 use Rattle.book_statement.proofs.TextLemmas.{joined-push}
-use Rattle.bai2_read.specs.Records.{More, Record, fields_with, is_full, piece_of, pieces_with, whole, with_more}
+use Rattle.bai2_read.specs.Records.{More, fields_with, is_full, piece_of, pieces_with, whole, with_more}
 use Rattle.bai2_read.specs.declared.kind.Kind.{Kind}
 
 fields_push : (kind : Kind) (body : List ℕ) (more : List More) (m : More)

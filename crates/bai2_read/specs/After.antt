@@ -1,5 +1,5 @@
 -- What the records say with one record more, from what those before it say.
-use Rattle.std.specs.Prelude.{ℕ, ◌+◌, Bool, List, [], ◌∷◌, ◌++◌, if◌then◌else◌, ℤ, pos, ◌+ℤ◌}
+use Rattle.std.specs.Prelude.{ℕ, ◌+◌, List, [], ◌∷◌, ◌++◌, if◌then◌else◌, ℤ, pos, ◌+ℤ◌}
 use Rattle.book_statement.specs.declared.level.Level.{Level}
 use Rattle.book_statement.specs.declared.level.Level.TheVariants.{Account, Group, File}
 use Rattle.book_statement.specs.declared.statement.Statement.{Statement}

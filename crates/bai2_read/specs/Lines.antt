@@ -1,10 +1,10 @@
 -- The records of a file's lines. The lines are read from the end of the file: what stands behind a record is known
 -- when the record's line is put in front of it.
-use Rattle.std.specs.Prelude.{ℕ, ◌+◌, Bool, List, [], ◌∷◌, ◌++◌, if◌then◌else◌}
+use Rattle.std.specs.Prelude.{ℕ, ◌+◌, List, [], ◌∷◌, ◌++◌, if◌then◌else◌}
 use Rattle.bai2_read.specs.Kinds.{body_of, continues, kind_of}
 use Rattle.bai2_read.specs.Records.{More, Record, whole}
 use Rattle.bai2_read.specs.declared.kind.Kind.{Kind}
-use Rattle.bai2_read.specs.declared.kind.Kind.TheVariants.{Blank, FileHeader, GroupHeader, AccountHeader, Detail, AccountTrailer, Continuation, GroupTrailer, FileTrailer, Unknown, NoRecord}
+use Rattle.bai2_read.specs.declared.kind.Kind.TheVariants.{Blank, Continuation}
 
 -- What some lines say, whatever stands before them: continuations of a record before them, and the records.
 pub record Part : Type 0 where

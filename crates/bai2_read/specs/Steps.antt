@@ -1,7 +1,7 @@
 -- How a reader goes on by one line, and what it says at the file's end.
-use Rattle.std.specs.Prelude.{ℕ, ◌≡◌, Bool, false, List, [], ◌∷◌, ◌++◌, Option, Some, None, Result, Ok, Err, ⊤, if◌then◌else◌}
+use Rattle.std.specs.Prelude.{ℕ, ◌≡◌, Bool, false, List, [], ◌∷◌, Option, Some, None, Result, Ok, Err, ⊤, if◌then◌else◌}
 use Rattle.std.specs.Option.{option_or}
-use Rattle.book_statement.specs.Checks.{Place, first_fault, unless_fault}
+use Rattle.book_statement.specs.Checks.{first_fault, unless_fault}
 use Rattle.book_statement.specs.declared.fault.StatementFault.{StatementFault}
 use Rattle.book_statement.specs.declared.read_error.ReadError.{ReadError}
 use Rattle.book_statement.specs.declared.read_error.ReadError.TheVariants.{Fault, OutOfMemory}
@@ -12,7 +12,7 @@ use Rattle.bai2_read.specs.Reading.{Known, end_place, record_place}
 use Rattle.bai2_read.specs.Records.{Record, whole, with_more}
 use Rattle.bai2_read.specs.declared.context.Context.{Context}
 use Rattle.bai2_read.specs.declared.kind.Kind.{Kind}
-use Rattle.bai2_read.specs.declared.kind.Kind.TheVariants.{Blank, FileHeader, GroupHeader, AccountHeader, Detail, AccountTrailer, Continuation, GroupTrailer, FileTrailer, Unknown, NoRecord}
+use Rattle.bai2_read.specs.declared.kind.Kind.TheVariants.{Blank, Continuation}
 use Rattle.bai2_read.specs.declared.reader.Reader.{Reader}
 
 -- A step answers a fault where there is one, and else leads to the next reader.

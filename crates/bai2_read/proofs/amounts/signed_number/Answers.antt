@@ -1,6 +1,6 @@
-use Rattle.std.proofs.Common.{◌≡◌, ◌<◌, ◌^◌, ◌-ℤ◌, pos, neg_ℤ, ap, subst, sym, ◌∙◌, arith, true, length, to_z, of_z, w64}
+use Rattle.std.proofs.Common.{◌≡◌, ◌<◌, ◌^◌, ◌-ℤ◌, pos, neg_ℤ, ap, ◌∙◌, arith, to_z, of_z, w64}
 use Rattle.std.proofs.lemmas.Int.{ints}
-use Rattle.book_statement.specs.Numbers.{has_digits, number}
+use Rattle.book_statement.specs.Numbers.{number}
 use Rattle.bai2_read.specs.Amounts.{without_sign}
 use Rattle.bai2_read.proofs.AmountLemmas.{signed_minus, signed_plain, small_number}
 use Rattle.bai2_read.proofs.amounts.signed_number.Goals as goal

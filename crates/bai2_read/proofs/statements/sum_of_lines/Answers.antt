@@ -1,6 +1,5 @@
-use Rattle.std.proofs.Common.{◌≡◌, ◌+◌, take, ap, ◌∙◌, sym, arith, ◌+ℤ◌}
+use Rattle.std.proofs.Common.{◌≡◌, ◌+◌, take, arith, ◌+ℤ◌}
 use Rattle.std.proofs.lemmas.Int.{ints}
-use Rattle.book_statement.specs.declared.statement_line.StatementLine.{StatementLine}
 use Rattle.bai2_read.specs.Context.{sum_of_lines}
 use Rattle.bai2_read.proofs.ContextLemmas.{sum_of_lines_more}
 use Rattle.bai2_read.proofs.statements.sum_of_lines.Goals as goal

@@ -1,7 +1,6 @@
-use Rattle.std.proofs.Common.{◌≡◌, ◌+◌, ◌*◌, ◌-◌, ◌≤◌, ◌^◌, List, ℕ, length, pos, neg_ℤ, ◌≤ℤ◌, ◌+ℤ◌, ℤ, to_z, of_z, w64, ap, sym, ◌∙◌, arith}
+use Rattle.std.proofs.Common.{◌≡◌, ◌≤◌, List, ℕ, length, ◌+ℤ◌, ℤ, to_z, of_z, w64, arith}
 use mir.Syntax.{w128}
 use Rattle.std.proofs.lemmas.Int.{ints}
-use Rattle.bai2_read.specs.Fields.{after_fields}
 use Rattle.bai2_read.specs.Summaries.{items, sum_of_items}
 use Rattle.bai2_read.proofs.SummaryLemmas.{begins_rest, items_rest, length-after_fields-le, sum_more}
 use Rattle.bai2_read.proofs.summaries.sum_of_items.Goals as goal

@@ -1,4 +1,4 @@
-use Rattle.std.proofs.Common.{◌≡◌, ◌+◌, ◌*◌, ◌-◌, length, ◌≤◌, ◌^◌, pos, neg_ℤ, ◌≤ℤ◌}
+use Rattle.std.proofs.Common.{◌≡◌, ◌*◌, ◌-◌, length, ◌≤◌, ◌^◌, pos, neg_ℤ, ◌≤ℤ◌}
 use Rattle.std.specs.Prelude.{fold, ◌+ℤ◌}
 use Rattle.bai2_read.specs.Summaries.{BeginsField, item_amount, items, items_after, sum_of_items}
 use Rattle.bai2_read.proofs.summaries.sum_of_items.Given as goal
