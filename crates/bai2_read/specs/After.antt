@@ -21,7 +21,8 @@ added sums total parts records =
 -- The sums of a level, which begin anew where the record begins a new account, group or file.
 abbrev pub next_tally : Level → Tally → Record → Tally
 next_tally level sums r =
-    added (if begins level r.kind then no_tally else sums) (amount_in level r.kind r.body) (part_in level r.kind) r.lines
+    added (if begins level r.kind then no_tally else sums)
+    (amount_in level r.kind r.body) (part_in level r.kind) r.lines
 
 -- The lines of the account that goes on.
 abbrev pub next_lines : Context → Record → List StatementLine

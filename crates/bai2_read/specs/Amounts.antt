@@ -47,7 +47,8 @@ is_credit type = (nat_le 100 type && nat_lt type 400) || (nat_le 920 type && nat
 abbrev pub is_debit : ℕ → Bool
 is_debit type = (nat_le 400 type && nat_lt type 700) || (nat_le 960 type && nat_lt type 1000)
 
--- The amount of a line with this detail type: a credit comes into the account, a debit leaves it; other types give none.
+-- The amount of a line with this detail type: a credit comes into the account, a debit leaves it; other types give no
+-- line.
 unfoldable pub line_amount : ℕ → ℤ → Option ℤ
 line_amount type given =
     if is_credit type then Some given else (if is_debit type then Some (neg_ℤ given) else None)

@@ -1,6 +1,6 @@
--- What the records before a record say: the accounts of a group and the groups of a file, their sums and counts, and the
--- statements. An account is a header 03 with the records behind it up to its trailer 49, a group a header 02 with its
--- accounts up to its trailer 98, and a file a header 01 with its groups up to its trailer 99.
+-- What the records before a record say: the accounts of a group and the groups of a file, their sums and counts, and
+-- the statements. An account is a header 03 with the records behind it up to its trailer 49, a group a header 02 with
+-- its accounts up to its trailer 98, and a file a header 01 with its groups up to its trailer 99.
 use Rattle.std.specs.Prelude.{ℕ, Bool, List, [], ◌∷◌, fold, sum_by, codes, Option, Some, None, if◌then◌else◌, ℤ, pos, ◌+ℤ◌}
 use Rattle.std.specs.Ordering.{int_eq}
 use Rattle.std.specs.List.{flat_map, list_any}
@@ -135,7 +135,8 @@ statement_with number day currency account lines = record {
 abbrev pub statements_at : List Record → Record → List Statement
 statements_at before r =
     if is_account_trailer r.kind
-    then statement_with (number_of before) (day_of before) (currency_of before) (account_of before) (lines_of before) ∷ []
+    then
+    statement_with (number_of before) (day_of before) (currency_of before) (account_of before) (lines_of before) ∷ []
     else []
 
 -- The statements of a file, one for each account.

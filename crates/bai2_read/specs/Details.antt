@@ -1,4 +1,5 @@
--- A detail (BAI2, record 16): type, amount, funds type with its further fields, bank reference, customer reference, text.
+-- A detail (BAI2, record 16): type, amount, funds type with its further fields, bank reference, customer reference,
+-- text.
 use Rattle.std.specs.Prelude.{ℕ, ◌+◌, nat_le, Bool, List, [], ◌∷◌, drop, if◌then◌else◌, Option, Some, None, ℤ}
 use Rattle.book_statement.specs.Numbers.{has_digits, number}
 use Rattle.book_statement.specs.Texts.{add_piece}

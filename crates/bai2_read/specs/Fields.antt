@@ -1,4 +1,5 @@
--- The fields of a record: the parts between commas, each with its comma in front (BAI2, fields are delimited by commas).
+-- The fields of a record: the parts between commas, each with its comma in front (BAI2, fields are delimited by
+-- commas).
 use Rattle.std.specs.Prelude.{ℕ, ◌+◌, ◌-◌, ◌*◌, ◌==◌, nat_le, Bool, true, false, ◌&&◌, ◌||◌, List, [], ◌∷◌, length, drop, slice_index, count_by, is_some, if◌then◌else◌, ℤ}
 use Rattle.std.specs.List.{before_first}
 use Rattle.std.specs.Option.{unwrap_or}

@@ -39,7 +39,8 @@ kind_of_content content =
 unfoldable pub kind_of : List ℕ → Kind
 kind_of line = if length line == 0 then Blank else kind_of_content (without_slash line)
 
--- The fields of a record line, each behind its comma: all that stands behind the code. A line that is no record has none.
+-- The fields of a record line, each behind its comma: all that stands behind the code. A line that is no record has
+-- none.
 abbrev pub body_of_content : List ℕ → List ℕ
 body_of_content content = if is_record content then drop 2 content else []
 

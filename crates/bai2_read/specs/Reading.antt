@@ -37,10 +37,12 @@ Known = List (ℕ × Commodity)
 unfoldable pub file_checks : List ℕ → List Check
 file_checks body = check (same_text (field 7 body) (codes "2")) Version ∷ []
 
--- A group's header, record 02: receiver, originator, status, as-of date, time, currency, modifier. The status is 1, update.
+-- A group's header, record 02: receiver, originator, status, as-of date, time, currency, modifier. The status is 1,
+-- update.
 unfoldable pub group_checks : List ℕ → List Check
 group_checks body =
-    check (same_text (field 2 body) (codes "1")) GroupStatus ∷ check (is_some (short_date (field 3 body))) DateForm ∷ []
+    check (same_text (field 2 body) (codes "1")) GroupStatus
+    ∷ check (is_some (short_date (field 3 body))) DateForm ∷ []
 
 -- An account's header, record 03: account, currency, items. A file has 1,000 statements at most.
 unfoldable pub account_checks : Known → Context → List ℕ → List Check
@@ -73,9 +75,11 @@ count_check what text reckoned =
 abbrev pub count_checks : Level → Tally → ℕ → List ℕ → List Check
 count_checks Account sums own body = count_check AccountRecords (field 1 body) (sums.records + own) ∷ []
 count_checks Group sums own body =
-    count_check GroupAccounts (field 1 body) sums.parts ∷ count_check GroupRecords (field 2 body) (sums.records + own) ∷ []
+    count_check GroupAccounts (field 1 body) sums.parts
+    ∷ count_check GroupRecords (field 2 body) (sums.records + own) ∷ []
 count_checks File sums own body =
-    count_check FileGroups (field 1 body) sums.parts ∷ count_check FileRecords (field 2 body) (sums.records + own) ∷ []
+    count_check FileGroups (field 1 body) sums.parts
+    ∷ count_check FileRecords (field 2 body) (sums.records + own) ∷ []
 
 -- A trailer, record 49, 98 or 99: the control total, then the counts of what it closes.
 unfoldable pub trailer_checks : Level → Tally → ℕ → List ℕ → List Check

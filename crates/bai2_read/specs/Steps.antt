@@ -74,4 +74,5 @@ faults_of_line known kind reader = fault_of known reader
 abbrev pub end_result : Known → ℕ → Reader → Result (List Statement) StatementFault
 end_result known lines reader =
     let settled_context = context_with reader.context reader.pending in
-    unless_fault (option_or (fault_of known reader) (first_fault (end_place lines settled_context.place ∷ []))) settled_context.statements
+    unless_fault (option_or (fault_of known reader) (first_fault (end_place lines settled_context.place ∷ [])))
+    settled_context.statements

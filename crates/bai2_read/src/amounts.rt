@@ -91,7 +91,8 @@ fn is_debit(detail_type: u64) -> bool
     (400 <= detail_type && detail_type < 700) || (960 <= detail_type && detail_type < 1000)
 }
 
-/// The amount of a line with this detail type: a credit comes into the account, a debit leaves it; `None` for other types.
+/// The amount of a line with this detail type: a credit comes into the account, a debit leaves it; `None` for other
+/// types.
 #[tactic(auto, unfolding(crate::specs::Amounts::line_amount))]
 pub fn line_amount(detail_type: u64, given: i64) -> Option<i64>
     requires { IsSmall given }

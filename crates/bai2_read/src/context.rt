@@ -98,7 +98,9 @@ impl Context {
 
     /// Adds the line that a detail gives, if it gives one.
     fn keep_line(&mut self, alloc: Global, body: &str, more: &str) -> Result<(), OutOfMemory>
-        ensures { IfOk result (λ _. self.new ≡ record self.old { lines = self.old.lines ++ lines_of_detail self.old.day body.now more.now }) }
+        ensures { IfOk result (λ _. self.new ≡ record self.old {
+          lines = self.old.lines ++ lines_of_detail self.old.day body.now more.now;
+        }) }
     {
         if let Some(given) = detail_amount(body.as_bytes()) {
             let line = line_of(alloc, self.day, body, more, given)?;

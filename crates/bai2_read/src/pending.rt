@@ -100,6 +100,7 @@ impl Pending {
         self.line
     }
 
+    /// Its kind, by its code.
     pub fn kind(&self) -> Kind
         ensures { result ≡ self.now.kind }
     {

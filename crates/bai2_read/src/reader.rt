@@ -41,7 +41,8 @@ impl Reader {
         number: u64,
         line: &str,
     ) -> Result<(), ReadError>
-        ensures { Steps (faults_of_line known.now.entries (kind_of line.now) self.old) (next number (kind_of line.now) (body_of line.now) self.old) result self.new }
+        ensures { Steps (faults_of_line known.now.entries (kind_of line.now) self.old)
+            (next number (kind_of line.now) (body_of line.now) self.old) result self.new }
     {
         let (kind, body) = record_of(line);
         match kind {
@@ -60,7 +61,8 @@ impl Reader {
         body: &str,
     ) -> Result<(), ReadError>
         requires { BeginsField body.now }
-        ensures { Steps (faults_of_continuation known.now.entries self.old) (went_on number body.now self.old) result self.new }
+        ensures { Steps (faults_of_continuation known.now.entries self.old)
+            (went_on number body.now self.old) result self.new }
     {
         let goes_on = match &self.pending {
             Some(record) => record.may_go_on(),
