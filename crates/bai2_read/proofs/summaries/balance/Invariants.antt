@@ -1,0 +1,12 @@
+use Rattle.std.proofs.Common.{◌≡◌, length}
+use Rattle.bai2_read.specs.Summaries.{BeginsField, balance, items, items_after}
+use Rattle.bai2_read.proofs.summaries.balance.Given as goal
+
+abbrev pub invariant-items : goal.invariant-items
+invariant-items l = record {
+  whole : balance l.item_type (items l.body) ≡ balance l.item_type (items_after 0 l.rest);
+  begins : BeginsField l.rest;
+}
+
+abbrev pub decreases-items : goal.decreases-items
+decreases-items l = length l.rest

@@ -1,0 +1,12 @@
+pub mod After
+pub mod Amounts
+pub mod Context
+pub mod Details
+pub mod Extent
+pub mod Fields
+pub mod Kinds
+pub mod Lines
+pub mod Reading
+pub mod Records
+pub mod Steps
+pub mod Summaries

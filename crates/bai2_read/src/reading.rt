@@ -1,0 +1,28 @@
+ghost use Rattle.book_statement.specs.Checks.{Gives};
+ghost use Rattle.bai2_read.specs.Reading.{reading};
+
+use crate::reader::Reader;
+use book_commodity::{Commodities, Many, Text};
+use book_statement::{ReadError, Statement, next_line};
+use std::alloc::Global;
+
+/// The statements of a BAI2 file, one for each account. Amounts are in smallest units of the statement's currency.
+/// `Fault` where the file is broken: the first line at which a check fails, and what is wrong there.
+pub fn read_bai2(
+    alloc: Global,
+    text: &Text,
+    known: &Commodities,
+) -> Result<Many<Statement>, ReadError>
+    ensures { Gives (reading known.now.entries text.now) result }
+{
+    let mut reader = Reader::new(alloc);
+    let mut rest = text.as_str();
+    let mut lines = 0u64;
+    while !rest.is_empty() {
+        let (line, behind) = next_line(rest);
+        lines += 1;
+        reader.take(alloc, known, lines, line)?;
+        rest = behind;
+    }
+    reader.end(alloc, known, lines)
+}

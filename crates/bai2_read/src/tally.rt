@@ -1,0 +1,98 @@
+ghost use Rattle.std.specs.Prelude.{◌≡◌, ℤ, pos, IfOk};
+ghost use Rattle.bai2_read.specs.Context.{amount_in, part_in};
+ghost use Rattle.bai2_read.specs.After.{added, next_tally, no_tally};
+ghost use Rattle.bai2_read.specs.Kinds.{begins};
+
+use crate::amounts::{amount, total};
+use crate::fields::field;
+use crate::kind::Kind;
+use crate::pending::Pending;
+use crate::summaries::sum_of_items;
+use crate::sums::{count_on, plus};
+use book_commodity::OutOfMemory;
+use book_statement::Level;
+
+/// The sums of an account, a group or a file so far: its control total, the number of its accounts or groups, and the
+/// number of its record lines.
+#[derive(Clone, Copy, Debug, PartialEq, Eq)]
+pub struct Tally {
+    pub total: i128,
+    pub parts: u64,
+    pub records: u64,
+}
+
+impl Tally {
+    /// The sums of no records.
+    pub fn none() -> Tally
+        ensures { result ≡ no_tally }
+    {
+        Tally {
+            total: 0,
+            parts: 0,
+            records: 0,
+        }
+    }
+
+    /// With one record more.
+    fn with(self, total: i128, parts: u64, records: u64) -> Result<Tally, OutOfMemory>
+        ensures { IfOk result (λ sums. sums ≡ added self total parts records) }
+    {
+        Ok(Tally {
+            total: plus(self.total, total)?,
+            parts: count_on(self.parts, parts)?,
+            records: count_on(self.records, records)?,
+        })
+    }
+
+    /// The sums of a level with this record behind the others.
+    pub fn next(self, level: Level, entry: &Pending) -> Result<Tally, OutOfMemory>
+        ensures { IfOk result (λ sums. sums ≡ next_tally level self entry.now) }
+    {
+        let kind = entry.kind();
+        let start = if begins(level, kind) {
+            Tally::none()
+        } else {
+            self
+        };
+        let total = amount_in(level, kind, entry.body().as_bytes());
+        start.with(total, part_in(level, kind), entry.lines())
+    }
+}
+
+/// Whether a record of this kind begins a new account, group or file.
+fn begins(level: Level, kind: Kind) -> bool
+    ensures { result ≡ begins level kind }
+{
+    match level {
+        Level::Account => matches!(
+            kind,
+            Kind::FileHeader | Kind::GroupHeader | Kind::AccountHeader | Kind::AccountTrailer
+        ),
+        Level::Group => matches!(kind, Kind::FileHeader | Kind::GroupHeader),
+        Level::File => matches!(kind, Kind::FileHeader),
+    }
+}
+
+/// What a record adds to the control total of a level.
+fn amount_in(level: Level, kind: Kind, body: &[u8]) -> i128
+    ensures { result ≡ amount_in level kind body.now }
+{
+    match (level, kind) {
+        (Level::Account, Kind::AccountHeader) => sum_of_items(body),
+        (Level::Account, Kind::Detail) => amount(field(body, 1)) as i128,
+        (Level::Group, Kind::AccountTrailer) | (Level::File, Kind::GroupTrailer) => {
+            total(field(body, 0)) as i128
+        }
+        _ => 0,
+    }
+}
+
+/// What a record adds to the number of accounts of a group, or of groups of a file.
+fn part_in(level: Level, kind: Kind) -> u64
+    ensures { result ≡ part_in level kind }
+{
+    match (level, kind) {
+        (Level::Group, Kind::AccountHeader) | (Level::File, Kind::GroupHeader) => 1,
+        _ => 0,
+    }
+}

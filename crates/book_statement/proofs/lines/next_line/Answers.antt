@@ -1,0 +1,34 @@
+use Rattle.std.proofs.Common.{◌≡◌, ◌∷◌, [], ◌+◌, List, ℕ, Some, None, drop, position, refl, sym, ap, ◌∙◌, arith, rules}
+use Rattle.std.specs.Prelude.{map}
+use Rattle.book_statement.specs.Texts.{trimmed, lines_of, raw_lines}
+use Rattle.book_statement.proofs.TextLemmas.{is_line_feed, first_line, only_line}
+use Rattle.book_statement.proofs.lines.next_line.Goals as goal
+
+pub text_before-requires-clause-ascii : goal.text_before-requires-clause-ascii
+text_before-requires-clause-ascii c =
+    let found : position is_line_feed c.args.text.now ≡ Some c.in-Some.end =
+    ap (λ l. position is_line_feed l) (sym c.as_bytes.ensures.value) ∙ sym c.line_feed.ensures ∙ c.in-Some.is in
+    let first = first_line c.args.text.now c.in-Some.end found in omega (arith, first.feed)
+
+pub text_behind-requires-clause-ascii : goal.text_behind-requires-clause-ascii
+text_behind-requires-clause-ascii c =
+    let found : position is_line_feed c.args.text.now ≡ Some c.in-Some.end =
+    ap (λ l. position is_line_feed l) (sym c.as_bytes.ensures.value) ∙ sym c.line_feed.ensures ∙ c.in-Some.is in
+    let first = first_line c.args.text.now c.in-Some.end found in omega (arith, first.feed)
+
+pub returns-in-Some-clause-lines : goal.returns-in-Some-clause-lines
+returns-in-Some-clause-lines c =
+    let found : position is_line_feed c.args.text.now ≡ Some c.in-Some.end =
+    ap (λ l. position is_line_feed l) (sym c.as_bytes.ensures.value) ∙ sym c.line_feed.ensures ∙ c.in-Some.is in
+    let first = first_line c.args.text.now c.in-Some.end found in
+    let line : trimmed c.text_before.result.now ≡ c.trimmed.result.now = sym c.trimmed.ensures in
+    ap (map trimmed) first.lines
+    ∙ ap (λ l. trimmed l ∷ lines_of (drop (c.in-Some.end + 1) c.args.text.now)) (sym c.text_before.ensures)
+    ∙ ap (λ l. l ∷ lines_of (drop (c.in-Some.end + 1) c.args.text.now)) line
+    ∙ ap (λ l. c.trimmed.result.now ∷ lines_of l) (sym c.text_behind.ensures)
+
+pub returns-in-None-clause-lines : goal.returns-in-None-clause-lines
+returns-in-None-clause-lines c =
+    let found : position is_line_feed c.args.text.now ≡ None =
+    ap (λ l. position is_line_feed l) (sym c.as_bytes.ensures.value) ∙ sym c.line_feed.ensures ∙ c.in-None.is in
+    ap (map trimmed) (only_line c.args.text.now c.requires found) ∙ ap (λ l. l ∷ []) (sym c.trimmed-in-None.ensures)

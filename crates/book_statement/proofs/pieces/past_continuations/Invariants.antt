@@ -1,0 +1,6 @@
+use Rattle.std.proofs.Common.{◌≡◌, ◌+◌, ◌<◌, length, take, drop, slice_index, ℕ, ◌-◌, ◌*◌, ◌≤◌}
+use Rattle.book_statement.specs.Pieces.{after_chars, past_continuations, is_continuation}
+use Rattle.book_statement.proofs.pieces.past_continuations.Given as goal
+
+abbrev pub invariant-loop-i : goal.invariant-loop-i
+invariant-loop-i l = past_continuations (drop l.i l.text) ≡ past_continuations l.text

@@ -1,0 +1,5 @@
+use Rattle.std.proofs.Common.{take, drop, ◌≡◌, IfOk, ℕ, ◌+◌, ◌-◌, ◌*◌, ◌<◌, ◌≤◌, length}
+use Rattle.book_statement.proofs.statement_line.StatementLine.copy.Given as goal
+
+abbrev pub invariant-loop-part : goal.invariant-loop-part
+invariant-loop-part l = l.parts ≡ take l.part-index l.self.parts

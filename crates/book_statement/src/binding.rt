@@ -1,0 +1,22 @@
+ghost use Rattle.std.specs.Prelude.{◌≡◌, IfOk};
+
+use book_commodity::{OutOfMemory, Text};
+
+/// The account of the book that a statement's account text stands for.
+#[derive(Drop)]
+pub struct Binding {
+    pub text: Text,
+    pub account: u64,
+}
+
+impl Binding {
+    /// An equal binding with memory of its own.
+    pub fn copy(&self) -> Result<Binding, OutOfMemory>
+        ensures { IfOk result (λ copy. copy ≡ self.now) }
+    {
+        Ok(Binding {
+            text: self.text.copy()?,
+            account: self.account,
+        })
+    }
+}
