@@ -78,6 +78,7 @@ too_long whole decimals lt = and_false (are_commas_placed whole) _ (and_first _ 
     and_first : (a b : Bool) → a ≡ false → (a && b) ≡ false
     and_first true b e = absurd cc
     and_first false b e = refl
+
     not_digits : (digits : List ℕ) → 12 < length digits → has_digits 0 12 digits ≡ false
     not_digits digits over = and_first _ _ (and_false (nat_le 0 (length digits)) _ (grind (arith, nat_tests)))
 

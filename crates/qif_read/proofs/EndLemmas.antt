@@ -23,7 +23,7 @@ use Rattle.qif_read.specs.declared.reader.Reader.{Reader}
 use Rattle.qif_read.specs.declared.said.Said.{Said}
 use Rattle.qif_read.specs.declared.section.Section.{Section}
 use Rattle.qif_read.proofs.Growing.{Begun, begun, closed, turned}
-use Rattle.qif_read.proofs.PushLemmas.{ last_or-push, name_said, opens-section, section_of-push}
+use Rattle.qif_read.proofs.PushLemmas.{last_or-push, name_said, opens-section, section_of-push}
 use Rattle.qif_read.proofs.KeptLemmas.{is_empty, empty-push, started_in, said_in, fields_places, ended_places, so_far, kept_of, has_entry_in, has_entry, Knows, or-both, and_nothing}
 
 -- what is found sound
@@ -120,7 +120,13 @@ new_section form Passed name = refl
 
 abbrev keeps : Topic → List Statement → List ℕ → Section → Bool → Said → Option StatementFault → Reader
 keeps topic done name section started said pending = record {
-  done = done; topic = topic; name = name; section = section; started = started; said = said; pending = pending
+  done = done;
+  topic = topic;
+  name = name;
+  section = section;
+  started = started;
+  said = said;
+  pending = pending;
 }
 
 reader_is : (topic : Topic) (d d' : List Statement) (n n' : List ℕ) (s s' : Section) (a a' : Bool) (x x' : Said) (p p' : Option StatementFault)

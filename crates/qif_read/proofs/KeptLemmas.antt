@@ -23,7 +23,7 @@ use Rattle.qif_read.specs.declared.kind.Topic.TheVariants.{Register, Accounts, P
 use Rattle.qif_read.specs.declared.reader.Reader.{Reader}
 use Rattle.qif_read.specs.declared.said.Said.{Said}
 use Rattle.qif_read.proofs.Growing.{Begun, begun, closed, turned}
-use Rattle.qif_read.proofs.PushLemmas.{ last_or-push, line_at, said-push, name_said, name_said-push, opens-section, section_of-push}
+use Rattle.qif_read.proofs.PushLemmas.{last_or-push, line_at, said-push, name_said, name_said-push, opens-section, section_of-push}
 
 -- whether a list has no item
 abbrev pub is_empty : {X : Type 0} → List X → Bool
@@ -64,10 +64,13 @@ so_far form b = places form b.listings ++ (ended_places form b ++ fields_places 
 -- what the reader keeps of what was read
 abbrev pub kept_of : Form → Begun → Reader
 kept_of form b = record {
-  done = statements form b.listings; topic = b.topic; name = name_given b.topic b.entries;
+  done = statements form b.listings;
+  topic = b.topic;
+  name = name_given b.topic b.entries;
   section = section_in form b.topic (name_behind b.listings) b.entries;
-  started = started_in b.topic b.fields; said = said_in form b.topic b.fields;
-  pending = first_fault (so_far form b)
+  started = started_in b.topic b.fields;
+  said = said_in form b.topic b.fields;
+  pending = first_fault (so_far form b);
 }
 
 -- whether a register has an entry, ended or not; `none` says that no earlier one has
@@ -135,7 +138,7 @@ line_kept form ls Passed es fs line code text sound e = record { same = refl; so
 pub line_bad : (form : Form) (ls : List Listing) (topic : Topic) (es : List Entry) (fs : List Line) (line : ℕ) (code : Code) (text : List ℕ) (fault : StatementFault)
     → field_fault topic form (kept_of form (begun ls topic es fs)) line code text ≡ Some fault
     → let after = begun ls topic es (fs ++ line_at line code text ∷ []) in
-      (has_entry form after ≡ true) × (first_fault (so_far form after) ≡ Some fault)
+    (has_entry form after ≡ true) × (first_fault (so_far form after) ≡ Some fault)
 line_bad form ls Register es fs line code text fault e =
     (has_line (is_nothing (statements form ls)) es fs (line_at line code text), first_fault-line form ls es fs line code text ∙ e)
 line_bad form ls Accounts es fs line code text fault e = absurd cc

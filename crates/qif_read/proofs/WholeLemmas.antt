@@ -51,7 +51,7 @@ fields_first form name count es f fs loose whole last =
 -- the checks of the open list stand first among those of the list that the rest makes of it
 current_first : (form : Form) (topic : Topic) (name : List ℕ) (count : ℕ) (es : List Entry) (fs : List Line) (rest : Rest)
     → BeginsWith (entries_places form topic name count es ++ fields_places form topic fs)
-        (entries_places form topic name count (es ++ (entry_of (fs ++ rest.loose) rest.whole rest.last ++ rest.entries)))
+    (entries_places form topic name count (es ++ (entry_of (fs ++ rest.loose) rest.whole rest.last ++ rest.entries)))
 current_first form Register name count es [] rest =
     let later = entry_of rest.loose rest.whole rest.last ++ rest.entries in
     begins_nil (each_after (entry_places form name count) [] es) (each_after (entry_places form name count) [] (es ++ later)) (each_after (entry_places form name count) es later, each_after-append (entry_places form name count) [] es later)
@@ -184,6 +184,7 @@ end_answer form n old b knows =
         (ap (result_of form) (fill-end n Passed b)
         ∙ answer_sound (first_fault (places form (turned (closed b false n) Passed).listings)) (statements form (turned (closed b false n) Passed).listings) (λ has. ap first_fault (sym (append-nil (places form (turned (closed b false n) Passed).listings))) ∙ listed.sound has)
         ∙ ap (λ (kept : Reader). answer_of None kept.done) (sym listed.same))
+
     answered : (found : Option StatementFault) → end_fault b.topic (kept_of form b) false n ≡ found
         → result_of form (fill b (rest_after n [])) ≡ fault_or (end_fault b.topic (kept_of form b) false n) (answer_of None (with_list form Passed (with_end b.topic (kept_of form b) false n)).done)
     answered None e = rw e (ended_answer (with_end b.topic (kept_of form b) false n) (end_kept form b.listings b.topic b.entries b.fields false n knows.sound e))

@@ -29,21 +29,34 @@ shop =
 
 -- one line of 2024-01-15, of -1,234.50 in three parts
 pub shop_is_read : reading euro DayMonth (shop ++ line (codes "$-34.50") ++ line (codes "^")) ≡ Ok (record {
-  account_text = []; number = []; currency = codes "EUR"; opening = None; closing = None; day = pos 19737; ties = None;
+  account_text = [];
+  number = [];
+  currency = codes "EUR";
+  opening = None;
+  closing = None;
+  day = pos 19737;
+  ties = None;
   lines = record {
-    day = pos 19737; value_day = pos 19737; amount = negsuc 123449; kind = []; ref_own = []; ref_bank = [];
-    text = codes "Shop"; category = codes "Food";
+    day = pos 19737;
+    value_day = pos 19737;
+    amount = negsuc 123449;
+    kind = [];
+    ref_own = [];
+    ref_bank = [];
+    text = codes "Shop";
+    category = codes "Food";
     parts = record { category = codes "Food"; memo = []; amount = negsuc 99999 }
         ∷ record { category = codes "Home"; memo = []; amount = negsuc 19999 }
-        ∷ record { category = codes "Gifts"; memo = []; amount = negsuc 3449 } ∷ []
-  } ∷ []
+        ∷ record { category = codes "Gifts"; memo = []; amount = negsuc 3449 } ∷ [];
+  } ∷ [];
 } ∷ [])
 unfolding reading is_header kind_of behind_spaces numeral behind_numeral is_date_form year_said day_named unsigned whole_part decimal_part are_commas_placed without_commas is_number amount_checks amount said is_in_brackets inside is_opening end_checks date number_onto units unit_checks days_from_civil day_count days_of_years days_of_months
 shop_is_read = refl
 
 -- parts that do not sum to the amount
 pub parts_differ : reading euro DayMonth (shop ++ line (codes "$-34.51") ++ line (codes "^")) ≡ Err (record {
-  line = 12; bad = SplitSum (negsuc 123449) (negsuc 123450)
+  line = 12;
+  bad = SplitSum (negsuc 123449) (negsuc 123450);
 })
 unfolding reading is_header kind_of behind_spaces numeral behind_numeral is_date_form year_said day_named unsigned whole_part decimal_part are_commas_placed without_commas is_number amount_checks amount said is_in_brackets inside is_opening end_checks date number_onto units unit_checks days_from_civil day_count days_of_years days_of_months
 parts_differ = refl

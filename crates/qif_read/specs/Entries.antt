@@ -42,8 +42,9 @@ pub record SplitsRest : Type 0 where
 -- The parts with a line more in front.
 abbrev pub split_in_front : ℕ → Code → List ℕ → SplitsRest → SplitsRest
 split_in_front fraction Split text rest = record {
-  memo = None; amount = None;
-  splits = record { category = text; memo = rest.memo; amount = rest.amount } ∷ rest.splits
+  memo = None;
+  amount = None;
+  splits = record { category = text; memo = rest.memo; amount = rest.amount } ∷ rest.splits;
 }
 split_in_front fraction SplitMemo text rest = record rest { memo = Some text }
 split_in_front fraction SplitAmount text rest = record rest { amount = Some (amount fraction text) }
@@ -67,7 +68,7 @@ said form fields = record {
   payee = first_of Payee fields;
   memo = first_of Memo fields;
   category = first_of Category fields;
-  splits = splits_of form.fraction fields
+  splits = splits_of form.fraction fields;
 }
 
 -- The text that a line gives, empty where no such line stands.
@@ -87,7 +88,9 @@ day_said said = unwrap_or said.day (pos 0)
 -- A part as a statement's line has it.
 abbrev pub part_of : SplitSaid → Part
 part_of split = record {
-  category = split.category; memo = text_or_empty split.memo; amount = unwrap_or split.amount (pos 0)
+  category = split.category;
+  memo = text_or_empty split.memo;
+  amount = unwrap_or split.amount (pos 0);
 }
 
 -- The sum of the amounts of the parts.
@@ -98,8 +101,13 @@ sum_of_splits (s ∷ ss) = unwrap_or s.amount (pos 0) +ℤ sum_of_splits ss
 -- The line of a statement that an entry gives: its text is payee and memo, its own reference the number.
 abbrev pub statement_line : Said → StatementLine
 statement_line said = record {
-  day = day_said said; value_day = day_said said; amount = amount_said said; kind = [];
-  ref_own = text_or_empty said.number; ref_bank = [];
+  day = day_said said;
+  value_day = day_said said;
+  amount = amount_said said;
+  kind = [];
+  ref_own = text_or_empty said.number;
+  ref_bank = [];
   text = joined (text_or_empty said.payee ∷ text_or_empty said.memo ∷ []);
-  category = text_or_empty said.category; parts = map part_of said.splits
+  category = text_or_empty said.category;
+  parts = map part_of said.splits;
 }

@@ -49,7 +49,7 @@ end_checks whole opens lines statements said =
     ∷ check (is_some (total_said said)) FieldForm
     ∷ check (list_all (λ split. is_some split.amount) said.splits) FieldForm
     ∷ check (is_nothing said.splits || int_eq (sum_of_splits said.splits) (amount_said said))
-        (SplitSum (amount_said said) (sum_of_splits said.splits))
+    (SplitSum (amount_said said) (sum_of_splits said.splits))
     ∷ check (nat_lt statements 1000) TooMany
     ∷ check (opens || nat_lt lines 10000) TooMany ∷ []
 

@@ -38,7 +38,7 @@ date_parts text =
       mark = slice_index behind_first 0;
       second = numeral (drop 1 behind_first);
       year_mark = slice_index behind_second 0;
-      year = behind_spaces (drop 1 behind_second)
+      year = behind_spaces (drop 1 behind_second);
     }
 
 -- A slash, a hyphen or a point.

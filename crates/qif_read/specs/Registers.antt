@@ -36,13 +36,19 @@ no_entries name = record { account = name; opening = None; day = None; lines = [
 -- A register whose first entry gives its opening balance and, where it had none, its name; it gives no line.
 abbrev pub opened_by : Said → Section
 opened_by said = record {
-  account = account_said said; opening = Some (amount_said said); day = Some (day_said said); lines = []
+  account = account_said said;
+  opening = Some (amount_said said);
+  day = Some (day_said said);
+  lines = [];
 }
 
 -- A register whose first entry is one like the others.
 abbrev pub begun_by : List ℕ → Said → Section
 begun_by name said = record {
-  account = name; opening = None; day = Some (day_said said); lines = statement_line said ∷ []
+  account = name;
+  opening = None;
+  day = Some (day_said said);
+  lines = statement_line said ∷ [];
 }
 
 abbrev pub after_first : List ℕ → Said → Section
@@ -56,7 +62,7 @@ latest day days = fold int_max day days
 abbrev pub with_later : Section → List Said → Section
 with_later section later = record section {
   day = Some (latest (unwrap_or section.day (pos 0)) (map day_said later));
-  lines = section.lines ++ map statement_line later
+  lines = section.lines ++ map statement_line later;
 }
 
 -- What the entries of a register with this name give.
@@ -69,8 +75,14 @@ section_of form name (e ∷ es) =
 abbrev pub statement_on : Form → Section → Option ℤ → List Statement
 statement_on form section None = []
 statement_on form section (Some day) = record {
-  account_text = section.account; number = []; currency = form.currency; opening = section.opening; closing = None;
-  day = day; ties = None; lines = section.lines
+  account_text = section.account;
+  number = [];
+  currency = form.currency;
+  opening = section.opening;
+  closing = None;
+  day = day;
+  ties = None;
+  lines = section.lines;
 } ∷ []
 
 -- A register with an entry is a statement.

@@ -50,7 +50,14 @@ with_amount amount split = record split { amount = option_or split.amount (Some 
 -- What an entry says before its first line.
 abbrev pub nothing : Said
 nothing = record {
-  day = None; total = None; other_total = None; number = None; payee = None; memo = None; category = None; splits = []
+  day = None;
+  total = None;
+  other_total = None;
+  number = None;
+  payee = None;
+  memo = None;
+  category = None;
+  splits = [];
 }
 
 -- What an entry of a register says with a line more.
@@ -140,8 +147,10 @@ with_transaction old = record old { section = with_entry old.section old.said; s
 -- The reader after an entry of a list of accounts.
 abbrev pub with_account : Reader → Bool → ℕ → Reader
 with_account old whole line = record old {
-  name = text_or_empty old.said.number; started = false; said = nothing;
-  pending = option_or old.pending (account_fault whole line)
+  name = text_or_empty old.said.number;
+  started = false;
+  said = nothing;
+  pending = option_or old.pending (account_fault whole line);
 }
 
 -- The fault at the end of an entry, where one has begun.
@@ -165,8 +174,10 @@ name_for Passed name = []
 -- The reader at the beginning of a list: the list before it may have been a statement.
 abbrev pub with_list : Form → Topic → Reader → Reader
 with_list form topic old = record old {
-  done = old.done ++ statements_in form old.section; topic = topic; name = [];
-  section = no_entries (name_for topic old.name)
+  done = old.done ++ statements_in form old.section;
+  topic = topic;
+  name = [];
+  section = no_entries (name_for topic old.name);
 }
 
 -- The fault at a line behind n lines.
@@ -188,7 +199,13 @@ after form n text (Field code) old = with_field old.topic form old code (behind_
 -- The reader before the first line.
 abbrev pub fresh : Reader
 fresh = record {
-  done = []; topic = Passed; name = []; section = no_entries []; started = false; said = nothing; pending = None
+  done = [];
+  topic = Passed;
+  name = [];
+  section = no_entries [];
+  started = false;
+  said = nothing;
+  pending = None;
 }
 
 -- A fault, or else another answer.

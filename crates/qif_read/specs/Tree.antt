@@ -51,8 +51,11 @@ line_of n text code = record { line = n + 1; code = code; text = behind_code tex
 -- A part with one line more in front, behind n lines.
 abbrev pub in_front : ℕ → List ℕ → LineKind → Rest → Rest
 in_front n text (Header topic) rest = record {
-  loose = []; whole = false; last = n; entries = [];
-  listings = record { topic = topic; entries = entries_behind rest } ∷ rest.listings
+  loose = [];
+  whole = false;
+  last = n;
+  entries = [];
+  listings = record { topic = topic; entries = entries_behind rest } ∷ rest.listings;
 }
 in_front n text Switch rest =
     record { loose = []; whole = false; last = n; entries = entries_behind rest; listings = rest.listings }
@@ -60,7 +63,11 @@ in_front n text End rest =
     record { loose = []; whole = true; last = n + 1; entries = entries_behind rest; listings = rest.listings }
 in_front n text Empty rest = rest
 in_front n text (Field code) rest = record {
-  loose = line_of n text code ∷ rest.loose; whole = rest.whole; last = rest.last; entries = rest.entries; listings = rest.listings
+  loose = line_of n text code ∷ rest.loose;
+  whole = rest.whole;
+  last = rest.last;
+  entries = rest.entries;
+  listings = rest.listings;
 }
 
 -- What the lines behind n lines mean.

@@ -97,12 +97,7 @@ pub fn begin_split(splits: &mut Splits, alloc: Global, category: &str) -> Result
 }
 
 /// Takes the memo of a part, at a line `E`.
-pub fn add_memo(
-    splits: &mut Splits,
-    alloc: Global,
-    line: u64,
-    text: &str,
-) -> Result<(), ReadError>
+pub fn add_memo(splits: &mut Splits, alloc: Global, line: u64, text: &str) -> Result<(), ReadError>
     ensures { Takes (fault_in line (check (not (is_nothing splits.old)) Bad.FieldForm ∷ [])) (on_last (with_memo text.now) splits.old) splits.new result }
 {
     if splits.is_empty() {
@@ -112,12 +107,7 @@ pub fn add_memo(
 }
 
 /// Takes the amount of a part, at a line `$`.
-pub fn add_amount(
-    splits: &mut Splits,
-    form: &Form,
-    line: u64,
-    text: &str,
-) -> Result<(), ReadError>
+pub fn add_amount(splits: &mut Splits, form: &Form, line: u64, text: &str) -> Result<(), ReadError>
     requires { IsFraction form.now.fraction }
     ensures { Takes (fault_in line (check (not (is_nothing splits.old)) Bad.FieldForm ∷ amount_checks form.now.fraction text.now)) (on_last (with_amount (amount form.now.fraction text.now)) splits.old) splits.new result }
 {

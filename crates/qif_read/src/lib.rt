@@ -17,8 +17,9 @@ mod said;
 mod section;
 mod split;
 mod splits;
-
-pub use order::DateOrder;
-pub use read::read_qif;
+#[cfg(test)]
+mod tests;
 
 use form::Form;
+pub use order::DateOrder;
+pub use read::read_qif;

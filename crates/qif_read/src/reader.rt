@@ -248,7 +248,15 @@ impl Reader {
     fn into_statements(self) -> Result<Many<Statement>, ReadError>
         ensures { Gives (answer_of None self.done) result }
     {
-        let Reader { done, topic: _, name: _, section: _, started: _, said: _, pending: _ } = self;
+        let Reader {
+            done,
+            topic: _,
+            name: _,
+            section: _,
+            started: _,
+            said: _,
+            pending: _,
+        } = self;
         if done.is_empty() {
             return Err(fault(0, Bad::NoStatement));
         }

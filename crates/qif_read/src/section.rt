@@ -96,7 +96,11 @@ impl Section {
     }
 
     /// The statement of a register with an entry.
-    pub fn into_statement(self, alloc: Global, form: &Form) -> Result<Option<Statement>, OutOfMemory>
+    pub fn into_statement(
+        self,
+        alloc: Global,
+        form: &Form,
+    ) -> Result<Option<Statement>, OutOfMemory>
         ensures { IfOk result (λ statement. option_to_list statement ≡ statements_in form.now self) }
     {
         let Section {

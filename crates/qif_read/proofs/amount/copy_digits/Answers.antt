@@ -14,13 +14,13 @@ pub loop-byte-preserved : goal.loop-byte-preserved
 loop-byte-preserved c =
     elim c.if-byte-ne44.branch [
       | then-byte-ne44+else-count-buffer w ↦ record {
-          copied = rw (w.buffer-is, w.count-is) (digit_copied c.args.whole.now c.loop-byte.buffer c.loop-byte.byte-index c.loop-byte.count (omega arith) (omega arith) (λ e. omega arith) c.loop-byte.invariant.copied);
-          within = omega arith;
-        }
+        copied = rw (w.buffer-is, w.count-is) (digit_copied c.args.whole.now c.loop-byte.buffer c.loop-byte.byte-index c.loop-byte.count (omega arith) (omega arith) (λ e. omega arith) c.loop-byte.invariant.copied);
+        within = omega arith;
+      }
       | else-byte-ne44 w ↦ record {
-          copied = rw (w.buffer-is, w.count-is, ← comma_passed c.args.whole.now c.loop-byte.byte-index (omega arith) (omega arith)) c.loop-byte.invariant.copied;
-          within = omega arith;
-        }
+        copied = rw (w.buffer-is, w.count-is, ← comma_passed c.args.whole.now c.loop-byte.byte-index (omega arith) (omega arith)) c.loop-byte.invariant.copied;
+        within = omega arith;
+      }
     ]
 
 pub returns : goal.returns
