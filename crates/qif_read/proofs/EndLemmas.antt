@@ -1,20 +1,20 @@
 -- The end of an entry, and the beginning of a list.
-use Rattle.std.proofs.Common.{◌≡◌, ℕ, ◌+◌, ◌==◌, Bool, true, false, ◌&&◌, not, List, [], ◌∷◌, ◌++◌, map, length, Option, Some, None, append_assoc, refl, sym, ap, subst, ◌∙◌}
+use Rattle.std.proofs.Common.{◌≡◌, ℕ, Bool, true, false, ◌&&◌, not, List, [], ◌∷◌, ◌++◌, map, length, Option, Some, None, append_assoc, refl, sym, ap, ◌∙◌}
 use Rattle.std.specs.Prelude.{if◌then◌else◌}
 use Rattle.std.specs.Option.{option_or}
 use Rattle.std.proofs.lemmas.List.{append-nil, map-append}
-use Rattle.book_statement.specs.Checks.{Check, check, Place, place, first_bad, fault_at, first_fault}
+use Rattle.book_statement.specs.Checks.{check, Place, place, first_fault}
 use Rattle.book_statement.specs.Lists.{each_after}
 use Rattle.book_statement.specs.Texts.{is_nothing}
 use Rattle.book_statement.specs.declared.fault.StatementFault.{StatementFault}
 use Rattle.book_statement.specs.declared.bad.Bad.TheVariants.{CutOff}
 use Rattle.book_statement.proofs.CheckLemmas.{first_fault-append}
-use Rattle.book_statement.proofs.ListLemmas.{each_after-append, each_after-push}
+use Rattle.book_statement.proofs.ListLemmas.{each_after-push}
 use Rattle.qif_read.specs.Tree.{Line, Entry, Listing}
 use Rattle.qif_read.specs.Entries.{said}
-use Rattle.qif_read.specs.Registers.{is_opening, no_entries, section_of, statements_in}
-use Rattle.qif_read.specs.Qif.{line_places, end_checks, name_of, name_given, name_behind, section_in, statements_behind, statements, entry_places, account_places, entries_places, listing_places, places}
-use Rattle.qif_read.specs.Steps.{nothing, checks_at_end, entry_fault, account_fault, account_end_fault, end_fault, with_end, with_entry, name_for, with_list, opens}
+use Rattle.qif_read.specs.Registers.{no_entries, section_of, statements_in}
+use Rattle.qif_read.specs.Qif.{end_checks, name_of, name_given, name_behind, section_in, statements_behind, statements, entry_places, account_places, entries_places, listing_places, places}
+use Rattle.qif_read.specs.Steps.{nothing, entry_fault, account_fault, end_fault, with_end, name_for, with_list}
 use Rattle.qif_read.specs.declared.form.Form.{Form}
 use Rattle.qif_read.specs.declared.kind.Topic.{Topic}
 use Rattle.qif_read.specs.declared.kind.Topic.TheVariants.{Register, Accounts, Passed}
@@ -23,8 +23,8 @@ use Rattle.qif_read.specs.declared.reader.Reader.{Reader}
 use Rattle.qif_read.specs.declared.said.Said.{Said}
 use Rattle.qif_read.specs.declared.section.Section.{Section}
 use Rattle.qif_read.proofs.Growing.{Begun, begun, closed, turned}
-use Rattle.qif_read.proofs.PushLemmas.{last_or-push, name_said, opens-section, section_of-push}
-use Rattle.qif_read.proofs.KeptLemmas.{is_empty, empty-push, started_in, said_in, fields_places, ended_places, so_far, kept_of, has_entry_in, has_entry, Knows, or-both, and_nothing}
+use Rattle.qif_read.proofs.PushLemmas.{last_or-push, section_of-push}
+use Rattle.qif_read.proofs.KeptLemmas.{is_empty, empty-push, started_in, said_in, fields_places, so_far, kept_of, has_entry_in, has_entry, Knows, and_nothing}
 
 -- what is found sound
 abbrev pub IsSound : Form → Begun → Type 0
@@ -37,7 +37,8 @@ entry_with fs whole last = record { fields = fs; whole = whole; last = last }
 -- the end of an entry of a register, behind the checks of its lines
 abbrev end_place : Form → List Listing → List Entry → List Line → Bool → ℕ → Place
 end_place form ls es fs whole last =
-    place last (end_checks whole (is_nothing es && is_opening (name_behind ls) (said form fs)) (length (section_of form (name_behind ls) es).lines) (length (statements form ls)) (said form fs))
+    place last
+    (end_checks whole (length (section_of form (name_behind ls) es).lines) (length (statements form ls)) (said form fs))
 
 so_far-entry : (form : Form) (ls : List Listing) (es : List Entry) (f : Line) (fs : List Line) (whole : Bool) (last : ℕ)
     → so_far form (closed (begun ls Register es (f ∷ fs)) whole last)
@@ -51,7 +52,7 @@ first_fault-entry : (form : Form) (ls : List Listing) (es : List Entry) (f : Lin
     → first_fault (so_far form (closed (begun ls Register es (f ∷ fs)) whole last))
     ≡ option_or (first_fault (so_far form (begun ls Register es (f ∷ fs)))) (entry_fault (kept_of form (begun ls Register es (f ∷ fs))) whole last)
 first_fault-entry form ls es f fs whole last =
-    rw (so_far-entry form ls es f fs whole last, opens-section form (name_behind ls) es (said form (f ∷ fs)))
+    rw (so_far-entry form ls es f fs whole last)
     (first_fault-append (so_far form (begun ls Register es (f ∷ fs))) (end_place form ls es (f ∷ fs) whole last ∷ []))
 
 -- the first fault with the end of an entry of a list of accounts

@@ -2,7 +2,7 @@
 -- tree stays the same.
 use Rattle.std.proofs.Common.{◌≡◌, ℕ, ◌+◌, Bool, true, false, List, [], ◌∷◌, ◌++◌, append_assoc, refl}
 use Rattle.std.proofs.lemmas.List.{append-nil}
-use Rattle.qif_read.specs.Tree.{Line, Entry, Listing, Rest, entry_of, entries_behind, line_of, in_front, rest_after}
+use Rattle.qif_read.specs.Tree.{Line, Entry, Listing, Rest, entry_of, line_of, in_front, rest_after}
 use Rattle.qif_read.specs.declared.kind.Topic.{Topic}
 use Rattle.qif_read.specs.declared.kind.LineKind.{LineKind}
 use Rattle.qif_read.specs.declared.kind.LineKind.TheVariants.{Header, Switch, End, Empty, Field}

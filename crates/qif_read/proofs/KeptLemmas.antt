@@ -1,29 +1,24 @@
 -- What the reader keeps is a function of the tree that was read: how lines, ends of entries and headers change both alike.
-use Rattle.std.proofs.Common.{◌≡◌, ℕ, ◌+◌, ◌==◌, Bool, true, false, ◌&&◌, not, List, [], ◌∷◌, ◌++◌, map, length, Option, Some, None, append_assoc, refl, sym, ap, subst, ◌∙◌}
-use Rattle.std.specs.Prelude.{if◌then◌else◌}
+use Rattle.std.proofs.Common.{◌≡◌, ℕ, Bool, true, false, ◌&&◌, not, List, [], ◌∷◌, ◌++◌, length, Option, Some, None, append_assoc, refl, ap, ◌∙◌}
 use Rattle.std.specs.Option.{option_or}
-use Rattle.std.proofs.lemmas.List.{append-nil, map-append}
-use Rattle.book_statement.specs.Checks.{Check, check, Place, place, first_bad, fault_at, first_fault}
+use Rattle.book_statement.specs.Checks.{Place, first_fault}
 use Rattle.book_statement.specs.Lists.{each_after}
 use Rattle.book_statement.specs.Texts.{is_nothing}
 use Rattle.book_statement.specs.declared.fault.StatementFault.{StatementFault}
-use Rattle.book_statement.specs.declared.bad.Bad.TheVariants.{CutOff}
-use Rattle.book_statement.specs.declared.statement.Statement.{Statement}
 use Rattle.book_statement.proofs.CheckLemmas.{first_fault-append}
-use Rattle.book_statement.proofs.ListLemmas.{each_after-append, each_after-push}
+use Rattle.book_statement.proofs.ListLemmas.{each_after-push}
 use Rattle.qif_read.specs.Tree.{Line, Entry, Listing}
 use Rattle.qif_read.specs.Entries.{said}
-use Rattle.qif_read.specs.Registers.{is_opening, no_entries, section_of, statements_in}
-use Rattle.qif_read.specs.Qif.{line_checks, line_places, end_checks, name_given, name_behind, section_in, statements_behind, statements, entry_places, account_places, entries_places, listing_places, places}
-use Rattle.qif_read.specs.Steps.{fault_in, nothing, line_fault, field_fault, with_field, checks_at_end, entry_fault, account_fault, account_end_fault, end_fault, with_end, with_entry, name_for, with_list, opens, after_line, after_account_line}
+use Rattle.qif_read.specs.Qif.{line_places, name_given, name_behind, section_in, statements, entries_places, places}
+use Rattle.qif_read.specs.Steps.{nothing, line_fault, field_fault, with_field}
 use Rattle.qif_read.specs.declared.form.Form.{Form}
 use Rattle.qif_read.specs.declared.kind.Code.{Code}
 use Rattle.qif_read.specs.declared.kind.Topic.{Topic}
 use Rattle.qif_read.specs.declared.kind.Topic.TheVariants.{Register, Accounts, Passed}
 use Rattle.qif_read.specs.declared.reader.Reader.{Reader}
 use Rattle.qif_read.specs.declared.said.Said.{Said}
-use Rattle.qif_read.proofs.Growing.{Begun, begun, closed, turned}
-use Rattle.qif_read.proofs.PushLemmas.{last_or-push, line_at, said-push, name_said, name_said-push, opens-section, section_of-push}
+use Rattle.qif_read.proofs.Growing.{Begun, begun}
+use Rattle.qif_read.proofs.PushLemmas.{line_at, said-push, name_said, name_said-push}
 
 -- whether a list has no item
 abbrev pub is_empty : {X : Type 0} → List X → Bool

@@ -1,19 +1,19 @@
 -- What one line or one entry more gives.
-use Rattle.std.proofs.Common.{◌≡◌, ℕ, ◌==◌, Bool, true, false, ◌&&◌, List, [], ◌∷◌, ◌++◌, map, Option, Some, None, option_map, unwrap_or, append_assoc, length, arith, refl, sym, ap, ◌∙◌, ℤ, pos}
+use Rattle.std.proofs.Common.{◌≡◌, ℕ, ◌==◌, true, false, List, [], ◌∷◌, ◌++◌, map, Option, Some, None, option_map, unwrap_or, append_assoc, length, arith, refl, ap, ◌∙◌, ℤ, pos}
 use Rattle.std.specs.Prelude.{if◌then◌else◌}
 use Rattle.std.specs.Option.{option_or}
 use Rattle.std.specs.Int.{int_max}
 use Rattle.std.proofs.lemmas.Bool.{ne_eqb}
-use Rattle.std.proofs.lemmas.List.{append-nil, map-append}
+use Rattle.std.proofs.lemmas.List.{map-append}
 use Rattle.std.proofs.lemmas.List.Sums.{fold-append}
 use Rattle.book_statement.specs.Lists.{on_last}
 use Rattle.book_statement.specs.Texts.{is_nothing}
 use Rattle.qif_read.specs.QifAmount.{amount}
 use Rattle.qif_read.specs.Tree.{Line, Entry}
 use Rattle.qif_read.specs.Entries.{place_of, first_of, SplitsRest, split_in_front, splits_rest, splits_of, said, amount_said, day_said, statement_line}
-use Rattle.qif_read.specs.Registers.{latest, account_said, is_opening, no_entries, opened_by, begun_by, after_first, with_later, section_of}
+use Rattle.qif_read.specs.Registers.{account_said, is_opening, no_entries, opened_by, begun_by, after_first, with_later, section_of}
 use Rattle.qif_read.specs.Qif.{last_or}
-use Rattle.qif_read.specs.Steps.{with_memo, with_amount, after_line, after_account_line, nothing, later, opens, with_opening, with_line, with_entry}
+use Rattle.qif_read.specs.Steps.{with_memo, with_amount, after_line, after_account_line, nothing, later, with_opening, with_line, with_entry}
 use Rattle.qif_read.specs.declared.form.Form.{Form}
 use Rattle.qif_read.specs.declared.kind.Code.{Code}
 use Rattle.qif_read.specs.declared.kind.Code.TheVariants.{Date, Total, OtherTotal, Number, Payee, Memo, Category, Split, SplitMemo, SplitAmount, Other}
@@ -168,12 +168,6 @@ pub name_said-push : (fs : List Line) (line : ℕ) (code : Code) (text : List �
     → name_said (fs ++ line_at line code text ∷ []) ≡ after_account_line (name_said fs) code text
 name_said-push fs line Number text = simp (first_of-push, or-none)
 name_said-push fs line _ text = simp (first_of-push, or-none)
-
--- the entry that gives an opening balance is the first
-pub opens-section : (form : Form) (name : List ℕ) (es : List Entry) (s : Said)
-    → opens (section_of form name es) s ≡ (is_nothing es && is_opening name s)
-opens-section form name [] s = refl
-opens-section form name (e ∷ es) s = rw (nothing-cons e es) refl
 
 first_entry : (name : List ℕ) (s : Said) → with_later (after_first name s) [] ≡ with_entry (no_entries name) s
 first_entry name s =

@@ -1,21 +1,19 @@
 -- The whole of a file: a fault that was found stays the first whatever follows, and what the last line leaves is the answer.
-use Rattle.std.proofs.Common.{◌≡◌, ℕ, ◌+◌, ◌==◌, Bool, true, false, ◌&&◌, not, List, [], ◌∷◌, ◌++◌, map, length, Option, Some, None, Result, Ok, Err, append_assoc, arith, ◌<◌, ◌≤◌, refl, sym, ap, subst, ◌∙◌}
-use Rattle.std.specs.Option.{option_or}
+use Rattle.std.proofs.Common.{◌≡◌, ℕ, ◌+◌, ◌==◌, Bool, true, false, ◌&&◌, not, List, [], ◌∷◌, ◌++◌, length, Option, Some, None, Result, Err, append_assoc, arith, ◌<◌, ◌≤◌, refl, sym, ap, subst, ◌∙◌}
 use Rattle.std.proofs.lemmas.List.{append-nil}
-use Rattle.book_statement.specs.Checks.{Place, first_fault, unless_fault, Gives}
+use Rattle.book_statement.specs.Checks.{Place, first_fault, Gives}
 use Rattle.book_statement.specs.declared.read_error.ReadError.{ReadError}
 use Rattle.book_statement.specs.declared.read_error.ReadError.TheVariants.{Fault, OutOfMemory}
 use Rattle.book_statement.specs.Lists.{each_after}
 use Rattle.book_statement.specs.Texts.{is_nothing, lines_of}
 use Rattle.book_statement.specs.declared.fault.StatementFault.{StatementFault}
-use Rattle.book_statement.specs.declared.bad.Bad.TheVariants.{NoStatement}
 use Rattle.book_statement.specs.declared.statement.Statement.{Statement}
-use Rattle.book_statement.proofs.CheckLemmas.{first_fault-append, first_fault-here}
+use Rattle.book_statement.proofs.CheckLemmas.{first_fault-here}
 use Rattle.book_statement.proofs.ListLemmas.{each_after-append}
 use Rattle.qif_read.specs.Kinds.{kind_of, behind_code}
 use Rattle.qif_read.specs.Tree.{Line, Entry, Listing, Rest, entry_of, in_front, rest_after, listings_of}
 use Rattle.qif_read.specs.Registers.{section_of, statements_in}
-use Rattle.qif_read.specs.Qif.{line_places, entry_places, account_places, entries_places, listing_places, places, statements_behind, statements, section_in, name_behind, answer_of, result_of}
+use Rattle.qif_read.specs.Qif.{line_places, entry_places, account_places, entries_places, listing_places, places, statements_behind, statements, name_behind, answer_of, result_of}
 use Rattle.qif_read.specs.Steps.{Takes, end_fault, with_end, with_list, fault_or, answer_after, fault_of, after, fresh}
 use Rattle.qif_read.specs.declared.form.Form.{Form}
 use Rattle.qif_read.specs.declared.kind.LineKind.{LineKind}
@@ -26,7 +24,7 @@ use Rattle.qif_read.specs.declared.reader.Reader.{Reader}
 use Rattle.qif_read.proofs.Growing.{Begun, begun, closed, turned, fill, grown, fill-grown, fill-closed, fill-end}
 use Rattle.qif_read.proofs.PushLemmas.{nothing-cons}
 use Rattle.qif_read.proofs.KeptLemmas.{is_empty, ended_places, fields_places, so_far, kept_of, has_entry, Knows, line_kept, line_bad}
-use Rattle.qif_read.proofs.EndLemmas.{IsSound, not_true, end_kept, end_bad, list_kept}
+use Rattle.qif_read.proofs.EndLemmas.{not_true, end_kept, end_bad, list_kept}
 
 -- a list of places that begins with these
 abbrev BeginsWith : List Place → List Place → Type 0

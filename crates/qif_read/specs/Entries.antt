@@ -32,8 +32,8 @@ abbrev pub first_of : Code → List Line → Option (List ℕ)
 first_of code [] = None
 first_of code (f ∷ fs) = if place_of f.code == place_of code then Some f.text else first_of code fs
 
--- The parts of some lines: the first memo and the first amount that go on with a part before them, and the parts that begin
--- among them.
+-- The parts of some lines: the first memo and the first amount that go on with a part before them, and the parts that
+-- begin among them.
 pub record SplitsRest : Type 0 where
   pub memo : Option (List ℕ)
   pub amount : Option ℤ

@@ -25,7 +25,8 @@ is_switch line = is_header line (codes "!Option:AutoSwitch") || is_header line (
 abbrev pub header_kind : List ℕ → LineKind
 header_kind line =
     if is_register line then Header Register
-    else (if is_header line (codes "!Account") then Header Accounts else (if is_switch line then Switch else Header Passed))
+    else (if is_header line (codes "!Account") then Header Accounts
+    else (if is_switch line then Switch else Header Passed))
 
 -- What a line gives whose first character this is: D T U N P M L, and S E $ for the parts.
 abbrev pub code_of : ℕ → Code

@@ -1,5 +1,5 @@
 -- What a QIF file says: its statements, or the first place at which a check fails with the first failing check there.
-use Rattle.std.specs.Prelude.{ℕ, nat_lt, Bool, false, ◌&&◌, ◌||◌, not, List, [], ◌∷◌, ◌++◌, length, map, Option, Result, Err, is_some}
+use Rattle.std.specs.Prelude.{ℕ, nat_lt, Bool, ◌||◌, not, List, [], ◌∷◌, ◌++◌, length, map, Option, Result, Err, is_some}
 use Rattle.std.specs.Ordering.{int_eq}
 use Rattle.std.specs.List.{list_all}
 use Rattle.book_statement.specs.Checks.{Check, check, Place, place, first_fault, unless_fault}
@@ -13,7 +13,7 @@ use Rattle.qif_read.specs.QifDate.{day_named}
 use Rattle.qif_read.specs.QifAmount.{amount_checks}
 use Rattle.qif_read.specs.Tree.{Line, Entry, Listing, listings_of}
 use Rattle.qif_read.specs.Entries.{first_of, splits_of, said, total_said, amount_said, sum_of_splits, text_or_empty}
-use Rattle.qif_read.specs.Registers.{is_opening, no_entries, section_of, statements_in}
+use Rattle.qif_read.specs.Registers.{no_entries, section_of, statements_in}
 use Rattle.qif_read.specs.declared.form.Form.{Form}
 use Rattle.qif_read.specs.declared.kind.Code.{Code}
 use Rattle.qif_read.specs.declared.kind.Code.TheVariants.{Date, Total, OtherTotal, Number, SplitMemo, SplitAmount}
@@ -23,7 +23,7 @@ use Rattle.qif_read.specs.declared.order.DateOrder.{DateOrder}
 use Rattle.qif_read.specs.declared.said.Said.{Said}
 use Rattle.qif_read.specs.declared.section.Section.{Section}
 
--- What is asked of a line of an entry, whether a part has begun before it or not: the memo and the amount of a part stand
+-- What is asked of a line of an entry, before which a part has begun or not: the memo and the amount of a part stand
 -- behind its S, and dates and amounts have their form whether the line counts or not.
 abbrev pub line_checks : Form → Bool → Code → List ℕ → List Check
 line_checks form in_split Date text = check (is_some (day_named form.order text)) DateForm ∷ []
@@ -38,12 +38,11 @@ abbrev pub line_places : Form → List Line → Line → List Place
 line_places form before f =
     place f.line (line_checks form (not (is_nothing (splits_of form.fraction before))) f.code f.text) ∷ []
 
--- What is asked at the end of an entry: a line ^, a day, an amount, an amount of each part, that the parts sum to the amount,
--- and the limits of this project: 1,000 statements, and 10,000 lines of a statement. `opens` says that the entry gives the
--- opening balance, `lines` how many lines its register has before it, `statements` how many statements stand before a
--- register of which it is the first entry.
-unfoldable pub end_checks : Bool → Bool → ℕ → ℕ → Said → List Check
-end_checks whole opens lines statements said =
+-- What is asked at the end of an entry of a register: a line ^, a day, an amount, an amount of each part, and that the
+-- parts sum to the amount; then the limits of this project: fewer than 1,000 statements stand before the register, and
+-- fewer than 10,000 lines before the entry (one that gives the opening balance has none before it).
+unfoldable pub end_checks : Bool → ℕ → ℕ → Said → List Check
+end_checks whole lines statements said =
     check whole CutOff
     ∷ check (is_some said.day) FieldForm
     ∷ check (is_some (total_said said)) FieldForm
@@ -51,7 +50,7 @@ end_checks whole opens lines statements said =
     ∷ check (is_nothing said.splits || int_eq (sum_of_splits said.splits) (amount_said said))
     (SplitSum (amount_said said) (sum_of_splits said.splits))
     ∷ check (nat_lt statements 1000) TooMany
-    ∷ check (opens || nat_lt lines 10000) TooMany ∷ []
+    ∷ check (nat_lt lines 10000) TooMany ∷ []
 
 -- The last of some items.
 abbrev pub last_or : {X : Type 0} → X → List X → X
@@ -90,10 +89,9 @@ statements form listings = each_after (statements_behind form) [] listings
 -- The checks of an entry of a register behind others: of its lines, and of its end.
 abbrev pub entry_places : Form → List ℕ → ℕ → List Entry → Entry → List Place
 entry_places form name count before entry =
-    let says = said form entry.fields in
-    let opens = is_nothing before && is_opening name says in
+    let lines = (section_of form name before).lines in
     each_after (line_places form) [] entry.fields
-    ++ place entry.last (end_checks entry.whole opens (length (section_of form name before).lines) count says) ∷ []
+    ++ place entry.last (end_checks entry.whole (length lines) count (said form entry.fields)) ∷ []
 
 -- Of an entry of a list of accounts only the end is checked.
 abbrev pub account_places : List Entry → Entry → List Place

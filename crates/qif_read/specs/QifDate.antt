@@ -1,4 +1,5 @@
--- Dates in QIF files: three numbers with marks between them, as 1/15'24 or 15.01.2024 (Quicken's description of QIF, D).
+-- Dates in QIF files: three numbers with marks between them, as 1/15'24 or 15.01.2024 (Quicken's description of QIF,
+-- code D).
 use Rattle.std.specs.Prelude.{ℕ, ◌+◌, ◌==◌, Bool, ◌&&◌, ◌||◌, List, drop, take_while, length, slice_index, Option, None, unwrap_or, if◌then◌else◌, ℤ, pos}
 use Rattle.std.specs.Char.{is_ascii_digit}
 use Rattle.std.specs.List.{prefix_len}
@@ -28,18 +29,17 @@ pub record DateParts : Type 0 where
   pub year_mark : ℕ
   pub year : List ℕ
 
+abbrev pub parts_of : List ℕ → ℕ → List ℕ → ℕ → List ℕ → DateParts
+parts_of first mark second year_mark year =
+    record { first = first; mark = mark; second = second; year_mark = year_mark; year = year }
+
 -- The parts of a text, from the front on.
 abbrev pub date_parts : List ℕ → DateParts
 date_parts text =
     let behind_first = behind_numeral text in
     let behind_second = behind_numeral (drop 1 behind_first) in
-    record {
-      first = numeral text;
-      mark = slice_index behind_first 0;
-      second = numeral (drop 1 behind_first);
-      year_mark = slice_index behind_second 0;
-      year = behind_spaces (drop 1 behind_second);
-    }
+    parts_of (numeral text) (slice_index behind_first 0) (numeral (drop 1 behind_first)) (slice_index behind_second 0)
+    (behind_spaces (drop 1 behind_second))
 
 -- A slash, a hyphen or a point.
 abbrev pub is_mark : ℕ → Bool
@@ -59,10 +59,12 @@ is_date_form parts =
     has_digits 1 2 parts.first && (is_mark parts.mark
     && (has_digits 1 2 parts.second && (is_year_mark parts.year_mark && is_year parts.year)))
 
--- Four digits are the year itself; fewer behind an apostrophe are years from 2000 on, and else 80 to 99 are 1980 to 1999.
+-- Four digits are the year itself; fewer behind an apostrophe are years from 2000 on, and fewer behind another mark
+-- are a year of two digits.
 unfoldable pub year_said : ℕ → List ℕ → ℕ
 year_said mark digits =
-    if length digits == 4 then number digits else (if mark == 39 then 2000 + number digits else year_of_two (number digits))
+    if length digits == 4 then number digits
+    else (if mark == 39 then 2000 + number digits else year_of_two (number digits))
 
 -- The day of a year that two numbers name, in the order of month and day.
 abbrev pub day_in : DateOrder → ℕ → ℕ → ℕ → Option ℤ
@@ -72,9 +74,11 @@ day_in DayMonth year first second = date year second first
 -- The day that parts name, where they have the form of a date.
 abbrev pub day_of_parts : DateOrder → DateParts → Option ℤ
 day_of_parts order parts =
-    if is_date_form parts then day_in order (year_said parts.year_mark parts.year) (number parts.first) (number parts.second) else None
+    let year = year_said parts.year_mark parts.year in
+    if is_date_form parts then day_in order year (number parts.first) (number parts.second) else None
 
--- The day that a text names; none where it has not the form of a date, or the calendar has no such day from 1900 to 2199.
+-- The day that a text names; none where it has not the form of a date, or the calendar has no such day from 1900 to
+-- 2199.
 unfoldable pub day_named : DateOrder → List ℕ → Option ℤ
 day_named order text = day_of_parts order (date_parts text)
 

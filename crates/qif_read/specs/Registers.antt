@@ -71,7 +71,7 @@ section_of form name [] = no_entries name
 section_of form name (e ∷ es) =
     with_later (after_first name (said form e.fields)) (map (λ entry. said form entry.fields) es)
 
--- The statement of a register whose entries have a latest day; QIF has no number, no closing balance and no check of sums.
+-- The statement of a register whose entries have a latest day; QIF has no number and no closing balance.
 abbrev pub statement_on : Form → Section → Option ℤ → List Statement
 statement_on form section None = []
 statement_on form section (Some day) = record {

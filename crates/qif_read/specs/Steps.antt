@@ -1,5 +1,5 @@
 -- What the reader keeps, and how a line changes it.
-use Rattle.std.specs.Prelude.{ℕ, ◌≡◌, ◌+◌, nat_lt, Bool, true, false, ◌&&◌, not, List, [], ◌∷◌, ◌++◌, length, Option, Some, None, is_none, Result, Ok, Err, if◌then◌else◌, ℤ, ⊤}
+use Rattle.std.specs.Prelude.{ℕ, ◌≡◌, ◌+◌, Bool, true, false, ◌&&◌, not, List, [], ◌∷◌, ◌++◌, length, Option, Some, None, is_none, Result, Ok, Err, if◌then◌else◌, ℤ, ⊤}
 use Rattle.std.specs.Int.{int_max}
 use Rattle.std.specs.Option.{option_or}
 use Rattle.book_statement.specs.Checks.{Check, check, first_bad, fault_at}
@@ -9,7 +9,7 @@ use Rattle.book_statement.specs.declared.bad.Bad.TheVariants.{CutOff}
 use Rattle.book_statement.specs.declared.fault.StatementFault.{StatementFault}
 use Rattle.book_statement.specs.declared.read_error.ReadError.{ReadError}
 use Rattle.book_statement.specs.declared.read_error.ReadError.TheVariants.{Fault, OutOfMemory}
-use Rattle.qif_read.specs.Kinds.{behind_code, kind_of}
+use Rattle.qif_read.specs.Kinds.{behind_code}
 use Rattle.qif_read.specs.QifDate.{day_read}
 use Rattle.qif_read.specs.QifAmount.{amount}
 use Rattle.qif_read.specs.Entries.{text_or_empty, amount_said, day_said, statement_line}
@@ -29,7 +29,8 @@ use Rattle.qif_read.specs.declared.said.Said.{Said}
 use Rattle.qif_read.specs.declared.section.Section.{Section}
 use Rattle.qif_read.specs.declared.split.SplitSaid.{SplitSaid}
 
--- A call that takes something in: it answers exactly the fault, or else it is then as stated; out of memory at any time.
+-- A call that takes something in: it answers exactly the fault, or else leaves what is stated; out of memory at any
+-- time.
 abbrev pub Takes : {S X : Type 0} → Option StatementFault → S → S → Result X ReadError → Type 0
 Takes fault after new (Ok _) = (fault ≡ None) × (new ≡ after)
 Takes fault after new (Err (Fault found)) = fault ≡ Some found
@@ -38,6 +39,10 @@ Takes fault after new (Err OutOfMemory) = ⊤
 -- The fault at a line whose checks these are.
 abbrev pub fault_in : ℕ → List Check → Option StatementFault
 fault_in line checks = fault_at line (first_bad checks) None
+
+-- A part at its first line.
+abbrev pub begun_split : List ℕ → SplitSaid
+begun_split category = record { category = category; memo = None; amount = None }
 
 -- A part with a memo, where it had none.
 abbrev pub with_memo : List ℕ → SplitSaid → SplitSaid
@@ -70,8 +75,7 @@ after_line form said Number text = record said { number = option_or said.number 
 after_line form said Payee text = record said { payee = option_or said.payee (Some text) }
 after_line form said Memo text = record said { memo = option_or said.memo (Some text) }
 after_line form said Category text = record said { category = option_or said.category (Some text) }
-after_line form said Split text =
-    record said { splits = said.splits ++ record { category = text; memo = None; amount = None } ∷ [] }
+after_line form said Split text = record said { splits = said.splits ++ begun_split text ∷ [] }
 after_line form said SplitMemo text = record said { splits = on_last (with_memo text) said.splits }
 after_line form said SplitAmount text =
     record said { splits = on_last (with_amount (amount form.fraction text)) said.splits }
@@ -125,8 +129,7 @@ with_field Passed form old code text = old
 
 -- What is asked at the end of an entry of a register.
 abbrev pub checks_at_end : Bool → Reader → List Check
-checks_at_end whole old =
-    end_checks whole (opens old.section old.said) (length old.section.lines) (length old.done) old.said
+checks_at_end whole old = end_checks whole (length old.section.lines) (length old.done) old.said
 
 -- The fault of an entry that ends, or is broken off, at a line.
 abbrev pub entry_fault : Reader → Bool → ℕ → Option StatementFault
@@ -209,11 +212,12 @@ fresh = record {
 }
 
 -- A fault, or else another answer.
-abbrev pub fault_or : Option StatementFault → Result (List Statement) StatementFault → Result (List Statement) StatementFault
+abbrev pub fault_or : {X : Type 0} → Option StatementFault → Result X StatementFault → Result X StatementFault
 fault_or (Some fault) answer = Err fault
 fault_or None answer = answer
 
 -- What the reader answers at the end of a file of n lines.
 abbrev pub answer_after : Form → ℕ → Reader → Result (List Statement) StatementFault
 answer_after form n old =
-    fault_or (end_fault old.topic old false n) (answer_of None (with_list form Passed (with_end old.topic old false n)).done)
+    let ended = with_list form Passed (with_end old.topic old false n) in
+    fault_or (end_fault old.topic old false n) (answer_of None ended.done)

@@ -1,5 +1,5 @@
--- The tree of a QIF file: lists under their headers, of entries, of fields, each field a line of the file. The tree is read
--- from the end of the file: what any lines mean stands fixed before the lines in front of them are looked at.
+-- The tree of a QIF file: lists under their headers, of entries, of lines. The tree is read from the end of the file:
+-- what some lines mean does not depend on the lines before them.
 use Rattle.std.specs.Prelude.{ℕ, ◌+◌, Bool, true, false, List, [], ◌∷◌, ◌++◌}
 use Rattle.qif_read.specs.Kinds.{kind_of, behind_code}
 use Rattle.qif_read.specs.declared.kind.Code.{Code}
@@ -14,8 +14,8 @@ pub record Line : Type 0 where
   pub code : Code
   pub text : List ℕ
 
--- An entry: its lines, whether a line ^ ends it, and the number of that line, or else of the last line before the header
--- or the end of the file that breaks it off.
+-- An entry: its lines, whether a line ^ ends it, and the number of that line, or else of the last line before the
+-- header or the end of the file that breaks it off.
 pub record Entry : Type 0 where
   pub fields : List Line
   pub whole : Bool
@@ -26,8 +26,8 @@ pub record Listing : Type 0 where
   pub topic : Topic
   pub entries : List Entry
 
--- What a part of a file means, whatever stands before it: the lines that go on with an entry before them, whether and where
--- that entry ends, the entries that go on with a list before them, and the lists that begin in the part.
+-- What a part of a file means, whatever stands before it: the lines that go on with an entry before them, whether and
+-- where that entry ends, the entries that go on with a list before them, and the lists that begin in the part.
 pub record Rest : Type 0 where
   pub loose : List Line
   pub whole : Bool

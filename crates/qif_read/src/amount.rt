@@ -11,8 +11,9 @@ use book_statement::{Bad, has_digits, units_of};
 /// The most digits of the whole part of an amount.
 const MOST_DIGITS: usize = 12;
 
-/// The amount that a text gives, as `-1,234.50`, in smallest units of a commodity with this fraction. `AmountForm` where it
-/// is no amount, `TooManyDecimals` where it is no whole number of smallest units, then `AmountForm` above 10^12 in size.
+/// The amount that a text gives, as `-1,234.50`, in smallest units of a commodity with this fraction. `AmountForm`
+/// where it is no amount, `TooManyDecimals` where it is no whole number of smallest units, then `AmountForm` above
+/// 10^12 in size.
 pub fn read_amount(fraction: u64, text: &[u8]) -> Result<i64, Bad>
     requires { IsFraction fraction }
     ensures { Tells (amount_checks fraction text.now) (amount fraction text.now) result }
@@ -27,7 +28,8 @@ pub fn read_amount(fraction: u64, text: &[u8]) -> Result<i64, Bad>
 /// The smallest units of a number, given by its whole part and its decimals.
 fn read_units(fraction: u64, whole: &[u8], decimals: &[u8]) -> Result<i64, Bad>
     requires { IsFraction fraction }
-    ensures { Tells (number_checks fraction whole.now decimals.now) (pos (units (without_commas whole.now) decimals.now fraction)) result }
+    ensures { Tells (number_checks fraction whole.now decimals.now)
+        (pos (units (without_commas whole.now) decimals.now fraction)) result }
 {
     let mut buffer = [0; MOST_DIGITS];
     let Some(count) = copy_digits(whole, &mut buffer) else {
@@ -73,7 +75,8 @@ fn split_point(text: &[u8]) -> (&[u8], &[u8])
 
 /// Copies the bytes that are no commas to the front of a buffer, and gives their number; `None` where they are more.
 fn copy_digits(whole: &[u8], buffer: &mut [u8]) -> Option<usize>
-    ensures { MatchOption result (length buffer.old < length (without_commas whole.now)) (λ count. (count ≤ length buffer.new) × (take count buffer.new ≡ without_commas whole.now)) }
+    ensures { MatchOption result (length buffer.old < length (without_commas whole.now))
+        (λ count. (count ≤ length buffer.new) × (take count buffer.new ≡ without_commas whole.now)) }
 {
     let mut count = 0;
     for byte in whole {

@@ -2,7 +2,7 @@ ghost use Rattle.std.specs.Prelude.{◌≡◌, ◌≤◌, ◌==◌, drop, length
 ghost use Rattle.std.specs.Char.{is_ascii_digit};
 ghost use Rattle.std.specs.List.{prefix_len};
 ghost use Rattle.book_statement.specs.Numbers.{has_digits, number};
-ghost use Rattle.qif_read.specs.QifDate.{behind_spaces, numeral, behind_numeral, is_mark, is_year_mark, is_year, is_date_form, year_said, day_in, day_of_parts, day_named};
+ghost use Rattle.qif_read.specs.QifDate.{behind_spaces, numeral, behind_numeral, is_mark, is_year_mark, is_year, parts_of, is_date_form, year_said, day_in, day_of_parts, day_named};
 
 use crate::DateOrder;
 use book_commodity::Day;
@@ -31,7 +31,7 @@ fn day_of_parts(
     year_mark: u8,
     year: &[u8],
 ) -> Option<Day>
-    ensures { result ≡ day_of_parts order (record { first = first.now; mark = mark; second = second.now; year_mark = year_mark; year = year.now }) }
+    ensures { result ≡ day_of_parts order (parts_of first.now mark second.now year_mark year.now) }
 {
     if !is_date_form(first, mark, second, year_mark, year) {
         return None;
@@ -43,7 +43,7 @@ fn day_of_parts(
 /// Whether the parts have the form of a date.
 #[tactic(auto, unfolding(crate::specs::QifDate::is_date_form))]
 fn is_date_form(first: &[u8], mark: u8, second: &[u8], year_mark: u8, year: &[u8]) -> bool
-    ensures { result ≡ is_date_form (record { first = first.now; mark = mark; second = second.now; year_mark = year_mark; year = year.now }) }
+    ensures { result ≡ is_date_form (parts_of first.now mark second.now year_mark year.now) }
 {
     has_digits(first, 1, 2)
         && is_mark(mark)

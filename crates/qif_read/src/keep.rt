@@ -6,7 +6,7 @@ ghost use Rattle.book_statement.specs.Lists.{on_last};
 ghost use Rattle.book_statement.specs.Texts.{is_nothing};
 ghost use Rattle.qif_read.specs.QifAmount.{amount, amount_checks};
 ghost use Rattle.qif_read.specs.QifDate.{day_named, day_read};
-ghost use Rattle.qif_read.specs.Steps.{Takes, fault_in, with_memo, with_amount};
+ghost use Rattle.qif_read.specs.Steps.{Takes, begun_split, fault_in, with_memo, with_amount};
 
 use crate::Form;
 use crate::amount::read_amount;
@@ -40,7 +40,8 @@ pub fn keep_date(
     line: u64,
     text: &str,
 ) -> Result<(), ReadError>
-    ensures { Takes (fault_in line (check (is_some (day_named form.now.order text.now)) Bad.DateForm ∷ [])) (option_or kept.old (Some (day_read form.now.order text.now))) kept.new result }
+    ensures { Takes (fault_in line (check (is_some (day_named form.now.order text.now)) Bad.DateForm ∷ []))
+        (option_or kept.old (Some (day_read form.now.order text.now))) kept.new result }
 {
     let Some(day) = read_date(form.order, text.as_bytes()) else {
         return Err(fault(line, Bad::DateForm));
@@ -59,7 +60,8 @@ pub fn keep_amount(
     text: &str,
 ) -> Result<(), ReadError>
     requires { IsFraction form.now.fraction }
-    ensures { Takes (fault_in line (amount_checks form.now.fraction text.now)) (option_or kept.old (Some (amount form.now.fraction text.now))) kept.new result }
+    ensures { Takes (fault_in line (amount_checks form.now.fraction text.now))
+        (option_or kept.old (Some (amount form.now.fraction text.now))) kept.new result }
 {
     match read_amount(form.fraction, text.as_bytes()) {
         Ok(amount) => {
@@ -88,7 +90,7 @@ pub fn keep_text(kept: &mut Option<Text>, alloc: Global, text: &str) -> Result<(
 
 /// Begins a part at a line `S`.
 pub fn begin_split(splits: &mut Splits, alloc: Global, category: &str) -> Result<(), ReadError>
-    ensures { Takes None (splits.old ++ record { category = category.now; memo = None; amount = None } ∷ []) splits.new result }
+    ensures { Takes None (splits.old ++ begun_split category.now ∷ []) splits.new result }
 {
     let Ok(category) = String::from_str(alloc, category) else {
         return Err(ReadError::OutOfMemory);
@@ -98,7 +100,8 @@ pub fn begin_split(splits: &mut Splits, alloc: Global, category: &str) -> Result
 
 /// Takes the memo of a part, at a line `E`.
 pub fn add_memo(splits: &mut Splits, alloc: Global, line: u64, text: &str) -> Result<(), ReadError>
-    ensures { Takes (fault_in line (check (not (is_nothing splits.old)) Bad.FieldForm ∷ [])) (on_last (with_memo text.now) splits.old) splits.new result }
+    ensures { Takes (fault_in line (check (not (is_nothing splits.old)) Bad.FieldForm ∷ []))
+        (on_last (with_memo text.now) splits.old) splits.new result }
 {
     if splits.is_empty() {
         return Err(fault(line, Bad::FieldForm));
@@ -109,7 +112,9 @@ pub fn add_memo(splits: &mut Splits, alloc: Global, line: u64, text: &str) -> Re
 /// Takes the amount of a part, at a line `$`.
 pub fn add_amount(splits: &mut Splits, form: &Form, line: u64, text: &str) -> Result<(), ReadError>
     requires { IsFraction form.now.fraction }
-    ensures { Takes (fault_in line (check (not (is_nothing splits.old)) Bad.FieldForm ∷ amount_checks form.now.fraction text.now)) (on_last (with_amount (amount form.now.fraction text.now)) splits.old) splits.new result }
+    ensures { Takes
+        (fault_in line (check (not (is_nothing splits.old)) Bad.FieldForm ∷ amount_checks form.now.fraction text.now))
+        (on_last (with_amount (amount form.now.fraction text.now)) splits.old) splits.new result }
 {
     if splits.is_empty() {
         return Err(fault(line, Bad::FieldForm));

@@ -1,5 +1,5 @@
-//! Reads QIF files, the interchange format of Quicken, into bank statements. A file is a tree of lists under their headers,
-//! of entries, of lines; `read_qif` gives exactly the statements that the tree gives, or else the first place in the
+//! Reads QIF files, the interchange format of Quicken, into bank statements. A file is a tree of lists under their
+//! headers, of entries, of lines; `read_qif` gives exactly the statements of that tree, or else the first place in the
 //! file at which a check fails. `DateOrder` says whether day or month stands first in its dates.
 #![tactic(auto)]
 

@@ -24,11 +24,12 @@ pub fn into_text(alloc: Global, text: Option<Text>) -> Text
     text.unwrap_or(Text::new(alloc))
 }
 
-/// The account that an entry names in brackets, where it gives the opening balance of an account with this name, or of one
-/// without a name.
+/// The account that an entry names in brackets, where it gives the opening balance of an account with this name, or of
+/// one without a name.
 #[tactic(auto, unfolding(crate::specs::Registers::is_opening))]
 pub fn opening_account<'a>(name: &str, said: &'a Said) -> Option<&'a str>
-    ensures { MatchOption result (is_opening name.now said.now ≡ false) (λ account. (is_opening name.now said.now ≡ true) × (account.now ≡ account_said said.now)) }
+    ensures { MatchOption result (is_opening name.now said.now ≡ false)
+        (λ account. (is_opening name.now said.now ≡ true) × (account.now ≡ account_said said.now)) }
 {
     if text_or_empty(&said.payee) != "Opening Balance" {
         return None;
@@ -43,7 +44,8 @@ pub fn opening_account<'a>(name: &str, said: &'a Said) -> Option<&'a str>
 /// What stands between the brackets of a text in brackets.
 #[tactic(auto, unfolding(crate::specs::Registers::is_in_brackets, crate::specs::Registers::inside))]
 fn in_brackets(text: &str) -> Option<&str>
-    ensures { MatchOption result (is_in_brackets text.now ≡ false) (λ account. (is_in_brackets text.now ≡ true) × (account.now ≡ inside text.now)) }
+    ensures { MatchOption result (is_in_brackets text.now ≡ false)
+        (λ account. (is_in_brackets text.now ≡ true) × (account.now ≡ inside text.now)) }
 {
     let bytes = text.as_bytes();
     let len = bytes.len();

@@ -11,8 +11,9 @@ use book_commodity::{Commodity, Many, Text};
 use book_statement::{ReadError, Statement, next_line};
 use std::alloc::Global;
 
-/// The statements that a QIF file gives, in a currency and an order of day and month; or its fault, with its line. Amounts
-/// are in smallest units of the currency.
+/// The statements that a QIF file gives, in a currency and an order of day and month; or else its fault with its line:
+/// exactly what `reading` of `specs/Qif` says of the text. Amounts are in smallest units of the currency. It goes over
+/// the text once, and takes memory for what the statements hold (Quicken's description of QIF).
 #[tactic(auto, unfolding(crate::specs::Qif::reading))]
 pub fn read_qif(
     alloc: Global,

@@ -10,9 +10,9 @@ use book_statement::{Bad, MAX_LINES, MAX_STATEMENTS, ReadError, Statement, State
 use std::alloc::Global;
 use std::mem;
 
-/// What is kept of the lines so far: the statements of the lists before the last header, what that header began, the name
-/// that a list of accounts gives, what the entries of a register give, whether an entry has begun and what it says, and
-/// a fault of a list of accounts that waits for the file to have a statement.
+/// What is kept of the lines so far: the statements of the lists before the last header, what that header began, the
+/// name that a list of accounts gives, what the entries of a register give, whether an entry has begun and what it
+/// says, and a fault of a list of accounts that waits for the file to have a statement.
 #[derive(Drop)]
 pub struct Reader {
     done: Many<Statement>,
@@ -25,13 +25,13 @@ pub struct Reader {
 }
 
 impl Reader {
-    ghost use Rattle.std.specs.Prelude.{◌≡◌, ◌+◌, ◌<◌, ◌^◌, true, false, None, Some, OnOk, MatchResult};
+    ghost use Rattle.std.specs.Prelude.{◌≡◌, ◌+◌, ◌<◌, ◌^◌, true, false, None, Some, IfErr, IfOk, OnOk};
     ghost use Rattle.book_statement.specs.Checks.{Gives, first_bad};
     ghost use Rattle.book_statement.specs.Currencies.{IsFraction};
     ghost use Rattle.qif_read.specs.Entries.{total_said};
     ghost use Rattle.qif_read.specs.Kinds.{kind_of};
     ghost use Rattle.qif_read.specs.Qif.{answer_of};
-    ghost use Rattle.qif_read.specs.Steps.{Takes, account_end_fault, after, answer_after, checks_at_end, end_fault, entry_fault, fault_of, field_fault, fresh, opens, with_account, with_end, with_field, with_list, with_transaction};
+    ghost use Rattle.qif_read.specs.Steps.{Takes, account_end_fault, after, answer_after, checks_at_end, end_fault, entry_fault, fault_of, field_fault, fresh, with_account, with_end, with_field, with_list, with_transaction};
 
     /// The reader before the first line; it takes no memory.
     pub fn new(alloc: Global) -> Reader
@@ -58,7 +58,8 @@ impl Reader {
     ) -> Result<(), ReadError>
         requires count { before + 1 < 2 ^ 64 }
         requires fraction { IsFraction form.now.fraction }
-        ensures { Takes (fault_of form.now before line.now (kind_of line.now) self.old) (after form.now before line.now (kind_of line.now) self.old) self.new result }
+        ensures { Takes (fault_of form.now before line.now (kind_of line.now) self.old)
+            (after form.now before line.now (kind_of line.now) self.old) self.new result }
     {
         match kind_of(line) {
             LineKind::Header(topic) => self.take_header(alloc, form, topic, before),
@@ -79,7 +80,8 @@ impl Reader {
         topic: Topic,
         before: u64,
     ) -> Result<(), ReadError>
-        ensures { Takes (end_fault self.old.topic self.old false before) (with_list form.now topic (with_end self.old.topic self.old false before)) self.new result }
+        ensures { Takes (end_fault self.old.topic self.old false before)
+            (with_list form.now topic (with_end self.old.topic self.old false before)) self.new result }
     {
         match self.end_entry(alloc, false, before) {
             Ok(()) => in_memory(self.begin_list(alloc, form, topic)),
@@ -97,7 +99,8 @@ impl Reader {
         text: &str,
     ) -> Result<(), ReadError>
         requires { IsFraction form.now.fraction }
-        ensures { Takes (field_fault self.old.topic form.now self.old line code text.now) (with_field self.old.topic form.now self.old code text.now) self.new result }
+        ensures { Takes (field_fault self.old.topic form.now self.old line code text.now)
+            (with_field self.old.topic form.now self.old code text.now) self.new result }
     {
         match self.topic {
             Topic::Register => {
@@ -117,7 +120,8 @@ impl Reader {
 
     /// Ends an entry, where one has begun: at a line `^`, or broken off behind a line.
     fn end_entry(&mut self, alloc: Global, whole: bool, line: u64) -> Result<(), ReadError>
-        ensures { Takes (end_fault self.old.topic self.old whole line) (with_end self.old.topic self.old whole line) self.new result }
+        ensures { Takes (end_fault self.old.topic self.old whole line) (with_end self.old.topic self.old whole line)
+            self.new result }
     {
         if !self.started {
             return Ok(());
@@ -169,7 +173,10 @@ impl Reader {
     /// Checks an entry of a register at its end, and gives its day and its amount.
     #[tactic(auto, unfolding(crate::specs::Qif::end_checks))]
     fn check_end(&self, whole: bool) -> Result<(Day, i64), Bad>
-        ensures { MatchResult result (λ found. (first_bad (checks_at_end whole self.now) ≡ None) × (self.now.said.day ≡ Some found.0) × (total_said self.now.said ≡ Some found.1)) (λ bad. first_bad (checks_at_end whole self.now) ≡ Some bad) }
+        ensures fine { IfOk result (λ _. first_bad (checks_at_end whole self.now) ≡ None) }
+        ensures day { IfOk result (λ found. self.now.said.day ≡ Some found.0) }
+        ensures amount { IfOk result (λ found. total_said self.now.said ≡ Some found.1) }
+        ensures bad { IfErr result (λ bad. first_bad (checks_at_end whole self.now) ≡ Some bad) }
     {
         if !whole {
             return Err(Bad::CutOff);
@@ -194,17 +201,10 @@ impl Reader {
         if self.done.len() as u64 >= MAX_STATEMENTS {
             return Err(Bad::TooMany);
         }
-        if self.section.lines.len() as u64 >= MAX_LINES && !self.opens() {
+        if self.section.lines.len() as u64 >= MAX_LINES {
             return Err(Bad::TooMany);
         }
         Ok((day, amount))
-    }
-
-    /// Whether the entry gives the opening balance of the register.
-    fn opens(&self) -> bool
-        ensures { result ≡ opens self.now.section self.now.said }
-    {
-        self.section.opening_account(&self.said).is_some()
     }
 
     /// Begins a list.

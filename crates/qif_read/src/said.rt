@@ -58,7 +58,8 @@ impl Said {
         text: &str,
     ) -> Result<(), ReadError>
         requires { IsFraction form.now.fraction }
-        ensures { Takes (line_fault form.now self.old line code text.now) (after_line form.now self.old code text.now) self.new result }
+        ensures { Takes (line_fault form.now self.old line code text.now) (after_line form.now self.old code text.now)
+            self.new result }
     {
         match code {
             Code::Date => keep_date(&mut self.day, form, line, text),

@@ -34,7 +34,8 @@ impl Section {
 
     /// The account that an entry names in brackets, where the entry gives the opening balance: it is the first.
     pub fn opening_account<'a>(&self, said: &'a Said) -> Option<&'a str>
-        ensures { MatchOption result (opens self.now said.now ≡ false) (λ account. (opens self.now said.now ≡ true) × (account.now ≡ account_said said.now)) }
+        ensures { MatchOption result (opens self.now said.now ≡ false)
+            (λ account. (opens self.now said.now ≡ true) × (account.now ≡ account_said said.now)) }
     {
         if self.day.is_some() {
             return None;

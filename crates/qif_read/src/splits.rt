@@ -20,12 +20,12 @@ impl Model for Splits {
 }
 
 impl Splits {
-    ghost use Rattle.std.specs.Prelude.{◌≡◌, [], ◌∷◌, ◌++◌, None, map, is_some, IfOk, OnOk};
+    ghost use Rattle.std.specs.Prelude.{◌≡◌, [], ◌∷◌, ◌++◌, map, is_some, IfOk, OnOk};
     ghost use Rattle.std.specs.List.{list_all};
     ghost use Rattle.book_statement.specs.Lists.{on_last};
     ghost use Rattle.book_statement.specs.Texts.{is_nothing};
     ghost use Rattle.qif_read.specs.Entries.{part_of, sum_of_splits};
-    ghost use Rattle.qif_read.specs.Steps.{with_memo, with_amount};
+    ghost use Rattle.qif_read.specs.Steps.{begun_split, with_memo, with_amount};
 
     /// No parts; it takes no memory.
     pub fn new(alloc: Global) -> Splits
@@ -45,7 +45,7 @@ impl Splits {
 
     /// Begins a part.
     pub fn begin(&mut self, category: Text) -> Result<(), OutOfMemory>
-        ensures { OnOk result (self.new ≡ self.old ++ record { category = category; memo = None; amount = None } ∷ []) }
+        ensures { OnOk result (self.new ≡ self.old ++ begun_split category ∷ []) }
     {
         self.items.push(SplitSaid {
             category,

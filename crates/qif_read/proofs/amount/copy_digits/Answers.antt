@@ -1,6 +1,5 @@
-use Rattle.std.proofs.Common.{◌≡◌, ◌+◌, ◌<◌, ◌≤◌, ◌++◌, length, get_or, take, drop, refl, sym, ap, ◌∙◌, arith}
-use Rattle.std.proofs.lemmas.List.{drop_all, append-nil}
-use Rattle.qif_read.specs.QifAmount.{without_commas}
+use Rattle.std.proofs.Common.{◌++◌, take, sym, ap, ◌∙◌, arith}
+use Rattle.std.proofs.lemmas.List.{append-nil}
 use Rattle.qif_read.proofs.AmountLemmas.{comma_passed, digit_copied, too_many, nothing_left}
 use Rattle.qif_read.proofs.amount.copy_digits.Goals.{then-byte-ne44+else-count-buffer, else-byte-ne44}
 use Rattle.qif_read.proofs.amount.copy_digits.Goals as goal

@@ -1,6 +1,6 @@
-use Rattle.std.proofs.Common.{◌≡◌, ℕ, List, true, false, take, pos, refl, sym, ap, subst, ◌∙◌}
+use Rattle.std.proofs.Common.{ℕ, List, pos, refl, sym, subst, ◌∙◌}
 use Rattle.book_statement.specs.Checks.{Tells}
-use Rattle.book_statement.specs.Numbers.{has_digits, units, unit_checks}
+use Rattle.book_statement.specs.Numbers.{units, unit_checks}
 use Rattle.book_statement.specs.declared.bad.Bad.TheVariants.{AmountForm}
 use Rattle.qif_read.specs.QifAmount.{without_commas, is_number}
 use Rattle.qif_read.proofs.AmountLemmas.{too_long, whole_digits_of, decimals_of, tells_past}

@@ -1,4 +1,3 @@
-use Rattle.std.proofs.Common.{◌≡◌, true}
 use Rattle.qif_read.proofs.DateLemmas.{first_digits, second_digits, year_digits}
 use Rattle.qif_read.proofs.date.day_of_parts.Goals as goal
 

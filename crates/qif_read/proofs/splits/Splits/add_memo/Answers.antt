@@ -1,4 +1,4 @@
-use Rattle.std.proofs.Common.{◌≡◌, List, [], ◌∷◌, ◌++◌, refl, sym, ap, ◌∙◌}
+use Rattle.std.proofs.Common.{◌≡◌, [], ◌∷◌, ◌++◌, sym, ap, ◌∙◌}
 use Rattle.book_statement.specs.Lists.{on_last}
 use Rattle.qif_read.specs.Steps.{with_memo}
 use Rattle.qif_read.specs.declared.split.SplitSaid.{SplitSaid}
