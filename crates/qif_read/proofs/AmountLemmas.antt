@@ -13,7 +13,8 @@ use Rattle.book_statement.specs.Numbers.{has_digits, units, unit_checks}
 use Rattle.qif_read.specs.QifAmount.{without_commas, are_commas_placed, is_number, is_negative, unsigned, whole_part, decimal_part, number_checks, amount_checks, signed, amount}
 
 -- a comma is passed over
-pub comma_passed : (whole : List ℕ) (i : ℕ) → i < length whole → get_or whole i 0 ≡ 44 → without_commas (drop i whole) ≡ without_commas (drop (i + 1) whole)
+pub comma_passed : (whole : List ℕ) (i : ℕ) → i < length whole → get_or whole i 0 ≡ 44
+    → without_commas (drop i whole) ≡ without_commas (drop (i + 1) whole)
 unfolding without_commas
 comma_passed whole i lt e = rw (drop_more whole i 0 lt, e) refl
 
@@ -31,21 +32,27 @@ digit_kept whole i lt differs =
     rw (drop_more whole i 0 lt, other) refl
 
 -- another byte is copied
-pub digit_copied : (whole buffer : List ℕ) (i count : ℕ) → i < length whole → count < length buffer → (get_or whole i 0 ≡ 44 → ⊥)
+pub digit_copied : (whole buffer : List ℕ) (i count : ℕ) → i < length whole → count < length buffer
+    → (get_or whole i 0 ≡ 44 → ⊥)
     → take count buffer ++ without_commas (drop i whole) ≡ without_commas whole
-    → take (count + 1) (set buffer count (get_or whole i 0)) ++ without_commas (drop (i + 1) whole) ≡ without_commas whole
+    → take (count + 1) (set buffer count (get_or whole i 0)) ++ without_commas (drop (i + 1) whole)
+    ≡ without_commas whole
 digit_copied whole buffer i count lt room differs e =
     rw (take_more_set buffer count (get_or whole i 0) room)
     (append_assoc (take count buffer) (get_or whole i 0 ∷ []) (without_commas (drop (i + 1) whole))
     ∙ ap (λ l. take count buffer ++ l) (sym (digit_kept whole i lt differs)) ∙ e)
 
 -- where the buffer is full and a byte is left, the digits are more
-pub too_many : (whole buffer : List ℕ) (i count : ℕ) → i < length whole → count ≡ length buffer → (get_or whole i 0 ≡ 44 → ⊥)
+pub too_many : (whole buffer : List ℕ) (i count : ℕ) → i < length whole → count ≡ length buffer
+    → (get_or whole i 0 ≡ 44 → ⊥)
     → take count buffer ++ without_commas (drop i whole) ≡ without_commas whole
     → length buffer < length (without_commas whole)
 too_many whole buffer i count lt full differs e =
-    let size : length (take count buffer ++ without_commas (drop i whole)) ≡ length (without_commas whole) = ap length e in
-    let rest : length (without_commas (drop i whole)) ≡ length (get_or whole i 0 ∷ without_commas (drop (i + 1) whole)) = ap length (digit_kept whole i lt differs) in
+    let size : length (take count buffer ++ without_commas (drop i whole))
+    ≡ length (without_commas whole) = ap length e in
+    let rest : length (without_commas (drop i whole))
+    ≡ length (get_or whole i 0 ∷ without_commas (drop (i + 1) whole)) = ap length
+    (digit_kept whole i lt differs) in
     let front : length (take count buffer) ≡ count = length-take-le count buffer (omega arith) in
     omega (arith, length-append (take count buffer) (without_commas (drop i whole)))
 
@@ -62,18 +69,21 @@ and_false true b e = e
 and_false false b e = refl
 
 -- of a number, the digits of the whole part and the decimals are digits
-pub whole_digits_of : (whole decimals : List ℕ) → is_number whole decimals ≡ true → has_digits 0 12 (without_commas whole) ≡ true
+pub whole_digits_of : (whole decimals : List ℕ) → is_number whole decimals ≡ true
+    → has_digits 0 12 (without_commas whole) ≡ true
 unfolding is_number
 whole_digits_of whole decimals e = and_left _ _ (and_right (are_commas_placed whole) _ e)
 
 pub decimals_of : (whole decimals : List ℕ) → is_number whole decimals ≡ true → has_digits 0 9 decimals ≡ true
 unfolding is_number
-decimals_of whole decimals e = and_left _ _ (and_right (has_digits 0 12 (without_commas whole)) _ (and_right (are_commas_placed whole) _ e))
+decimals_of whole decimals e = and_left _ _
+    (and_right (has_digits 0 12 (without_commas whole)) _ (and_right (are_commas_placed whole) _ e))
 
 -- with more digits it is no number
 pub too_long : (whole decimals : List ℕ) → 12 < length (without_commas whole) → is_number whole decimals ≡ false
 unfolding is_number
-too_long whole decimals lt = and_false (are_commas_placed whole) _ (and_first _ _ (not_digits (without_commas whole) lt))
+too_long whole decimals lt = and_false (are_commas_placed whole) _
+    (and_first _ _ (not_digits (without_commas whole) lt))
   where
     and_first : (a b : Bool) → a ≡ false → (a && b) ≡ false
     and_first true b e = absurd cc
@@ -83,7 +93,8 @@ too_long whole decimals lt = and_false (are_commas_placed whole) _ (and_first _ 
     not_digits digits over = and_first _ _ (and_false (nat_le 0 (length digits)) _ (grind (arith, nat_tests)))
 
 -- a check that holds in front of others
-pub tells_past : {X : Type 0} (holds : Bool) (bad : Bad) (checks : List Check) (value : X) (result : Result X Bad) → holds ≡ true
+pub tells_past : {X : Type 0} (holds : Bool) (bad : Bad) (checks : List Check) (value : X) (result : Result X Bad)
+    → holds ≡ true
     → Tells checks value result → Tells (check holds bad ∷ checks) value result
 tells_past true bad checks value (Ok given) e told = told
 tells_past true bad checks value (Err found) e told = told
@@ -91,7 +102,8 @@ tells_past false bad checks value result e told = absurd cc
 
 -- the commas up to a place are in order where those behind are
 pub commas_at : (whole : List ℕ) (i : ℕ) → i < length whole → get_or whole i 0 ≡ 44
-    → are_commas_placed (drop i whole) ≡ ((prefix_len is_ascii_digit (drop (i + 1) whole) == 3) && are_commas_placed (drop (i + 1) whole))
+    → are_commas_placed (drop i whole) ≡
+    ((prefix_len is_ascii_digit (drop (i + 1) whole) == 3) && are_commas_placed (drop (i + 1) whole))
 unfolding are_commas_placed
 commas_at whole i lt e = rw (drop_more whole i 0 lt, e) refl
 
@@ -109,11 +121,13 @@ with_sign size = omega (arith, ints)
 pub misplaced : (whole : List ℕ) (i : ℕ) → i < length whole → get_or whole i 0 ≡ 44
     → (prefix_len is_ascii_digit (drop (i + 1) whole) ≡ 3 → ⊥) → are_commas_placed (drop i whole) ≡ false
 misplaced whole i lt e differs =
-    let other : (prefix_len is_ascii_digit (drop (i + 1) whole) == 3) ≡ false = ne_eqb (prefix_len is_ascii_digit (drop (i + 1) whole)) 3 differs in
+    let other : (prefix_len is_ascii_digit (drop (i + 1) whole) == 3)
+    ≡ false = ne_eqb (prefix_len is_ascii_digit (drop (i + 1) whole)) 3 differs in
     commas_at whole i lt e ∙ ap (λ b. b && are_commas_placed (drop (i + 1) whole)) other
 
 pub placed : (whole : List ℕ) (i : ℕ) → i < length whole → get_or whole i 0 ≡ 44
-    → prefix_len is_ascii_digit (drop (i + 1) whole) ≡ 3 → are_commas_placed (drop i whole) ≡ are_commas_placed (drop (i + 1) whole)
+    → prefix_len is_ascii_digit (drop (i + 1) whole) ≡ 3
+    → are_commas_placed (drop i whole) ≡ are_commas_placed (drop (i + 1) whole)
 placed whole i lt e three =
     commas_at whole i lt e ∙ ap (λ n. (n == 3) && are_commas_placed (drop (i + 1) whole)) three
 
@@ -124,8 +138,10 @@ commas_end whole i le = rw (drop_all i whole le) refl
 -- an amount is its number with its sign
 pub read_ok : (fraction : ℕ) (text whole decimals : List ℕ) (found : ℤ) (negative : Bool)
     → whole ≡ whole_part text → decimals ≡ decimal_part text → negative ≡ is_negative text
-    → (first_bad (number_checks fraction whole decimals) ≡ None) × (found ≡ pos (units (without_commas whole) decimals fraction))
-    → (first_bad (amount_checks fraction text) ≡ None) × (signed negative (units (without_commas whole) decimals fraction) ≡ amount fraction text)
+    → (first_bad (number_checks fraction whole decimals) ≡ None) ×
+    (found ≡ pos (units (without_commas whole) decimals fraction))
+    → (first_bad (amount_checks fraction text) ≡ None) ×
+    (signed negative (units (without_commas whole) decimals fraction) ≡ amount fraction text)
 unfolding amount_checks amount
 read_ok fraction text whole decimals found negative e1 e2 e3 (fine, _) =
     (rw (← e1, ← e2) fine, rw (e1, e2, e3) refl)
@@ -150,10 +166,12 @@ small_units fraction whole decimals fine =
     let small = third_holds (is_number whole decimals) _ _ _ _ _ fine in
     grind (arith, nat_tests)
 
-pub whole_is : (text behind whole : List ℕ) → behind ≡ unsigned text → whole ≡ before_first (λ b. b == 46) behind → whole ≡ whole_part text
+pub whole_is : (text behind whole : List ℕ) → behind ≡ unsigned text → whole ≡ before_first (λ b. b == 46) behind
+    → whole ≡ whole_part text
 unfolding whole_part
 whole_is text behind whole e found = found ∙ ap (before_first (λ b. b == 46)) e
 
-pub decimals_are : (text behind decimals : List ℕ) → behind ≡ unsigned text → decimals ≡ after_first (λ b. b == 46) behind → decimals ≡ decimal_part text
+pub decimals_are : (text behind decimals : List ℕ) → behind ≡ unsigned text
+    → decimals ≡ after_first (λ b. b == 46) behind → decimals ≡ decimal_part text
 unfolding decimal_part
 decimals_are text behind decimals e found = found ∙ ap (after_first (λ b. b == 46)) e

@@ -15,7 +15,8 @@ pub first_digits : (parts : DateParts) → is_date_form parts ≡ true → has_d
 unfolding is_date_form
 first_digits parts e = and_left (has_digits 1 2 parts.first) _ e
 
-behind_mark : (parts : DateParts) → is_date_form parts ≡ true → (has_digits 1 2 parts.second && (is_year_mark parts.year_mark && is_year parts.year)) ≡ true
+behind_mark : (parts : DateParts) → is_date_form parts ≡ true
+    → (has_digits 1 2 parts.second && (is_year_mark parts.year_mark && is_year parts.year)) ≡ true
 unfolding is_date_form
 behind_mark parts e = and_right (is_mark parts.mark) _ (and_right (has_digits 1 2 parts.first) _ e)
 
@@ -23,4 +24,5 @@ pub second_digits : (parts : DateParts) → is_date_form parts ≡ true → has_
 second_digits parts e = and_left (has_digits 1 2 parts.second) _ (behind_mark parts e)
 
 pub year_digits : (parts : DateParts) → is_date_form parts ≡ true → is_year parts.year ≡ true
-year_digits parts e = and_right (is_year_mark parts.year_mark) _ (and_right (has_digits 1 2 parts.second) _ (behind_mark parts e))
+year_digits parts e = and_right (is_year_mark parts.year_mark) _
+    (and_right (has_digits 1 2 parts.second) _ (behind_mark parts e))

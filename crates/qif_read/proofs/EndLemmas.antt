@@ -44,25 +44,36 @@ so_far-entry : (form : Form) (ls : List Listing) (es : List Entry) (f : Line) (f
     → so_far form (closed (begun ls Register es (f ∷ fs)) whole last)
     ≡ so_far form (begun ls Register es (f ∷ fs)) ++ end_place form ls es (f ∷ fs) whole last ∷ []
 so_far-entry form ls es f fs whole last =
-    rw (each_after-push (entry_places form (name_behind ls) (length (statements form ls))) es (entry_with (f ∷ fs) whole last))
+    rw (each_after-push (entry_places form (name_behind ls) (length (statements form ls))) es
+    (entry_with (f ∷ fs) whole last))
     (simp (append_assoc, append-nil))
 
 -- the first fault with the end of an entry of a register
-first_fault-entry : (form : Form) (ls : List Listing) (es : List Entry) (f : Line) (fs : List Line) (whole : Bool) (last : ℕ)
+first_fault-entry : (form : Form) (ls : List Listing) (es : List Entry) (f : Line) (fs : List Line) (whole : Bool)
+    (last : ℕ)
     → first_fault (so_far form (closed (begun ls Register es (f ∷ fs)) whole last))
-    ≡ option_or (first_fault (so_far form (begun ls Register es (f ∷ fs)))) (entry_fault (kept_of form (begun ls Register es (f ∷ fs))) whole last)
+    ≡ option_or (first_fault (so_far form (begun ls Register es (f ∷ fs))))
+    (entry_fault (kept_of form (begun ls Register es (f ∷ fs))) whole last)
 first_fault-entry form ls es f fs whole last =
     rw (so_far-entry form ls es f fs whole last)
     (first_fault-append (so_far form (begun ls Register es (f ∷ fs))) (end_place form ls es (f ∷ fs) whole last ∷ []))
 
 -- the first fault with the end of an entry of a list of accounts
-first_fault-account : (form : Form) (ls : List Listing) (es : List Entry) (f : Line) (fs : List Line) (whole : Bool) (last : ℕ)
+first_fault-account : (form : Form) (ls : List Listing) (es : List Entry) (f : Line) (fs : List Line)
+    (whole : Bool) (last : ℕ)
     → first_fault (so_far form (closed (begun ls Accounts es (f ∷ fs)) whole last))
     ≡ option_or (first_fault (so_far form (begun ls Accounts es (f ∷ fs)))) (account_fault whole last)
 first_fault-account form ls es f fs whole last =
-    rw (each_after-push account_places es (entry_with (f ∷ fs) whole last), append-nil (each_after account_places [] es), append-nil (each_after account_places [] es ++ place last (check whole CutOff ∷ []) ∷ []))
+    rw (
+      each_after-push account_places es (entry_with (f ∷ fs) whole last),
+      append-nil
+          (each_after account_places [] es),
+      append-nil
+          (each_after account_places [] es ++ place last (check whole CutOff ∷ []) ∷ []),
+    )
     (rw (← append_assoc (places form ls) (each_after account_places [] es) (place last (check whole CutOff ∷ []) ∷ []))
-    (first_fault-append (places form ls ++ each_after account_places [] es) (place last (check whole CutOff ∷ []) ∷ [])))
+    (first_fault-append (places form ls ++ each_after account_places [] es)
+    (place last (check whole CutOff ∷ []) ∷ [])))
 
 has_lines : (a : Bool) (es : List Entry) → not (a && (is_empty es && false)) ≡ true
 has_lines a es = rw (and_nothing (is_empty es), and_nothing a) refl
@@ -77,11 +88,13 @@ pub not_true : (a : Bool) → not a ≡ true → a ≡ false
 not_true true h = absurd cc
 not_true false h = refl
 
-waits_not : (none : Bool) (fault : Option StatementFault) → none ≡ false → (if none then None else fault) ≡ None → fault ≡ None
+waits_not : (none : Bool) (fault : Option StatementFault) → none ≡ false → (if none then None else fault) ≡ None
+    → fault ≡ None
 waits_not true fault h e = absurd cc
 waits_not false fault h e = e
 
-waited : (none : Bool) (found : Option StatementFault) (fault : StatementFault) → (if none then None else found) ≡ Some fault → (none ≡ false) × (found ≡ Some fault)
+waited : (none : Bool) (found : Option StatementFault) (fault : StatementFault)
+    → (if none then None else found) ≡ Some fault → (none ≡ false) × (found ≡ Some fault)
 waited true found fault e = absurd cc
 waited false found fault e = (refl, e)
 
@@ -114,7 +127,8 @@ no_name Register = refl
 no_name Accounts = refl
 no_name Passed = refl
 
-new_section : (form : Form) (topic : Topic) (name : List ℕ) → section_in form topic name [] ≡ no_entries (name_for topic name)
+new_section : (form : Form) (topic : Topic) (name : List ℕ)
+    → section_in form topic name [] ≡ no_entries (name_for topic name)
 new_section form Register name = refl
 new_section form Accounts name = refl
 new_section form Passed name = refl
@@ -130,15 +144,18 @@ keeps topic done name section started said pending = record {
   pending = pending;
 }
 
-reader_is : (topic : Topic) (d d' : List Statement) (n n' : List ℕ) (s s' : Section) (a a' : Bool) (x x' : Said) (p p' : Option StatementFault)
+reader_is : (topic : Topic) (d d' : List Statement) (n n' : List ℕ) (s s' : Section) (a a' : Bool) (x x' : Said)
+    (p p' : Option StatementFault)
     → d ≡ d' → n ≡ n' → s ≡ s' → a ≡ a' → x ≡ x' → p ≡ p' → keeps topic d n s a x p ≡ keeps topic d' n' s' a' x' p'
 reader_is topic d d' n n' s s' a a' x x' p p' e1 e2 e3 e4 e5 e6 = rw (e1, e2, e3, e4, e5, e6) refl
 
 -- the end of an entry that is in order
-pub end_kept : (form : Form) (ls : List Listing) (topic : Topic) (es : List Entry) (fs : List Line) (whole : Bool) (last : ℕ)
+pub end_kept : (form : Form) (ls : List Listing) (topic : Topic) (es : List Entry) (fs : List Line) (whole : Bool)
+    (last : ℕ)
     → IsSound form (begun ls topic es fs)
     → end_fault topic (kept_of form (begun ls topic es fs)) whole last ≡ None
-    → Knows form (with_end topic (kept_of form (begun ls topic es fs)) whole last) (closed (begun ls topic es fs) whole last)
+    → Knows form (with_end topic (kept_of form (begun ls topic es fs)) whole last)
+    (closed (begun ls topic es fs) whole last)
 unfolding said
 end_kept form ls Passed es fs whole last sound e = record { same = refl; sound = sound }
 end_kept form ls Register es [] whole last sound e =
@@ -153,23 +170,34 @@ end_kept form ls Register es (f ∷ fs) whole last sound e =
       sound = λ _. after;
     }
 end_kept form ls Accounts es (f ∷ fs) whole last sound e = record {
-  same = rw (map-append name_of es (entry_with (f ∷ fs) whole last ∷ []), last_or-push [] (map name_of es) (name_of (entry_with (f ∷ fs) whole last)), first_fault-account form ls es f fs whole last) refl;
+  same = rw (
+    map-append name_of es (entry_with (f ∷ fs) whole last ∷ []),
+    last_or-push [] (map name_of es)
+        (name_of (entry_with (f ∷ fs) whole last)),
+    first_fault-account form ls es f fs whole last,
+  ) refl;
   sound = λ has.
       or_past _ _ _ (first_fault-account form ls es f fs whole last) (sound has)
-      ∙ waits_not (is_nothing (statements form ls)) (account_fault whole last) (not_true (is_nothing (statements form ls)) has) e;
+      ∙ waits_not (is_nothing (statements form ls)) (account_fault whole last)
+      (not_true (is_nothing (statements form ls)) has) e;
 }
 
 -- the end of an entry that is not: some register has an entry, and the fault is the first
-pub end_bad : (form : Form) (ls : List Listing) (topic : Topic) (es : List Entry) (fs : List Line) (whole : Bool) (last : ℕ) (fault : StatementFault)
+pub end_bad : (form : Form) (ls : List Listing) (topic : Topic) (es : List Entry) (fs : List Line) (whole : Bool)
+    (last : ℕ) (fault : StatementFault)
     → IsSound form (begun ls topic es fs)
     → end_fault topic (kept_of form (begun ls topic es fs)) whole last ≡ Some fault
-    → (has_entry form (closed (begun ls topic es fs) whole last) ≡ true) × (first_fault (so_far form (closed (begun ls topic es fs) whole last)) ≡ Some fault)
+    → (has_entry form (closed (begun ls topic es fs) whole last) ≡ true) ×
+    (first_fault (so_far form (closed (begun ls topic es fs) whole last)) ≡ Some fault)
 end_bad form ls Passed es fs whole last fault sound e = absurd cc
 end_bad form ls Register es [] whole last fault sound e = absurd cc
 end_bad form ls Accounts es [] whole last fault sound e = absurd cc
 end_bad form ls Register es (f ∷ fs) whole last fault sound e =
-    let before = sound (has_lines (is_nothing (statements form ls)) es) in
-    (has_ended (is_nothing (statements form ls)) es (entry_with (f ∷ fs) whole last), or_past _ _ _ (first_fault-entry form ls es f fs whole last) before ∙ e)
+    let before = sound (has_lines (is_nothing (statements form ls)) es) in (
+      has_ended (is_nothing (statements form ls)) es (entry_with (f ∷ fs) whole last),
+      or_past _ _ _
+          (first_fault-entry form ls es f fs whole last) before ∙ e,
+    )
 end_bad form ls Accounts es (f ∷ fs) whole last fault sound e =
     let none = waited (is_nothing (statements form ls)) (account_fault whole last) fault e in
     let has : not (is_nothing (statements form ls)) ≡ true = ap not none.0 in
@@ -179,13 +207,19 @@ end_bad form ls Accounts es (f ∷ fs) whole last fault sound e =
 so_far-list : (form : Form) (ls : List Listing) (topic : Topic) (es : List Entry) (next : Topic)
     → so_far form (turned (begun ls topic es []) next) ≡ so_far form (begun ls topic es [])
 so_far-list form ls topic es next =
-    rw (no_places form next (name_behind (ls ++ listing topic es ∷ [])) (length (statements form (ls ++ listing topic es ∷ []))), no_fields form next, no_fields form topic)
+    rw (
+      no_places form next (name_behind (ls ++ listing topic es ∷ []))
+          (length (statements form (ls ++ listing topic es ∷ []))),
+      no_fields form next,
+      no_fields form topic,
+    )
     (rw (each_after-push (listing_places form) ls (listing topic es)) (simp append-nil))
 
 name_behind-push : (ls : List Listing) (l : Listing) → name_behind (ls ++ l ∷ []) ≡ name_given l.topic l.entries
 name_behind-push ls l =
     rw (map-append (λ (listing : Listing). name_given listing.topic listing.entries) ls (l ∷ []))
-    (last_or-push [] (map (λ (listing : Listing). name_given listing.topic listing.entries) ls) (name_given l.topic l.entries))
+    (last_or-push [] (map (λ (listing : Listing). name_given listing.topic listing.entries) ls)
+    (name_given l.topic l.entries))
 
 has_before : (form : Form) (ls : List Listing) (topic : Topic) (es : List Entry)
     → is_nothing (statements form ls ++ statements_in form (section_in form topic (name_behind ls) es)) ≡ false
@@ -212,7 +246,8 @@ list_kept form ls topic es next sound =
       same = reader_is next _ _ _ _ _ _ _ _ _ _ _ _
           (sym more)
           (sym (no_name next))
-          (sym (new_section form next (name_behind (ls ++ listing topic es ∷ [])) ∙ ap (λ name. no_entries (name_for next name)) (name_behind-push ls (listing topic es))))
+          (sym (new_section form next (name_behind (ls ++ listing topic es ∷ []))
+          ∙ ap (λ name. no_entries (name_for next name)) (name_behind-push ls (listing topic es))))
           (no_start topic ∙ sym (no_start next))
           (no_said form topic ∙ sym (no_said form next))
           (ap first_fault (sym (so_far-list form ls topic es next)));

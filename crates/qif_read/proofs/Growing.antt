@@ -1,4 +1,5 @@
--- What was read of a file is a tree that the rest of the file fills: a line moves from the rest to that tree, and the whole
+-- What was read of a file is a tree that the rest of the file fills: a line moves from the rest to that tree, and
+-- the whole
 -- tree stays the same.
 use Rattle.std.proofs.Common.{◌≡◌, ℕ, ◌+◌, Bool, true, false, List, [], ◌∷◌, ◌++◌, append_assoc, refl}
 use Rattle.std.proofs.lemmas.List.{append-nil}
@@ -7,7 +8,8 @@ use Rattle.qif_read.specs.declared.kind.Topic.{Topic}
 use Rattle.qif_read.specs.declared.kind.LineKind.{LineKind}
 use Rattle.qif_read.specs.declared.kind.LineKind.TheVariants.{Header, Switch, End, Empty, Field}
 
--- the lists before the last header, what that header began, its entries that have ended, and the lines of one that has not
+-- the lists before the last header, what that header began, its entries that have ended, and the lines of one that
+-- has not
 pub record Begun : Type 0 where
   pub listings : List Listing
   pub topic : Topic
@@ -22,7 +24,11 @@ begun listings topic entries fields =
 abbrev pub fill : Begun → Rest → List Listing
 fill b rest =
     b.listings
-    ++ record { topic = b.topic; entries = b.entries ++ (entry_of (b.fields ++ rest.loose) rest.whole rest.last ++ rest.entries) }
+    ++ record {
+      topic = b.topic;
+      entries = b.entries ++
+          (entry_of (b.fields ++ rest.loose) rest.whole rest.last ++ rest.entries);
+    }
     ∷ rest.listings
 
 -- the open entry has ended

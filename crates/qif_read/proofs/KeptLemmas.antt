@@ -1,4 +1,5 @@
--- What the reader keeps is a function of the tree that was read: how lines, ends of entries and headers change both alike.
+-- What the reader keeps is a function of the tree that was read: how lines, ends of entries and headers change both
+-- alike.
 use Rattle.std.proofs.Common.{◌≡◌, ℕ, Bool, true, false, ◌&&◌, not, List, [], ◌∷◌, ◌++◌, length, Option, Some, None, append_assoc, refl, ap, ◌∙◌}
 use Rattle.std.specs.Option.{option_or}
 use Rattle.book_statement.specs.Checks.{Place, first_fault}
@@ -99,7 +100,8 @@ so_far-line form ls es fs f =
     (simp append_assoc)
 
 -- the first fault with that line
-pub first_fault-line : (form : Form) (ls : List Listing) (es : List Entry) (fs : List Line) (line : ℕ) (code : Code) (text : List ℕ)
+pub first_fault-line : (form : Form) (ls : List Listing) (es : List Entry) (fs : List Line) (line : ℕ)
+    (code : Code) (text : List ℕ)
     → first_fault (so_far form (begun ls Register es (fs ++ line_at line code text ∷ [])))
     ≡ field_fault Register form (kept_of form (begun ls Register es fs)) line code text
 unfolding said
@@ -107,17 +109,21 @@ first_fault-line form ls es fs line code text =
     ap first_fault (so_far-line form ls es fs (line_at line code text))
     ∙ first_fault-append (so_far form (begun ls Register es fs)) (line_places form fs (line_at line code text))
 
-has_line : (a : Bool) (es : List Entry) (fs : List Line) (f : Line) → not (a && (is_empty es && is_empty (fs ++ f ∷ []))) ≡ true
+has_line : (a : Bool) (es : List Entry) (fs : List Line) (f : Line)
+    → not (a && (is_empty es && is_empty (fs ++ f ∷ []))) ≡ true
 has_line a es fs f =
     rw (empty-push fs f, and_nothing (is_empty es), and_nothing a) refl
 
 -- a line that is in order
-pub line_kept : (form : Form) (ls : List Listing) (topic : Topic) (es : List Entry) (fs : List Line) (line : ℕ) (code : Code) (text : List ℕ)
+pub line_kept : (form : Form) (ls : List Listing) (topic : Topic) (es : List Entry) (fs : List Line) (line : ℕ)
+    (code : Code) (text : List ℕ)
     → (has_entry form (begun ls topic es fs) ≡ true → first_fault (so_far form (begun ls topic es fs)) ≡ None)
     → field_fault topic form (kept_of form (begun ls topic es fs)) line code text ≡ None
-    → Knows form (with_field topic form (kept_of form (begun ls topic es fs)) code text) (begun ls topic es (fs ++ line_at line code text ∷ []))
+    → Knows form (with_field topic form (kept_of form (begun ls topic es fs)) code text)
+    (begun ls topic es (fs ++ line_at line code text ∷ []))
 line_kept form ls Register es fs line code text sound e =
-    let before = or-both (first_fault (so_far form (begun ls Register es fs))) (line_fault form (said form fs) line code text) e in
+    let before = or-both (first_fault (so_far form (begun ls Register es fs)))
+    (line_fault form (said form fs) line code text) e in
     let after = first_fault-line form ls es fs line code text ∙ e in
     record {
       same = rw (empty-push fs (line_at line code text), said-push form fs line code text, after, before.0) refl;
@@ -130,11 +136,15 @@ line_kept form ls Accounts es fs line code text sound e = record {
 line_kept form ls Passed es fs line code text sound e = record { same = refl; sound = sound }
 
 -- a line that is not
-pub line_bad : (form : Form) (ls : List Listing) (topic : Topic) (es : List Entry) (fs : List Line) (line : ℕ) (code : Code) (text : List ℕ) (fault : StatementFault)
+pub line_bad : (form : Form) (ls : List Listing) (topic : Topic) (es : List Entry) (fs : List Line) (line : ℕ)
+    (code : Code) (text : List ℕ) (fault : StatementFault)
     → field_fault topic form (kept_of form (begun ls topic es fs)) line code text ≡ Some fault
     → let after = begun ls topic es (fs ++ line_at line code text ∷ []) in
     (has_entry form after ≡ true) × (first_fault (so_far form after) ≡ Some fault)
-line_bad form ls Register es fs line code text fault e =
-    (has_line (is_nothing (statements form ls)) es fs (line_at line code text), first_fault-line form ls es fs line code text ∙ e)
+line_bad form ls Register es fs line code text fault e = (
+  has_line (is_nothing (statements form ls)) es fs
+      (line_at line code text),
+  first_fault-line form ls es fs line code text ∙ e,
+)
 line_bad form ls Accounts es fs line code text fault e = absurd cc
 line_bad form ls Passed es fs line code text fault e = absurd cc

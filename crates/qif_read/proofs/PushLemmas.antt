@@ -49,7 +49,8 @@ pub last_or-push : {X : Type 0} (before : X) (xs : List X) (x : X) → last_or b
 last_or-push before [] x = refl
 last_or-push before (y ∷ xs) x = last_or-push y xs x
 
-pub on_last_push : {X : Type 0} (change : X → X) (xs : List X) (x : X) → on_last change (xs ++ x ∷ []) ≡ xs ++ change x ∷ []
+pub on_last_push : {X : Type 0} (change : X → X) (xs : List X) (x : X)
+    → on_last change (xs ++ x ∷ []) ≡ xs ++ change x ∷ []
 on_last_push change [] x = refl
 on_last_push change (y ∷ []) x = refl
 on_last_push change (y ∷ z ∷ xs) x = ap (λ l. y ∷ l) (on_last_push change (z ∷ xs) x)
@@ -69,14 +70,16 @@ abbrev splits_then : ℕ → Code → List ℕ → SplitsRest → SplitsRest
 splits_then fraction Split text rest =
     record rest { splits = rest.splits ++ record { category = text; memo = None; amount = None } ∷ [] }
 splits_then fraction SplitMemo text rest = behind_splits text rest.memo rest.amount rest.splits
-splits_then fraction SplitAmount text rest = amount_behind_splits (amount fraction text) rest.memo rest.amount rest.splits
+splits_then fraction SplitAmount text rest = amount_behind_splits
+    (amount fraction text) rest.memo rest.amount rest.splits
 splits_then fraction _ text rest = rest
 
 abbrev rest_of : Option (List ℕ) → Option ℤ → List SplitSaid → SplitsRest
 rest_of memo amount splits = record { memo = memo; amount = amount; splits = splits }
 
 -- a line in front and a line behind
-in_front-then : (fraction : ℕ) (g : Code) (before : List ℕ) (f : Code) (behind : List ℕ) (memo : Option (List ℕ)) (found : Option ℤ) (splits : List SplitSaid)
+in_front-then : (fraction : ℕ) (g : Code) (before : List ℕ) (f : Code) (behind : List ℕ) (memo : Option (List ℕ))
+    (found : Option ℤ) (splits : List SplitSaid)
     → split_in_front fraction g before (splits_then fraction f behind (rest_of memo found splits))
     ≡ splits_then fraction f behind (split_in_front fraction g before (rest_of memo found splits))
 in_front-then fraction Split before Split behind memo found splits = refl
@@ -97,10 +100,12 @@ in_front-then fraction SplitAmount before SplitAmount behind memo found (s ∷ s
 in_front-then fraction g before f behind memo found splits = refl
 
 splits_alone : (fraction : ℕ) (f : Line)
-    → split_in_front fraction f.code f.text (rest_of None None []) ≡ splits_then fraction f.code f.text (rest_of None None [])
+    → split_in_front fraction f.code f.text (rest_of None None [])
+    ≡ splits_then fraction f.code f.text (rest_of None None [])
 splits_alone fraction f = alone f.code
   where
-    alone : (code : Code) → split_in_front fraction code f.text (rest_of None None []) ≡ splits_then fraction code f.text (rest_of None None [])
+    alone : (code : Code) → split_in_front fraction code f.text (rest_of None None [])
+        ≡ splits_then fraction code f.text (rest_of None None [])
     alone Split = refl
     alone SplitMemo = refl
     alone SplitAmount = refl
@@ -121,7 +126,8 @@ splits_after fraction SplitMemo text splits = on_last (with_memo text) splits
 splits_after fraction SplitAmount text splits = on_last (with_amount (amount fraction text)) splits
 splits_after fraction _ text splits = splits
 
-splits_of_then : (fraction : ℕ) (code : Code) (text : List ℕ) (memo : Option (List ℕ)) (found : Option ℤ) (splits : List SplitSaid)
+splits_of_then : (fraction : ℕ) (code : Code) (text : List ℕ) (memo : Option (List ℕ)) (found : Option ℤ)
+    (splits : List SplitSaid)
     → (splits_then fraction code text (rest_of memo found splits)).splits ≡ splits_after fraction code text splits
 splits_of_then fraction Split text memo found splits = refl
 splits_of_then fraction SplitMemo text memo found [] = refl
@@ -137,7 +143,8 @@ splits_of-push fraction fs f =
     ap (λ (r : SplitsRest). r.splits) (splits_rest-push fraction fs f)
     ∙ splits_of_then fraction f.code f.text rest.memo rest.amount rest.splits
 
-map-or : {X Y : Type 0} (g : X → Y) (o : Option X) (x : Option X) → option_map g (option_or o x) ≡ option_or (option_map g o) (option_map g x)
+map-or : {X Y : Type 0} (g : X → Y) (o : Option X) (x : Option X)
+    → option_map g (option_or o x) ≡ option_or (option_map g o) (option_map g x)
 map-or g None x = refl
 map-or g (Some y) x = refl
 
@@ -172,13 +179,21 @@ name_said-push fs line _ text = simp (first_of-push, or-none)
 first_entry : (name : List ℕ) (s : Said) → with_later (after_first name s) [] ≡ with_entry (no_entries name) s
 first_entry name s =
     elim (is_opening name s) as (λ t. with_later (if t then opened_by s else begun_by name s) []
-    ≡ (if t then with_opening (no_entries name) (account_said s) (day_said s) (amount_said s) else with_line (no_entries name) (day_said s) (statement_line s)))
+    ≡ (if t then with_opening (no_entries name) (account_said s) (day_said s) (amount_said s) else with_line
+    (no_entries name) (day_said s) (statement_line s)))
     [ true ↦ refl | false ↦ refl ]
 
 with_later-push : (s : Section) (later : List Said) (x : Said)
     → with_later s (later ++ x ∷ []) ≡ with_line (with_later s later) (day_said x) (statement_line x)
 with_later-push s later x =
-    rw (map-append day_said later (x ∷ []), map-append statement_line later (x ∷ []), fold-append int_max (unwrap_or s.day (pos 0)) (map day_said later) (day_said x ∷ []), append_assoc s.lines (map statement_line later) (statement_line x ∷ []))
+    rw (
+      map-append day_said later (x ∷ []),
+      map-append statement_line later (x ∷ []),
+      fold-append int_max
+          (unwrap_or s.day (pos 0)) (map day_said later) (day_said x ∷ []),
+      append_assoc s.lines
+          (map statement_line later) (statement_line x ∷ []),
+    )
     refl
 
 -- what a register gives with an entry more

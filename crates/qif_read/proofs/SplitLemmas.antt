@@ -6,7 +6,8 @@ use Rattle.std.proofs.lemmas.List.{take_more}
 use Rattle.qif_read.specs.Entries.{sum_of_splits}
 use Rattle.qif_read.specs.declared.split.SplitSaid.{SplitSaid}
 
-sum_of_splits-push : (ss : List SplitSaid) (s : SplitSaid) → sum_of_splits (ss ++ s ∷ []) ≡ sum_of_splits ss +ℤ unwrap_or s.amount (pos 0)
+sum_of_splits-push : (ss : List SplitSaid) (s : SplitSaid)
+    → sum_of_splits (ss ++ s ∷ []) ≡ sum_of_splits ss +ℤ unwrap_or s.amount (pos 0)
 sum_of_splits-push [] s = omega (arith, ints)
 sum_of_splits-push (x ∷ ss) s = let rest = sum_of_splits-push ss s in omega (arith, ints)
 

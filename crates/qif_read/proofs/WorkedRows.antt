@@ -24,8 +24,10 @@ line text = text ++ 10 ∷ []
 -- the file up to the amount of the last part
 abbrev shop : List ℕ
 shop =
-    line (codes "!Type:Bank") ++ line (codes "D15/1'24") ++ line (codes "T-1,234.50") ++ line (codes "PShop") ++ line (codes "LFood")
-    ++ line (codes "SFood") ++ line (codes "$-1,000.00") ++ line (codes "SHome") ++ line (codes "$-200.00") ++ line (codes "SGifts")
+    line (codes "!Type:Bank") ++ line (codes "D15/1'24") ++ line (codes "T-1,234.50") ++ line
+    (codes "PShop") ++ line (codes "LFood")
+    ++ line (codes "SFood") ++ line (codes "$-1,000.00") ++ line (codes "SHome") ++ line (codes "$-200.00") ++ line
+    (codes "SGifts")
 
 -- one line of 2024-01-15, of -1,234.50 in three parts
 pub shop_is_read : reading euro DayMonth (shop ++ line (codes "$-34.50") ++ line (codes "^")) ≡ Ok (record {

@@ -12,8 +12,11 @@ returns-then-is_negative c =
     let size : ℕ = units (without_commas whole) decimals c.args.fraction in
     let small : size ≤ 1_000_000_000_000 = small_units c.args.fraction whole decimals c.in-Ok.ensures.0 in
     let is : c.in-Ok.units ≡ pos size = c.in-Ok.ensures.1 in
-    let back : to_z w64 (of_z w64 (pos 0 -ℤ to_z w64 (of_z w64 c.in-Ok.units))) ≡ neg_ℤ (pos size) = omega (arith, ints) in
-    let read = read_ok c.args.fraction c.args.text.now whole decimals c.in-Ok.units true (whole_is c.args.text.now c.unsigned.result.now whole c.unsigned.ensures c.split_point.ensures.whole) (decimals_are c.args.text.now c.unsigned.result.now decimals c.unsigned.ensures c.split_point.ensures.decimals) (sym c.if-is_negative.true ∙ c.is_negative.ensures) c.in-Ok.ensures in
+    let back : to_z w64 (of_z w64 (pos 0 -ℤ to_z w64 (of_z w64 c.in-Ok.units)))
+    ≡ neg_ℤ (pos size) = omega (arith, ints) in
+    let read = read_ok c.args.fraction c.args.text.now whole decimals c.in-Ok.units true
+    (whole_is c.args.text.now c.unsigned.result.now whole c.unsigned.ensures c.split_point.ensures.whole)
+    (decimals_are c.args.text.now c.unsigned.result.now decimals c.unsigned.ensures c.split_point.ensures.decimals) (sym c.if-is_negative.true ∙ c.is_negative.ensures) c.in-Ok.ensures in
     (read.0, back ∙ read.1)
 
 pub returns-else-is_negative : goal.returns-else-is_negative
@@ -24,7 +27,9 @@ returns-else-is_negative c =
     let small : size ≤ 1_000_000_000_000 = small_units c.args.fraction whole decimals c.in-Ok.ensures.0 in
     let is : c.in-Ok.units ≡ pos size = c.in-Ok.ensures.1 in
     let back : to_z w64 (of_z w64 c.in-Ok.units) ≡ pos size = omega (arith, ints) in
-    let read = read_ok c.args.fraction c.args.text.now whole decimals c.in-Ok.units false (whole_is c.args.text.now c.unsigned.result.now whole c.unsigned.ensures c.split_point.ensures.whole) (decimals_are c.args.text.now c.unsigned.result.now decimals c.unsigned.ensures c.split_point.ensures.decimals) (sym c.if-is_negative.false ∙ c.is_negative.ensures) c.in-Ok.ensures in
+    let read = read_ok c.args.fraction c.args.text.now whole decimals c.in-Ok.units false
+    (whole_is c.args.text.now c.unsigned.result.now whole c.unsigned.ensures c.split_point.ensures.whole)
+    (decimals_are c.args.text.now c.unsigned.result.now decimals c.unsigned.ensures c.split_point.ensures.decimals) (sym c.if-is_negative.false ∙ c.is_negative.ensures) c.in-Ok.ensures in
     (read.0, back ∙ read.1)
 
 pub returns-in-Err : goal.returns-in-Err

@@ -14,7 +14,8 @@ returns-then-not-is_number c = rw (sym c.is_number.ensures ∙ c.if-not-is_numbe
 
 pub units_of-requires-clause-whole : goal.units_of-requires-clause-whole
 units_of-requires-clause-whole c =
-    rw c.in-Some.ensures.1 (whole_digits_of c.args.whole.now c.args.decimals.now (sym c.is_number.ensures ∙ c.if-not-is_number.false))
+    rw c.in-Some.ensures.1
+    (whole_digits_of c.args.whole.now c.args.decimals.now (sym c.is_number.ensures ∙ c.if-not-is_number.false))
 
 pub units_of-requires-clause-decimals : goal.units_of-requires-clause-decimals
 units_of-requires-clause-decimals c =
@@ -22,6 +23,9 @@ units_of-requires-clause-decimals c =
 
 pub returns : goal.returns
 returns c =
-    let P : List ℕ → Type 0 = λ digits. Tells (unit_checks digits c.args.decimals.now c.args.fraction) (pos (units digits c.args.decimals.now c.args.fraction)) c.units_of.result in
-    tells_past (is_number c.args.whole.now c.args.decimals.now) AmountForm (unit_checks (without_commas c.args.whole.now) c.args.decimals.now c.args.fraction) (pos (units (without_commas c.args.whole.now) c.args.decimals.now c.args.fraction)) c.units_of.result
+    let P : List ℕ → Type 0 = λ digits. Tells (unit_checks digits c.args.decimals.now c.args.fraction)
+    (pos (units digits c.args.decimals.now c.args.fraction)) c.units_of.result in
+    tells_past (is_number c.args.whole.now c.args.decimals.now) AmountForm
+    (unit_checks (without_commas c.args.whole.now) c.args.decimals.now c.args.fraction)
+    (pos (units (without_commas c.args.whole.now) c.args.decimals.now c.args.fraction)) c.units_of.result
     (sym c.is_number.ensures ∙ c.if-not-is_number.false) (subst P c.in-Some.ensures.1 c.units_of.ensures)

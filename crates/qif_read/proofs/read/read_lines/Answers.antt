@@ -24,7 +24,10 @@ returns-in_err-take c =
     let said = result_of c.args.form.now (listings_of (lines_of c.args.text.now)) in
     let line = c.next_line.result.0.now in
     rw (p.1, p.2)
-    (gives_error Reader (Unit {0}) said (fault_of c.args.form.now c.loop-rest.count line (kind_of line) c.loop-rest.reader) (after c.args.form.now c.loop-rest.count line (kind_of line) c.loop-rest.reader) c.take.new.self c.in_err-take.field-0.0
+    (gives_error Reader (Unit {0}) said
+    (fault_of c.args.form.now c.loop-rest.count line (kind_of line) c.loop-rest.reader)
+    (after c.args.form.now c.loop-rest.count line
+    (kind_of line) c.loop-rest.reader) c.take.new.self c.in_err-take.field-0.0
     (λ fault found. so_far_bad c.args.form.now c.args.text.now c.loop-rest.rest.now line c.next_line.result.1.now c.loop-rest.reader c.loop-rest.count fault c.loop-rest.invariant.known c.next_line.ensures.lines found)
     c.in_err-take.ensures)
 
@@ -36,5 +39,6 @@ loop-rest-preserved c = record {
 
 pub returns : goal.returns
 returns c =
-    gives_same (result_of c.args.form.now (listings_of (lines_of c.args.text.now))) (answer_after c.args.form.now c.loop-rest.count c.loop-rest.reader) c.finish.result
+    gives_same (result_of c.args.form.now (listings_of (lines_of c.args.text.now)))
+    (answer_after c.args.form.now c.loop-rest.count c.loop-rest.reader) c.finish.result
     (so_far_end c.args.form.now c.args.text.now c.loop-rest.rest.now c.loop-rest.reader c.loop-rest.count c.loop-rest.invariant.known (no_text c.loop-rest.rest.now (sym c.is_empty.ensures ∙ c.loop-rest-test.false))) c.finish.ensures
