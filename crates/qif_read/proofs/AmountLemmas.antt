@@ -166,12 +166,10 @@ small_units fraction whole decimals fine =
     let small = third_holds (is_number whole decimals) _ _ _ _ _ fine in
     grind (arith, nat_tests)
 
-pub whole_is : (text behind whole : List ℕ) → behind ≡ unsigned text → whole ≡ before_first (λ b. b == 46) behind
-    → whole ≡ whole_part text
-unfolding whole_part
-whole_is text behind whole e found = found ∙ ap (before_first (λ b. b == 46)) e
-
-pub decimals_are : (text behind decimals : List ℕ) → behind ≡ unsigned text
-    → decimals ≡ after_first (λ b. b == 46) behind → decimals ≡ decimal_part text
-unfolding decimal_part
-decimals_are text behind decimals e found = found ∙ ap (after_first (λ b. b == 46)) e
+-- the whole part and the decimals are the parts round the point
+pub parts_are : (text behind whole decimals : List ℕ) → behind ≡ unsigned text
+    → whole ≡ before_first (λ b. b == 46) behind → decimals ≡ after_first (λ b. b == 46) behind
+    → (whole ≡ whole_part text) × (decimals ≡ decimal_part text)
+unfolding whole_part decimal_part
+parts_are text behind whole decimals e before after =
+    (before ∙ ap (before_first (λ b. b == 46)) e, after ∙ ap (after_first (λ b. b == 46)) e)

@@ -36,7 +36,7 @@ fn read(
     Ok(read_qif(alloc, &text, &currency, order))
 }
 
-/// The statements as text: for each its account, its opening balance and its day, and then a line for each of its lines.
+/// The statements as text: for each its account, its opening balance and its day, and then a line for each line.
 fn shown(alloc: Global, statements: &Many<Statement>) -> Result<String, Fail> {
     let mut text = String::new(alloc);
     for statement in statements.as_slice() {
@@ -158,7 +158,8 @@ fn files_and_their_statements(rt: HostRuntime) -> Result<(), Fail> {
                 LSalary\n^\nD1/31'24\nU-4.90\nT-4.90\nPAccount fee\nLBank charges\n^\n!Clear:AutoSwitch\n",
             "Giro account 185040 2024-01-31\n\
                 2024-01-02 -98000 TXFR|Haus & Grund GmbH Rent January|Housing:Rent\n\
-                2024-01-05 -8635 1042|Market Hall|Groceries|Groceries Vegetables and cheese -6185|Household Soap -2450\n\
+                2024-01-05 -8635 1042|Market Hall|Groceries|Groceries Vegetables and cheese -6185|\
+                Household Soap -2450\n\
                 2024-01-25 250000 DEP|Stadtwerke AG Salary January|Salary\n\
                 2024-01-31 -490 |Account fee|Bank charges\n",
         ),
