@@ -14,7 +14,7 @@ pub record FieldLines : Type 0 where
   pub more : List (List ℕ)
 
 -- a message: its fields, and the number of its last line
-pub record Message : Type 0 where
+pub record MessageLines : Type 0 where
   pub fields : List FieldLines
   pub last : ℕ
 
@@ -24,7 +24,7 @@ pub record Part : Type 0 where
   pub loose : List (List ℕ)
   pub fields : List FieldLines
   pub last : ℕ
-  pub messages : List Message
+  pub messages : List MessageLines
 
 -- the field that a line begins, behind n lines of the file
 abbrev pub field : ℕ → Tag → List ℕ → List (List ℕ) → FieldLines
@@ -49,5 +49,5 @@ part_after n [] = record { loose = []; fields = []; last = n; messages = [] }
 part_after n (line ∷ lines) = in_front n line (kind_of line) (part_after (n + 1) lines)
 
 -- the messages of a file; lines outside messages fall away
-abbrev pub messages_of : List (List ℕ) → List Message
+abbrev pub messages_of : List (List ℕ) → List MessageLines
 messages_of lines = (part_after 0 lines).messages

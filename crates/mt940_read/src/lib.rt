@@ -2,6 +2,10 @@
 //! a text, or the first place at which it breaks a rule of the format.
 #![tactic(auto)]
 
+mod fraction;
+mod lines;
+mod message;
+mod page;
 mod tag;
 
-pub use tag::{Kind, Tag};
+use lines::Lines;

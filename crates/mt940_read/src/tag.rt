@@ -1,5 +1,5 @@
 /// The fields of a message that say something, by their tags.
-#[derive(Clone, Copy, Debug, PartialEq, Eq)]
+#[derive(Clone, Copy, PartialEq, Eq)]
 pub enum Tag {
     /// 20, the reference that begins a message.
     Reference,
@@ -24,7 +24,7 @@ pub enum Tag {
 }
 
 /// What a line of a message is.
-#[derive(Clone, Copy, Debug, PartialEq, Eq)]
+#[derive(Clone, Copy, PartialEq, Eq)]
 pub enum Kind {
     /// It begins a message.
     Begins,
