@@ -1,5 +1,5 @@
 -- Digits without their commas, copied one by one.
-use Rattle.std.proofs.Common.{◌≡◌, ℕ, ◌+◌, ◌<◌, ◌≤◌, Bool, true, false, ◌&&◌, Some, None, Result, Ok, Err, ℤ, pos, neg_ℤ, ◌-ℤ◌, List, [], ◌∷◌, ◌++◌, length, get_or, take, drop, set, refl, sym, ap, ◌∙◌, append_assoc, arith, length-append}
+use Rattle.std.proofs.Common.{◌≡◌, ℕ, ◌+◌, ◌<◌, ◌≤◌, Bool, true, false, ◌&&◌, Some, None, ℤ, pos, neg_ℤ, ◌-ℤ◌, List, [], ◌∷◌, ◌++◌, length, get_or, take, drop, set, refl, sym, ap, ◌∙◌, append_assoc, arith, length-append}
 use Rattle.std.proofs.lemmas.List.{drop_more, drop_all, take_more_set, length-take-le}
 use Rattle.std.specs.Prelude.{◌==◌, nat_le}
 use Rattle.std.proofs.lemmas.Bool.{ne_eqb}
@@ -8,7 +8,7 @@ use Rattle.std.specs.List.{prefix_len, before_first, after_first}
 use Rattle.std.proofs.lemmas.Bool.Decides.{nat_tests}
 use Rattle.std.proofs.lemmas.Int.{ints}
 use Rattle.book_statement.specs.declared.bad.Bad.{Bad}
-use Rattle.book_statement.specs.Checks.{Check, check, first_bad, Tells}
+use Rattle.book_statement.specs.Checks.{check, first_bad}
 use Rattle.book_statement.specs.Numbers.{has_digits, units, unit_checks}
 use Rattle.qif_read.specs.QifAmount.{without_commas, are_commas_placed, is_number, is_negative, unsigned, whole_part, decimal_part, number_checks, amount_checks, signed, amount}
 
@@ -91,14 +91,6 @@ too_long whole decimals lt = and_false (are_commas_placed whole) _
 
     not_digits : (digits : List ℕ) → 12 < length digits → has_digits 0 12 digits ≡ false
     not_digits digits over = and_first _ _ (and_false (nat_le 0 (length digits)) _ (grind (arith, nat_tests)))
-
--- a check that holds in front of others
-pub tells_past : {X : Type 0} (holds : Bool) (bad : Bad) (checks : List Check) (value : X) (result : Result X Bad)
-    → holds ≡ true
-    → Tells checks value result → Tells (check holds bad ∷ checks) value result
-tells_past true bad checks value (Ok given) e told = told
-tells_past true bad checks value (Err found) e told = told
-tells_past false bad checks value result e told = absurd cc
 
 -- the commas up to a place are in order where those behind are
 pub commas_at : (whole : List ℕ) (i : ℕ) → i < length whole → get_or whole i 0 ≡ 44

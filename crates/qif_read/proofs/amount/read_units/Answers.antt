@@ -1,9 +1,10 @@
 use Rattle.std.proofs.Common.{ℕ, List, pos, refl, sym, subst, ◌∙◌}
+use Rattle.book_statement.proofs.CheckLemmas.{tells-held}
 use Rattle.book_statement.specs.Checks.{Tells}
 use Rattle.book_statement.specs.Numbers.{units, unit_checks}
 use Rattle.book_statement.specs.declared.bad.Bad.TheVariants.{AmountForm}
 use Rattle.qif_read.specs.QifAmount.{without_commas, is_number}
-use Rattle.qif_read.proofs.AmountLemmas.{too_long, whole_digits_of, decimals_of, tells_past}
+use Rattle.qif_read.proofs.AmountLemmas.{too_long, whole_digits_of, decimals_of}
 use Rattle.qif_read.proofs.amount.read_units.Goals as goal
 
 pub returns-in_default : goal.returns-in_default
@@ -25,7 +26,7 @@ pub returns : goal.returns
 returns c =
     let P : List ℕ → Type 0 = λ digits. Tells (unit_checks digits c.args.decimals.now c.args.fraction)
     (pos (units digits c.args.decimals.now c.args.fraction)) c.units_of.result in
-    tells_past (is_number c.args.whole.now c.args.decimals.now) AmountForm
+    tells-held (is_number c.args.whole.now c.args.decimals.now) AmountForm
     (unit_checks (without_commas c.args.whole.now) c.args.decimals.now c.args.fraction)
     (pos (units (without_commas c.args.whole.now) c.args.decimals.now c.args.fraction)) c.units_of.result
     (sym c.is_number.ensures ∙ c.if-not-is_number.false) (subst P c.in-Some.ensures.1 c.units_of.ensures)
