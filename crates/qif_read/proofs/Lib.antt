@@ -1,0 +1,9 @@
+pub mod Growing
+pub mod PushLemmas
+pub mod KeptLemmas
+pub mod AmountLemmas
+pub mod EndLemmas
+pub mod WholeLemmas
+pub mod DateLemmas
+pub mod SplitLemmas
+pub mod WorkedRows
