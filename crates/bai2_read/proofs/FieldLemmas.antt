@@ -6,10 +6,12 @@ use Rattle.bai2_read.specs.Fields.{after_fields, field_count}
 
 -- what stands behind fields, one byte on
 pub after_more : (n : ℕ) (body : List ℕ) (i : ℕ) → i < length body
-    → after_fields n (drop i body) ≡ cond (get_or body i 0 == 44) (cond (n == 0) (drop i body) (after_fields (n - 1) (drop (i + 1) body))) (after_fields n (drop (i + 1) body))
+    → after_fields n (drop i body) ≡ cond (get_or body i 0 == 44)
+    (cond (n == 0) (drop i body) (after_fields (n - 1) (drop (i + 1) body))) (after_fields n (drop (i + 1) body))
 after_more n body i below =
     at_drop_more (after_fields n) body i 0 below
-    ∙ ap (λ (l : List ℕ). cond (get_or body i 0 == 44) (cond (n == 0) l (after_fields (n - 1) (drop (i + 1) body))) (after_fields n (drop (i + 1) body))) (sym (drop_more body i 0 below))
+    ∙ ap (λ (l : List ℕ). cond (get_or body i 0 == 44) (cond (n == 0) l (after_fields (n - 1) (drop (i + 1) body)))
+    (after_fields n (drop (i + 1) body))) (sym (drop_more body i 0 below))
 
 -- how many fields there are, one byte on
 pub count_more : (body : List ℕ) (i : ℕ) → i < length body

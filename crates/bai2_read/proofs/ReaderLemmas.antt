@@ -1,5 +1,6 @@
 -- What a reader knows of the lines read so far, and what it knows with one line more.
-use Rattle.std.proofs.Common.{◌≡◌, ℕ, List, [], ◌∷◌, ◌++◌, Option, Some, None, Err, refl, sym, ap, subst, ◌∙◌, append_assoc, inl, inr}
+use Rattle.std.proofs.Common.{◌≡◌, ℕ, List, [], ◌∷◌, ◌++◌, Option, Some, None, Err, refl, sym, ap, subst, ◌∙◌}
+use Rattle.std.proofs.Common.{append_assoc, inl, inr}
 use Rattle.std.specs.Option.{option_or}
 use Rattle.std.proofs.lemmas.Bool.{cases_Bool}
 use Rattle.std.proofs.lemmas.List.{append-nil}
@@ -13,10 +14,13 @@ use Rattle.bai2_read.specs.Kinds.{continues}
 use Rattle.bai2_read.specs.Lines.{Part}
 use Rattle.bai2_read.specs.Reading.{Known, end_place, places, record_place, result_of}
 use Rattle.bai2_read.specs.Records.{Record, whole}
-use Rattle.bai2_read.specs.Steps.{context_with, end_result, fault_with, faults_of_continuation, faults_of_line, next, went_on}
+use Rattle.bai2_read.specs.Steps.{context_with, end_result, fault_with, faults_of_continuation, faults_of_line, next}
+use Rattle.bai2_read.specs.Steps.{went_on}
 use Rattle.bai2_read.specs.declared.context.Context.{Context}
 use Rattle.bai2_read.specs.declared.kind.Kind.{Kind}
-use Rattle.bai2_read.specs.declared.kind.Kind.TheVariants.{Blank, FileHeader, GroupHeader, AccountHeader, Detail, AccountTrailer, Continuation, GroupTrailer, FileTrailer, Unknown, NoRecord}
+use Rattle.bai2_read.specs.declared.kind.Kind.TheVariants.{Blank, FileHeader, GroupHeader, AccountHeader, Detail}
+use Rattle.bai2_read.specs.declared.kind.Kind.TheVariants.{AccountTrailer, Continuation, GroupTrailer, FileTrailer}
+use Rattle.bai2_read.specs.declared.kind.Kind.TheVariants.{Unknown, NoRecord}
 use Rattle.bai2_read.specs.declared.reader.Reader.{Reader}
 use Rattle.bai2_read.proofs.ContextLemmas.{context_push}
 use Rattle.bai2_read.proofs.RecordLemmas.{whole_push}
@@ -54,7 +58,8 @@ closes known done (Some b) sound none = record {
 }
 
 -- the records behind a complete one play no part in its fault
-fault_stays : (known : Known) (lines : ℕ) (done : List Record) (r : Record) (more : List Record) (fault : StatementFault)
+fault_stays :
+    (known : Known) (lines : ℕ) (done : List Record) (r : Record) (more : List Record) (fault : StatementFault)
     → first_fault (places known done) ≡ None
     → first_fault (record_place known (context done) r ∷ []) ≡ Some fault
     → result_of known lines (done ++ r ∷ more) ≡ Err fault
@@ -72,20 +77,29 @@ fault_stays known lines done r more fault sound fails =
     ap (λ (f : Option StatementFault). unless_fault f ((context all).statements)) found
 
 -- a fault of the last record is that of the file, whatever stands behind it
-begin_fault : (known : Known) (line : ℕ) (kind : Kind) (body : List ℕ) (done : List Record) (last : Option Begun) (fault : StatementFault)
+begin_fault :
+    (known : Known) (line : ℕ) (kind : Kind) (body : List ℕ) (done : List Record) (last : Option Begun)
+    (fault : StatementFault)
     → first_fault (places known done) ≡ None
     → fault_with known (context done) (pending_of last) ≡ Some fault
     → (part : Part) (lines : ℕ) → result_of known lines (fill (with_begun line kind body done last) part) ≡ Err fault
 begin_fault known line kind body done None fault sound fails part lines = absurd cc
 begin_fault known line kind body done (Some b) fault sound fails part lines =
-    ap (result_of known lines) (append_assoc done (whole_of b ∷ []) (behind (Some (record { line = line; kind = kind; body = body; more = [] })) part))
-    ∙ fault_stays known lines done (whole_of b) (behind (Some (record { line = line; kind = kind; body = body; more = [] })) part) fault sound fails
+    ap (result_of known lines)
+    (append_assoc done (whole_of b ∷ [])
+    (behind (Some (record { line = line; kind = kind; body = body; more = [] })) part))
+    ∙ fault_stays known lines done (whole_of b)
+    (behind (Some (record { line = line; kind = kind; body = body; more = [] })) part) fault sound fails
 
 -- a reader that goes on with a record that begins
 begin_known : (known : Known) (line : ℕ) (kind : Kind) (body : List ℕ) (done : List Record) (last : Option Begun)
     → first_fault (places known done) ≡ None
     → fault_with known (context done) (pending_of last) ≡ None
-    → Knows known (record { context = context_with (context done) (pending_of last); pending = Some (whole line kind body []) }) (with_begun line kind body done last)
+    → Knows known (record {
+      context = context_with (context done) (pending_of last);
+      pending =
+          Some (whole line kind body []);
+    }) (with_begun line kind body done last)
 begin_known known line kind body done last sound none =
     let c = closes known done last sound none in record { said = c.said; sound = c.sound; pending = refl }
 
@@ -113,7 +127,8 @@ go_on_known known line body done (Some b) sound none =
       | inr ends ↦ rw ends (begin_known known line Continuation body done (Some b) sound (rw ends at none))
     ]
 
-go_on_fault : (known : Known) (line : ℕ) (body : List ℕ) (done : List Record) (last : Option Begun) (fault : StatementFault)
+go_on_fault :
+    (known : Known) (line : ℕ) (body : List ℕ) (done : List Record) (last : Option Begun) (fault : StatementFault)
     → first_fault (places known done) ≡ None
     → faults_of_continuation known (reader_of done last) ≡ Some fault
     → (part : Part) (lines : ℕ) → result_of known lines (fill (with_continuation line body done last) part) ≡ Err fault
@@ -121,7 +136,8 @@ go_on_fault known line body done None fault sound fails part lines = absurd cc
 go_on_fault known line body done (Some b) fault sound fails part lines =
     elim (cases_Bool (continues b.kind)) [
       | inl goes ↦ let none : None ≡ Some fault = rw goes at fails in absurd cc
-      | inr ends ↦ rw ends (begin_fault known line Continuation body done (Some b) fault sound (rw ends at fails) part lines)
+      | inr ends ↦ rw ends (begin_fault known line Continuation body done (Some b) fault sound
+          (rw ends at fails) part lines)
     ]
 
 line_known : (known : Known) (line : ℕ) (kind : Kind) (body : List ℕ) (t : Tree)
@@ -132,9 +148,11 @@ line_known known line Blank body t sound none = record { said = refl; sound = so
 line_known known line Continuation body t sound none = go_on_known known line body t.done t.last sound none
 line_known known line FileHeader body t sound none = begin_known known line FileHeader body t.done t.last sound none
 line_known known line GroupHeader body t sound none = begin_known known line GroupHeader body t.done t.last sound none
-line_known known line AccountHeader body t sound none = begin_known known line AccountHeader body t.done t.last sound none
+line_known known line AccountHeader body t sound none =
+    begin_known known line AccountHeader body t.done t.last sound none
 line_known known line Detail body t sound none = begin_known known line Detail body t.done t.last sound none
-line_known known line AccountTrailer body t sound none = begin_known known line AccountTrailer body t.done t.last sound none
+line_known known line AccountTrailer body t sound none =
+    begin_known known line AccountTrailer body t.done t.last sound none
 line_known known line GroupTrailer body t sound none = begin_known known line GroupTrailer body t.done t.last sound none
 line_known known line FileTrailer body t sound none = begin_known known line FileTrailer body t.done t.last sound none
 line_known known line Unknown body t sound none = begin_known known line Unknown body t.done t.last sound none
@@ -145,16 +163,26 @@ line_fault : (known : Known) (line : ℕ) (kind : Kind) (body : List ℕ) (t : T
     → faults_of_line known kind (reader_of t.done t.last) ≡ Some fault
     → (part : Part) (lines : ℕ) → result_of known lines (fill (add line kind body t) part) ≡ Err fault
 line_fault known line Blank body t fault sound fails part lines = absurd cc
-line_fault known line Continuation body t fault sound fails part lines = go_on_fault known line body t.done t.last fault sound fails part lines
-line_fault known line FileHeader body t fault sound fails part lines = begin_fault known line FileHeader body t.done t.last fault sound fails part lines
-line_fault known line GroupHeader body t fault sound fails part lines = begin_fault known line GroupHeader body t.done t.last fault sound fails part lines
-line_fault known line AccountHeader body t fault sound fails part lines = begin_fault known line AccountHeader body t.done t.last fault sound fails part lines
-line_fault known line Detail body t fault sound fails part lines = begin_fault known line Detail body t.done t.last fault sound fails part lines
-line_fault known line AccountTrailer body t fault sound fails part lines = begin_fault known line AccountTrailer body t.done t.last fault sound fails part lines
-line_fault known line GroupTrailer body t fault sound fails part lines = begin_fault known line GroupTrailer body t.done t.last fault sound fails part lines
-line_fault known line FileTrailer body t fault sound fails part lines = begin_fault known line FileTrailer body t.done t.last fault sound fails part lines
-line_fault known line Unknown body t fault sound fails part lines = begin_fault known line Unknown body t.done t.last fault sound fails part lines
-line_fault known line NoRecord body t fault sound fails part lines = begin_fault known line NoRecord body t.done t.last fault sound fails part lines
+line_fault known line Continuation body t fault sound fails part lines =
+    go_on_fault known line body t.done t.last fault sound fails part lines
+line_fault known line FileHeader body t fault sound fails part lines =
+    begin_fault known line FileHeader body t.done t.last fault sound fails part lines
+line_fault known line GroupHeader body t fault sound fails part lines =
+    begin_fault known line GroupHeader body t.done t.last fault sound fails part lines
+line_fault known line AccountHeader body t fault sound fails part lines =
+    begin_fault known line AccountHeader body t.done t.last fault sound fails part lines
+line_fault known line Detail body t fault sound fails part lines =
+    begin_fault known line Detail body t.done t.last fault sound fails part lines
+line_fault known line AccountTrailer body t fault sound fails part lines =
+    begin_fault known line AccountTrailer body t.done t.last fault sound fails part lines
+line_fault known line GroupTrailer body t fault sound fails part lines =
+    begin_fault known line GroupTrailer body t.done t.last fault sound fails part lines
+line_fault known line FileTrailer body t fault sound fails part lines =
+    begin_fault known line FileTrailer body t.done t.last fault sound fails part lines
+line_fault known line Unknown body t fault sound fails part lines =
+    begin_fault known line Unknown body t.done t.last fault sound fails part lines
+line_fault known line NoRecord body t fault sound fails part lines =
+    begin_fault known line NoRecord body t.done t.last fault sound fails part lines
 
 -- with one line more, where it brings no fault to light
 pub next_known : (known : Known) (line : ℕ) (kind : Kind) (body : List ℕ) (reader new : Reader) (t : Tree)
@@ -166,7 +194,8 @@ next_known known line kind body reader new t k none is =
     (line_known known line kind body t k.sound (ap (faults_of_line known kind) (sym same) ∙ none))
 
 -- the fault that it brings to light is that of the file, whatever stands behind
-pub next_fault : (known : Known) (line : ℕ) (kind : Kind) (body : List ℕ) (reader : Reader) (t : Tree) (fault : StatementFault)
+pub next_fault :
+    (known : Known) (line : ℕ) (kind : Kind) (body : List ℕ) (reader : Reader) (t : Tree) (fault : StatementFault)
     → Knows known reader t → faults_of_line known kind reader ≡ Some fault
     → (part : Part) (lines : ℕ) → result_of known lines (fill (add line kind body t) part) ≡ Err fault
 next_fault known line kind body reader t fault k fails part lines =
@@ -177,7 +206,8 @@ next_fault known line kind body reader t fault k fails part lines =
 abbrev pub no_part : Part
 no_part = record { loose = []; records = [] }
 
-no_more : (done : List Record) (last : Option Begun) → fill (record { done = done; last = last }) no_part ≡ closed done last
+no_more :
+    (done : List Record) (last : Option Begun) → fill (record { done = done; last = last }) no_part ≡ closed done last
 no_more done None = append-nil done
 no_more done (Some b) =
     elim (cases_Bool (continues b.kind)) [
@@ -186,7 +216,8 @@ no_more done (Some b) =
     ]
 
 -- the result of complete records and the last one
-result_closed : (known : Known) (lines : ℕ) (done : List Record) (last : Option Begun) → first_fault (places known done) ≡ None
+result_closed :
+    (known : Known) (lines : ℕ) (done : List Record) (last : Option Begun) → first_fault (places known done) ≡ None
     → result_of known lines (closed done last) ≡ end_result known lines (reader_of done last)
 result_closed known lines done None sound =
     ap (λ f. unless_fault f ((context done).statements))
@@ -196,12 +227,14 @@ result_closed known lines done (Some b) sound =
     let here = record_place known (context done) r ∷ [] in
     let end = λ (c : Context). end_place lines c.place ∷ [] in
     let all = done ++ r ∷ [] in
-    let found : first_fault (places known all ++ end (context all)) ≡ option_or (first_fault here) (first_fault (end (context all))) =
+    let found : first_fault (places known all ++ end (context all)) ≡ option_or (first_fault here)
+    (first_fault (end (context all))) =
     first_fault-append (places known all) (end (context all))
     ∙ ap (λ f. option_or f (first_fault (end (context all))))
     (ap first_fault (places_push known done r) ∙ first_fault-past (places known done) here sound) in
     ap (λ f. unless_fault f ((context all).statements)) found
-    ∙ ap (λ (c : Context). unless_fault (option_or (first_fault here) (first_fault (end c))) c.statements) (context_push done r)
+    ∙ ap (λ (c : Context). unless_fault (option_or (first_fault here) (first_fault (end c))) c.statements)
+    (context_push done r)
 
 -- what the reader says at the end of the file is what the file says
 pub end_known : (known : Known) (lines : ℕ) (reader : Reader) (t : Tree) → Knows known reader t

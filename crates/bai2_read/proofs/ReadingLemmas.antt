@@ -22,7 +22,9 @@ pub record SoFar (known : Known) (reader : Reader) (lines : ℕ) (rest text : Li
   pub whole : records_of (texts.lines_of text) ≡ fill tree (part_after lines (texts.lines_of rest))
   pub count : length (texts.lines_of text) ≡ lines + length (texts.lines_of rest)
 
-pub first_so_far : (known : Known) (reader : Reader) (text : List ℕ) → reader.context ≡ context [] → reader.pending ≡ None → SoFar known reader 0 text text
+pub first_so_far :
+    (known : Known) (reader : Reader) (text : List ℕ) → reader.context ≡ context [] → reader.pending ≡ None
+    → SoFar known reader 0 text text
 first_so_far known reader text said pending = record {
   tree = record { done = []; last = None };
   knows = record { said = said; sound = refl; pending = pending };
@@ -44,7 +46,8 @@ next_so_far known reader new lines after rest text line behind so cut is step = 
       so.whole
       ∙ ap (λ (ls : List (List ℕ)). fill so.tree (part_after lines ls)) cut
       ∙ fill_add (lines + 1) (kind_of line) (body_of line) so.tree (part_after (lines + 1) (texts.lines_of behind))
-      ∙ ap (λ (n : ℕ). fill (add n (kind_of line) (body_of line) so.tree) (part_after n (texts.lines_of behind))) (sym is);
+      ∙ ap (λ (n : ℕ). fill (add n (kind_of line) (body_of line) so.tree) (part_after n (texts.lines_of behind)))
+      (sym is);
   count = omega (arith, so.count, ap length cut, is);
 }
 
@@ -61,14 +64,18 @@ fault_so_far known reader lines after rest text line behind fault so cut is fail
     (so.whole
     ∙ ap (λ (ls : List (List ℕ)). fill so.tree (part_after lines ls)) cut
     ∙ fill_add (lines + 1) (kind_of line) (body_of line) so.tree (part_after (lines + 1) (texts.lines_of behind)))
-    ∙ next_fault known (lines + 1) (kind_of line) (body_of line) reader so.tree fault so.knows fails (part_after (lines + 1) (texts.lines_of behind)) total
+    ∙ next_fault known (lines + 1) (kind_of line) (body_of line) reader so.tree fault so.knows fails
+    (part_after (lines + 1) (texts.lines_of behind)) total
 
-pub end_so_far : (known : Known) (reader : Reader) (lines : ℕ) (rest text : List ℕ) → SoFar known reader lines rest text → rest ≡ []
+pub end_so_far :
+    (known : Known) (reader : Reader) (lines : ℕ) (rest text : List ℕ) → SoFar known reader lines rest text → rest ≡ []
     → end_result known lines reader ≡ reading known text
 end_so_far known reader lines rest text so none =
-    let count : length (texts.lines_of text) ≡ lines = omega (arith, so.count, ap (λ (l : List ℕ). length (texts.lines_of l)) none) in
+    let count : length (texts.lines_of text) ≡ lines =
+    omega (arith, so.count, ap (λ (l : List ℕ). length (texts.lines_of l)) none) in
     end_known known lines reader so.tree so.knows
-    ∙ ap (result_of known lines) (sym (so.whole ∙ ap (λ (l : List ℕ). fill so.tree (part_after lines (texts.lines_of l))) none))
+    ∙ ap (result_of known lines)
+    (sym (so.whole ∙ ap (λ (l : List ℕ). fill so.tree (part_after lines (texts.lines_of l))) none))
     ∙ ap (λ (n : ℕ). result_of known n (records_of (texts.lines_of text))) (sym count)
 
 -- what a reader answers that stops at a line
@@ -77,7 +84,9 @@ pub error_so_far :
     → SoFar known reader lines rest text
     → texts.lines_of rest ≡ line ∷ texts.lines_of behind
     → after ≡ lines + 1
-    → Steps (faults_of_line known (kind_of line) reader) (next after (kind_of line) (body_of line) reader) (Err error) new
+    → Steps (faults_of_line known (kind_of line) reader) (next after (kind_of line) (body_of line) reader)
+    (Err error) new
     → Gives {X = List Statement} (reading known text) (Err error)
-error_so_far known reader new lines after rest text line behind (Fault fault) so cut is step = fault_so_far known reader lines after rest text line behind fault so cut is step
+error_so_far known reader new lines after rest text line behind (Fault fault) so cut is step =
+    fault_so_far known reader lines after rest text line behind fault so cut is step
 error_so_far known reader new lines after rest text line behind OutOfMemory so cut is step = tt

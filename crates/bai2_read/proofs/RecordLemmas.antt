@@ -1,5 +1,6 @@
 -- A record with one continuation more.
-use Rattle.std.proofs.Common.{◌≡◌, ℕ, ◌+◌, Bool, true, false, cond, List, [], ◌∷◌, ◌++◌, length, refl, ap, ◌∙◌, inl, inr, arith}
+use Rattle.std.proofs.Common.{◌≡◌, ℕ, ◌+◌, Bool, true, false, cond, List, [], ◌∷◌, ◌++◌, length, refl, ap, ◌∙◌, inl}
+use Rattle.std.proofs.Common.{inr, arith}
 use Rattle.std.proofs.lemmas.Bool.{cases_Bool}
 use Rattle.std.proofs.lemmas.List.{length_push, map_push}
 use Rattle.book_statement.specs.Texts.{add_piece, joined}
@@ -9,7 +10,8 @@ use Rattle.bai2_read.specs.declared.kind.Kind.{Kind}
 
 fields_push : (kind : Kind) (body : List ℕ) (more : List More) (m : More)
     → fields_with kind body (more ++ m ∷ [])
-    ≡ cond (is_full kind (fields_with kind body more)) (fields_with kind body more) (fields_with kind body more ++ m.body)
+    ≡ cond (is_full kind (fields_with kind body more)) (fields_with kind body more)
+    (fields_with kind body more ++ m.body)
 fields_push kind body [] m = refl
 fields_push kind body (x ∷ xs) m =
     elim (cases_Bool (is_full kind body)) [
@@ -19,7 +21,8 @@ fields_push kind body (x ∷ xs) m =
 
 pieces_push : (kind : Kind) (body : List ℕ) (more : List More) (m : More)
     → pieces_with kind body (more ++ m ∷ [])
-    ≡ cond (is_full kind (fields_with kind body more)) (pieces_with kind body more ++ piece_of m.body ∷ []) (pieces_with kind body more)
+    ≡ cond (is_full kind (fields_with kind body more)) (pieces_with kind body more ++ piece_of m.body ∷ [])
+    (pieces_with kind body more)
 pieces_push kind body [] m = refl
 pieces_push kind body (x ∷ xs) m =
     elim (cases_Bool (is_full kind body)) [

@@ -1,5 +1,6 @@
 -- The items of an account's header, one item on.
-use Rattle.std.proofs.Common.{◌≡◌, ℕ, ◌-◌, ◌<◌, ◌≤◌, ◌==◌, true, false, List, [], ◌∷◌, length, refl, sym, ap, subst, ◌∙◌, arith, inl, inr}
+use Rattle.std.proofs.Common.{◌≡◌, ℕ, ◌-◌, ◌<◌, ◌≤◌, ◌==◌, true, false, List, [], ◌∷◌, length, refl, sym, ap, subst}
+use Rattle.std.proofs.Common.{◌∙◌, arith, inl, inr}
 use Rattle.std.specs.Prelude.{fold, ℤ, ◌+ℤ◌}
 use Rattle.std.proofs.lemmas.Bool.{cases_Bool, eqb-true, eq-eqb, ne_eqb}
 use Rattle.bai2_read.specs.Fields.{after_fields}
@@ -33,10 +34,12 @@ pub length-after_fields-le : (n : ℕ) (body : List ℕ) → length (after_field
 length-after_fields-le n [] = omega arith
 length-after_fields-le n (b ∷ bs) =
     elim (cases_Bool (b == 44)) [
-      | inr other ↦ rw other (let le : length (after_fields n bs) ≤ length bs = length-after_fields-le n bs in omega arith)
+      | inr other ↦ rw other (let le : length (after_fields n bs) ≤ length bs = length-after_fields-le n bs in
+          omega arith)
       | inl comma ↦ elim (cases_Bool (n == 0)) [
         | inl none ↦ rw (comma, none) (omega arith)
-        | inr some ↦ rw (comma, some) (let le : length (after_fields (n - 1) bs) ≤ length bs = length-after_fields-le (n - 1) bs in omega arith)
+        | inr some ↦ rw (comma, some)
+            (let le : length (after_fields (n - 1) bs) ≤ length bs = length-after_fields-le (n - 1) bs in omega arith)
       ]
     ]
 
@@ -46,24 +49,29 @@ pub record Behind (item rest : List ℕ) : Type 0 where
   pub shorter : length rest < length item
   pub begins : BeginsField rest
 
-pub behind_item : (item : List ℕ) → 0 < length item → BeginsField item → 0 < width item → Behind item (after_fields (width item) item)
+pub behind_item :
+    (item : List ℕ) → 0 < length item → BeginsField item → 0 < width item → Behind item (after_fields (width item) item)
 behind_item [] some comma wide = absurd (omega arith)
 behind_item (b ∷ bs) some comma wide =
     let is_comma : b == 44 ≡ true = eq-eqb b 44 (comma some) in
     let not_none : width (b ∷ bs) == 0 ≡ false = ne_eqb (width (b ∷ bs)) 0 (λ e. absurd (omega arith)) in
-    let rest : after_fields (width (b ∷ bs)) (b ∷ bs) ≡ after_fields (width (b ∷ bs) - 1) bs = rw (is_comma, not_none) refl in
+    let rest : after_fields (width (b ∷ bs)) (b ∷ bs) ≡ after_fields (width (b ∷ bs) - 1) bs =
+    rw (is_comma, not_none) refl in
     record {
       items =
           (let first : items_after 0 (b ∷ bs) ≡ (b ∷ bs) ∷ items_after (width (b ∷ bs) - 1) bs = rw is_comma refl in
           first ∙ ap (λ l. (b ∷ bs) ∷ l) (items_after-rest (width (b ∷ bs) - 1) bs ∙ ap (items_after 0) (sym rest)));
       shorter =
-          (let le : length (after_fields (width (b ∷ bs) - 1) bs) ≤ length bs = length-after_fields-le (width (b ∷ bs) - 1) bs in
+          (let le : length (after_fields (width (b ∷ bs) - 1) bs) ≤ length bs =
+          length-after_fields-le (width (b ∷ bs) - 1) bs in
           omega (arith, ap length rest));
       begins = after_fields-begins (width (b ∷ bs)) (b ∷ bs);
     }
 
 -- the items of a header stand behind its first two fields
-pub items_rest : {X : Type 0} (f : List (List ℕ) → X) (body rest : List ℕ) → rest ≡ after_fields 2 body → f (items body) ≡ f (items_after 0 rest)
+pub items_rest :
+    {X : Type 0} (f : List (List ℕ) → X) (body rest : List ℕ) → rest ≡ after_fields 2 body
+    → f (items body) ≡ f (items_after 0 rest)
 items_rest f body rest is = ap f (items_after-rest 2 body ∙ ap (items_after 0) (sym is))
 
 pub begins_rest : (body rest : List ℕ) → rest ≡ after_fields 2 body → BeginsField rest
@@ -80,4 +88,5 @@ pub sum_more :
 sum_more sum before here after item rest whole next amount is =
     whole
     ∙ ap (λ (its : List (List ℕ)). fold (λ s it. s +ℤ item_amount it) before its) next
-    ∙ ap (λ (z : ℤ). fold (λ s it. s +ℤ item_amount it) z (items_after 0 rest)) (ap (λ (z : ℤ). before +ℤ z) (sym amount) ∙ sym is)
+    ∙ ap (λ (z : ℤ). fold (λ s it. s +ℤ item_amount it) z (items_after 0 rest))
+    (ap (λ (z : ℤ). before +ℤ z) (sym amount) ∙ sym is)

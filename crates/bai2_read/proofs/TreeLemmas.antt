@@ -1,13 +1,16 @@
 -- The records of the lines read so far, with the place where the lines behind them go on; whatever those are, a line
 -- moves from them to the records without any change of the whole.
-use Rattle.std.proofs.Common.{◌≡◌, ℕ, List, [], ◌∷◌, ◌++◌, if◌then◌else◌, Option, Some, None, refl, sym, ap, ◌∙◌, append_assoc, inl, inr}
+use Rattle.std.proofs.Common.{◌≡◌, ℕ, List, [], ◌∷◌, ◌++◌, if◌then◌else◌, Option, Some, None, refl, sym, ap, ◌∙◌}
+use Rattle.std.proofs.Common.{append_assoc, inl, inr}
 use Rattle.std.proofs.lemmas.Bool.{cases_Bool}
 use Rattle.std.proofs.lemmas.List.{append-nil}
 use Rattle.bai2_read.specs.Kinds.{continues}
 use Rattle.bai2_read.specs.Lines.{Part, in_front, strays, with_record}
 use Rattle.bai2_read.specs.Records.{More, Record, whole}
 use Rattle.bai2_read.specs.declared.kind.Kind.{Kind}
-use Rattle.bai2_read.specs.declared.kind.Kind.TheVariants.{Blank, FileHeader, GroupHeader, AccountHeader, Detail, AccountTrailer, Continuation, GroupTrailer, FileTrailer, Unknown, NoRecord}
+use Rattle.bai2_read.specs.declared.kind.Kind.TheVariants.{Blank, FileHeader, GroupHeader, AccountHeader, Detail}
+use Rattle.bai2_read.specs.declared.kind.Kind.TheVariants.{AccountTrailer, Continuation, GroupTrailer, FileTrailer}
+use Rattle.bai2_read.specs.declared.kind.Kind.TheVariants.{Unknown, NoRecord}
 
 -- a record that may still go on, by its lines
 pub record Begun : Type 0 where
@@ -56,7 +59,8 @@ add line kind body t = with_begun line kind body t.done t.last
 
 -- a record that begins behind the others
 fill_begun : (line : ℕ) (kind : Kind) (body : List ℕ) (done : List Record) (last : Option Begun) (part : Part)
-    → done ++ behind last (record { loose = []; records = with_record line kind body [] part }) ≡ fill (with_begun line kind body done last) part
+    → done ++ behind last (record { loose = []; records = with_record line kind body [] part }) ≡ fill
+    (with_begun line kind body done last) part
 fill_begun line kind body done None part = refl
 fill_begun line kind body done (Some b) part =
     elim (cases_Bool (continues b.kind)) [
@@ -73,12 +77,15 @@ fill_continued line body done None part = refl
 fill_continued line body done (Some b) part =
     elim (cases_Bool (continues b.kind)) [
       | inl goes ↦ rw goes (rw goes
-          (ap (λ l. done ++ whole b.line b.kind b.body l ∷ part.records) (sym (append_assoc b.more (record { line = line; body = body } ∷ []) part.loose))))
+          (ap (λ l. done ++ whole b.line b.kind b.body l ∷ part.records)
+          (sym (append_assoc b.more (record { line = line; body = body } ∷ []) part.loose))))
       | inr ends ↦ rw ends
           (sym (append_assoc done (whole_of b ∷ []) (whole line Continuation body part.loose ∷ part.records)))
     ]
 
-pub fill_add : (line : ℕ) (kind : Kind) (body : List ℕ) (t : Tree) (part : Part) → fill t (in_front line kind body part) ≡ fill (add line kind body t) part
+pub fill_add :
+    (line : ℕ) (kind : Kind) (body : List ℕ) (t : Tree) (part : Part) → fill t (in_front line kind body part) ≡ fill
+    (add line kind body t) part
 fill_add line Blank body t part = refl
 fill_add line Continuation body t part = fill_continued line body t.done t.last part
 fill_add line FileHeader body t part = fill_begun line FileHeader body t.done t.last part

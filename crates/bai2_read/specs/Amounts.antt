@@ -1,5 +1,6 @@
 -- Amounts and totals: counts of smallest units with an optional sign (BAI2, amounts have implied decimals).
-use Rattle.std.specs.Prelude.{ℕ, ◌==◌, nat_le, nat_lt, Bool, ◌&&◌, ◌||◌, List, length, drop, slice_index, Option, Some, None, if◌then◌else◌, ℤ, pos, negsuc, neg_ℤ, ◌≤ℤ◌}
+use Rattle.std.specs.Prelude.{ℕ, ◌==◌, nat_le, nat_lt, Bool, ◌&&◌, ◌||◌, List, length, drop, slice_index, Option, Some}
+use Rattle.std.specs.Prelude.{None, if◌then◌else◌, ℤ, pos, negsuc, neg_ℤ, ◌≤ℤ◌}
 use Rattle.book_statement.specs.Numbers.{has_digits, largest_amount, number}
 
 -- A text without a plus or a minus in front.

@@ -1,7 +1,8 @@
 -- What the records before a record say: the accounts of a group and the groups of a file, their sums and counts, and
 -- the statements. An account is a header 03 with the records behind it up to its trailer 49, a group a header 02 with
 -- its accounts up to its trailer 98, and a file a header 01 with its groups up to its trailer 99.
-use Rattle.std.specs.Prelude.{ℕ, Bool, List, [], ◌∷◌, fold, sum_by, codes, Option, Some, None, if◌then◌else◌, ℤ, pos, ◌+ℤ◌}
+use Rattle.std.specs.Prelude.{ℕ, Bool, List, [], ◌∷◌, fold, sum_by, codes, Option, Some, None, if◌then◌else◌, ℤ, pos}
+use Rattle.std.specs.Prelude.{◌+ℤ◌}
 use Rattle.std.specs.Ordering.{int_eq}
 use Rattle.std.specs.List.{flat_map, list_any}
 use Rattle.std.specs.Option.{unwrap_or}
@@ -19,7 +20,8 @@ use Rattle.bai2_read.specs.Records.{Record}
 use Rattle.bai2_read.specs.Summaries.{closing, items, opening, sum_of_items}
 use Rattle.bai2_read.specs.declared.context.Context.{Context}
 use Rattle.bai2_read.specs.declared.kind.Kind.{Kind}
-use Rattle.bai2_read.specs.declared.kind.Kind.TheVariants.{Blank, GroupHeader, AccountHeader, Detail, AccountTrailer, GroupTrailer}
+use Rattle.bai2_read.specs.declared.kind.Kind.TheVariants.{Blank, GroupHeader, AccountHeader, Detail, AccountTrailer}
+use Rattle.bai2_read.specs.declared.kind.Kind.TheVariants.{GroupTrailer}
 use Rattle.bai2_read.specs.declared.tally.Tally.{Tally}
 
 -- The list from its last item on that passes the test; the whole list where none does.

@@ -1,6 +1,7 @@
 -- The fields of a record: the parts between commas, each with its comma in front (BAI2, fields are delimited by
 -- commas).
-use Rattle.std.specs.Prelude.{ℕ, ◌+◌, ◌-◌, ◌*◌, ◌==◌, nat_le, Bool, true, false, ◌&&◌, ◌||◌, List, [], ◌∷◌, length, drop, slice_index, count_by, is_some, if◌then◌else◌, ℤ}
+use Rattle.std.specs.Prelude.{ℕ, ◌+◌, ◌-◌, ◌*◌, ◌==◌, nat_le, Bool, true, false, ◌&&◌, ◌||◌, List, [], ◌∷◌, length}
+use Rattle.std.specs.Prelude.{drop, slice_index, count_by, is_some, if◌then◌else◌, ℤ}
 use Rattle.std.specs.List.{before_first}
 use Rattle.std.specs.Option.{unwrap_or}
 use Rattle.book_statement.specs.Dates.{short_date}

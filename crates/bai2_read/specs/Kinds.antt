@@ -1,10 +1,13 @@
 -- The records of a BAI2 file by their codes: what a line is, and which record may follow which (BAI2, record types).
-use Rattle.std.specs.Prelude.{ℕ, ◌+◌, ◌-◌, ◌*◌, ◌==◌, nat_le, Bool, true, false, ◌&&◌, ◌||◌, List, [], length, take, drop, slice_index, if◌then◌else◌}
+use Rattle.std.specs.Prelude.{ℕ, ◌+◌, ◌-◌, ◌*◌, ◌==◌, nat_le, Bool, true, false, ◌&&◌, ◌||◌, List, [], length, take}
+use Rattle.std.specs.Prelude.{drop, slice_index, if◌then◌else◌}
 use Rattle.std.specs.Char.{is_ascii_digit}
 use Rattle.book_statement.specs.declared.level.Level.{Level}
 use Rattle.book_statement.specs.declared.level.Level.TheVariants.{Account, Group}
 use Rattle.bai2_read.specs.declared.kind.Kind.{Kind}
-use Rattle.bai2_read.specs.declared.kind.Kind.TheVariants.{Blank, FileHeader, GroupHeader, AccountHeader, Detail, AccountTrailer, Continuation, GroupTrailer, FileTrailer, Unknown, NoRecord}
+use Rattle.bai2_read.specs.declared.kind.Kind.TheVariants.{Blank, FileHeader, GroupHeader, AccountHeader, Detail}
+use Rattle.bai2_read.specs.declared.kind.Kind.TheVariants.{AccountTrailer, Continuation, GroupTrailer, FileTrailer}
+use Rattle.bai2_read.specs.declared.kind.Kind.TheVariants.{Unknown, NoRecord}
 
 -- A line without one slash at its end, which ends the fields of a record.
 abbrev pub without_slash : List ℕ → List ℕ

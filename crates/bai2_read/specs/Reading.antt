@@ -1,5 +1,6 @@
 -- The grammar of a BAI2 file: the checks of each record, and what a text says, its statements or its fault.
-use Rattle.std.specs.Prelude.{ℕ, ◌+◌, ◌==◌, nat_lt, Bool, false, ◌&&◌, ◌||◌, not, List, [], ◌∷◌, ◌++◌, length, codes, is_some, is_none, if◌then◌else◌, Result, pos}
+use Rattle.std.specs.Prelude.{ℕ, ◌+◌, ◌==◌, nat_lt, Bool, false, ◌&&◌, ◌||◌, not, List, [], ◌∷◌, ◌++◌, length, codes}
+use Rattle.std.specs.Prelude.{is_some, is_none, if◌then◌else◌, Result, pos}
 use Rattle.std.specs.Ordering.{int_eq}
 use Rattle.std.specs.List.{list_all}
 use Rattle.book_commodity.specs.declared.commodity.Commodity.{Commodity}
@@ -9,9 +10,12 @@ use Rattle.book_statement.specs.Dates.{short_date}
 use Rattle.book_statement.specs.Keys.{same_text}
 use Rattle.book_statement.specs.Lists.{each_after}
 use Rattle.book_statement.specs.Texts as texts
-use Rattle.book_statement.specs.declared.bad.Bad.TheVariants.{NoStatement, RecordOrder, FieldForm, DateForm, AmountForm, UnknownCurrency, Version, GroupStatus, ControlTotal, Count, CutOff, TooMany}
+use Rattle.book_statement.specs.declared.bad.Bad.TheVariants.{NoStatement, RecordOrder, FieldForm, DateForm, AmountForm}
+use Rattle.book_statement.specs.declared.bad.Bad.TheVariants.{UnknownCurrency, Version, GroupStatus, ControlTotal}
+use Rattle.book_statement.specs.declared.bad.Bad.TheVariants.{Count, CutOff, TooMany}
 use Rattle.book_statement.specs.declared.count_of.CountOf.{CountOf}
-use Rattle.book_statement.specs.declared.count_of.CountOf.TheVariants.{AccountRecords, GroupAccounts, GroupRecords, FileGroups, FileRecords}
+use Rattle.book_statement.specs.declared.count_of.CountOf.TheVariants.{AccountRecords, GroupAccounts, GroupRecords}
+use Rattle.book_statement.specs.declared.count_of.CountOf.TheVariants.{FileGroups, FileRecords}
 use Rattle.book_statement.specs.declared.fault.StatementFault.{StatementFault}
 use Rattle.book_statement.specs.declared.level.Level.{Level}
 use Rattle.book_statement.specs.declared.level.Level.TheVariants.{Account, Group, File}
@@ -26,7 +30,9 @@ use Rattle.bai2_read.specs.Records.{Record}
 use Rattle.bai2_read.specs.Summaries.{has_amount, has_date, has_form, items}
 use Rattle.bai2_read.specs.declared.context.Context.{Context}
 use Rattle.bai2_read.specs.declared.kind.Kind.{Kind}
-use Rattle.bai2_read.specs.declared.kind.Kind.TheVariants.{Blank, FileHeader, GroupHeader, AccountHeader, Detail, AccountTrailer, Continuation, GroupTrailer, FileTrailer, Unknown, NoRecord}
+use Rattle.bai2_read.specs.declared.kind.Kind.TheVariants.{Blank, FileHeader, GroupHeader, AccountHeader, Detail}
+use Rattle.bai2_read.specs.declared.kind.Kind.TheVariants.{AccountTrailer, Continuation, GroupTrailer, FileTrailer}
+use Rattle.bai2_read.specs.declared.kind.Kind.TheVariants.{Unknown, NoRecord}
 use Rattle.bai2_read.specs.declared.tally.Tally.{Tally}
 
 abbrev pub Known : Type 0

@@ -1,6 +1,7 @@
 -- The balances and totals that an account's header gives (BAI2, record 03): a type, an amount, an item count and a
 -- funds type with its further fields, again and again behind the account and its currency.
-use Rattle.std.specs.Prelude.{ℕ, ◌≡◌, ◌<◌, ◌+◌, ◌-◌, ◌==◌, slice_index, Bool, ◌&&◌, ◌||◌, List, [], ◌∷◌, length, fold, Option, Some, None, if◌then◌else◌, ℤ, pos, ◌+ℤ◌}
+use Rattle.std.specs.Prelude.{ℕ, ◌≡◌, ◌<◌, ◌+◌, ◌-◌, ◌==◌, slice_index, Bool, ◌&&◌, ◌||◌, List, [], ◌∷◌, length, fold}
+use Rattle.std.specs.Prelude.{Option, Some, None, if◌then◌else◌, ℤ, pos, ◌+ℤ◌}
 use Rattle.book_statement.specs.Keys.{same_text}
 use Rattle.bai2_read.specs.Amounts.{amount, is_amount}
 use Rattle.bai2_read.specs.Fields.{after_fields, field, funds_date, funds_form, further, is_count}

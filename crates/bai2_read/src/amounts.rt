@@ -1,7 +1,8 @@
 ghost use Rattle.std.specs.Prelude.{◌≡◌, ◌<◌, ◌≤◌, ◌^◌, IsTrue, ℤ, pos, negsuc, ◌≤ℤ◌, length};
 ghost use Rattle.book_statement.specs.Numbers.{number};
 ghost use Rattle.bai2_read.specs.Fields.{count, is_count};
-ghost use Rattle.bai2_read.specs.Amounts.{IsSmall, amount, is_amount, is_credit, is_debit, is_given, is_signed, is_total, line_amount, signed_number, total, without_sign};
+ghost use Rattle.bai2_read.specs.Amounts.{IsSmall, amount, is_amount, is_credit, is_debit, is_given, is_signed};
+ghost use Rattle.bai2_read.specs.Amounts.{is_total, line_amount, signed_number, total, without_sign};
 
 use book_statement::{LARGEST_AMOUNT, has_digits, number};
 

@@ -1,7 +1,9 @@
 ghost use Rattle.std.specs.Prelude.{◌≡◌, ◌<◌, ◌^◌, ◌∷◌, []};
 ghost use Rattle.book_statement.specs.Checks.{Tells, first_fault};
 ghost use Rattle.bai2_read.specs.Kinds.{may_follow};
-ghost use Rattle.bai2_read.specs.Reading.{account_checks, checks, count_check, count_checks, detail_checks, end_place, file_checks, group_checks, has_counts, own_checks, record_place, trailer_checks};
+ghost use Rattle.bai2_read.specs.Reading.{account_checks, checks, count_check, count_checks, detail_checks};
+ghost use Rattle.bai2_read.specs.Reading.{end_place, file_checks, group_checks, has_counts, own_checks};
+ghost use Rattle.bai2_read.specs.Reading.{record_place, trailer_checks};
 
 use crate::amounts::{count, is_amount, is_count, is_total, total};
 use crate::context::Context;

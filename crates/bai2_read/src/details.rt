@@ -1,5 +1,6 @@
 ghost use Rattle.std.specs.Prelude.{◌≡◌, ◌<◌, IfOk};
-ghost use Rattle.bai2_read.specs.Details.{bank_reference, customer_reference, detail_amount, full_count, funds_part, is_type, line_of, own_text};
+ghost use Rattle.bai2_read.specs.Details.{bank_reference, customer_reference, detail_amount, full_count};
+ghost use Rattle.bai2_read.specs.Details.{funds_part, is_type, line_of, own_text};
 
 use crate::amounts::{amount, line_amount};
 use crate::fields::{after_fields, field, field_text, text_after};

@@ -20,7 +20,8 @@ impl Reader {
     ghost use Rattle.bai2_read.specs.Context.{context};
     ghost use Rattle.bai2_read.specs.Kinds.{body_of, kind_of};
     ghost use Rattle.bai2_read.specs.Summaries.{BeginsField};
-    ghost use Rattle.bai2_read.specs.Steps.{Steps, begun, end_result, fault_of, faults_of_continuation, faults_of_line, next, settled, went_on};
+    ghost use Rattle.bai2_read.specs.Steps.{Steps, begun, end_result, fault_of, faults_of_continuation};
+    ghost use Rattle.bai2_read.specs.Steps.{faults_of_line, next, settled, went_on};
 
     /// Before the first line.
     pub fn new(alloc: Global) -> Reader

@@ -1,7 +1,9 @@
 ghost use Rattle.std.specs.Prelude.{◌≡◌, ◌<◌, ◌∷◌, length};
 ghost use Rattle.std.specs.List.{list_all};
 ghost use Rattle.bai2_read.specs.Amounts.{IsSmall};
-ghost use Rattle.bai2_read.specs.Summaries.{BeginsField, balance, closing, given_amount, has_amount, has_date, has_form, is_passed, item_amount, items, items_after, opening, sum_of_items, width};
+ghost use Rattle.bai2_read.specs.Summaries.{BeginsField, balance, closing, given_amount, has_amount, has_date};
+ghost use Rattle.bai2_read.specs.Summaries.{has_form, is_passed, item_amount, items, items_after, opening};
+ghost use Rattle.bai2_read.specs.Summaries.{sum_of_items, width};
 
 use crate::amounts::{amount, is_amount, is_count};
 use crate::fields::{after_fields, field};

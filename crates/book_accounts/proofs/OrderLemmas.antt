@@ -1,6 +1,8 @@
 -- A rooted tree listed depth first: an account with all that stands under it is the account, then its children, each
 -- with all that stands under it.
-use Rattle.std.proofs.Common.{◌≡◌, nat_eq, ℕ, zero, suc, ◌+◌, ◌≤◌, ◌==◌, Bool, true, false, List, [], ◌∷◌, ◌++◌, cond, length, map, filter, reverse, Some, None, refl, sym, ap, subst, ◌∙◌, append_assoc, arith, if◌then◌else◌, eq-eqb, Option}
+use Rattle.std.proofs.Common.{◌≡◌, nat_eq, ℕ, zero, suc, ◌+◌, ◌≤◌, ◌==◌, Bool, true, false, List, [], ◌∷◌, ◌++◌, cond}
+use Rattle.std.proofs.Common.{length, map, filter, reverse, Some, None, refl, sym, ap, subst, ◌∙◌, append_assoc, arith}
+use Rattle.std.proofs.Common.{if◌then◌else◌, eq-eqb, Option}
 use Rattle.std.specs.List.{flat_map}
 use Rattle.std.specs.Option.{option_and_then, option_eq}
 use Rattle.std.proofs.lemmas.Bool.{eqb-true}
@@ -20,11 +22,13 @@ Each P (x ∷ xs) = P x × Each P xs
 
 flat_map_same : (f g : ℕ → List ℕ) (xs : List ℕ) → Each (λ x. f x ≡ g x) xs → flat_map f xs ≡ flat_map g xs
 flat_map_same f g [] h = refl
-flat_map_same f g (x ∷ xs) h = ap (λ (l : List ℕ). l ++ flat_map f xs) h.0 ∙ ap (λ (l : List ℕ). g x ++ l) (flat_map_same f g xs h.1)
+flat_map_same f g (x ∷ xs) h =
+    ap (λ (l : List ℕ). l ++ flat_map f xs) h.0 ∙ ap (λ (l : List ℕ). g x ++ l) (flat_map_same f g xs h.1)
 
 pub flat_map-append : (f : ℕ → List ℕ) (xs ys : List ℕ) → flat_map f (xs ++ ys) ≡ flat_map f xs ++ flat_map f ys
 flat_map-append f [] ys = refl
-flat_map-append f (x ∷ xs) ys = ap (λ (l : List ℕ). f x ++ l) (flat_map-append f xs ys) ∙ sym (append_assoc (f x) (flat_map f xs) (flat_map f ys))
+flat_map-append f (x ∷ xs) ys =
+    ap (λ (l : List ℕ). f x ++ l) (flat_map-append f xs ys) ∙ sym (append_assoc (f x) (flat_map f xs) (flat_map f ys))
 
 -- what holds of each account with this parent holds of all the children listed
 pub all_children :
@@ -39,22 +43,32 @@ all_children P parent (e ∷ es) r h =
     elim (c == e.0) as Same [
       | true ↦ λ same. absurd
           (let here : c ≡ e.0 = eqb-true c e.0 same in
-          let gone : value_of c es ≡ None = subst (λ (k : ℕ). value_of k es ≡ None) (sym here) (above_value e.0 es r.0) in cc)
+          let gone : value_of c es ≡ None = subst (λ (k : ℕ). value_of k es ≡ None) (sym here)
+          (above_value e.0 es r.0) in cc)
       | false ↦ λ other. h c a (ap (λ (t : Bool). if t then Some e.1 else value_of c es) other ∙ value) up
     ] refl) in
     let Kept : Bool → Type 0 = λ t. option_eq nat_eq e.1.parent parent ≡ t
-    → Each P (map (λ entry. entry.0) (cond t (e ∷ filter (λ entry. option_eq nat_eq entry.1.parent parent) es) (filter (λ entry. option_eq nat_eq entry.1.parent parent) es))) in
+    → Each P (map (λ entry. entry.0)
+    (cond t (e ∷ filter (λ entry. option_eq nat_eq entry.1.parent parent) es)
+    (filter (λ entry. option_eq nat_eq entry.1.parent parent) es))) in
     elim (option_eq nat_eq e.1.parent parent) as Kept [
-      | true ↦ λ kept. (h e.0 e.1 (ap (λ (t : Bool). if t then Some e.1 else value_of e.0 es) (eq-eqb e.0 e.0 refl)) (option_eq-true e.1.parent parent kept), rest)
+      | true ↦ λ kept. (
+        h e.0 e.1 (ap (λ (t : Bool). if t then Some e.1 else value_of e.0 es) (eq-eqb e.0 e.0 refl))
+            (option_eq-true e.1.parent parent kept),
+        rest,
+      )
       | false ↦ λ other. rest
     ] refl
 
-pub has_parent : (tree : List (ℕ × Account)) (c m : ℕ) (a : Account) → value_of c tree ≡ Some a → a.parent ≡ Some m → parent_of tree c ≡ Some m
+pub has_parent :
+    (tree : List (ℕ × Account)) (c m : ℕ) (a : Account) → value_of c tree ≡ Some a → a.parent ≡ Some m
+    → parent_of tree c ≡ Some m
 has_parent tree c m a value up = ap (option_and_then (λ account. account.parent)) value ∙ up
 
 -- one generation more adds nothing where an account's way up and the generations reach past the tree
 same_generations :
-    (most : ℕ) (tree : List (ℕ × Account)) (n : ℕ) (way : List ℕ) → Rises tree → IsWayUp tree n way → length tree ≤ most + length way
+    (most : ℕ) (tree : List (ℕ × Account)) (n : ℕ) (way : List ℕ) → Rises tree → IsWayUp tree n way
+    → length tree ≤ most + length way
     → with_generations most tree n ≡ with_generations (suc most) tree n
 unfolding with_generations
 same_generations zero tree n way r w h = absurd (omega (arith, way_short tree n way r w))
@@ -64,7 +78,9 @@ same_generations (suc most) tree n way r w h =
     (all_children (λ c. with_generations most tree c ≡ with_generations (suc most) tree c) (Some n) tree r
     (λ c a value up. same_generations most tree c (n ∷ way) r (has_parent tree c n a value up, w) (omega (arith, h)))))
 
-pub some_below : (tree : List (ℕ × Account)) (c m : ℕ) (way : List ℕ) → IsWayUp tree c way → parent_of tree c ≡ Some m → (above : List ℕ) × IsWayUp tree m above
+pub some_below :
+    (tree : List (ℕ × Account)) (c m : ℕ) (way : List ℕ) → IsWayUp tree c way → parent_of tree c ≡ Some m
+    → (above : List ℕ) × IsWayUp tree m above
 some_below tree c m [] w up = absurd (let top = w.1 in cc)
 some_below tree c m (q ∷ above) w up =
     let first = w.0 in
@@ -86,7 +102,9 @@ whole (suc most) tree n r rooted e =
     let above = some_below tree c n way.0 way.1 up in
     same_generations most tree c (n ∷ above.0) r (up, above.1) (omega (arith, e)))))
 
-pub whole_is : (tree : List (ℕ × Account)) (n : ℕ) → Rises tree → IsRooted tree → with_all_under tree n ≡ n ∷ flat_map (with_all_under tree) (children_of tree (Some n))
+pub whole_is :
+    (tree : List (ℕ × Account)) (n : ℕ) → Rises tree → IsRooted tree → with_all_under tree n ≡ n
+    ∷ flat_map (with_all_under tree) (children_of tree (Some n))
 whole_is tree n r rooted = whole (length tree) tree n r rooted refl
 
 -- what is left to list, after the account on top of the pending ones was listed and its children put in its place

@@ -23,8 +23,11 @@ account name kind parent = record {
 }
 
 abbrev pub tree : List (ℕ × Account)
-tree = (2, account (codes "Root") Root None) ∷ (4, account (codes "Safe") Cash (Some 7)) ∷ (5, account (codes "Income") Income (Some 2))
-    ∷ (6, account (codes "Assets") Asset (Some 2)) ∷ (7, account (codes "Cash") Cash (Some 6)) ∷ (9, account (codes "Bank") Bank (Some 6)) ∷ []
+tree =
+    (2, account (codes "Root") Root None) ∷ (4, account (codes "Safe") Cash (Some 7))
+    ∷ (5, account (codes "Income") Income (Some 2))
+    ∷ (6, account (codes "Assets") Asset (Some 2)) ∷ (7, account (codes "Cash") Cash (Some 6))
+    ∷ (9, account (codes "Bank") Bank (Some 6)) ∷ []
 
 above_safe : ancestors tree 4 ≡ 7 ∷ 6 ∷ 2 ∷ []
 unfolding nearest_parents

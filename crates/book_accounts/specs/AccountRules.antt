@@ -34,8 +34,8 @@ fits_basis commodities false basis = is_none basis
 abbrev pub has_parent_unless_root : Account → Bool
 has_parent_unless_root account = beq (is_none account.parent) (is_root account.kind)
 
--- Whether an account takes no splits where it is a root: it only groups all others (GnuCash Concepts Guide, placeholder
--- accounts).
+-- Whether an account takes no splits where it is a root: it only groups all others (GnuCash Concepts Guide,
+-- placeholder accounts).
 abbrev pub is_placeholder_if_root : Account → Bool
 is_placeholder_if_root account = not (is_root account.kind) || account.placeholder
 

@@ -1,7 +1,9 @@
 -- Groups of account kinds, and which kind may stand under which (GnuCash Concepts Guide, account types).
 use Rattle.std.specs.Prelude.{Bool, true, false, Option, Some, None}
 use Rattle.book_accounts.specs.declared.kind.AccountKind.{AccountKind}
-use Rattle.book_accounts.specs.declared.kind.AccountKind.TheVariants.{Root, Asset, Bank, Cash, Credit, Liability, Stock, Mutual, Receivable, Payable, Income, Expense, Equity}
+use Rattle.book_accounts.specs.declared.kind.AccountKind.TheVariants.{Root, Asset, Bank, Cash, Credit, Liability, Stock}
+use Rattle.book_accounts.specs.declared.kind.AccountKind.TheVariants.{Mutual, Receivable, Payable, Income, Expense}
+use Rattle.book_accounts.specs.declared.kind.AccountKind.TheVariants.{Equity}
 use Rattle.book_accounts.specs.declared.kind.AccountGroup.{AccountGroup}
 use Rattle.book_accounts.specs.declared.kind.AccountGroup.TheVariants as group
 

@@ -1,6 +1,7 @@
 -- The rules by which an account may be added to a tree, or moved and renamed in it. A broken rule is told with its
 -- fields, and of several the first in the order given.
-use Rattle.std.specs.Prelude.{◌≡◌, ℕ, ◌==◌, nat_eq, Bool, ◌&&◌, not, if◌then◌else◌, List, [], ◌∷◌, Option, Some, None, is_none, option_map, find, Result, Ok, Err}
+use Rattle.std.specs.Prelude.{◌≡◌, ℕ, ◌==◌, nat_eq, Bool, ◌&&◌, not, if◌then◌else◌, List, [], ◌∷◌, Option, Some, None}
+use Rattle.std.specs.Prelude.{is_none, option_map, find, Result, Ok, Err}
 use Rattle.std.specs.List.{list_any}
 use Rattle.std.specs.Option.{option_eq}
 use lib.Pointwise.{pointwise}
@@ -52,7 +53,8 @@ kind_at tree number = option_map (λ account. account.kind) (value_of number tre
 abbrev pub add_rule_under : List (ℕ × Account) → Account → Option ℕ → Option TreeRule
 add_rule_under tree account None = Some ParentKind
 add_rule_under tree account (Some parent) =
-    first_broken (unknown_account tree parent ∷ name_taken tree None parent account.name ∷ parent_kind (Some account.kind) (kind_at tree parent) ∷ [])
+    first_broken (unknown_account tree parent ∷ name_taken tree None parent account.name
+    ∷ parent_kind (Some account.kind) (kind_at tree parent) ∷ [])
 
 -- The first rule that adding an account would break; without a parent it breaks the rule of kinds.
 abbrev pub add_rule : List (ℕ × Account) → Account → Option TreeRule

@@ -8,7 +8,8 @@ use Rattle.book_accounts.specs.declared.account.Account.{Account}
 abbrev pub parent_of : List (ℕ × Account) → ℕ → Option ℕ
 parent_of tree number = option_and_then (λ account. account.parent) (value_of number tree)
 
--- The way up from an account: its parent, the parent of that, and so on, each of them there, to an account without one.
+-- The way up from an account: its parent, the parent of that, and so on, each of them there, to an account without
+-- one.
 abbrev pub IsWayUp : List (ℕ × Account) → ℕ → List ℕ → Type 0
 IsWayUp tree number [] = IsSome (value_of number tree) × (parent_of tree number ≡ None)
 IsWayUp tree number (parent ∷ above) = (parent_of tree number ≡ Some parent) × IsWayUp tree parent above
@@ -26,7 +27,8 @@ unfoldable pub nearest_parents : ℕ → List (ℕ × Account) → ℕ → List 
 nearest_parents zero tree number = []
 nearest_parents (suc most) tree number = followed_up (parent_of tree number) (nearest_parents most tree)
 
--- All the accounts that an account stands under, from the nearest on: the way up, which has fewer accounts than the tree.
+-- All the accounts that an account stands under, from the nearest on: the way up, which has fewer accounts than the
+-- tree.
 abbrev pub ancestors : List (ℕ × Account) → ℕ → List ℕ
 ancestors tree number = nearest_parents (length tree) tree number
 

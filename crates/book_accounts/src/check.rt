@@ -1,7 +1,8 @@
 ghost use Rattle.std.specs.Prelude.{◌≡◌, ◌<◌, [], length, Some, OnOk, MatchBool, IfOk, option_map, slice_get};
 ghost use Rattle.std.specs.Bool.{OnFalse};
 ghost use Rattle.book_commodity.specs.Table.{value_of, without_entry};
-ghost use Rattle.book_accounts.specs.Rules.{IsAnswer, add_rule, is_within, is_namesake, move_rule, name_taken, namesake, parent_kind, unknown_account};
+ghost use Rattle.book_accounts.specs.Rules.{IsAnswer, add_rule, is_within, is_namesake, move_rule, name_taken};
+ghost use Rattle.book_accounts.specs.Rules.{namesake, parent_kind, unknown_account};
 ghost use Rattle.book_accounts.specs.Soundness.{CanBeAdded, CanBeMoved, KeepsTree, StaysRooted};
 ghost use Rattle.book_accounts.specs.Tree.{IsRooted, children_of};
 
@@ -42,7 +43,8 @@ impl Tree {
 
     /// Whether an account stands right under the one with this number. One with none under it can be taken out.
     pub fn has_children(&self, number: u64) -> bool
-        ensures children { let children = children_of self.now.entries (Some number) in MatchBool result (0 < length children) (children ≡ []) }
+        ensures children { let children = children_of self.now.entries (Some number) in
+            MatchBool result (0 < length children) (children ≡ []) }
         ensures keeps { OnFalse result (KeepsTree self.now.entries (without_entry number self.now.entries)) }
     {
         for place in 0..self.len() {

@@ -1,6 +1,7 @@
 //! The tree of accounts: kinds, groups, names and parents, and the rules by which an account may be added or moved
 //! (GnuCash Concepts Guide, accounts). Under one root stand accounts of three groups; siblings have different names,
-//! and a parent and its child are in one group. Public are the kinds, `Account`, its `Tree`, and the rules of the tree.
+//! and a parent and its child are in one group. Public are the kinds, `Account`, its `Tree`, and the rules of the
+//! tree.
 #![tactic(auto)]
 
 mod account;

@@ -40,7 +40,8 @@ impl Tree {
 
     /// The names of the accounts in order, parted by `:`.
     fn joined_names(&self, numbers: &[u64]) -> Result<String, OutOfMemory>
-        ensures { IfOk result (λ names. string_bytes names ≡ join_with_byte 58 (map (name_at self.now.entries) numbers.now)) }
+        ensures { IfOk result (λ names.
+            string_bytes names ≡ join_with_byte 58 (map (name_at self.now.entries) numbers.now)) }
     {
         let mut names = String::new(self.alloc);
         for (place, number) in numbers.iter().enumerate() {

@@ -1,4 +1,5 @@
-ghost use Rattle.std.specs.Prelude.{◌≡◌, ◌+◌, ◌<◌, ◌≤◌, [], length, if◌then◌else◌, is_none, is_some, IsNone, Some, OnOk, OnErr, slice_get, option_map};
+ghost use Rattle.std.specs.Prelude.{◌≡◌, ◌+◌, ◌<◌, ◌≤◌, [], length, if◌then◌else◌, is_none, is_some, IsNone, Some};
+ghost use Rattle.std.specs.Prelude.{OnOk, OnErr, slice_get, option_map};
 ghost use Rattle.std.specs.Option.{option_copied};
 ghost use Rattle.book_accounts.specs.Tree.{parent_of};
 ghost use Rattle.book_commodity.specs.Table.{Rises, value_of, with_entry, without_entry};

@@ -38,14 +38,16 @@ pub replies-fault :
 replies-fault state bytes wire.NotJson result read text_is =
     IfOk-weaker result _ _
     (λ text is. (IsAnswer-fault wire.NotJson text is, record { asked = NotJson; read = read; reply = (is, refl) }))
-        text_is
+    text_is
 replies-fault state bytes (wire.NotCommand name) result read text_is =
     IfOk-weaker result _ _
-    (λ text is. (IsAnswer-fault (wire.NotCommand name) text is,
-        record { asked = NotCommand name; read = read; reply = (is, refl) })) text_is
+    (λ text is. (
+      IsAnswer-fault (wire.NotCommand name) text is,
+      record { asked = NotCommand name; read = read; reply = (is, refl) },
+    )) text_is
 replies-fault state bytes wire.NotBuilt result read text_is =
     IfOk-weaker result _ _
     (λ text is. (IsAnswer-fault wire.NotBuilt text is, record { asked = NotBuilt; read = read; reply = (is, refl) }))
-        text_is
+    text_is
 replies-fault state bytes wire.OutOfMemory result read text_is =
     IfOk-weaker result _ _ (λ text is. absurd (no_text text is)) text_is

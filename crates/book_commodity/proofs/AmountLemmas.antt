@@ -1,5 +1,6 @@
 -- The size of a scaled amount, and the powers of ten.
-use Rattle.std.proofs.Common.{◌≡◌, ℕ, zero, suc, ◌+◌, ◌^◌, ◌<◌, Bool, true, ◌&&◌, eqb, List, [], ◌∷◌, length, get_or, refl, arith, ℤ, pos, negsuc, unsigned_abs}
+use Rattle.std.proofs.Common.{◌≡◌, ℕ, zero, suc, ◌+◌, ◌^◌, ◌<◌, Bool, true, ◌&&◌, eqb, List, [], ◌∷◌, length, get_or}
+use Rattle.std.proofs.Common.{refl, arith, ℤ, pos, negsuc, unsigned_abs}
 use Rattle.std.proofs.lemmas.Bool.Decides.{nat_tests}
 use Rattle.book_commodity.specs.Amount.{with_sign_of, powers_of_ten}
 
@@ -13,10 +14,13 @@ are_powers : ℕ → List ℕ → Bool
 are_powers first [] = true
 are_powers first (p ∷ ps) = eqb p (10 ^ first) && are_powers (suc first) ps
 
-power_from : (first place : ℕ) (ps : List ℕ) → are_powers first ps ≡ true → place < length ps → get_or ps place 0 ≡ 10 ^ (place + first)
+power_from :
+    (first place : ℕ) (ps : List ℕ) → are_powers first ps ≡ true → place < length ps
+    → get_or ps place 0 ≡ 10 ^ (place + first)
 unfolding are_powers
 power_from first place [] h lt = absurd (omega arith)
-power_from first zero (p ∷ ps) h lt = let same : zero + first ≡ first = omega arith in rw same (grind (arith, nat_tests))
+power_from first zero (p ∷ ps) h lt =
+    let same : zero + first ≡ first = omega arith in rw same (grind (arith, nat_tests))
 power_from first (suc place) (p ∷ ps) h lt =
     let same : suc place + first ≡ place + suc first = omega arith in
     rw same (power_from (suc first) place ps (grind (arith, nat_tests)) (omega arith))

@@ -1,5 +1,6 @@
 -- Days as numbers: how many days lie between 1970-01-01 and the day, in the Gregorian calendar.
-use Rattle.std.specs.Prelude.{ℕ, zero, suc, ◌≡◌, ◌+◌, ◌-◌, ◌*◌, ◌/◌, ◌%◌, ◌<◌, ◌≤◌, ◌⊎◌, min, Bool, if◌then◌else◌, List, [], ◌∷◌, ◌++◌, ℤ, pos, negsuc, ◌-ℤ◌, unsigned_abs, int_le}
+use Rattle.std.specs.Prelude.{ℕ, zero, suc, ◌≡◌, ◌+◌, ◌-◌, ◌*◌, ◌/◌, ◌%◌, ◌<◌, ◌≤◌, ◌⊎◌, min, Bool, if◌then◌else◌, List}
+use Rattle.std.specs.Prelude.{[], ◌∷◌, ◌++◌, ℤ, pos, negsuc, ◌-ℤ◌, unsigned_abs, int_le}
 use Rattle.jiff_core.specs.Calendar.{IsBetween, IsCivilDate, days_in_month, days_from_civil}
 
 -- A day of the book lies from 1900-01-01 to 2199-12-31.

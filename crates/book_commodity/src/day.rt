@@ -1,7 +1,8 @@
 ghost use Rattle.std.specs.Prelude.{◌≡◌, ◌+◌, ◌<◌, ◌≤◌, ◌↔◌, ℕ, ℤ, pos, ◌+ℤ◌, [], ◌∷◌, IsSome, IfSome, IfNone};
 ghost use Rattle.std.specs.Int.{IsInRange};
 ghost use Rattle.jiff_core.specs.Calendar.{days_from_civil, weekday_number};
-ghost use Rattle.book_commodity.specs.Day.{IsDay, IsBookDate, year_of, month_of, day_of_month, two_digits, date_text, IsSpelled, day_text, clipped_day, months_later};
+ghost use Rattle.book_commodity.specs.Day.{IsDay, IsBookDate, year_of, month_of, day_of_month, two_digits};
+ghost use Rattle.book_commodity.specs.Day.{date_text, IsSpelled, day_text, clipped_day, months_later};
 
 use jiff_core::civil::{self, Date};
 use std::marker::Model;

@@ -58,7 +58,8 @@ impl<W: Write> Sink for StreamSink<W> {
     ghost faults = { λ sink. sink.faults };
 
     /// Writes and flushes once, each again only where it was interrupted: up to 1,000,000 times in all. Failed, and
-    /// one fault counted, where the writer answers another error, is interrupted each time, or takes nothing of a piece.
+    /// one fault counted, where the writer answers another error, is interrupted each time, or takes nothing of a
+    /// piece.
     fn write(&mut self, bytes: &[u8]) -> Result<usize, Failed>
         ensures within { IfOk result (λ count. count ≤ length bytes.now) }
         ensures progress { IfOk result (λ count. 0 < length bytes.now → 0 < count) }

@@ -8,8 +8,7 @@ use Rattle.book_lines.specs.declared.running.RunEnd.{RunEnd}
 use Rattle.book_lines.specs.declared.running.RunEnd.TheVariants.{Done, InputLimit, InputFault, OutputFault}
 
 -- what is seen at one moment: the machine's state, the bytes that the output may have been given, and the faults of
--- what
--- is kept
+-- what is kept
 pub record Moment (S : Type 0) : Type 1 where
   pub machine : S
   pub written : List ℕ → Type 0
@@ -35,8 +34,7 @@ pub record IsBroken
   pub kept : RoseForEach old.faults new.faults (marks text ++ mark ∷ [])
 
 -- By the end of the run: `bytes` is what the input had left before, `read` what was read of it, `left` what it has
--- left
--- now, `text` what was written.
+-- left now, `text` what was written.
 abbrev pub RunClause :
     {S : Type 0} → AnswerRelation S → Moment S → List ℕ → List ℕ → List ℕ → List ℕ → Moment S → RunEnd → Type 0
 RunClause answers old bytes read left text new Done =

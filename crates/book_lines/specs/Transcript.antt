@@ -29,10 +29,8 @@ pub record IsCutShort {S : Type 0} (answers : AnswerRelation S) (old : S) (all :
   pub run : Run answers old (take (length (marks text) + 1) (sent all)) (marks text ++ mark ∷ []) (text ++ more) new
 
 -- How a machine answers one line, given its replies, its answer to a line of more than 8 MiB, which states are the
--- same
--- to it, and which lines change a state: a line that is too long, or that it is out of memory for, leaves the state;
--- and
--- only a line that changes the state is refused because of what is kept.
+-- same to it, and which lines change a state: a line that is too long, or that it is out of memory for, leaves the
+-- state; and only a line that changes the state is refused because of what is kept.
 abbrev pub Answers :
     {S : Type 0} → (S → List ℕ → List ℕ → S → Type 0) → (ℕ → List ℕ) → (S → S → Type 0) → (S → List ℕ → Type 0)
     → AnswerRelation S

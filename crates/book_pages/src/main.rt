@@ -46,10 +46,12 @@ fn is_example(rt: &HostRuntime, name: &str, answered: &str) -> io::Result<bool> 
 
 /// Compares all pages and examples.
 fn compare(rt: &HostRuntime) -> io::Result<bool> {
-    Ok(is_session(rt, "GUIDE.md")?
-        && is_of_session(rt, "COMMANDS.md", "household.jsonl")?
-        && is_example(rt, "month.jsonl", "month.answers.jsonl")?
-        && is_example(rt, "salary.jsonl", "salary.answers.jsonl")?)
+    Ok(
+        is_session(rt, "GUIDE.md")?
+            && is_of_session(rt, "COMMANDS.md", "household.jsonl")?
+            && is_example(rt, "month.jsonl", "month.answers.jsonl")?
+            && is_example(rt, "salary.jsonl", "salary.answers.jsonl")?,
+    )
 }
 
 fn main(rt: HostRuntime) -> ExitCode {

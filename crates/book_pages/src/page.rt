@@ -12,7 +12,11 @@ pub struct Page {
 impl Page {
     /// Whether each command stands in the session with its answer, and each answer of a table stands there too.
     pub fn is_shown_in(&self, commands: &str, answers: &str) -> bool {
-        let mut shown = self.commands.as_str().lines().zip(self.answers.as_str().lines());
+        let mut shown = self
+            .commands
+            .as_str()
+            .lines()
+            .zip(self.answers.as_str().lines());
         let mut told = self.told.as_str().lines();
         shown.all(|(command, answer)| has_pair(commands, answers, command, answer))
             && told.all(|answer| answers.lines().any(|line| line == answer))
@@ -50,7 +54,10 @@ pub fn page_of(alloc: Global, text: &str) -> Result<Page, AllocError> {
 /// Adds what one line of the page shows.
 fn add(page: &mut Page, line: &str) -> Result<(), AllocError> {
     match line.strip_prefix("    {") {
-        Some(_) if line.starts_with("    {\"do\":") => add_line(&mut page.commands, line.trim_start()),
+        Some(_) if line.starts_with("    {\"do\":") => add_line(
+            &mut page.commands,
+            line.trim_start(),
+        ),
         Some(_) => add_line(&mut page.answers, line.trim_start()),
         None => add_told(page, line),
     }

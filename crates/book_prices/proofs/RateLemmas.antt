@@ -1,10 +1,13 @@
 -- One price more: how the last price of a pair follows.
-use Rattle.std.proofs.Common.{◌≡◌, ℕ, ◌+◌, ◌<◌, ℤ, ◌≤ℤ◌, Bool, true, false, nat_lt, ◌==◌, if◌then◌else◌, List, [], ◌∷◌, ◌++◌, All, Contains, Option, None, Some, map, take, length, option_map, refl, sym, ap, subst, ◌∙◌, arith, lit<}
+use Rattle.std.proofs.Common.{◌≡◌, ℕ, ◌+◌, ◌<◌, ℤ, ◌≤ℤ◌, Bool, true, false, nat_lt, ◌==◌, if◌then◌else◌, List, [], ◌∷◌}
+use Rattle.std.proofs.Common.{◌++◌, All, Contains, Option, None, Some, map, take, length, option_map, refl, sym, ap}
+use Rattle.std.proofs.Common.{subst, ◌∙◌, arith, lit<}
 use Rattle.std.specs.List.{slice_get}
 use Rattle.std.proofs.lemmas.Int.{ints}
 use Rattle.std.proofs.lemmas.Bool.Decides.{nat_tests}
 use Rattle.std.proofs.lemmas.List.{map-append, take_more}
-use Rattle.std.proofs.lemmas.List.Elements.{All-push, All-weaker, All-map, All-get_or, All-cons, All-head, All-tail, Contains-append_left, Contains-append_right}
+use Rattle.std.proofs.lemmas.List.Elements.{All-push, All-weaker, All-map, All-get_or, All-cons, All-head, All-tail}
+use Rattle.std.proofs.lemmas.List.Elements.{Contains-append_left, Contains-append_right}
 use Rattle.std.proofs.lemmas.Option.{get_or_from_slice_get, slice_get_within}
 use Rattle.book_commodity.specs.Table.{Rises, value_of, with_entry}
 use Rattle.book_commodity.proofs.DrawnLemmas.{all_with}
@@ -12,7 +15,9 @@ use Rattle.book_commodity.proofs.TableLemmas.{value_of_place}
 use Rattle.book_prices.specs.Rate.{AreOnce, IsOf, IsLast, HasNone, IsBest, IsSound, is_same}
 use Rattle.book_prices.specs.declared.price.Price.{Price}
 
-there_still : (prices : List (ℕ × Price)) (entry : ℕ × Price) (price : Price) → Contains (map (λ e. e.1) prices) price → Contains (map (λ e. e.1) (prices ++ entry ∷ [])) price
+there_still :
+    (prices : List (ℕ × Price)) (entry : ℕ × Price) (price : Price) → Contains (map (λ e. e.1) prices) price
+    → Contains (map (λ e. e.1) (prices ++ entry ∷ [])) price
 there_still prices entry price h =
     subst (λ (ps : List Price). Contains ps price) (sym (map-append (λ e. e.1) prices (entry ∷ [])))
     (Contains-append_left (map (λ e. e.1) prices) (entry.1 ∷ []) price h)
@@ -37,9 +42,12 @@ later_than : (a b c : ℤ) → a ≤ℤ b → b ≤ℤ c → a ≤ℤ c
 later_than a b c p q = omega (arith, ints)
 
 -- a price that is not of the pair, or is later, leaves the best
-pub IsBest-other : (prices : List (ℕ × Price)) (entry : ℕ × Price) (commodity currency : ℕ) (day : ℤ) (best : Option Price)
-    → (IsOf commodity currency day entry.1 → ⊥) → IsBest prices commodity currency day best → IsBest (prices ++ entry ∷ []) commodity currency day best
-IsBest-other prices entry commodity currency day None other h = All-push (NotOf commodity currency day) prices entry h other
+pub IsBest-other :
+    (prices : List (ℕ × Price)) (entry : ℕ × Price) (commodity currency : ℕ) (day : ℤ) (best : Option Price)
+    → (IsOf commodity currency day entry.1 → ⊥) → IsBest prices commodity currency day best
+    → IsBest (prices ++ entry ∷ []) commodity currency day best
+IsBest-other prices entry commodity currency day None other h =
+    All-push (NotOf commodity currency day) prices entry h other
 IsBest-other prices entry commodity currency day (Some price) other h = record {
   of_pair = h.of_pair;
   there = there_still prices entry price h.there;
@@ -48,12 +56,14 @@ IsBest-other prices entry commodity currency day (Some price) other h = record {
 
 -- the first price of the pair is the best
 pub IsBest-first : (prices : List (ℕ × Price)) (entry : ℕ × Price) (commodity currency : ℕ) (day : ℤ)
-    → IsOf commodity currency day entry.1 → HasNone prices commodity currency day → IsBest (prices ++ entry ∷ []) commodity currency day (Some entry.1)
+    → IsOf commodity currency day entry.1 → HasNone prices commodity currency day
+    → IsBest (prices ++ entry ∷ []) commodity currency day (Some entry.1)
 IsBest-first prices entry commodity currency day is none = record {
   of_pair = is;
   there = there_now prices entry;
   last = All-push (NotAfter commodity currency day entry.1) prices entry
-      (All-weaker (NotOf commodity currency day) (NotAfter commodity currency day entry.1) (λ other not_one is_one. absurd (not_one is_one)) prices none) (λ is_one. same_day entry.1.day);
+      (All-weaker (NotOf commodity currency day) (NotAfter commodity currency day entry.1)
+      (λ other not_one is_one. absurd (not_one is_one)) prices none) (λ is_one. same_day entry.1.day);
 }
 
 -- a price that is not earlier than the best takes its place
@@ -64,27 +74,34 @@ IsBest-later prices entry commodity currency day found is later h = record {
   of_pair = is;
   there = there_now prices entry;
   last = All-push (NotAfter commodity currency day entry.1) prices entry
-      (All-weaker (NotAfter commodity currency day found) (NotAfter commodity currency day entry.1) (λ other before is_one. later_than _ _ _ (before is_one) later) prices h.last) (λ is_one. same_day entry.1.day);
+      (All-weaker (NotAfter commodity currency day found) (NotAfter commodity currency day entry.1)
+      (λ other before is_one. later_than _ _ _ (before is_one) later) prices h.last) (λ is_one. same_day entry.1.day);
 }
 
 -- a price that is earlier than the best leaves it
 pub IsBest-earlier : (prices : List (ℕ × Price)) (entry : ℕ × Price) (commodity currency : ℕ) (day : ℤ) (found : Price)
-    → entry.1.day ≤ℤ found.day → IsLast prices commodity currency day found → IsBest (prices ++ entry ∷ []) commodity currency day (Some found)
+    → entry.1.day ≤ℤ found.day → IsLast prices commodity currency day found
+    → IsBest (prices ++ entry ∷ []) commodity currency day (Some found)
 IsBest-earlier prices entry commodity currency day found earlier h = record {
   of_pair = h.of_pair;
   there = there_still prices entry found h.there;
   last = All-push (NotAfter commodity currency day found) prices entry h.last (λ is_one. earlier);
 }
 
-some-entry : (price : Price) (o : Option (ℕ × Price)) → option_map (λ (entry : ℕ × Price). entry.1) o ≡ Some price → (x : ℕ × Price) × (o ≡ Some x) × (x.1 ≡ price)
+some-entry :
+    (price : Price) (o : Option (ℕ × Price)) → option_map (λ (entry : ℕ × Price). entry.1) o ≡ Some price
+    → (x : ℕ × Price) × (o ≡ Some x) × (x.1 ≡ price)
 some-entry price None e = cc
 some-entry price (Some x) e = (x, refl, cc)
 
 -- one entry more, as the loop reads its price
-pub take-price : (entries : List (ℕ × Price)) (place : ℕ) (price : Price) → option_map (λ (entry : ℕ × Price). entry.1) (slice_get entries place) ≡ Some price
+pub take-price :
+    (entries : List (ℕ × Price)) (place : ℕ) (price : Price) → option_map (λ (entry : ℕ × Price). entry.1)
+    (slice_get entries place) ≡ Some price
     → (number : ℕ) × (take (place + 1) entries ≡ take place entries ++ (number, price) ∷ [])
 take-price entries place price e =
-    let x : (x : ℕ × Price) × (slice_get entries place ≡ Some x) × (x.1 ≡ price) = some-entry price (slice_get entries place) e in
+    let x : (x : ℕ × Price) × (slice_get entries place ≡ Some x) × (x.1 ≡ price) =
+    some-entry price (slice_get entries place) e in
     let below : place < length entries = slice_get_within entries place x.0 x.1 in (
       x.0.0,
       take_more entries place x.0 below
@@ -93,30 +110,37 @@ take-price entries place price e =
     )
 
 -- the best price behind one entry more
-pub IsBest-take : (entries : List (ℕ × Price)) (place : ℕ) (price : Price) (commodity currency : ℕ) (day : ℤ) (best : Option Price)
+pub IsBest-take :
+    (entries : List (ℕ × Price)) (place : ℕ) (price : Price) (commodity currency : ℕ) (day : ℤ) (best : Option Price)
     → option_map (λ (entry : ℕ × Price). entry.1) (slice_get entries place) ≡ Some price
     → ((number : ℕ) → IsBest (take place entries ++ (number, price) ∷ []) commodity currency day best)
     → IsBest (take (place + 1) entries) commodity currency day best
 IsBest-take entries place price commodity currency day best e h =
-    let more : (number : ℕ) × (take (place + 1) entries ≡ take place entries ++ (number, price) ∷ []) = take-price entries place price e in
+    let more : (number : ℕ) × (take (place + 1) entries ≡ take place entries ++ (number, price) ∷ []) =
+    take-price entries place price e in
     subst (λ (es : List (ℕ × Price)). IsBest es commodity currency day best) (sym more.1) (h more.0)
 
 -- what holds of all prices holds of the last
 pub IsSound-last : (prices : List (ℕ × Price)) (commodity currency : ℕ) (day : ℤ) (price : Price)
     → All (λ entry. IsSound entry.1) prices → IsLast prices commodity currency day price → IsSound price
 IsSound-last prices commodity currency day price sound h =
-    let all : All IsSound (map (λ (e : ℕ × Price). e.1) prices) = All-map IsSound (λ (e : ℕ × Price). e.1) prices sound in
-    subst (λ (p : Price). IsSound p) h.there.2 (All-get_or IsSound (map (λ (e : ℕ × Price). e.1) prices) h.there.0 price h.there.1 all)
+    let all : All IsSound (map (λ (e : ℕ × Price). e.1) prices) =
+    All-map IsSound (λ (e : ℕ × Price). e.1) prices sound in
+    subst (λ (p : Price). IsSound p) h.there.2
+    (All-get_or IsSound (map (λ (e : ℕ × Price). e.1) prices) h.there.0 price h.there.1 all)
 
 -- what holds of the prices so far and of the next holds of one more
 pub All-take : (P : Price → Type 0) (entries : List (ℕ × Price)) (place : ℕ) (price : Price)
     → option_map (λ (entry : ℕ × Price). entry.1) (slice_get entries place) ≡ Some price
     → All (λ entry. P entry.1) (take place entries) → P price → All (λ entry. P entry.1) (take (place + 1) entries)
 All-take P entries place price e all here =
-    let more : (number : ℕ) × (take (place + 1) entries ≡ take place entries ++ (number, price) ∷ []) = take-price entries place price e in
-    subst (λ (es : List (ℕ × Price)). All (λ entry. P entry.1) es) (sym more.1) (All-push (λ entry. P entry.1) (take place entries) (more.0, price) all here)
+    let more : (number : ℕ) × (take (place + 1) entries ≡ take place entries ++ (number, price) ∷ []) =
+    take-price entries place price e in
+    subst (λ (es : List (ℕ × Price)). All (λ entry. P entry.1) es) (sym more.1)
+    (All-push (λ entry. P entry.1) (take place entries) (more.0, price) all here)
 
-some-number : (number : ℕ) (x : ℕ × Price) → option_map (λ (entry : ℕ × Price). entry.0) (Some x) ≡ Some number → x.0 ≡ number
+some-number :
+    (number : ℕ) (x : ℕ × Price) → option_map (λ (entry : ℕ × Price). entry.0) (Some x) ≡ Some number → x.0 ≡ number
 some-number number x e = cc
 
 -- the price at a place stands under the number at that place
@@ -125,7 +149,8 @@ pub value_of-place : (entries : List (ℕ × Price)) (place number : ℕ) (price
     → option_map (λ (entry : ℕ × Price). entry.0) (slice_get entries place) ≡ Some number
     → value_of number entries ≡ Some price
 value_of-place entries place number price rises e n =
-    let x : (x : ℕ × Price) × (slice_get entries place ≡ Some x) × (x.1 ≡ price) = some-entry price (slice_get entries place) e in
+    let x : (x : ℕ × Price) × (slice_get entries place ≡ Some x) × (x.1 ≡ price) =
+    some-entry price (slice_get entries place) e in
     let is : x.0.0 ≡ number = some-number number x.0 (sym (ap (option_map (λ (entry : ℕ × Price). entry.0)) x.1) ∙ n) in
     ap (λ m. value_of m entries) (sym is) ∙ value_of_place entries place x.0 rises x.1 ∙ ap (λ (q : Price). Some q) x.2
 

@@ -1,5 +1,6 @@
 -- The rate between two commodities on a day, from all prices (GnuCash Concepts Guide, the price database).
-use Rattle.std.specs.Prelude.{◌≡◌, ℕ, ◌==◌, ◌&&◌, ℤ, ◌≤ℤ◌, Bool, true, false, List, [], ◌∷◌, All, ⊤, Contains, map, Option, Some, None, IsNone, IsSomeAnd, MatchBool, ◌⊎◌}
+use Rattle.std.specs.Prelude.{◌≡◌, ℕ, ◌==◌, ◌&&◌, ℤ, ◌≤ℤ◌, Bool, true, false, List, [], ◌∷◌, All, ⊤, Contains, map}
+use Rattle.std.specs.Prelude.{Option, Some, None, IsNone, IsSomeAnd, MatchBool, ◌⊎◌}
 use Rattle.std.specs.Ordering.{int_eq}
 use Rattle.std.specs.Int.{IsInRange}
 use Rattle.book_commodity.specs.Table.{value_of}
@@ -63,4 +64,5 @@ AreKept prices = All (λ entry. IsSound entry.1) prices × AreOnce prices
 -- the number under which a price of the same commodity, currency and day stands, if there is one
 abbrev pub IsSame : List (ℕ × Price) → Price → Option ℕ → Type 0
 IsSame prices price None = All (λ entry. is_same entry.1 price ≡ false) prices
-IsSame prices price (Some number) = (other : Price) × (value_of number prices ≡ Some other) × (is_same other price ≡ true)
+IsSame prices price (Some number) =
+    (other : Price) × (value_of number prices ≡ Some other) × (is_same other price ≡ true)

@@ -13,8 +13,10 @@ shown amount = if nat_le (unsigned_abs amount) (10 ^ 30) then Amount amount else
 -- the worth of a balance that is not zero: scaled by the rate, where there is one
 abbrev pub worth_at : ℤ → Option Rate → ℕ → ℕ → Valuation
 worth_at balance None from_fraction to_fraction = NoPrice
-worth_at balance (Some rate) from_fraction to_fraction = shown (scaled balance rate.num rate.denom from_fraction to_fraction)
+worth_at balance (Some rate) from_fraction to_fraction =
+    shown (scaled balance rate.num rate.denom from_fraction to_fraction)
 
 -- the worth of a balance: a balance of zero is worth zero, also without a price
 abbrev pub worth_of : ℤ → Option Rate → ℕ → ℕ → Valuation
-worth_of balance rate from_fraction to_fraction = if int_eq balance (pos 0) then Amount (pos 0) else worth_at balance rate from_fraction to_fraction
+worth_of balance rate from_fraction to_fraction =
+    if int_eq balance (pos 0) then Amount (pos 0) else worth_at balance rate from_fraction to_fraction

@@ -52,7 +52,8 @@ pub(crate) fn last_of(
     currency: u64,
     day: Day,
 ) -> Option<Price>
-    ensures { (prices : List (ℕ × Price)) (number : ℕ) → IsBest prices commodity currency day best → IsBest (prices ++ (number, price.now) ∷ []) commodity currency day result }
+    ensures { (prices : List (ℕ × Price)) (number : ℕ) → IsBest prices commodity currency day best
+        → IsBest (prices ++ (number, price.now) ∷ []) commodity currency day result }
 {
     if !is_of(price, commodity, currency, day) {
         return best;

@@ -1,4 +1,5 @@
-ghost use Rattle.std.specs.Prelude.{◌≡◌, ℕ, ◌+◌, ◌<◌, ◌≤◌, All, IsNone, OnOk, OnErr, Some, if◌then◌else◌, is_some, is_none, length, option_map, []};
+ghost use Rattle.std.specs.Prelude.{◌≡◌, ℕ, ◌+◌, ◌<◌, ◌≤◌, All, IsNone, OnOk, OnErr, Some, if◌then◌else◌, is_some};
+ghost use Rattle.std.specs.Prelude.{is_none, length, option_map, []};
 ghost use Rattle.std.specs.Option.{option_copied};
 ghost use Rattle.std.specs.List.{slice_get};
 ghost use Rattle.book_commodity.specs.Table.{Rises, value_of, with_entry, without_entry};
@@ -101,8 +102,8 @@ impl Prices {
         self.table.take(number)
     }
 
-    /// The rate between a commodity and a currency on a day, `None` exactly where there is none. The table has one price
-    /// for each commodity, currency and day, and the numbers of each are 1 to 10^9.
+    /// The rate between a commodity and a currency on a day, `None` exactly where there is none. The table has one
+    /// price for each commodity, currency and day, and the numbers of each are 1 to 10^9.
     pub fn price_at(&self, commodity: u64, currency: u64, day: Day) -> Option<Rate>
         requires once { AreOnce self.now.entries }
         requires sound { All (λ entry. IsSound entry.1) self.now.entries }
@@ -121,8 +122,8 @@ impl Prices {
         Some(turned_rate_of(&price))
     }
 
-    /// The number of the price that has this one's commodity, currency and day; `None` exactly where none has. The table
-    /// has one price for each of these.
+    /// The number of the price that has this one's commodity, currency and day; `None` exactly where none has. The
+    /// table has one price for each of these.
     pub fn same(&self, price: &Price) -> Option<u64>
         requires once { AreOnce self.now.entries }
         ensures { IsSame self.now.entries price.now result }

@@ -1,6 +1,7 @@
 -- Months follow one another: where each begins and ends, and which days lie in it.
 use Rattle.std.specs.Prelude.{IsSome}
-use Rattle.std.proofs.Common.{Option, None, true, false, ◌≡◌, ℕ, zero, suc, ◌+◌, ◌-◌, ◌*◌, ◌/◌, ◌%◌, ◌<◌, ◌≤◌, min, inl, inr, refl, ap, ◌∙◌, subst, arith, ℤ, pos, negsuc, ◌+ℤ◌, ◌≤ℤ◌, unsigned_abs}
+use Rattle.std.proofs.Common.{Option, None, true, false, ◌≡◌, ℕ, zero, suc, ◌+◌, ◌-◌, ◌*◌, ◌/◌, ◌%◌, ◌<◌, ◌≤◌, min, inl}
+use Rattle.std.proofs.Common.{inr, refl, ap, ◌∙◌, subst, arith, ℤ, pos, negsuc, ◌+ℤ◌, ◌≤ℤ◌, unsigned_abs}
 use Rattle.std.proofs.lemmas.Bool.{cases_lt}
 use Rattle.jiff_core.specs.Calendar.{days_from_civil, day_count, days_of_years, days_of_months, days_in_month}
 use Rattle.jiff_core.proofs.SignedLemmas.{signed_arith}
@@ -20,12 +21,15 @@ unfolding first_of_month days_from_civil day_count days_of_years days_of_months
 first_of_month-end = refl
 
 -- a month has 28 to 31 days
-pub last_of_month_bounds : (month : ℕ) → ((first_of_month month +ℤ pos 27) ≤ℤ last_of_month month) × (last_of_month month ≤ℤ (first_of_month month +ℤ pos 30))
+pub last_of_month_bounds :
+    (month : ℕ) → ((first_of_month month +ℤ pos 27) ≤ℤ last_of_month month)
+    × (last_of_month month ≤ℤ (first_of_month month +ℤ pos 30))
 unfolding first_of_month last_of_month
 last_of_month_bounds month =
     let year : ℤ = pos (month / 12) in
     let size = days_in_month_bounds year (month % 12 + 1) in
-    let day = days_from_civil-day year (month % 12 + 1) 1 (days_in_month year (month % 12 + 1)) (omega arith) (omega (arith, size)) in
+    let day = days_from_civil-day year (month % 12 + 1) 1 (days_in_month year (month % 12 + 1)) (omega arith)
+    (omega (arith, size)) in
     (omega (arith, signed_arith, size, day), omega (arith, signed_arith, size, day))
 
 next_month : (month : ℕ) → month % 12 < 11 → first_of_month (month + 1) ≡ last_of_month month +ℤ pos 1
@@ -40,7 +44,8 @@ unfolding first_of_month last_of_month
 next_year month h =
     let year : (month + 1) / 12 ≡ month / 12 + 1 = omega arith in
     let place : (month + 1) % 12 ≡ 0 = omega arith in
-    rw (year, place, h) (days_from_civil-next_year (pos (month / 12)) (pos (month / 12 + 1)) (omega (arith, signed_arith)) (omega (arith, signed_arith)))
+    rw (year, place, h) (days_from_civil-next_year (pos (month / 12)) (pos (month / 12 + 1))
+    (omega (arith, signed_arith)) (omega (arith, signed_arith)))
 
 -- a month begins the day after the one before it ends
 pub first_of_month-next : (month : ℕ) → first_of_month (month + 1) ≡ last_of_month month +ℤ pos 1
@@ -52,14 +57,18 @@ pub first_of_month-add : (month k : ℕ) → (first_of_month month +ℤ pos (28 
 first_of_month-add month zero = let same : month + 0 ≡ month = omega arith in rw same (omega (arith, signed_arith))
 first_of_month-add month (suc k) =
     let same : month + suc k ≡ month + k + 1 = omega arith in
-    rw (same, first_of_month-next (month + k)) (omega (arith, signed_arith, first_of_month-add month k, last_of_month_bounds (month + k)))
+    rw (same, first_of_month-next (month + k))
+    (omega (arith, signed_arith, first_of_month-add month k, last_of_month_bounds (month + k)))
 
-pub first_of_month_later : (month later : ℕ) → month ≤ later → (first_of_month month +ℤ pos (28 * (later - month))) ≤ℤ first_of_month later
+pub first_of_month_later :
+    (month later : ℕ) → month ≤ later → (first_of_month month +ℤ pos (28 * (later - month))) ≤ℤ first_of_month later
 first_of_month_later month later h =
     let same : month + (later - month) ≡ later = omega arith in rw same at (first_of_month-add month (later - month))
 
 -- a month ends before a later one begins
-pub last_of_month_before : (month later : ℕ) → month < later → (last_of_month month +ℤ pos (28 * (later - (month + 1)) + 1)) ≤ℤ first_of_month later
+pub last_of_month_before :
+    (month later : ℕ) → month < later
+    → (last_of_month month +ℤ pos (28 * (later - (month + 1)) + 1)) ≤ℤ first_of_month later
 last_of_month_before month later h =
     omega (arith, signed_arith, first_of_month_later (month + 1) later (omega arith), first_of_month-next month)
 
@@ -72,8 +81,11 @@ pub record IsIn (month : ℕ) (day : ℤ) : Type 0 where
 pub day_in_range : (month : ℕ) (day : ℤ) → 22800 ≤ month → month < 26400 → IsIn month day → IsDay day
 day_in_range month day low high h =
     let begun = h.begun in
-    let ended = h.ended in
-    (omega (arith, signed_arith, first_of_month_later 22800 month low, first_of_month-first), omega (arith, signed_arith, last_of_month_before month 26400 high, first_of_month-end))
+    let ended = h.ended in (
+      omega (arith, signed_arith, first_of_month_later 22800 month low, first_of_month-first),
+      omega
+          (arith, signed_arith, last_of_month_before month 26400 high, first_of_month-end),
+    )
 
 pub day_past_range : (month : ℕ) (day : ℤ) → 26400 ≤ month → IsIn month day → IsDay day → ⊥
 day_past_range month day low h within =
@@ -92,7 +104,8 @@ month_of_day day h =
     let year : (y * 12 + (month_of day - 1) + 0) / 12 ≡ y = omega (arith, date.1.1) in
     let month : (y * 12 + (month_of day - 1) + 0) % 12 + 1 ≡ month_of day = omega (arith, date.1.1) in
     let begun = days_from_civil-day (year_of day) (month_of day) 1 (day_of_month day) (omega arith) date.1.2.0 in
-    let ended = days_from_civil-day (year_of day) (month_of day) (day_of_month day) (days_in_month (year_of day) (month_of day)) date.1.2.0 (omega (arith, date.1.2)) in
+    let ended = days_from_civil-day (year_of day) (month_of day) (day_of_month day)
+    (days_in_month (year_of day) (month_of day)) date.1.2.0 (omega (arith, date.1.2)) in
     record {
       begun = rw (year, month, back) (omega (arith, signed_arith, own.1, begun, date.1.2.0));
       ended = rw (year, month, back) (omega (arith, signed_arith, own.1, ended, date.1.2.1));
@@ -129,28 +142,42 @@ pub last_of_month-numbered : (month : ℕ) → numbered_day month 31 ≡ last_of
 unfolding last_of_month numbered_day clipped_day
 last_of_month-numbered month =
     let size = days_in_month_bounds (pos (month / 12)) (month % 12 + 1) in
-    let e : min 31 (days_in_month (pos (month / 12)) (month % 12 + 1)) ≡ days_in_month (pos (month / 12)) (month % 12 + 1) = omega (arith, size) in
+    let e : min 31 (days_in_month (pos (month / 12)) (month % 12 + 1)) ≡ days_in_month (pos (month / 12))
+    (month % 12 + 1) = omega (arith, size) in
     ap (days_from_civil (pos (month / 12)) (month % 12 + 1)) e
 
-pub weekday_up_to_bounds : (day : ℤ) (weekday : ℕ) → (day ≤ℤ (weekday_up_to day weekday +ℤ pos 6)) × (weekday_up_to day weekday ≤ℤ day)
+pub weekday_up_to_bounds :
+    (day : ℤ) (weekday : ℕ) → (day ≤ℤ (weekday_up_to day weekday +ℤ pos 6)) × (weekday_up_to day weekday ≤ℤ day)
 unfolding weekday_up_to
 weekday_up_to_bounds day weekday = (omega (arith, signed_arith), omega (arith, signed_arith))
 
-pub weekday_from_bounds : (day : ℤ) (weekday : ℕ) → (day ≤ℤ weekday_from day weekday) × (weekday_from day weekday ≤ℤ (day +ℤ pos 6))
+pub weekday_from_bounds :
+    (day : ℤ) (weekday : ℕ) → (day ≤ℤ weekday_from day weekday) × (weekday_from day weekday ≤ℤ (day +ℤ pos 6))
 unfolding weekday_from
 weekday_from_bounds day weekday = (omega (arith, signed_arith), omega (arith, signed_arith))
 
 -- the day of a month as it is made from a year and a month that were cast
-pub numbered_day-parts : (day wide narrow : ℤ) (month number place cast last least : ℕ) → day ≡ days_from_civil wide place least → last ≡ days_in_month narrow cast → least ≡ min number last → wide ≡ pos (month / 12) → narrow ≡ pos (month / 12) → place ≡ month % 12 + 1 → cast ≡ month % 12 + 1 → day ≡ numbered_day month number
+pub numbered_day-parts :
+    (day wide narrow : ℤ) (month number place cast last least : ℕ) → day ≡ days_from_civil wide place least
+    → last ≡ days_in_month narrow cast → least ≡ min number last → wide ≡ pos (month / 12) → narrow ≡ pos (month / 12)
+    → place ≡ month % 12 + 1 → cast ≡ month % 12 + 1 → day ≡ numbered_day month number
 unfolding numbered_day clipped_day
 numbered_day-parts day wide narrow month number place cast last least is end low w n p k =
     is ∙ (rw (w, p, low, end, n, k) refl)
 
 -- where a month lies past the range, none of its days is one of the book
-pub no_day_past : {A : Type 0} (result : Option A) (first months month : ℕ) (day : ℤ) → result ≡ None → (first + months < 26400 → false ≡ true) → month ≡ first + months → IsIn month day → (IsSome result → IsDay day) × (IsDay day → IsSome result)
+pub no_day_past :
+    {A : Type 0} (result : Option A) (first months month : ℕ) (day : ℤ) → result ≡ None
+    → (first + months < 26400 → false ≡ true) → month ≡ first + months → IsIn month day → (IsSome result → IsDay day)
+    × (IsDay day → IsSome result)
 no_day_past result first months month day none early e h =
-    let late : first + months < 26400 → ⊥ = λ lt. absurd (cc (early lt)) in
-    (λ some. (let e : false ≡ true = rw none at some in absurd cc), λ is. absurd (day_past_range month day (omega arith) h is))
+    let late : first + months < 26400 → ⊥ = λ lt. absurd (cc (early lt)) in (
+      λ some. (let e : false ≡ true = rw none at some in absurd cc),
+      λ is.
+          absurd (day_past_range month day (omega arith) h is),
+    )
 
-pub some_along : {A : Type 0} (result : Option A) (found day : ℤ) → (IsSome result → IsDay found) × (IsDay found → IsSome result) → found ≡ day → (IsSome result → IsDay day) × (IsDay day → IsSome result)
+pub some_along :
+    {A : Type 0} (result : Option A) (found day : ℤ) → (IsSome result → IsDay found) × (IsDay found → IsSome result)
+    → found ≡ day → (IsSome result → IsDay day) × (IsDay day → IsSome result)
 some_along result found day h e = subst (λ d. (IsSome result → IsDay d) × (IsDay d → IsSome result)) e h

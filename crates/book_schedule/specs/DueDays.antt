@@ -1,6 +1,7 @@
 -- The due days of a schedule: which of the days of its recurrences are still to be made up to a day
 -- (GnuCash Manual, scheduled transactions).
-use Rattle.std.specs.Prelude.{ℕ, ◌≡◌, ◌-◌, List, [], ◌∷◌, length, Option, Some, None, ℤ, pos, ◌+ℤ◌, ◌<ℤ◌, ◌≤ℤ◌, All, ◌↔◌, ⊤}
+use Rattle.std.specs.Prelude.{ℕ, ◌≡◌, ◌-◌, List, [], ◌∷◌, length, Option, Some, None, ℤ, pos, ◌+ℤ◌, ◌<ℤ◌, ◌≤ℤ◌, All}
+use Rattle.std.specs.Prelude.{◌↔◌, ⊤}
 use Rattle.std.specs.List.{Any, Contains}
 use Rattle.book_schedule.specs.Recurrence.{OccursOn}
 use Rattle.book_schedule.specs.declared.recurrence.Recurrence.{Recurrence}

@@ -7,7 +7,8 @@ use Rattle.book_schedule.specs.declared.recurrence.Adjust.{Adjust}
 use Rattle.book_schedule.specs.declared.recurrence.Adjust.TheVariants.{Nothing, Back, Forward}
 use Rattle.book_schedule.specs.declared.recurrence.Recurrence.{Recurrence}
 use Rattle.book_schedule.specs.declared.recurrence.RecurrenceKind.{RecurrenceKind}
-use Rattle.book_schedule.specs.declared.recurrence.RecurrenceKind.TheVariants.{Once, Daily, Weekly, Monthly, EndOfMonth, NthWeekday, LastWeekday, Yearly}
+use Rattle.book_schedule.specs.declared.recurrence.RecurrenceKind.TheVariants.{Once, Daily, Weekly, Monthly, EndOfMonth}
+use Rattle.book_schedule.specs.declared.recurrence.RecurrenceKind.TheVariants.{NthWeekday, LastWeekday, Yearly}
 
 -- Months are numbered through the years, twelve a year: the first day of a month.
 unfoldable pub first_of_month : ℕ → ℤ
@@ -85,7 +86,8 @@ adjustment Yearly adjust = adjust
 -- The day of the occurrence with number k, from 0: k times the multiplier of steps after the start, then moved.
 unfoldable pub nth_day : Recurrence → ℕ → ℤ
 nth_day recurrence k =
-    adjusted (adjustment recurrence.kind recurrence.adjust) (day_after recurrence.kind recurrence.start (k * recurrence.every))
+    adjusted (adjustment recurrence.kind recurrence.adjust)
+    (day_after recurrence.kind recurrence.start (k * recurrence.every))
 
 -- What comes once has occurrence 0 alone.
 abbrev pub Repeats : RecurrenceKind → ℕ → Type 0

@@ -124,7 +124,8 @@ fn days_before(start: Day, given: &Option<Day>) -> u32
 
 /// How many months lie wholly between the start and a given day, and 0 where none is given.
 fn months_before(start: Day, given: &Option<Day>) -> u32
-    ensures { MatchOption given.now (result ≡ 0) (λ day. IsDay day × (result ≡ month_count day 0 - (month_count start 0 + 1))) }
+    ensures { MatchOption given.now (result ≡ 0)
+        (λ day. IsDay day × (result ≡ month_count day 0 - (month_count start 0 + 1))) }
 {
     match given {
         Some(day) => Month::of(start).months_before(Month::of(*day)),

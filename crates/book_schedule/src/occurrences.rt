@@ -1,7 +1,9 @@
 ghost use Rattle.std.specs.Prelude.{◌≡◌, ◌+◌, ◌*◌, ◌<◌, ◌≤◌, ◌^◌, ◌↔◌, ℤ, pos, ◌+ℤ◌, ◌-ℤ◌, IsSome, IfSome};
 ghost use Rattle.std.specs.Int.{IsInRange};
 ghost use Rattle.book_commodity.specs.Day.{IsDay, day_of_month, month_count};
-ghost use Rattle.book_schedule.specs.Recurrence.{adjusted, adjustment, day_after, last_of_month, last_weekday, nth_weekday, numbered_day, weekday_from, weekday_up_to, nth_day, HasOccurrence};
+ghost use Rattle.book_schedule.specs.Recurrence.{adjusted, adjustment, day_after, last_of_month, last_weekday};
+ghost use Rattle.book_schedule.specs.Recurrence.{nth_weekday, numbered_day, weekday_from, weekday_up_to, nth_day};
+ghost use Rattle.book_schedule.specs.Recurrence.{HasOccurrence};
 
 use crate::month::Month;
 use crate::{Adjust, Recurrence, RecurrenceKind};

@@ -32,8 +32,8 @@ abbrev pub is_new : Mark → Bool
 is_new New = true
 is_new _ = false
 
--- Whether a split is unmarked: it is new, and names no reconciliation (GnuCash Manual, reconciling). No command marks a
--- split yet.
+-- Whether a split is unmarked: it is new, and names no reconciliation (GnuCash Manual, reconciling). No command marks
+-- a split yet.
 abbrev pub is_unmarked : Split → Bool
 is_unmarked split = is_new split.mark && is_none split.recon
 

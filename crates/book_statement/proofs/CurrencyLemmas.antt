@@ -1,5 +1,6 @@
 -- Looking for a currency, place by place.
-use Rattle.std.proofs.Common.{◌≡◌, ℕ, suc, ◌<◌, length, subst, arith, ◌+◌, List, [], ◌∷◌, drop, Option, Some, None, Bool, true, false, option_map, is_some, slice_get, refl, sym, ap, ◌∙◌, All}
+use Rattle.std.proofs.Common.{◌≡◌, ℕ, suc, ◌<◌, length, subst, arith, ◌+◌, List, [], ◌∷◌, drop, Option, Some, None}
+use Rattle.std.proofs.Common.{Bool, true, false, option_map, is_some, slice_get, refl, sym, ap, ◌∙◌, All}
 use Rattle.std.specs.Prelude.{if◌then◌else◌}
 use Rattle.std.specs.Option.{option_or}
 use Rattle.book_commodity.specs.declared.commodity.Commodity.{Commodity}
@@ -8,7 +9,8 @@ use Rattle.book_statement.proofs.ListLemmas.{drop_at, mapped_some}
 
 -- from a place on, the commodity there is asked first
 pub fraction_of-step : (code : List ℕ) (es : List (ℕ × Commodity)) (i : ℕ) (found : Option ℕ)
-    → option_map (fraction_if code) (slice_get es i) ≡ Some found → fraction_of code (drop i es) ≡ option_or found (fraction_of code (drop (i + 1) es))
+    → option_map (fraction_if code) (slice_get es i) ≡ Some found → fraction_of code (drop i es) ≡ option_or found
+    (fraction_of code (drop (i + 1) es))
 unfolding fraction_of
 fraction_of-step code es i found e =
     let r = mapped_some (fraction_if code) (slice_get es i) found e in
@@ -16,7 +18,8 @@ fraction_of-step code es i found e =
 
 -- where the commodity at a place is the currency, its fraction is the answer from there on
 pub fraction_of-found : (code : List ℕ) (es : List (ℕ × Commodity)) (i : ℕ) (found : Option ℕ)
-    → option_map (fraction_if code) (slice_get es i) ≡ Some found → is_some found ≡ true → found ≡ fraction_of code (drop i es)
+    → option_map (fraction_if code) (slice_get es i) ≡ Some found → is_some found ≡ true
+    → found ≡ fraction_of code (drop i es)
 fraction_of-found code es i None e some = absurd cc
 fraction_of-found code es i (Some n) e some = sym (fraction_of-step code es i (Some n) e)
 
@@ -28,14 +31,17 @@ fraction_of-other code es i None e none = fraction_of-step code es i None e
 fraction_of-other code es i (Some n) e none = absurd cc
 
 -- a fraction that is found is one of the commodities'
-pub fraction_is : (code : List ℕ) (es : List (ℕ × Commodity)) (n : ℕ) → HaveFractions es → fraction_of code es ≡ Some n → IsFraction n
+pub fraction_is :
+    (code : List ℕ) (es : List (ℕ × Commodity)) (n : ℕ) → HaveFractions es → fraction_of code es ≡ Some n → IsFraction n
 unfolding fraction_of
 fraction_is code [] n all e = absurd cc
 fraction_is code (entry ∷ es) n all e =
     let here : 0 < length (entry ∷ es) = omega arith in
     let head : IsFraction entry.1.fraction = all 0 entry here in
-    let tail : HaveFractions es = λ k d h. all (suc k) d (let more : suc k < length (entry ∷ es) = omega arith in more) in
-    elim (is_currency_named code entry.1) as (λ t. option_or (if t then Some entry.1.fraction else None) (fraction_of code es) ≡ Some n → IsFraction n) [
+    let tail : HaveFractions es =
+    λ k d h. all (suc k) d (let more : suc k < length (entry ∷ es) = omega arith in more) in
+    elim (is_currency_named code entry.1) as
+    (λ t. option_or (if t then Some entry.1.fraction else None) (fraction_of code es) ≡ Some n → IsFraction n) [
       | true ↦ λ k. let same : entry.1.fraction ≡ n = cc in subst IsFraction same head
       | false ↦ λ k. fraction_is code es n tail k
     ] e

@@ -14,7 +14,8 @@ same_text = pointwise nat_eq
 abbrev pub is_twin : StatementLine → StatementLine → Bool
 is_twin line other =
     int_eq line.day other.day && (int_eq line.amount other.amount && (same_text line.kind other.kind
-    && (same_text line.ref_own other.ref_own && (same_text line.ref_bank other.ref_bank && same_text line.text other.text))))
+    && (same_text line.ref_own other.ref_own
+    && (same_text line.ref_bank other.ref_bank && same_text line.text other.text))))
 
 -- the key of a line with this ordinal
 abbrev pub key : ℕ → StatementLine → ℕ → LineKey

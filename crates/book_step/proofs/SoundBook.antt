@@ -8,8 +8,8 @@
 --     the book        its currency             the root                            the count of splits
 --
 -- So a new commodity asks nothing of the others, since what was there stays; another account in the place of one asks
--- that the kinds stay, and that it takes splits as that did; and a new transaction asks that its splits have numbers of
--- their own.
+-- that the kinds stay, and that it takes splits as that did; and a new transaction asks that its splits have numbers
+-- of their own.
 use Rattle.std.proofs.Common.{◌≡◌, ℕ, ◌+◌, ◌<◌, ◌≤◌, All, List, [], ◌∷◌, ◌++◌, length, Some, None, IsTrue, true, false}
 use Rattle.std.proofs.Common.{is_some, find, refl, sym, ap, ◌∙◌, append_assoc, append-nil, arith}
 use Rattle.std.proofs.Math.ListN.{length-append}

@@ -1,11 +1,13 @@
 -- What a step that is done says: no rule is broken, and the state is the one after the edit.
-use Rattle.std.proofs.Common.{◌≡◌, ℕ, ◌+◌, ◌^◌, ◌<◌, Bool, true, false, List, [], ◌∷◌, ◌++◌, Option, Some, None, refl, subst, arith}
+use Rattle.std.proofs.Common.{◌≡◌, ℕ, ◌+◌, ◌^◌, ◌<◌, Bool, true, false, List, [], ◌∷◌, ◌++◌, Option, Some, None, refl}
+use Rattle.std.proofs.Common.{subst, arith}
 use Rattle.std.proofs.lemmas.Bool.Decides.{nat_tests}
 use Rattle.book_commodity.specs.Rules.{AllKept, first_broken}
 use Rattle.book_commodity.proofs.RuleLemmas.{kept_back, kept_front, kept_of, not-broken}
 use Rattle.book_undo.specs.Edit.{edited, is_unchanged}
 use Rattle.book_undo.specs.declared.edit.Edit.{Edit}
-use Rattle.book_step.specs.Outcome.{Outcome, Done, changing, leaving, numbers, state_after, unless_broken, version_after}
+use Rattle.book_step.specs.Outcome.{Outcome, Done, changing, leaving, numbers, state_after, unless_broken}
+use Rattle.book_step.specs.Outcome.{version_after}
 use Rattle.book_step.specs.Soundness.{IsSoundBook, AreDrawn, IsSound}
 use Rattle.book_step.specs.State.{State}
 use Rattle.book_command.specs.declared.answer.Answer.{Answer}
@@ -31,7 +33,8 @@ pub changing_done :
     → changing state rules edit drawn given ≡ Done new answer → IsChange state rules edit drawn new
 changing_done state rules edit drawn given new answer e =
     let last = numbers state drawn ∷ [] in
-    let done = unless_done (first_broken (rules ++ last)) (Done (state_after state edit (state.next + drawn)) given) new answer e in
+    let done = unless_done (first_broken (rules ++ last)) (Done (state_after state edit (state.next + drawn)) given)
+    new answer e in
     let kept = kept_of (rules ++ last) done.0 in
     let few = not-broken _ _ (kept_back rules last kept).0 in
     record {
@@ -58,4 +61,10 @@ pub sound_after :
     → IsSoundBook (edited edit state.book) → AreDrawn (edited edit state.book) (state.next + drawn) → IsSound new
 sound_after state rules edit drawn new change book are =
     subst (λ (s : State). IsSound s) change.is
-    (record { book = book; drawn = are; next = change.next; version = version_below (is_unchanged edit) state.version change.version })
+    (record {
+      book = book;
+      drawn = are;
+      next = change.next;
+      version =
+          version_below (is_unchanged edit) state.version change.version;
+    })

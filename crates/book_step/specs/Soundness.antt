@@ -33,8 +33,8 @@ pub record AreDrawn (book : Book) (next : ℕ) : Type 0 where
   pub transactions : All (λ entry. entry.0 < next) book.transactions
   pub splits : All (λ split. split.id < next) (splits_of book.transactions)
 
--- A state is sound: so is its book, the numbers are drawn below the next, and neither that nor the version reaches 2^62
--- (a limit of this project).
+-- A state is sound: so is its book, the numbers are drawn below the next, and neither that nor the version reaches
+-- 2^62 (a limit of this project).
 pub record IsSound (state : State) : Type 0 where
   pub book : IsSoundBook state.book
   pub drawn : AreDrawn state.book state.next

@@ -1,5 +1,7 @@
 -- Digits without their commas, copied one by one.
-use Rattle.std.proofs.Common.{◌≡◌, ℕ, ◌+◌, ◌<◌, ◌≤◌, Bool, true, false, ◌&&◌, Some, None, ℤ, pos, neg_ℤ, ◌-ℤ◌, List, [], ◌∷◌, ◌++◌, length, get_or, take, drop, set, refl, sym, ap, ◌∙◌, append_assoc, arith, length-append}
+use Rattle.std.proofs.Common.{◌≡◌, ℕ, ◌+◌, ◌<◌, ◌≤◌, Bool, true, false, ◌&&◌, Some, None, ℤ, pos, neg_ℤ, ◌-ℤ◌, List, []}
+use Rattle.std.proofs.Common.{◌∷◌, ◌++◌, length, get_or, take, drop, set, refl, sym, ap, ◌∙◌, append_assoc, arith}
+use Rattle.std.proofs.Common.{length-append}
 use Rattle.std.proofs.lemmas.List.{drop_more, drop_all, take_more_set, length-take-le}
 use Rattle.std.specs.Prelude.{◌==◌, nat_le}
 use Rattle.std.proofs.lemmas.Bool.{ne_eqb}
@@ -10,7 +12,8 @@ use Rattle.std.proofs.lemmas.Int.{ints}
 use Rattle.book_statement.specs.declared.bad.Bad.{Bad}
 use Rattle.book_statement.specs.Checks.{check, first_bad}
 use Rattle.book_statement.specs.Numbers.{has_digits, units, unit_checks}
-use Rattle.qif_read.specs.QifAmount.{without_commas, are_commas_placed, is_number, is_negative, unsigned, whole_part, decimal_part, number_checks, amount_checks, signed, amount}
+use Rattle.qif_read.specs.QifAmount.{without_commas, are_commas_placed, is_number, is_negative, unsigned, whole_part}
+use Rattle.qif_read.specs.QifAmount.{decimal_part, number_checks, amount_checks, signed, amount}
 
 -- a comma is passed over
 pub comma_passed : (whole : List ℕ) (i : ℕ) → i < length whole → get_or whole i 0 ≡ 44

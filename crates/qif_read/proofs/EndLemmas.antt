@@ -1,5 +1,6 @@
 -- The end of an entry, and the beginning of a list.
-use Rattle.std.proofs.Common.{◌≡◌, ℕ, Bool, true, false, ◌&&◌, not, List, [], ◌∷◌, ◌++◌, map, length, Option, Some, None, append_assoc, refl, sym, ap, ◌∙◌}
+use Rattle.std.proofs.Common.{◌≡◌, ℕ, Bool, true, false, ◌&&◌, not, List, [], ◌∷◌, ◌++◌, map, length, Option, Some}
+use Rattle.std.proofs.Common.{None, append_assoc, refl, sym, ap, ◌∙◌}
 use Rattle.std.specs.Prelude.{if◌then◌else◌}
 use Rattle.std.specs.Option.{option_or}
 use Rattle.std.proofs.lemmas.List.{append-nil, map-append}
@@ -13,7 +14,8 @@ use Rattle.book_statement.proofs.ListLemmas.{each_after-push}
 use Rattle.qif_read.specs.Tree.{Line, Entry, Listing}
 use Rattle.qif_read.specs.Entries.{said}
 use Rattle.qif_read.specs.Registers.{no_entries, section_of, statements_in}
-use Rattle.qif_read.specs.Qif.{end_checks, name_of, name_given, name_behind, section_in, statements_behind, statements, entry_places, account_places, entries_places, listing_places, places}
+use Rattle.qif_read.specs.Qif.{end_checks, name_of, name_given, name_behind, section_in, statements_behind, statements}
+use Rattle.qif_read.specs.Qif.{entry_places, account_places, entries_places, listing_places, places}
 use Rattle.qif_read.specs.Steps.{nothing, entry_fault, account_fault, end_fault, with_end, name_for, with_list}
 use Rattle.qif_read.specs.declared.form.Form.{Form}
 use Rattle.qif_read.specs.declared.kind.Topic.{Topic}
@@ -24,7 +26,8 @@ use Rattle.qif_read.specs.declared.said.Said.{Said}
 use Rattle.qif_read.specs.declared.section.Section.{Section}
 use Rattle.qif_read.proofs.Growing.{Begun, begun, closed, turned}
 use Rattle.qif_read.proofs.PushLemmas.{last_or-push, section_of-push}
-use Rattle.qif_read.proofs.KeptLemmas.{is_empty, empty-push, started_in, said_in, fields_places, so_far, kept_of, has_entry_in, has_entry, Knows, and_nothing}
+use Rattle.qif_read.proofs.KeptLemmas.{is_empty, empty-push, started_in, said_in, fields_places, so_far, kept_of}
+use Rattle.qif_read.proofs.KeptLemmas.{has_entry_in, has_entry, Knows, and_nothing}
 
 -- what is found sound
 abbrev pub IsSound : Form → Begun → Type 0

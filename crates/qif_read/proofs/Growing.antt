@@ -1,6 +1,5 @@
--- What was read of a file is a tree that the rest of the file fills: a line moves from the rest to that tree, and
--- the whole
--- tree stays the same.
+-- What was read of a file is a tree that the rest of the file fills: a line moves from the rest to that tree, and the
+-- whole tree stays the same.
 use Rattle.std.proofs.Common.{◌≡◌, ℕ, ◌+◌, Bool, true, false, List, [], ◌∷◌, ◌++◌, append_assoc, refl}
 use Rattle.std.proofs.lemmas.List.{append-nil}
 use Rattle.qif_read.specs.Tree.{Line, Entry, Listing, Rest, entry_of, line_of, in_front, rest_after}

@@ -1,6 +1,7 @@
 -- What the reader keeps is a function of the tree that was read: how lines, ends of entries and headers change both
 -- alike.
-use Rattle.std.proofs.Common.{◌≡◌, ℕ, Bool, true, false, ◌&&◌, not, List, [], ◌∷◌, ◌++◌, length, Option, Some, None, append_assoc, refl, ap, ◌∙◌}
+use Rattle.std.proofs.Common.{◌≡◌, ℕ, Bool, true, false, ◌&&◌, not, List, [], ◌∷◌, ◌++◌, length, Option, Some, None}
+use Rattle.std.proofs.Common.{append_assoc, refl, ap, ◌∙◌}
 use Rattle.std.specs.Option.{option_or}
 use Rattle.book_statement.specs.Checks.{Place, first_fault}
 use Rattle.book_statement.specs.Lists.{each_after}

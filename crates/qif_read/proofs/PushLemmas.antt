@@ -1,5 +1,6 @@
 -- What one line or one entry more gives.
-use Rattle.std.proofs.Common.{◌≡◌, ℕ, ◌==◌, true, false, List, [], ◌∷◌, ◌++◌, map, Option, Some, None, option_map, unwrap_or, append_assoc, length, arith, refl, ap, ◌∙◌, ℤ, pos}
+use Rattle.std.proofs.Common.{◌≡◌, ℕ, ◌==◌, true, false, List, [], ◌∷◌, ◌++◌, map, Option, Some, None, option_map}
+use Rattle.std.proofs.Common.{unwrap_or, append_assoc, length, arith, refl, ap, ◌∙◌, ℤ, pos}
 use Rattle.std.specs.Prelude.{if◌then◌else◌}
 use Rattle.std.specs.Option.{option_or}
 use Rattle.std.specs.Int.{int_max}
@@ -10,13 +11,17 @@ use Rattle.book_statement.specs.Lists.{on_last}
 use Rattle.book_statement.specs.Texts.{is_nothing}
 use Rattle.qif_read.specs.QifAmount.{amount}
 use Rattle.qif_read.specs.Tree.{Line, Entry}
-use Rattle.qif_read.specs.Entries.{place_of, first_of, SplitsRest, split_in_front, splits_rest, splits_of, said, amount_said, day_said, statement_line}
-use Rattle.qif_read.specs.Registers.{account_said, is_opening, no_entries, opened_by, begun_by, after_first, with_later, section_of}
+use Rattle.qif_read.specs.Entries.{place_of, first_of, SplitsRest, split_in_front, splits_rest, splits_of, said}
+use Rattle.qif_read.specs.Entries.{amount_said, day_said, statement_line}
+use Rattle.qif_read.specs.Registers.{account_said, is_opening, no_entries, opened_by, begun_by, after_first, with_later}
+use Rattle.qif_read.specs.Registers.{section_of}
 use Rattle.qif_read.specs.Qif.{last_or}
-use Rattle.qif_read.specs.Steps.{with_memo, with_amount, after_line, after_account_line, nothing, later, with_opening, with_line, with_entry}
+use Rattle.qif_read.specs.Steps.{with_memo, with_amount, after_line, after_account_line, nothing, later, with_opening}
+use Rattle.qif_read.specs.Steps.{with_line, with_entry}
 use Rattle.qif_read.specs.declared.form.Form.{Form}
 use Rattle.qif_read.specs.declared.kind.Code.{Code}
-use Rattle.qif_read.specs.declared.kind.Code.TheVariants.{Date, Total, OtherTotal, Number, Payee, Memo, Category, Split, SplitMemo, SplitAmount, Other}
+use Rattle.qif_read.specs.declared.kind.Code.TheVariants.{Date, Total, OtherTotal, Number, Payee, Memo, Category, Split}
+use Rattle.qif_read.specs.declared.kind.Code.TheVariants.{SplitMemo, SplitAmount, Other}
 use Rattle.qif_read.specs.declared.said.Said.{Said}
 use Rattle.qif_read.specs.declared.section.Section.{Section}
 use Rattle.qif_read.specs.declared.split.SplitSaid.{SplitSaid}

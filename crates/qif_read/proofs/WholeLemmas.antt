@@ -1,6 +1,7 @@
 -- The whole of a file: a fault that was found stays the first whatever follows, and what the last line leaves is the
 -- answer.
-use Rattle.std.proofs.Common.{◌≡◌, ℕ, ◌+◌, ◌==◌, Bool, true, false, ◌&&◌, not, List, [], ◌∷◌, ◌++◌, length, Option, Some, None, Result, Err, append_assoc, arith, ◌<◌, ◌≤◌, refl, sym, ap, subst, ◌∙◌}
+use Rattle.std.proofs.Common.{◌≡◌, ℕ, ◌+◌, ◌==◌, Bool, true, false, ◌&&◌, not, List, [], ◌∷◌, ◌++◌, length, Option}
+use Rattle.std.proofs.Common.{Some, None, Result, Err, append_assoc, arith, ◌<◌, ◌≤◌, refl, sym, ap, subst, ◌∙◌}
 use Rattle.std.proofs.lemmas.List.{append-nil}
 use Rattle.book_statement.specs.Checks.{Place, first_fault, Gives}
 use Rattle.book_statement.specs.declared.read_error.ReadError.{ReadError}
@@ -14,7 +15,8 @@ use Rattle.book_statement.proofs.ListLemmas.{each_after-append}
 use Rattle.qif_read.specs.Kinds.{kind_of, behind_code}
 use Rattle.qif_read.specs.Tree.{Line, Entry, Listing, Rest, entry_of, in_front, rest_after, listings_of}
 use Rattle.qif_read.specs.Registers.{section_of, statements_in}
-use Rattle.qif_read.specs.Qif.{line_places, entry_places, account_places, entries_places, listing_places, places, statements_behind, statements, name_behind, answer_of, result_of}
+use Rattle.qif_read.specs.Qif.{line_places, entry_places, account_places, entries_places, listing_places, places}
+use Rattle.qif_read.specs.Qif.{statements_behind, statements, name_behind, answer_of, result_of}
 use Rattle.qif_read.specs.Steps.{Takes, end_fault, with_end, with_list, fault_or, answer_after, fault_of, after, fresh}
 use Rattle.qif_read.specs.declared.form.Form.{Form}
 use Rattle.qif_read.specs.declared.kind.LineKind.{LineKind}
@@ -24,7 +26,8 @@ use Rattle.qif_read.specs.declared.kind.Topic.TheVariants.{Register, Accounts, P
 use Rattle.qif_read.specs.declared.reader.Reader.{Reader}
 use Rattle.qif_read.proofs.Growing.{Begun, begun, closed, turned, fill, grown, fill-grown, fill-closed, fill-end}
 use Rattle.qif_read.proofs.PushLemmas.{nothing-cons}
-use Rattle.qif_read.proofs.KeptLemmas.{is_empty, ended_places, fields_places, so_far, kept_of, has_entry, Knows, line_kept, line_bad}
+use Rattle.qif_read.proofs.KeptLemmas.{is_empty, ended_places, fields_places, so_far, kept_of, has_entry, Knows}
+use Rattle.qif_read.proofs.KeptLemmas.{line_kept, line_bad}
 use Rattle.qif_read.proofs.EndLemmas.{not_true, end_kept, end_bad, list_kept}
 
 -- a list of places that begins with these

@@ -1,5 +1,6 @@
 -- What an entry of a register says (Quicken's description of QIF, codes of a register).
-use Rattle.std.specs.Prelude.{ℕ, ◌==◌, List, [], ◌∷◌, map, Option, Some, None, option_map, unwrap_or, if◌then◌else◌, ℤ, pos, ◌+ℤ◌}
+use Rattle.std.specs.Prelude.{ℕ, ◌==◌, List, [], ◌∷◌, map, Option, Some, None, option_map, unwrap_or, if◌then◌else◌, ℤ}
+use Rattle.std.specs.Prelude.{pos, ◌+ℤ◌}
 use Rattle.std.specs.Option.{option_or}
 use Rattle.book_statement.specs.Texts.{joined}
 use Rattle.book_statement.specs.declared.part.Part.{Part}
@@ -9,7 +10,8 @@ use Rattle.qif_read.specs.QifAmount.{amount}
 use Rattle.qif_read.specs.Tree.{Line}
 use Rattle.qif_read.specs.declared.form.Form.{Form}
 use Rattle.qif_read.specs.declared.kind.Code.{Code}
-use Rattle.qif_read.specs.declared.kind.Code.TheVariants.{Date, Total, OtherTotal, Number, Payee, Memo, Category, Split, SplitMemo, SplitAmount, Other}
+use Rattle.qif_read.specs.declared.kind.Code.TheVariants.{Date, Total, OtherTotal, Number, Payee, Memo, Category, Split}
+use Rattle.qif_read.specs.declared.kind.Code.TheVariants.{SplitMemo, SplitAmount, Other}
 use Rattle.qif_read.specs.declared.said.Said.{Said}
 use Rattle.qif_read.specs.declared.split.SplitSaid.{SplitSaid}
 

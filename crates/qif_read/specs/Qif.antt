@@ -1,11 +1,13 @@
 -- What a QIF file says: its statements, or the first place at which a check fails with the first failing check there.
-use Rattle.std.specs.Prelude.{ℕ, nat_lt, Bool, ◌||◌, not, List, [], ◌∷◌, ◌++◌, length, map, Option, Result, Err, is_some}
+use Rattle.std.specs.Prelude.{ℕ, nat_lt, Bool, ◌||◌, not, List, [], ◌∷◌, ◌++◌, length, map, Option, Result, Err}
+use Rattle.std.specs.Prelude.{is_some}
 use Rattle.std.specs.Ordering.{int_eq}
 use Rattle.std.specs.List.{list_all}
 use Rattle.book_statement.specs.Checks.{Check, check, Place, place, first_fault, unless_fault}
 use Rattle.book_statement.specs.Lists.{each_after}
 use Rattle.book_statement.specs.Texts.{is_nothing, lines_of}
-use Rattle.book_statement.specs.declared.bad.Bad.TheVariants.{NoStatement, FieldForm, DateForm, SplitSum, CutOff, TooMany}
+use Rattle.book_statement.specs.declared.bad.Bad.TheVariants.{NoStatement, FieldForm, DateForm, SplitSum, CutOff}
+use Rattle.book_statement.specs.declared.bad.Bad.TheVariants.{TooMany}
 use Rattle.book_statement.specs.declared.fault.StatementFault.{StatementFault}
 use Rattle.book_statement.specs.declared.statement.Statement.{Statement}
 use Rattle.book_commodity.specs.declared.commodity.Commodity.{Commodity}

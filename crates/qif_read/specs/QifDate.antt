@@ -1,6 +1,7 @@
 -- Dates in QIF files: three numbers with marks between them, as 1/15'24 or 15.01.2024 (Quicken's description of QIF,
 -- code D).
-use Rattle.std.specs.Prelude.{ℕ, ◌+◌, ◌==◌, Bool, ◌&&◌, ◌||◌, List, drop, take_while, length, slice_index, Option, None, unwrap_or, if◌then◌else◌, ℤ, pos}
+use Rattle.std.specs.Prelude.{ℕ, ◌+◌, ◌==◌, Bool, ◌&&◌, ◌||◌, List, drop, take_while, length, slice_index, Option, None}
+use Rattle.std.specs.Prelude.{unwrap_or, if◌then◌else◌, ℤ, pos}
 use Rattle.std.specs.Char.{is_ascii_digit}
 use Rattle.std.specs.List.{prefix_len}
 use Rattle.book_statement.specs.Dates.{date, year_of_two}

@@ -1,5 +1,6 @@
 -- The statement that a register gives: an account with the entries of its transactions.
-use Rattle.std.specs.Prelude.{ℕ, ◌-◌, ◌==◌, nat_le, Bool, ◌&&◌, ◌||◌, List, [], ◌∷◌, ◌++◌, length, map, fold, take, drop, slice_index, codes, Option, Some, None, unwrap_or, if◌then◌else◌, ℤ, pos}
+use Rattle.std.specs.Prelude.{ℕ, ◌-◌, ◌==◌, nat_le, Bool, ◌&&◌, ◌||◌, List, [], ◌∷◌, ◌++◌, length, map, fold, take}
+use Rattle.std.specs.Prelude.{drop, slice_index, codes, Option, Some, None, unwrap_or, if◌then◌else◌, ℤ, pos}
 use Rattle.std.specs.Int.{int_max}
 use Rattle.book_statement.specs.Keys.{same_text}
 use Rattle.book_statement.specs.Texts.{is_nothing}

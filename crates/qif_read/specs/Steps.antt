@@ -1,5 +1,6 @@
 -- What the reader keeps, and how a line changes it.
-use Rattle.std.specs.Prelude.{ℕ, ◌≡◌, ◌+◌, Bool, true, false, ◌&&◌, not, List, [], ◌∷◌, ◌++◌, length, Option, Some, None, is_none, Result, Ok, Err, if◌then◌else◌, ℤ, ⊤}
+use Rattle.std.specs.Prelude.{ℕ, ◌≡◌, ◌+◌, Bool, true, false, ◌&&◌, not, List, [], ◌∷◌, ◌++◌, length, Option, Some}
+use Rattle.std.specs.Prelude.{None, is_none, Result, Ok, Err, if◌then◌else◌, ℤ, ⊤}
 use Rattle.std.specs.Int.{int_max}
 use Rattle.std.specs.Option.{option_or}
 use Rattle.book_statement.specs.Checks.{Check, check, first_bad, fault_at}
@@ -19,7 +20,8 @@ use Rattle.book_statement.specs.declared.statement_line.StatementLine.{Statement
 use Rattle.qif_read.specs.Qif.{line_checks, end_checks, answer_of}
 use Rattle.qif_read.specs.declared.form.Form.{Form}
 use Rattle.qif_read.specs.declared.kind.Code.{Code}
-use Rattle.qif_read.specs.declared.kind.Code.TheVariants.{Date, Total, OtherTotal, Number, Payee, Memo, Category, Split, SplitMemo, SplitAmount, Other}
+use Rattle.qif_read.specs.declared.kind.Code.TheVariants.{Date, Total, OtherTotal, Number, Payee, Memo, Category, Split}
+use Rattle.qif_read.specs.declared.kind.Code.TheVariants.{SplitMemo, SplitAmount, Other}
 use Rattle.qif_read.specs.declared.kind.Topic.{Topic}
 use Rattle.qif_read.specs.declared.kind.Topic.TheVariants.{Register, Accounts, Passed}
 use Rattle.qif_read.specs.declared.kind.LineKind.{LineKind}

@@ -3,7 +3,8 @@ ghost use Rattle.std.specs.List.{before_first, after_first};
 ghost use Rattle.book_statement.specs.Checks.{Tells};
 ghost use Rattle.book_statement.specs.Currencies.{IsFraction};
 ghost use Rattle.book_statement.specs.Numbers.{units};
-ghost use Rattle.qif_read.specs.QifAmount.{is_negative, unsigned, is_number, are_commas_placed, without_commas, number_checks, amount_checks, amount};
+ghost use Rattle.qif_read.specs.QifAmount.{is_negative, unsigned, is_number, are_commas_placed, without_commas};
+ghost use Rattle.qif_read.specs.QifAmount.{number_checks, amount_checks, amount};
 
 use crate::date::digits_len;
 use book_statement::{Bad, has_digits, units_of};

@@ -2,7 +2,8 @@ ghost use Rattle.std.specs.Prelude.{◌≡◌, ◌≤◌, ◌==◌, drop, length
 ghost use Rattle.std.specs.Char.{is_ascii_digit};
 ghost use Rattle.std.specs.List.{prefix_len};
 ghost use Rattle.book_statement.specs.Numbers.{has_digits, number};
-ghost use Rattle.qif_read.specs.QifDate.{behind_spaces, numeral, behind_numeral, is_mark, is_year_mark, is_year, parts_of, is_date_form, year_said, day_in, day_of_parts, day_named};
+ghost use Rattle.qif_read.specs.QifDate.{behind_spaces, numeral, behind_numeral, is_mark, is_year_mark, is_year};
+ghost use Rattle.qif_read.specs.QifDate.{parts_of, is_date_form, year_said, day_in, day_of_parts, day_named};
 
 use crate::DateOrder;
 use book_commodity::Day;

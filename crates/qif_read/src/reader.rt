@@ -31,7 +31,9 @@ impl Reader {
     ghost use Rattle.qif_read.specs.Entries.{total_said};
     ghost use Rattle.qif_read.specs.Kinds.{kind_of};
     ghost use Rattle.qif_read.specs.Qif.{answer_of};
-    ghost use Rattle.qif_read.specs.Steps.{Takes, account_end_fault, after, answer_after, checks_at_end, end_fault, entry_fault, fault_of, field_fault, fresh, with_account, with_end, with_field, with_list, with_transaction};
+    ghost use Rattle.qif_read.specs.Steps.{Takes, account_end_fault, after, answer_after, checks_at_end, end_fault};
+    ghost use Rattle.qif_read.specs.Steps.{entry_fault, fault_of, field_fault, fresh, with_account, with_end};
+    ghost use Rattle.qif_read.specs.Steps.{with_field, with_list, with_transaction};
 
     /// The reader before the first line; it takes no memory.
     pub fn new(alloc: Global) -> Reader

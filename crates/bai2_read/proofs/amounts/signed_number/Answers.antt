@@ -15,17 +15,26 @@ overflow_cast-size c = let below : c.number-size.result < 10 ^ 18 = small c in o
 
 pub overflow_sub-result : goal.overflow_sub-result
 overflow_sub-result c =
-    let below : c.number-size.result < 10 ^ 18 = small_number (without_sign c.args.text.now) c.number-size.result c.requires (rw c.without_sign.ensures at c.number-size.ensures.bound) in
+    let below : c.number-size.result < 10 ^ 18 =
+    small_number (without_sign c.args.text.now) c.number-size.result c.requires
+    (rw c.without_sign.ensures at c.number-size.ensures.bound) in
     omega (arith, ints)
 
 pub returns-then-text-eq45 : goal.returns-then-text-eq45
 returns-then-text-eq45 c =
-    let below : c.number-size.result < 10 ^ 18 = small_number (without_sign c.args.text.now) c.number-size.result c.requires (rw c.without_sign.ensures at c.number-size.ensures.bound) in
-    let value : to_z w64 (of_z w64 (pos 0 -ℤ to_z w64 c.number-size.result)) ≡ neg_ℤ (pos c.number-size.result) = omega (arith, ints) in
-    value ∙ signed_minus c.args.text.now c.number-size.result c.if-text-eq45.true (c.number-size.ensures.value ∙ ap number c.without_sign.ensures)
+    let below : c.number-size.result < 10 ^ 18 =
+    small_number (without_sign c.args.text.now) c.number-size.result c.requires
+    (rw c.without_sign.ensures at c.number-size.ensures.bound) in
+    let value : to_z w64 (of_z w64 (pos 0 -ℤ to_z w64 c.number-size.result)) ≡ neg_ℤ (pos c.number-size.result) =
+    omega (arith, ints) in
+    value ∙ signed_minus c.args.text.now c.number-size.result c.if-text-eq45.true
+    (c.number-size.ensures.value ∙ ap number c.without_sign.ensures)
 
 pub returns-else-text-eq45 : goal.returns-else-text-eq45
 returns-else-text-eq45 c =
-    let below : c.number-size.result < 10 ^ 18 = small_number (without_sign c.args.text.now) c.number-size.result c.requires (rw c.without_sign.ensures at c.number-size.ensures.bound) in
+    let below : c.number-size.result < 10 ^ 18 =
+    small_number (without_sign c.args.text.now) c.number-size.result c.requires
+    (rw c.without_sign.ensures at c.number-size.ensures.bound) in
     let value : to_z w64 c.number-size.result ≡ pos c.number-size.result = omega (arith, ints) in
-    value ∙ signed_plain c.args.text.now c.number-size.result c.if-text-eq45.false (c.number-size.ensures.value ∙ ap number c.without_sign.ensures)
+    value ∙ signed_plain c.args.text.now c.number-size.result c.if-text-eq45.false
+    (c.number-size.ensures.value ∙ ap number c.without_sign.ensures)

@@ -14,8 +14,10 @@ loop-rest-init c =
     let text = c.args.text.now in
     record {
       so_far =
-          subst (λ (rest : List ℕ). SoFar c.args.known.now.entries c.new-reader.result 0 rest text) (sym c.as_str-rest.ensures)
-          (first_so_far c.args.known.now.entries c.new-reader.result text c.new-reader.ensures.context c.new-reader.ensures.pending);
+          subst (λ (rest : List ℕ). SoFar c.args.known.now.entries c.new-reader.result 0 rest text)
+          (sym c.as_str-rest.ensures)
+          (first_so_far c.args.known.now.entries c.new-reader.result text c.new-reader.ensures.context
+          c.new-reader.ensures.pending);
       utf8 = c.as_str-rest.utf8;
       within = omega (arith, ap (λ (l : List ℕ). length l) c.as_str-rest.ensures);
     }
@@ -25,7 +27,8 @@ loop-rest-preserved c =
     let shorter = c.next_line.ensures.shorter in
     record {
       so_far =
-          next_so_far c.args.known.now.entries c.loop-rest.reader c.take.new.self c.loop-rest.lines (c.loop-rest.lines + 1)
+          next_so_far c.args.known.now.entries c.loop-rest.reader c.take.new.self c.loop-rest.lines
+          (c.loop-rest.lines + 1)
           c.loop-rest.rest.now c.args.text.now c.next_line.result.0.now c.next_line.result.1.now
           c.loop-rest.invariant.so_far c.next_line.ensures.lines refl c.in_ok-take.ensures;
       utf8 = search rules;
@@ -42,7 +45,10 @@ returns-in_err-take c =
 
 pub returns : goal.returns
 returns c =
-    let none : c.loop-rest.rest.now ≡ [] = nil_from_length c.loop-rest.rest.now (eqb-true (length c.loop-rest.rest.now) 0 (sym c.is_empty.ensures ∙ c.loop-rest-test.false)) in
+    let none : c.loop-rest.rest.now ≡ [] =
+    nil_from_length c.loop-rest.rest.now
+    (eqb-true (length c.loop-rest.rest.now) 0 (sym c.is_empty.ensures ∙ c.loop-rest-test.false)) in
     subst (λ (said : Result (List Statement) StatementFault). Gives said c.end.result)
-    (end_so_far c.args.known.now.entries c.loop-rest.reader c.loop-rest.lines c.loop-rest.rest.now c.args.text.now c.loop-rest.invariant.so_far none)
+    (end_so_far c.args.known.now.entries c.loop-rest.reader c.loop-rest.lines c.loop-rest.rest.now c.args.text.now
+    c.loop-rest.invariant.so_far none)
     c.end.ensures

@@ -5,6 +5,7 @@ use Rattle.bai2_read.proofs.summaries.balance.Goals as goal
 
 pub items-init : goal.items-init
 items-init c = record {
-  whole = items_rest (λ (its : List (List ℕ)). balance c.args.item_type.now its) c.args.body.now c.after_fields-rest.result.now c.after_fields-rest.ensures;
+  whole = items_rest (λ (its : List (List ℕ)). balance c.args.item_type.now its) c.args.body.now
+      c.after_fields-rest.result.now c.after_fields-rest.ensures;
   begins = begins_rest c.args.body.now c.after_fields-rest.result.now c.after_fields-rest.ensures;
 }

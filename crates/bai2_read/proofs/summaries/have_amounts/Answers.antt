@@ -6,6 +6,7 @@ use Rattle.bai2_read.proofs.summaries.have_amounts.Goals as goal
 
 pub loop-rest-init : goal.loop-rest-init
 loop-rest-init c = record {
-  whole = items_rest (λ (its : List (List ℕ)). list_all has_amount its) c.args.body.now c.after_fields-rest.result.now c.after_fields-rest.ensures;
+  whole = items_rest (λ (its : List (List ℕ)). list_all has_amount its) c.args.body.now c.after_fields-rest.result.now
+      c.after_fields-rest.ensures;
   begins = begins_rest c.args.body.now c.after_fields-rest.result.now c.after_fields-rest.ensures;
 }

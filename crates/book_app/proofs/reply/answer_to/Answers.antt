@@ -9,15 +9,15 @@ use Rattle.book_app.proofs.reply.answer_to.Goals as goal
 pub returns-in-Ok-clause-answered : goal.returns-in-Ok-clause-answered
 returns-in-Ok-clause-answered c =
     let read : LineAsks c.args.line.now (Asks c.in-Ok.command) = subst
-        (λ (r : Result Command WireError). IsRead c.args.line.now r) c.in-Ok.is c.command_of.ensures in
+    (λ (r : Result Command WireError). IsRead c.args.line.now r) c.in-Ok.is c.command_of.ensures in
     IfOk-weaker c.reply.result _ _
-        (λ text h. (h.0, record { asked = Asks c.in-Ok.command; read = read; reply = h.1 }))
-        c.reply.ensures.answered
+    (λ text h. (h.0, record { asked = Asks c.in-Ok.command; read = read; reply = h.1 }))
+    c.reply.ensures.answered
 
 pub returns-in-Err : goal.returns-in-Err
 returns-in-Err c =
     let read : IfSome (asked_of_fault c.in-Err.fault) (LineAsks c.args.line.now) = subst
-        (λ (r : Result Command WireError). IsRead c.args.line.now r) c.in-Err.is c.command_of.ensures in
+    (λ (r : Result Command WireError). IsRead c.args.line.now r) c.in-Err.is c.command_of.ensures in
     record {
       answered = replies-fault c.args.engine.now.state c.args.line.now c.in-Err.fault c.wire_text.result read
           c.wire_text.ensures;

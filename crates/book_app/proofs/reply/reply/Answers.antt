@@ -19,7 +19,7 @@ returns-in_ok-text-in-Ok-clause-answered c =
     let text : List ℕ = c.in_ok-text-in-Ok.text in
     let is : text ≡ answer_bytes c.in-Ok.plan.answer c.in-Ok.plan.version =
     c.in_ok-text-in-Ok.ensures ∙ ap (λ (a : Answer). answer_bytes a c.version.result) c.answer.ensures
-        ∙ ap (answer_bytes c.in-Ok.plan.answer) c.version.ensures in
+    ∙ ap (answer_bytes c.in-Ok.plan.answer) c.version.ensures in
     let new : c.finish.new.self.state ≡ after old c.in-Ok.plan =
     c.finish.ensures.state ∙ ap (λ (s : State). after s c.in-Ok.plan) c.prepare.ensures.unchanged in (
       IsAnswer-own_line text _ is (answer-own_line c.in-Ok.plan.answer c.in-Ok.plan.version),
@@ -34,7 +34,7 @@ returns-in-Err-Broken-clause-answered c =
     let rule : Rule = c.in-Err-Broken.rule in
     let broken : step old c.args.command ≡ Broken rule =
     subst (λ refusal. IsRefusal (step old c.args.command) refusal) c.in-Err-Broken.field-0-is
-        c.in-Err-Broken.ensures.refused in
+    c.in-Err-Broken.ensures.refused in
     IfOk-weaker c.rule_text.result _ _
     (λ text e.
     let is : text ≡ rule_bytes rule old.version = e ∙ ap (rule_bytes rule) version in (

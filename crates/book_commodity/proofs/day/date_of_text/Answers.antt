@@ -7,4 +7,5 @@ returns-clause-found c =
     let year = c.in_ok-year.ensures.found in
     let month = c.in_ok-month.ensures.found in
     let day = c.in_ok-day.ensures.found in
-    spelled c.args.text.now _ _ _ _ c.if-text-ne10.false century.0 century.1 year.0 year.1 c.if-text-ne45.false month.0 month.1 c.if-text-ne45-2.false day.0 day.1
+    spelled c.args.text.now _ _ _ _ c.if-text-ne10.false century.0 century.1 year.0 year.1 c.if-text-ne45.false
+    month.0 month.1 c.if-text-ne45-2.false day.0 day.1

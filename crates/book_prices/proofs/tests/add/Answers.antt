@@ -7,11 +7,19 @@ use Rattle.book_prices.proofs.tests.add.Goals as goal
 
 pub returns : goal.returns
 returns c =
-    let price : Price = record { commodity = c.args.pair.0; currency = c.args.pair.1; day = c.args.day; num = c.args.num; denom = c.args.denom } in
+    let price : Price = record {
+      commodity = c.args.pair.0;
+      currency = c.args.pair.1;
+      day = c.args.day;
+      num =
+          c.args.num;
+      denom = c.args.denom;
+    } in
     let before : AreKept c.reserve.new.self.entries = subst AreKept (sym c.reserve.ensures.entries) c.requires.prices in
     let new : All (λ (entry : ℕ × Price). is_same entry.1 price ≡ false) c.reserve.new.self.entries =
     subst (λ (found : Option ℕ). IsSame c.reserve.new.self.entries price found) c.in-None.is c.same.ensures in
     subst AreKept (sym c.put.ensures.entries) (
-      all_with (λ (entry : ℕ × Price). IsSound entry.1) c.args.number price c.reserve.new.self.entries (c.requires.num, c.requires.denom) before.0,
+      all_with (λ (entry : ℕ × Price). IsSound entry.1) c.args.number price c.reserve.new.self.entries
+          (c.requires.num, c.requires.denom) before.0,
       once_with c.args.number price c.reserve.new.self.entries new before.1,
     )

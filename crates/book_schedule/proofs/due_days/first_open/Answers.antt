@@ -9,7 +9,9 @@ pub loop-upto-preserved : goal.loop-upto-preserved
 loop-upto-preserved c =
     let pushed : c.push.new.self.items ≡ c.loop-upto.days.items ++ c.in-Some.day ∷ [] = c.in_ok-push.ensures.items in
     record {
-      follow = subst (λ (days : List ℤ). Follow (IsPlanned c.args.timing.now c.args.upto) c.args.timing.now.last days (Some c.in-Some.day)) (sym pushed)
-          (follow_push (IsPlanned c.args.timing.now c.args.upto) c.args.timing.now.last c.loop-upto.last c.loop-upto.days.items c.in-Some.day c.loop-upto.invariant.follow c.in-Some.ensures);
+      follow = subst (λ (days : List ℤ). Follow (IsPlanned c.args.timing.now c.args.upto) c.args.timing.now.last days
+          (Some c.in-Some.day)) (sym pushed)
+          (follow_push (IsPlanned c.args.timing.now c.args.upto) c.args.timing.now.last c.loop-upto.last
+          c.loop-upto.days.items c.in-Some.day c.loop-upto.invariant.follow c.in-Some.ensures);
       count = rw pushed (omega (arith, length-append c.loop-upto.days.items (c.in-Some.day ∷ []), c.len.ensures));
     }

@@ -11,10 +11,14 @@ loop-recurrence-init c = next_none c.args.recurrences.now c.args.after.now
 pub loop-recurrence-preserved : goal.loop-recurrence-preserved
 loop-recurrence-preserved c =
     let i = c.loop-recurrence.recurrence-index in
-    subst (λ next. IsNext (IsOnSome (take (i + 1) c.args.recurrences.now)) c.args.after.now next) (sym c.earlier-next.ensures)
-    (next_more c.args.recurrences.now i _ c.args.after.now _ _ c.loop-recurrence-test.true c.recurrence-item.is c.loop-recurrence.invariant c.next_occurrence.ensures)
+    subst (λ next. IsNext (IsOnSome (take (i + 1) c.args.recurrences.now)) c.args.after.now next)
+    (sym c.earlier-next.ensures)
+    (next_more c.args.recurrences.now i _ c.args.after.now _ _ c.loop-recurrence-test.true c.recurrence-item.is
+    c.loop-recurrence.invariant c.next_occurrence.ensures)
 
 pub returns : goal.returns
 returns c =
-    let all : take c.loop-recurrence.recurrence-index c.args.recurrences.now ≡ c.args.recurrences.now = take_all c.loop-recurrence.recurrence-index c.args.recurrences.now c.loop-recurrence-test.false in
-    subst (λ recurrences. IsNext (IsOnSome recurrences) c.args.after.now c.loop-recurrence.next) all c.loop-recurrence.invariant
+    let all : take c.loop-recurrence.recurrence-index c.args.recurrences.now ≡ c.args.recurrences.now =
+    take_all c.loop-recurrence.recurrence-index c.args.recurrences.now c.loop-recurrence-test.false in
+    subst (λ recurrences. IsNext (IsOnSome recurrences) c.args.after.now c.loop-recurrence.next) all
+    c.loop-recurrence.invariant

@@ -14,9 +14,11 @@ returns-in-Weekly-clause-passed c =
 
 pub returns-in-Yearly-clause-passed : goal.returns-in-Yearly-clause-passed
 returns-in-Yearly-clause-passed c =
-    passed_yearly c.args.recurrence.now c.args.after.now _ c.days_before-days.ensures.start c.requires.0 c.in-Yearly.is c.months_before-months.ensures
+    passed_yearly c.args.recurrence.now c.args.after.now _ c.days_before-days.ensures.start c.requires.0
+    c.in-Yearly.is c.months_before-months.ensures
 
 pub returns-in_default-clause-passed : goal.returns-in_default-clause-passed
 returns-in_default-clause-passed c =
     let kind = c.in_default in
-    passed_monthly c.args.recurrence.now c.args.after.now _ c.days_before-days.ensures.start c.requires.0 kind.not-Once kind.not-Daily kind.not-Weekly kind.not-Yearly c.months_before-months.ensures
+    passed_monthly c.args.recurrence.now c.args.after.now _ c.days_before-days.ensures.start c.requires.0
+    kind.not-Once kind.not-Daily kind.not-Weekly kind.not-Yearly c.months_before-months.ensures

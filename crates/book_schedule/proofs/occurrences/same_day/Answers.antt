@@ -8,4 +8,5 @@ pub returns-in_err-month-clause-some : goal.returns-in_err-month-clause-some
 returns-in_err-month-clause-some c =
     let within : IsDay c.args.start = search rules in
     let month = c.of.ensures.month in
-    no_day_past _ c.of.result c.args.months (month_count c.args.start c.args.months) _ c.from_residual.ensures c.in_err-month.ensures.some.1 (omega arith) (same_day_in c.args.start _ within)
+    no_day_past _ c.of.result c.args.months (month_count c.args.start c.args.months) _ c.from_residual.ensures
+    c.in_err-month.ensures.some.1 (omega arith) (same_day_in c.args.start _ within)

@@ -10,7 +10,8 @@ loop-place-init c = c.new-keys.ensures
 
 pub loop-place-preserved : goal.loop-place-preserved
 loop-place-preserved c =
-    keys_of-next c.args.account c.args.statement.now.lines c.as_slice-lines.result.now c.loop-place.place c.twins_before-ordinal.result
+    keys_of-next c.args.account c.args.statement.now.lines c.as_slice-lines.result.now c.loop-place.place
+    c.twins_before-ordinal.result
     c.index-lines-place.result c.loop-place.keys c.push.new.self c.in_ok-key.field-0
     c.as_slice-lines.ensures c.loop-place-test.true c.index-lines-place.is c.loop-place.invariant
     c.twins_before-ordinal.ensures c.in_ok-key.ensures c.in_ok-push.ensures.added
@@ -18,4 +19,5 @@ loop-place-preserved c =
 pub returns : goal.returns
 returns c =
     c.loop-place.invariant
-    ∙ ap (keys_of c.args.account) (take_all c.loop-place.place c.args.statement.now.lines (omega (arith, ap length c.as_slice-lines.ensures)))
+    ∙ ap (keys_of c.args.account)
+    (take_all c.loop-place.place c.args.statement.now.lines (omega (arith, ap length c.as_slice-lines.ensures)))

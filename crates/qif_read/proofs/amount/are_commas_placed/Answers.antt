@@ -3,7 +3,8 @@ use Rattle.std.proofs.lemmas.List.{take_rest}
 use Rattle.std.specs.Char.{is_ascii_digit}
 use Rattle.std.specs.List.{prefix_len}
 use Rattle.qif_read.proofs.AmountLemmas.{commas_past, commas_end, misplaced, placed}
-use Rattle.qif_read.proofs.amount.are_commas_placed.Goals.{else-byte-eq44-via-then-byte-eq44+else-digits_len-ne3, else-byte-eq44-via-else-byte-eq44}
+use Rattle.qif_read.proofs.amount.are_commas_placed.Goals.{else-byte-eq44-via-then-byte-eq44+else-digits_len-ne3}
+use Rattle.qif_read.proofs.amount.are_commas_placed.Goals.{else-byte-eq44-via-else-byte-eq44}
 use Rattle.qif_read.proofs.amount.are_commas_placed.Goals as goal
 
 behind : (whole : List ℕ) (i count : ℕ) → count

@@ -12,7 +12,8 @@ returns-then-is_negative c =
     let size : ℕ = units (without_commas whole) decimals c.args.fraction in
     let small : size ≤ 1_000_000_000_000 = small_units c.args.fraction whole decimals c.in-Ok.ensures.0 in
     let is : c.in-Ok.units ≡ pos size = c.in-Ok.ensures.1 in
-    let back : to_z w64 (of_z w64 (pos 0 -ℤ to_z w64 (of_z w64 c.in-Ok.units))) ≡ neg_ℤ (pos size) = omega (arith, ints) in
+    let back : to_z w64 (of_z w64 (pos 0 -ℤ to_z w64 (of_z w64 c.in-Ok.units))) ≡ neg_ℤ (pos size) =
+    omega (arith, ints) in
     let parts = parts_are c.args.text.now c.unsigned.result.now whole decimals c.unsigned.ensures
     c.split_point.ensures.whole c.split_point.ensures.decimals in
     let read = read_ok c.args.fraction c.args.text.now whole decimals c.in-Ok.units true parts.0 parts.1

@@ -5,7 +5,8 @@ use Rattle.qif_read.specs.Kinds.{kind_of}
 use Rattle.qif_read.specs.Qif.{result_of}
 use Rattle.qif_read.specs.Steps.{after, fault_of, answer_after}
 use Rattle.qif_read.specs.Tree.{listings_of}
-use Rattle.qif_read.proofs.WholeLemmas.{so_far_fresh, so_far_next, so_far_bad, so_far_end, gives_error, gives_same, no_text}
+use Rattle.qif_read.proofs.WholeLemmas.{so_far_fresh, so_far_next, so_far_bad, so_far_end, gives_error, gives_same}
+use Rattle.qif_read.proofs.WholeLemmas.{no_text}
 use Rattle.qif_read.specs.declared.reader.Reader.{Reader}
 use Rattle.qif_read.proofs.read.read_lines.Goals as goal
 

@@ -7,7 +7,8 @@ use Rattle.book_accounts.proofs.tree.Tree.way_up.Goals as goal
 
 pub loop-parent-smaller : goal.loop-parent-smaller
 loop-parent-smaller c =
-    ancestors_fall c.args.self.now.entries c.loop-parent.current c.in-Some.parent c.parent_of.ensures.rises c.requires.rooted (sym c.parent_of.ensures.parent ∙ c.in-Some.is)
+    ancestors_fall c.args.self.now.entries c.loop-parent.current c.in-Some.parent c.parent_of.ensures.rises
+    c.requires.rooted (sym c.parent_of.ensures.parent ∙ c.in-Some.is)
 
 pub loop-parent-preserved : goal.loop-parent-preserved
 loop-parent-preserved c =
@@ -16,15 +17,19 @@ loop-parent-preserved c =
     ap (λ (l : List ℕ). l ++ ancestors tree c.in-Some.parent) pushed
     ∙ append_assoc c.loop-parent.way.items (c.in-Some.parent ∷ []) (ancestors tree c.in-Some.parent)
     ∙ ap (λ (l : List ℕ). c.loop-parent.way.items ++ l)
-    (sym (ancestors_up tree c.loop-parent.current c.in-Some.parent c.parent_of.ensures.rises c.requires.rooted (sym c.parent_of.ensures.parent ∙ c.in-Some.is)))
+    (sym (ancestors_up tree c.loop-parent.current c.in-Some.parent c.parent_of.ensures.rises c.requires.rooted
+    (sym c.parent_of.ensures.parent ∙ c.in-Some.is)))
     ∙ c.loop-parent.invariant
 
 pub returns-clause-way : goal.returns-clause-way
-returns-clause-way c = way_of c.args.self.now.entries c.args.number c.parent_of.ensures.rises c.requires.rooted c.requires.there
+returns-clause-way c =
+    way_of c.args.self.now.entries c.args.number c.parent_of.ensures.rises c.requires.rooted c.requires.there
 
 pub returns-clause-items : goal.returns-clause-items
 returns-clause-items c =
-    let top : parent_of c.args.self.now.entries c.loop-parent.current ≡ None = sym c.parent_of.ensures.parent ∙ c.in_default.is in
+    let top : parent_of c.args.self.now.entries c.loop-parent.current ≡ None = sym c.parent_of.ensures.parent
+    ∙ c.in_default.is in
     sym (append-nil c.loop-parent.way.items)
-    ∙ ap (λ (l : List ℕ). c.loop-parent.way.items ++ l) (sym (ancestors_top c.args.self.now.entries c.loop-parent.current top))
+    ∙ ap (λ (l : List ℕ). c.loop-parent.way.items ++ l)
+    (sym (ancestors_top c.args.self.now.entries c.loop-parent.current top))
     ∙ c.loop-parent.invariant

@@ -14,8 +14,8 @@ returns-clause-answered c =
       IsAnswer-own_line text _ is (too_long-own_line c.args.size),
       λ line size long.
           subst (λ (t : Bool). MatchBool t
-              ((text ≡ too_long_bytes (length line)) × (c.args.self.now.state ≡ c.args.self.now.state))
-              (Replies c.args.self.now.state line text c.args.self.now.state))
+          ((text ≡ too_long_bytes (length line)) × (c.args.self.now.state ≡ c.args.self.now.state))
+          (Replies c.args.self.now.state line text c.args.self.now.state))
           (sym (lt-ltb (2 ^ 23) (length line) long)) (is ∙ ap too_long_bytes (sym size), refl),
     ))
     c.too_long_text.ensures

@@ -11,10 +11,12 @@ pub returns-clause-day : goal.returns-clause-day
 returns-clause-day c =
     let date = c.in_ok-year in
     let spelled = c.in_ok-year.ensures.found in
-    day_spelled c.args.text.now (date.year, date.month, date.day) _ c.of_parts.result spelled (omega (arith, ints, spelled.0)) c.of_parts.ensures.some c.of_parts.ensures.day
+    day_spelled c.args.text.now (date.year, date.month, date.day) _ c.of_parts.result spelled
+    (omega (arith, ints, spelled.0)) c.of_parts.ensures.some c.of_parts.ensures.day
 
 pub returns-clause-none : goal.returns-clause-none
 returns-clause-none c =
     let date = c.in_ok-year in
     let spelled = c.in_ok-year.ensures.found in
-    no_day_spelled c.args.text.now (date.year, date.month, date.day) _ c.of_parts.result spelled (omega (arith, ints, spelled.0)) c.of_parts.ensures.some
+    no_day_spelled c.args.text.now (date.year, date.month, date.day) _ c.of_parts.result spelled
+    (omega (arith, ints, spelled.0)) c.of_parts.ensures.some

@@ -8,7 +8,8 @@ within c = subst (λ day. IsDay day) c.self.view_is c.self.invariant
 
 parts_of : (c : goal.After-struct_known-4-1) → IsDateOf c.in-Ok.date c.args.self
 parts_of c =
-    date_parts c.in-Ok.date c.args.self _ (within c) (wide_day _ c.self.invariant ∙ c.self.view_is) c.in-Ok.ensures.value
+    date_parts c.in-Ok.date c.args.self _ (within c) (wide_day _ c.self.invariant ∙ c.self.view_is)
+    c.in-Ok.ensures.value
 
 pub returns-clause-year : goal.returns-clause-year
 returns-clause-year c = (parts_of c).year

@@ -7,5 +7,6 @@ pub returns : goal.returns
 returns g c =
     let facts = c.binary_search_by_key.ensures in
     let by_number = facts.position (λ entry. entry.0) (answers_always _ _ _ (λ f a r g called. search rules)) in
-    let here = searched c.args.number c.deref.result.now c.binary_search_by_key.result (rw c.deref.ensures.value c.self.invariant) facts.bound by_number in
+    let here = searched c.args.number c.deref.result.now c.binary_search_by_key.result
+    (rw c.deref.ensures.value c.self.invariant) facts.bound by_number in
     rw (← c.self.view_is, ← c.deref.ensures.value) (record { found = here.0; absent = here.1 })

@@ -11,10 +11,12 @@ loop-place-preserved c =
     let place : ℕ = c.loop-place.place in
     let price : Price = c.value_at-price.result.now in
     let there : option_map (λ (entry : ℕ × Price). entry.1) (slice_get entries place) ≡ Some price =
-    subst (λ (table : Entries Price). option_map (λ (entry : ℕ × Price). entry.1) (slice_get table.entries place) ≡ Some price) c.self.view_is c.value_at-price.ensures in
+    subst (λ (table : Entries Price). option_map (λ (entry : ℕ × Price). entry.1)
+    (slice_get table.entries place) ≡ Some price) c.self.view_is c.value_at-price.ensures in
     record {
       direct = IsBest-take entries place price c.args.commodity c.args.currency c.args.day c.last_of-direct.result there
           (λ number. c.last_of-direct.ensures (take place entries) number c.loop-place.invariant.direct);
-      swapped = IsBest-take entries place price c.args.currency c.args.commodity c.args.day c.last_of-swapped.result there
+      swapped = IsBest-take entries place price c.args.currency c.args.commodity c.args.day c.last_of-swapped.result
+          there
           (λ number. c.last_of-swapped.ensures (take place entries) number c.loop-place.invariant.swapped);
     }
