@@ -1,5 +1,5 @@
 -- Amounts in a field: digits, a comma that always stands there, and digits (SWIFT, format d).
-use Rattle.std.specs.Prelude.{ℕ, ◌==◌, Bool, ◌&&◌, List, position, is_some, ℤ, pos, neg_ℤ, if◌then◌else◌}
+use Rattle.std.specs.Prelude.{ℕ, ◌≡◌, true, ◌==◌, Bool, ◌&&◌, List, position, is_some, ℤ, pos, neg_ℤ, if◌then◌else◌}
 use Rattle.std.specs.List.{before_first, after_first}
 use Rattle.book_statement.specs.Checks.{Check}
 use Rattle.book_statement.specs.Numbers.{has_digits, units, unit_checks}
@@ -11,6 +11,12 @@ is_comma byte = byte == 44
 unfoldable pub is_amount : List ℕ → Bool
 is_amount text =
     is_some (position is_comma text) && has_digits 1 12 (before_first is_comma text) && has_digits 0 9 (after_first is_comma text)
+
+-- a text and what stands before and behind its first comma
+pub record IsParted (text whole decimals : List ℕ) : Type 0 where
+  pub found : is_some (position is_comma text) ≡ true
+  pub front : whole ≡ before_first is_comma text
+  pub back : decimals ≡ after_first is_comma text
 
 -- an amount in smallest units of a commodity with this fraction
 unfoldable pub amount : ℕ → List ℕ → ℕ

@@ -16,6 +16,12 @@ abbrev pub last_given : {X : Type 0} → (List FieldLines → Tag → List ℕ �
 last_given gives before [] = None
 last_given gives before (f ∷ fs) = option_or (last_given gives (before ++ f ∷ []) fs) (gives before f.tag f.first)
 
+-- the tag of the last field
+abbrev pub last_tag : List FieldLines → Option Tag
+last_tag [] = None
+last_tag (f ∷ []) = Some f.tag
+last_tag (f ∷ g ∷ gs) = last_tag (g ∷ gs)
+
 -- the fraction of a currency; 1 where the book has no such currency
 abbrev pub fraction_in : List (ℕ × Commodity) → List ℕ → ℕ
 fraction_in known code = unwrap_or (fraction_of code known) 1

@@ -8,6 +8,7 @@ pub mod LineField
 pub mod Order
 pub mod Pages
 pub mod Reading
+pub mod Steps
 pub mod Totals
 pub mod Tree
 pub mod Values

@@ -1,5 +1,5 @@
 -- A line of a statement (SWIFT, MT940 field 61): value date, [entry date], mark, [funds code], amount, type, references.
-use Rattle.std.specs.Prelude.{ℕ, zero, suc, ◌+◌, ◌-◌, ◌==◌, nat_eq, Bool, true, false, ◌&&◌, ◌||◌, List, [], ◌∷◌, ◌++◌, length, take, drop, slice_index, is_some, unwrap_or, if◌then◌else◌, ℤ, pos, codes}
+use Rattle.std.specs.Prelude.{ℕ, zero, suc, ◌+◌, ◌-◌, ◌==◌, nat_eq, Bool, not, Option, Some, None, ◌&&◌, ◌||◌, List, [], ◌∷◌, ◌++◌, length, take, drop, slice_index, is_some, unwrap_or, if◌then◌else◌, ℤ, pos, codes}
 use Rattle.std.specs.Char.{is_ascii_digit, is_ascii_uppercase}
 use Rattle.std.specs.List.{list_all, prefix_len, starts_with}
 use lib.Pointwise.{pointwise}
@@ -70,11 +70,14 @@ kind_part text = take 4 (drop (kind_place text) text)
 abbrev pub references : List ℕ → List ℕ
 references text = drop (kind_place text + 4) text
 
+abbrev pub is_kind_byte : ℕ → Bool
+is_kind_byte byte = is_ascii_uppercase byte || is_ascii_digit byte
+
 -- a capital letter and three capital letters or digits
 abbrev pub is_kind : List ℕ → Bool
 is_kind text =
     (length text == 4) && is_ascii_uppercase (slice_index text 0)
-    && list_all (λ byte. is_ascii_uppercase byte || is_ascii_digit byte) text
+    && list_all is_kind_byte text
 
 -- a text up to the first double slash, and what stands behind it
 abbrev pub before_slashes : List ℕ → List ℕ
@@ -98,16 +101,17 @@ abbrev pub has_entry_date : List ℕ → Bool
 has_entry_date text =
     is_nothing (entry_part text) || is_some (entry_date (value_part text) (value_day text) (entry_part text))
 
+-- the day and the value day of a line, where neither date is broken
+unfoldable pub line_days : List ℕ → Option (ℤ × ℤ)
+line_days text =
+    if is_some (short_date (value_part text)) && has_entry_date text then Some (line_day text, value_day text) else None
+
 -- the form of a line
 unfoldable pub line_form : List ℕ → List Check
 line_form text =
-    check (not_nothing (mark_part text) && is_kind (kind_part text)) FieldForm
-    ∷ check (is_some (short_date (value_part text)) && has_entry_date text) DateForm
+    check (not (is_nothing (mark_part text)) && is_kind (kind_part text)) FieldForm
+    ∷ check (is_some (line_days text)) DateForm
     ∷ check (is_amount (amount_part text)) AmountForm ∷ []
-  where
-    not_nothing : List ℕ → Bool
-    not_nothing [] = false
-    not_nothing (b ∷ bs) = true
 
 -- a debit and the reversal of a credit take from the account
 unfoldable pub is_taken : List ℕ → Bool
@@ -120,9 +124,15 @@ line_amount fraction text = signed (is_taken text) (amount fraction (amount_part
 -- the line that a field gives, with the pieces of its text
 unfoldable pub line : ℕ → List ℕ → List (List ℕ) → StatementLine
 line fraction text pieces = record {
-  day = line_day text; value_day = value_day text; amount = line_amount fraction text; kind = kind_part text;
-  ref_own = before_slashes (references text); ref_bank = behind_slashes (references text); text = joined pieces;
-  category = []; parts = []
+  day = line_day text;
+  value_day = value_day text;
+  amount = line_amount fraction text;
+  kind = kind_part text;
+  ref_own = before_slashes (references text);
+  ref_bank = behind_slashes (references text);
+  text = joined pieces;
+  category = [];
+  parts = [];
 }
 
 -- a piece more at the end of its text

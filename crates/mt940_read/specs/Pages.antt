@@ -1,10 +1,11 @@
 -- Pages: messages that follow each other in the file and are one statement (SWIFT, MT940: 60M and 62M).
-use Rattle.std.specs.Prelude.{ℕ, Bool, true, false, nat_lt, ◌&&◌, ◌||◌, not, List, [], ◌∷◌, ◌++◌, length, Option, Some, None, unwrap_or, ℤ, pos}
+use Rattle.std.specs.Prelude.{ℕ, Bool, true, false, nat_lt, ◌&&◌, ◌||◌, not, List, [], ◌∷◌, ◌++◌, length, Option, Some, None, unwrap_or, if◌then◌else◌, ℤ, pos}
 use Rattle.std.specs.Ordering.{int_eq}
 use Rattle.book_commodity.specs.declared.commodity.Commodity.{Commodity}
 use Rattle.book_statement.specs.declared.statement.Statement.{Statement}
+use Rattle.book_statement.specs.declared.statement_line.StatementLine.{StatementLine}
 use Rattle.book_statement.specs.Keys.{same_text}
-use Rattle.book_statement.specs.Lists.{grouped}
+use Rattle.book_statement.specs.Lists.{grouped, on_last}
 use Rattle.mt940_read.specs.declared.message.Message.{Message}
 use Rattle.mt940_read.specs.declared.page.Page.{Page}
 use Rattle.mt940_read.specs.Tree.{MessageLines}
@@ -35,20 +36,34 @@ last_page known (m ∷ n ∷ ms) = last_page known (n ∷ ms)
 -- the statement of a message alone
 abbrev pub statement_alone : Message → Statement
 statement_alone m = record {
-  account_text = m.account; number = m.number; currency = m.currency; opening = m.opening; closing = m.closing; day = m.day;
-  ties = Some true; lines = m.lines
+  account_text = m.account;
+  number = m.number;
+  currency = m.currency;
+  opening = m.opening;
+  closing = m.closing;
+  day = m.day;
+  ties = Some true;
+  lines = m.lines;
 }
 
 -- a page in front of a statement: the number and the opening balance are the first page's, the closing balance and the
 -- day the last one's
 abbrev pub with_page : Message → Statement → Statement
 with_page m statement = record statement {
-  account_text = m.account; number = m.number; currency = m.currency; opening = m.opening; lines = m.lines ++ statement.lines
+  account_text = m.account;
+  number = m.number;
+  currency = m.currency;
+  opening = m.opening;
+  lines = m.lines ++ statement.lines;
 }
+
+-- a statement with another closing balance and day, and more lines
+abbrev pub with_end : Option ℤ → ℤ → List StatementLine → Statement → Statement
+with_end closing day lines statement = record statement { closing = closing; day = day; lines = statement.lines ++ lines }
 
 -- a page behind a statement
 abbrev pub with_last_page : Statement → Message → Statement
-with_last_page statement m = record statement { closing = m.closing; day = m.day; lines = statement.lines ++ m.lines }
+with_last_page statement m = with_end m.closing m.day m.lines statement
 
 abbrev pub joins : List (ℕ × Commodity) → MessageLines → MessageLines → Bool
 joins known m n = joins_page (Some (page_of (values known m.fields))) (values known n.fields).account (values known n.fields).opens_page
@@ -72,5 +87,12 @@ pub record Past : Type 0 where
 
 abbrev pub past_of : List (ℕ × Commodity) → List MessageLines → Past
 past_of known before = record {
-  page = last_page known before; statements = length (statements_of known before); lines = last_lines (statements_of known before)
+  page = last_page known before;
+  statements = length (statements_of known before);
+  lines = last_lines (statements_of known before);
 }
+
+-- the statements with one message more
+abbrev pub with_message : Option Page → Message → List Statement → List Statement
+with_message page m done =
+    if joins_page page m.account m.opens_page then on_last (λ s. with_last_page s m) done else done ++ statement_alone m ∷ []

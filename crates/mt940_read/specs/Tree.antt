@@ -33,11 +33,16 @@ field n tag line more = record { tag = tag; line = n + 1; first = field_text lin
 -- one line in front, behind n lines of the file. A message ends at the line before the one that ends it
 abbrev pub in_front : ℕ → List ℕ → Kind → Part → Part
 in_front n line Begins part = record {
-  loose = []; fields = []; last = n;
-  messages = record { fields = field n Reference line part.loose ∷ part.fields; last = part.last } ∷ part.messages
+  loose = [];
+  fields = [];
+  last = n;
+  messages = record { fields = field n Reference line part.loose ∷ part.fields; last = part.last } ∷ part.messages;
 }
 in_front n line (Field tag) part = record {
-  loose = []; fields = field n tag line part.loose ∷ part.fields; last = part.last; messages = part.messages
+  loose = [];
+  fields = field n tag line part.loose ∷ part.fields;
+  last = part.last;
+  messages = part.messages;
 }
 in_front n line Passed part = record { loose = []; fields = part.fields; last = part.last; messages = part.messages }
 in_front n line Ends part = record { loose = []; fields = []; last = n; messages = part.messages }

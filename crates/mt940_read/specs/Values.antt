@@ -7,14 +7,11 @@ use Rattle.mt940_read.specs.declared.message.Message.{Message}
 use Rattle.mt940_read.specs.declared.tag.Tag.{Tag}
 use Rattle.mt940_read.specs.declared.tag.Tag.TheVariants.{Reference, Related, Account, Number, Opening, Line, Text, Closing, Available, Forward}
 use Rattle.mt940_read.specs.Balances.{balance, balance_currency, balance_day}
-use Rattle.mt940_read.specs.Entries.{last_given, fraction_in, fraction_given, fraction_behind, entries}
+use Rattle.mt940_read.specs.Entries.{last_given, fraction_in, fraction_given, fraction_behind, last_tag, entries}
 use Rattle.mt940_read.specs.LineField.{line, add_text}
 use Rattle.mt940_read.specs.Order.{is_line, is_text}
 use Rattle.mt940_read.specs.Totals.{total_of}
 use Rattle.mt940_read.specs.Tree.{FieldLines}
-
-abbrev pub tag_given : List FieldLines → Tag → List ℕ → Option Tag
-tag_given before tag text = Some tag
 
 -- 25 and 25P give the account, 28 and 28C the number: what stands before the first slash
 abbrev pub account_given : List FieldLines → Tag → List ℕ → Option (List ℕ)
@@ -57,7 +54,7 @@ day_given before _ text = None
 -- the values of a message with these fields
 abbrev pub values : List (ℕ × Commodity) → List FieldLines → Message
 values known fields = record {
-  last = last_given tag_given [] fields;
+  last = last_tag fields;
   account = unwrap_or (last_given account_given [] fields) [];
   number = unwrap_or (last_given number_given [] fields) [];
   currency = unwrap_or (last_given currency_given [] fields) [];
@@ -67,7 +64,7 @@ values known fields = record {
   closing = last_given (closing_given known) [] fields;
   closes_page = unwrap_or (last_given closes_given [] fields) false;
   day = unwrap_or (last_given day_given [] fields) (pos 0);
-  lines = entries known [] fields
+  lines = entries known [] fields;
 }
 
 -- the closing balance that the opening balance and the lines of the message give
@@ -86,15 +83,22 @@ after known m Related text = record m { last = Some Related }
 after known m Account text = record m { last = Some Account; account = text }
 after known m Number text = record m { last = Some Number; number = number_part text }
 after known m (Opening goes_on) text = record m {
-  last = Some (Opening goes_on); currency = balance_currency text; fraction = fraction_in known (balance_currency text);
-  opening = Some (balance (fraction_in known (balance_currency text)) text); opens_page = goes_on
+  last = Some (Opening goes_on);
+  currency = balance_currency text;
+  fraction = fraction_in known (balance_currency text);
+  opening = Some (balance (fraction_in known (balance_currency text)) text);
+  opens_page = goes_on;
 }
 after known m Line text = record m { last = Some Line; lines = m.lines ++ line m.fraction text [] ∷ [] }
 after known m Text text = record m {
-  last = Some Text; lines = if ends_in_line m.last then on_last (add_text text) m.lines else m.lines
+  last = Some Text;
+  lines = if ends_in_line m.last then on_last (add_text text) m.lines else m.lines;
 }
 after known m (Closing goes_on) text = record m {
-  last = Some (Closing goes_on); closing = Some (balance m.fraction text); closes_page = goes_on; day = balance_day text
+  last = Some (Closing goes_on);
+  closing = Some (balance m.fraction text);
+  closes_page = goes_on;
+  day = balance_day text;
 }
 after known m Available text = record m { last = Some Available }
 after known m Forward text = record m { last = Some Forward }

@@ -2,10 +2,26 @@
 //! a text, or the first place at which it breaks a rule of the format.
 #![tactic(auto)]
 
+mod amount;
+mod answer;
+mod balance;
+mod checks;
+mod entry_date;
 mod fraction;
+mod kept;
+mod kinds;
+mod line_field;
 mod lines;
 mod message;
+mod order;
 mod page;
+mod read;
+mod reader;
+mod slashes;
+mod statements;
 mod tag;
+#[cfg(test)]
+mod tests;
+mod texts;
 
-use lines::Lines;
+pub use read::read_mt940;
