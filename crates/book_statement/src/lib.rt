@@ -22,6 +22,8 @@ mod pieces;
 mod read_error;
 mod statement;
 mod statement_line;
+#[cfg(test)]
+mod tests;
 mod texts;
 
 pub use bad::Bad;
