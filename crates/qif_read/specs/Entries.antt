@@ -52,11 +52,12 @@ split_in_front fraction SplitMemo text rest = record rest { memo = Some text }
 split_in_front fraction SplitAmount text rest = record rest { amount = Some (amount fraction text) }
 split_in_front fraction _ text rest = rest
 
--- The parts of the lines of an entry, in smallest units of a commodity with this fraction: each S begins one.
+-- What the lines of an entry say of parts, in smallest units of a commodity with this fraction: each S begins one.
 abbrev pub splits_rest : ℕ → List Line → SplitsRest
 splits_rest fraction [] = record { memo = None; amount = None; splits = [] }
 splits_rest fraction (f ∷ fs) = split_in_front fraction f.code f.text (splits_rest fraction fs)
 
+-- The parts of an entry.
 abbrev pub splits_of : ℕ → List Line → List SplitSaid
 splits_of fraction fields = (splits_rest fraction fields).splits
 
@@ -81,9 +82,11 @@ text_or_empty text = unwrap_or text []
 abbrev pub total_said : Said → Option ℤ
 total_said said = option_or said.total said.other_total
 
+-- That amount; it only matters where there is one.
 abbrev pub amount_said : Said → ℤ
 amount_said said = unwrap_or (total_said said) (pos 0)
 
+-- The day of an entry; it only matters where there is one.
 abbrev pub day_said : Said → ℤ
 day_said said = unwrap_or said.day (pos 0)
 

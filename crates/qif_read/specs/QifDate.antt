@@ -30,6 +30,7 @@ pub record DateParts : Type 0 where
   pub year_mark : ℕ
   pub year : List ℕ
 
+-- A date of these parts.
 abbrev pub parts_of : List ℕ → ℕ → List ℕ → ℕ → List ℕ → DateParts
 parts_of first mark second year_mark year =
     record { first = first; mark = mark; second = second; year_mark = year_mark; year = year }

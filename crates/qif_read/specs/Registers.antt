@@ -52,6 +52,7 @@ begun_by name said = record {
   lines = statement_line said ∷ [];
 }
 
+-- A register with its first entry.
 abbrev pub after_first : List ℕ → Said → Section
 after_first name said = if is_opening name said then opened_by said else begun_by name said
 

@@ -5,7 +5,8 @@ use book_commodity::{Day, Many, OutOfMemory, Text};
 use book_statement::{Statement, StatementLine};
 use std::alloc::Global;
 
-/// A register so far: the name of its account, and what its entries give. It has a day once it has an entry.
+/// What a register gives so far: the name of its account, its opening balance in smallest units, the latest day of its
+/// entries, which is there once it has one, and its lines.
 #[derive(Drop)]
 pub struct Section {
     pub account: Text,
