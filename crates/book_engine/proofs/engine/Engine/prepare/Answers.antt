@@ -1,7 +1,7 @@
 use Rattle.std.proofs.Common.{◌≡◌, ℕ, refl, subst, sym}
 use Rattle.book_undo.specs.Edit.{edited, is_unchanged}
 use Rattle.book_step.specs.Outcome.{Done, after as state_after_step, version_after}
-use Rattle.book_step.specs.State.{State, state_of}
+use Rattle.book_step.specs.State.{state_of}
 use Rattle.book_step.specs.Step.{step}
 use Rattle.book_step.specs.declared.step.Step.{Step}
 use Rattle.book_step.proofs.AnswerLemmas.{posts_answered, whole_step}
