@@ -11,12 +11,10 @@ use Rattle.book_statement.specs.declared.bad.Bad.TheVariants.{Count, CutOff}
 use Rattle.book_statement.specs.declared.count_of.CountOf.TheVariants.{GroupRecords}
 use Rattle.bai2_read.specs.Amounts.{amount, line_amount, total}
 use Rattle.bai2_read.specs.Context.{statement_with}
-use Rattle.bai2_read.specs.Details.{bank_reference, customer_reference, detail_amount, full_count, is_complete, line_of}
-use Rattle.bai2_read.specs.Details.{own_text}
+use Rattle.bai2_read.specs.Details.{bank_reference, customer_reference, detail_amount, full_count, is_complete, line_of, own_text}
 use Rattle.bai2_read.specs.Fields.{count, field, funds_date, funds_form, further, value_day}
 use Rattle.bai2_read.specs.Kinds.{body_of, kind_of}
-use Rattle.bai2_read.specs.Reading.{account_checks, checks, detail_checks, end_place, file_checks, group_checks}
-use Rattle.bai2_read.specs.Reading.{reading, record_place, trailer_checks}
+use Rattle.bai2_read.specs.Reading.{account_checks, checks, detail_checks, end_place, file_checks, group_checks, reading, record_place, trailer_checks}
 use Rattle.bai2_read.specs.Summaries.{given_amount, has_amount, has_date, has_form, item_amount, width}
 
 -- lines with their line feeds
@@ -73,26 +71,16 @@ one_account_is :
             parts = [];
           } ∷ [];
     } ∷ [])
-unfolding days_from_civil day_count days_of_years days_of_months fraction_of date short_date number_onto amount
-line_amount total statement_with bank_reference customer_reference detail_amount full_count is_complete line_of
-own_text count field funds_date funds_form further value_day body_of kind_of account_checks checks detail_checks
-end_place file_checks group_checks record_place trailer_checks given_amount has_amount has_date has_form item_amount
-width
+unfolding days_from_civil day_count days_of_years days_of_months fraction_of date short_date number_onto amount line_amount total statement_with bank_reference customer_reference detail_amount full_count is_complete line_of own_text count field funds_date funds_form further value_day body_of kind_of account_checks checks detail_checks end_place file_checks group_checks record_place trailer_checks given_amount has_amount has_date has_form item_amount width
 one_account_is = refl
 
 -- with one record too few in the group's trailer
 one_record_short :
-    reading dollar (one_account (codes "98,1040000,1,5/")) ≡ Err
-    (record { line = 7; bad = Count GroupRecords (pos 5) (pos 6) })
-unfolding days_from_civil day_count days_of_years days_of_months fraction_of date short_date number_onto amount
-line_amount total statement_with bank_reference customer_reference detail_amount full_count is_complete line_of
-own_text count field funds_date funds_form further value_day body_of kind_of account_checks checks detail_checks
-end_place file_checks group_checks record_place trailer_checks given_amount has_amount has_date has_form item_amount
-width
+    reading dollar (one_account (codes "98,1040000,1,5/")) ≡ Err (record { line = 7; bad = Count GroupRecords (pos 5) (pos 6) })
+unfolding days_from_civil day_count days_of_years days_of_months fraction_of date short_date number_onto amount line_amount total statement_with bank_reference customer_reference detail_amount full_count is_complete line_of own_text count field funds_date funds_form further value_day body_of kind_of account_checks checks detail_checks end_place file_checks group_checks record_place trailer_checks given_amount has_amount has_date has_form item_amount width
 one_record_short = refl
 
 -- the first line alone
-header_alone :
-    reading dollar (file (codes "01,BANK,FIRM,240105,1200,1,80,1,2/" ∷ [])) ≡ Err (record { line = 1; bad = CutOff })
+header_alone : reading dollar (file (codes "01,BANK,FIRM,240105,1200,1,80,1,2/" ∷ [])) ≡ Err (record { line = 1; bad = CutOff })
 unfolding field body_of kind_of checks end_place file_checks record_place
 header_alone = refl
