@@ -36,16 +36,16 @@ split_with :
     → value_of n (with_entry m account tree) ≡ Some b
     → ((n ≡ m) × (account ≡ b)) ⊎ (((n == m) ≡ false) × (value_of n tree ≡ Some b))
 split_with tree m account n b e =
-    let told = sym (tables.value_of_with n m account tree) ∙ e in
+    let said = sym (tables.value_of_with n m account tree) ∙ e in
     let P : Bool → Type 0 = λ t. (n == m) ≡ t
     → ((n ≡ m) × (account ≡ b)) ⊎ (((n == m) ≡ false) × (value_of n tree ≡ Some b)) in
     elim (n == m) as P [
       | true ↦ λ same. inl (
         eqb-true n m same,
         let here : Some account ≡ Some b =
-            sym (ap (λ (t : Bool). if t then Some account else value_of n tree) same) ∙ told in cc,
+            sym (ap (λ (t : Bool). if t then Some account else value_of n tree) same) ∙ said in cc,
       )
-      | false ↦ λ other. inr (other, sym (ap (λ (t : Bool). if t then Some account else value_of n tree) other) ∙ told)
+      | false ↦ λ other. inr (other, sym (ap (λ (t : Bool). if t then Some account else value_of n tree) other) ∙ said)
     ] refl
 
 -- what is put in place of an account, or as a new one, under a parent of a fitting kind and with a name of its own
@@ -100,10 +100,10 @@ tree_with tree m account p above fits is = record {
         | inl here ↦
             let first : Some p ≡ Some q = sym fits.under ∙ ap (λ (x : Account). x.parent) here.1 ∙ up in
             let same : p ≡ q = cc in
-            let told : value_of p (with_entry m account tree) ≡ Some above = other_with tree m account p fits.apart
+            let said : value_of p (with_entry m account tree) ≡ Some above = other_with tree m account p fits.apart
             ∙ fits.there in
             let both : Some above ≡ Some upper =
-            sym told ∙ ap (λ (k : ℕ). value_of k (with_entry m account tree)) same ∙ qu in
+            sym said ∙ ap (λ (k : ℕ). value_of k (with_entry m account tree)) same ∙ qu in
             let one : above ≡ upper = cc in
             subst (λ (x : Account). fits_under x.kind upper.kind ≡ true) here.1
             (subst (λ (x : Account). fits_under account.kind x.kind ≡ true) one fits.kinds)
@@ -127,12 +127,12 @@ from_without :
     (tree : List (ℕ × Account)) (m : ℕ) → Rises tree → (n : ℕ) (b : Account)
     → value_of n (without_entry m tree) ≡ Some b → value_of n tree ≡ Some b
 from_without tree m r n b e =
-    let told = sym (tables.value_of_without n m tree r) ∙ e in
+    let said = sym (tables.value_of_without n m tree r) ∙ e in
     let P : Bool → Type 0 = λ t. (n == m) ≡ t → value_of n tree ≡ Some b in
     elim (n == m) as P [
       | true ↦ λ same. absurd (let gone : None ≡ Some b =
-          sym (ap (λ (t : Bool). if t then None else value_of n tree) same) ∙ told in cc)
-      | false ↦ λ other. sym (ap (λ (t : Bool). if t then None else value_of n tree) other) ∙ told
+          sym (ap (λ (t : Bool). if t then None else value_of n tree) same) ∙ said in cc)
+      | false ↦ λ other. sym (ap (λ (t : Bool). if t then None else value_of n tree) other) ∙ said
     ] refl
 
 -- one without children is taken out
@@ -278,8 +278,8 @@ tree_of_root m root top kind =
     λ n a e.
     let P : Bool → Type 0 = λ t. (n == m) ≡ t → (if t then Some root else None) ≡ Some a → (n ≡ m) × (root ≡ a) in
     elim (n == m) as P [
-      | true ↦ λ same told. (eqb-true n m same, some_same root a told)
-      | false ↦ λ other told.
+      | true ↦ λ same said. (eqb-true n m same, some_same root a said)
+      | false ↦ λ other said.
           absurd cc
     ] refl e in
     record {

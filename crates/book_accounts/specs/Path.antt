@@ -14,6 +14,6 @@ name_at tree number = option_map_or (λ account. account.name) (value_of number 
 abbrev pub way_down : List (ℕ × Account) → ℕ → List ℕ
 way_down tree number = drop 1 (reverse (number ∷ ancestors tree number))
 
--- The names on the way down, parted by colons (58); the root's path is empty.
+-- The names on the way down, separated by colons (58); the root's path is empty.
 abbrev pub path : List (ℕ × Account) → ℕ → List ℕ
 path tree number = join_with_byte 58 (map (name_at tree) (way_down tree number))

@@ -1,4 +1,4 @@
--- The rules by which an account may be added to a tree, or moved and renamed in it. A broken rule is told with its
+-- The rules by which an account may be added to a tree, or moved and renamed in it. A broken rule is reported with its
 -- fields, and of several the first in the order given.
 use Rattle.std.specs.Prelude.{◌≡◌, ℕ, ◌==◌, nat_eq, Bool, ◌&&◌, not, if◌then◌else◌, List, [], ◌∷◌, Option, Some, None}
 use Rattle.std.specs.Prelude.{is_none, option_map, find, Result, Ok, Err}

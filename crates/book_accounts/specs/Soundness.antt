@@ -11,7 +11,7 @@ use Rattle.book_accounts.specs.declared.kind.AccountKind.TheVariants.{Root}
 -- account is of a kind that fits under its parent's.
 pub record IsTree (tree : List (ℕ × Account)) : Type 0 where
   pub rooted : IsRooted tree
-  -- one account at most is at the top, and that is the root
+  -- One account at most is at the top, and that is the root.
   pub one_top : (m n : ℕ) (a b : Account) → value_of m tree ≡ Some a → value_of n tree ≡ Some b → a.parent ≡ None → b.parent ≡ None → m ≡ n
   pub top_is_root : (n : ℕ) (a : Account) → value_of n tree ≡ Some a → a.parent ≡ None → a.kind ≡ Root
   pub names_differ :

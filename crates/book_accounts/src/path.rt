@@ -8,7 +8,7 @@ use crate::Tree;
 use book_commodity::{OutOfMemory, Text};
 
 impl Tree {
-    /// The names on the way down to the account, from below the root on, parted by `:`; the root's path is empty.
+    /// The names on the way down to the account, from below the root on, separated by `:`; the root's path is empty.
     pub fn path_of(&self, number: u64) -> Result<Text, OutOfMemory>
         requires rooted { IsRooted self.now.entries }
         requires there { IsSome (value_of number self.now.entries) }
@@ -38,7 +38,7 @@ impl Tree {
         Ok(way)
     }
 
-    /// The names of the accounts in order, parted by `:`.
+    /// The names of the accounts in order, separated by `:`.
     fn joined_names(&self, numbers: &[u64]) -> Result<String, OutOfMemory>
         ensures { IfOk result (λ names.
             string_bytes names ≡ join_with_byte 58 (map (name_at self.now.entries) numbers.now)) }

@@ -26,7 +26,7 @@ fn account(
     })
 }
 
-/// A tree of one account, its root; `None` where memory is refused.
+/// A tree of one account, its root; `None` where it is out of memory.
 fn tree_of_root(alloc: Global) -> Option<Tree>
     ensures { IfSome result (λ tree. IsRooted tree.entries) }
 {

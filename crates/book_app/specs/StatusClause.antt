@@ -10,7 +10,7 @@ use Rattle.book_app.specs.Numbers.{status_of}
 use Rattle.book_app.specs.declared.status.Status.{Status}
 use Rattle.book_app.specs.declared.status.Status.TheVariants.{Done, Usage, Memory, InputFault, OutputFault, InputLimit}
 
--- nothing was read, nothing written, and the state is as it was
+-- Nothing was read, nothing written, and the state is as it was.
 pub record IsUntouched (old : Moment State) (read text : List ℕ) (new : Moment State) : Type 0 where
   pub input : read ≡ []
   pub output : text ≡ []

@@ -2,12 +2,12 @@
 use Rattle.std.specs.Prelude.{ℕ, Bool, false, not, ◌&&◌, ◌==◌, List, [], ◌∷◌, codes}
 use Rattle.std.specs.Str.{bytes_eq}
 
--- a word names a book where it is not empty and does not begin with a hyphen
+-- A word names a book where it is not empty and does not begin with a hyphen.
 abbrev pub is_book : List ℕ → Bool
 is_book [] = false
 is_book (byte ∷ more) = not (byte == 45)
 
--- the words are `run` and the name of a book
+-- The words are `run` and the name of a book.
 abbrev pub is_run : List (List ℕ) → Bool
 is_run (word ∷ book ∷ []) = bytes_eq word (codes "run") && is_book book
 is_run _ = false

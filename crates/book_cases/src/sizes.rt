@@ -43,21 +43,104 @@ fn repeated(alloc: Global, text: &str, count: usize) -> Result<String, OutOfMemo
     Ok(repeated)
 }
 
-const FIVE: &str =
-    r#"{"account":3,"value":4},{"account":4,"value":-1},{"account":4,"value":-1},{"account":4,"value":-1},{"account":4,"value":-1}"#;
+/// Five splits.
+const FIVE: &str = concat!(
+    r#"{"account":3,"value":4},{"account":4,"value":-1},{"account":4,"value":-1},"#,
+    r#"{"account":4,"value":-1},{"account":4,"value":-1}"#
+);
 
-// Two thousand versions and twelve thousand numbers.
+/// The last command behind two thousand posts, and its answer.
+static PAST_ALL: [Row; 9] = [
+    (
+        "",
+        concat!(
+            r#"{"balances":["8000","-8000","-8000","-8000","-8000"],"ok":"post","#,
+            r#""splits":[12000,12001,12002,12003,12004],"transaction":11999,"version":2002}"#
+        ),
+    ),
+    (
+        r#"{"do":"commodity_add","space":"NYSE","name":"ACME","fraction":1}"#,
+        r#"{"commodity":12005,"ok":"commodity_add","version":2003}"#,
+    ),
+    (
+        r#"{"do":"account_add","name":"Cash","kind":"CASH","commodity":1,"parent":2}"#,
+        r#"{"account":12005,"ok":"account_add","version":2003}"#,
+    ),
+    (
+        r#"{"do":"account_edit","account":3,"note":"at the corner"}"#,
+        r#"{"ok":"account_edit","version":2003}"#,
+    ),
+    (
+        r#"{"do":"account_drop","account":3}"#,
+        r#"{"account":3,"broken":"NotEmpty","version":2002}"#,
+    ),
+    (
+        r#"{"do":"book_currency","commodity":1}"#,
+        r#"{"ok":"book_currency","version":2002}"#,
+    ),
+    (
+        r#"{"do":"account_drop","account":3,"at":2001}"#,
+        r#"{"broken":"Stale","now":2002,"version":2002}"#,
+    ),
+    (
+        r#"{"do":"account_drop"}"#,
+        r#"{"field":"account","refused":"not command"}"#,
+    ),
+    ("{", r#"{"refused":"not json"}"#),
+];
+
+// Two thousand versions and twelve thousand numbers, and each kind of answer behind them.
 #[test]
-fn two_thousand_posts(rt: HostRuntime) -> Result<(), Fail> {
-    let mut lines = String::new(rt.alloc());
+fn behind_two_thousand_posts(rt: HostRuntime) -> Result<(), Fail> {
+    let mut posts = String::new(rt.alloc());
     for _ in 0..2000 {
-        add_post(&mut lines, "Pay", FIVE)?;
+        add_post(&mut posts, "Pay", FIVE)?;
     }
-    let last = last_answer(rt.alloc(), lines.as_str())?;
-    assert_eq!(rt;
-        last.as_str(),
-        r#"{"balances":["8000","-8000","-8000","-8000","-8000"],"ok":"post","splits":[12000,12001,12002,12003,12004],"transaction":11999,"version":2002}"#
-    );
+    for (line, answer) in PAST_ALL {
+        let mut lines = String::from_str(rt.alloc(), posts.as_str())?;
+        lines.push_str(line)?;
+        let last = last_answer(rt.alloc(), lines.as_str())?;
+        assert_eq!(rt; last.as_str(), answer);
+    }
+    Ok(())
+}
+
+/// What stands before and behind a text of 100 KB, and what stands before and behind it in the answer.
+type LongRow = (&'static str, &'static str, &'static str, &'static str);
+
+// Long texts are kept and copied, and a member with a long name is reported.
+static LONG_TEXTS: [LongRow; 3] = [
+    (
+        r#"{"do":"commodity_add","space":"NYSE","name":"ACME","fraction":1,"full_name":""#,
+        r#""}"#,
+        r#"{"commodity":5,"ok":"commodity_add","version":3}"#,
+        "",
+    ),
+    (
+        r#"{"do":"account_edit","account":3,"code":"7","note":""#,
+        "\"}\n{\"do\":\"account_edit\",\"account\":3,\"name\":\"Giro\"}",
+        r#"{"ok":"account_edit","version":4}"#,
+        "",
+    ),
+    (
+        r#"{"do":"account_drop","account":3,""#,
+        r#"":1}"#,
+        r#"{"field":"a long text "#,
+        r#"a long text ","refused":"not command"}"#,
+    ),
+];
+
+#[test]
+fn long_texts(rt: HostRuntime) -> Result<(), Fail> {
+    let long = repeated(rt.alloc(), "a long text ", 8400)?;
+    for (before, behind, starts, ends) in LONG_TEXTS {
+        let mut line = String::from_str(rt.alloc(), before)?;
+        line.push_str(long.as_str())?;
+        line.push_str(behind)?;
+        let last = last_answer(rt.alloc(), line.as_str())?;
+        assert!(rt; last.as_str().starts_with(starts), "{before}");
+        assert!(rt; last.as_str().ends_with(ends), "{before}");
+    }
     Ok(())
 }
 

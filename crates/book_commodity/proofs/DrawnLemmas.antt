@@ -71,13 +71,13 @@ all_without P n (e ∷ es) h =
 pub value_with :
     {T : Type 0} (m n : ℕ) (v x : T) (es : List (ℕ × T)) → value_of m (with_entry n v es) ≡ Some x
     → ((m ≡ n) × (v ≡ x)) ⊎ ((m ≢ n) × (value_of m es ≡ Some x))
-value_with m n v x es e = let told = sym (value_of_with m n v es) ∙ e in grind (arith, nat_tests, told)
+value_with m n v x es e = let there_is = sym (value_of_with m n v es) ∙ e in grind (arith, nat_tests, there_is)
 
 -- the others stay
 pub value_beside :
     {T : Type 0} (m n : ℕ) (v x : T) (es : List (ℕ × T)) → m ≢ n → value_of m es ≡ Some x
     → value_of m (with_entry n v es) ≡ Some x
-value_beside m n v x es other e = let told = value_of_with m n v es in grind (arith, nat_tests, told)
+value_beside m n v x es other e = let there_is = value_of_with m n v es in grind (arith, nat_tests, there_is)
 
 -- where nothing stood under the number, all stay
 pub value_kept :
@@ -90,13 +90,13 @@ value_kept m n v x es free e =
 pub value_without :
     {T : Type 0} (m n : ℕ) (x : T) (es : List (ℕ × T)) → Rises es → value_of m (without_entry n es) ≡ Some x
     → value_of m es ≡ Some x
-value_without m n x es r e = let told = sym (value_of_without m n es r) ∙ e in grind (arith, nat_tests, told)
+value_without m n x es r e = let there_is = sym (value_of_without m n es r) ∙ e in grind (arith, nat_tests, there_is)
 
 -- the others stay
 pub value_left :
     {T : Type 0} (m n : ℕ) (x : T) (es : List (ℕ × T)) → Rises es → m ≢ n → value_of m es ≡ Some x
     → value_of m (without_entry n es) ≡ Some x
-value_left m n x es r other e = let told = value_of_without m n es r in grind (arith, nat_tests, told)
+value_left m n x es r other e = let there_is = value_of_without m n es r in grind (arith, nat_tests, there_is)
 
 -- what stands there has a number that was drawn
 pub drawn_below :
@@ -113,8 +113,8 @@ pub length_changed :
     {T : Type 0} (n : ℕ) (v x : T) (es : List (ℕ × T)) → Rises es → value_of n es ≡ Some x
     → length (with_entry n v es) ≡ length es
 length_changed {T} n v x es r e =
-    let told = length_with n v es r ∙ ap (λ (o : Option T). length es + (if is_none o then 1 else 0)) e in
-    omega (arith, told)
+    let there_is = length_with n v es r ∙ ap (λ (o : Option T). length es + (if is_none o then 1 else 0)) e in
+    omega (arith, there_is)
 
 -- with one taken there are no more
 pub length_left : {T : Type 0} (n : ℕ) (es : List (ℕ × T)) → length (without_entry n es) ≤ length es
@@ -122,4 +122,4 @@ length_left n es = omega (arith, length_without n es)
 
 -- what is put is found under its number
 pub value_here : {T : Type 0} (m n : ℕ) (v : T) (es : List (ℕ × T)) → m ≡ n → value_of m (with_entry n v es) ≡ Some v
-value_here m n v es same = let told = value_of_with m n v es in grind (arith, nat_tests, told, same)
+value_here m n v es same = let there_is = value_of_with m n v es in grind (arith, nat_tests, there_is, same)

@@ -4,7 +4,7 @@ use Rattle.std.proofs.Common.{◌++◌, Option, Some, None, Result, Ok, Err, con
 use Rattle.std.proofs.Common.{◌∙◌, arith}
 use Rattle.std.proofs.lemmas.Bool.{eqb-true, or_parts}
 use Rattle.std.proofs.lemmas.Bool.Decides.{nat_tests}
-use Rattle.book_commodity.specs.Rules.{TellsFirst, AllHold, AllKept, EachKeeps, broken_where, first_broken}
+use Rattle.book_commodity.specs.Rules.{ReportsFirst, AllHold, AllKept, EachKeeps, broken_where, first_broken}
 use Rattle.book_commodity.specs.Rules.{stands_before}
 use Rattle.book_commodity.specs.Table.{value_of, with_entry, without_entry}
 use Rattle.book_commodity.proofs.DrawnLemmas.{value_with}
@@ -27,11 +27,11 @@ first-here (None ∷ xs) ys rule e = first-here xs ys rule e
 first-here (Some other ∷ xs) ys rule e = e
 
 -- what is told of the rules behind unbroken ones is told of all
-pub tells-past :
-    {T R : Type 0} (xs ys : List (Option R)) (result : Result T R) → first_broken xs ≡ None → TellsFirst ys result
-    → TellsFirst (xs ++ ys) result
-tells-past xs ys (Ok x) e h = first-past xs ys e ∙ h
-tells-past xs ys (Err rule) e h = first-past xs ys e ∙ h
+pub reports-past :
+    {T R : Type 0} (xs ys : List (Option R)) (result : Result T R) → first_broken xs ≡ None → ReportsFirst ys result
+    → ReportsFirst (xs ++ ys) result
+reports-past xs ys (Ok x) e h = first-past xs ys e ∙ h
+reports-past xs ys (Err rule) e h = first-past xs ys e ∙ h
 
 -- ---- rules that are all kept
 

@@ -16,8 +16,8 @@ first_broken (Some rule ∷ more) = Some rule
 first_broken (None ∷ more) = first_broken more
 
 -- What a check of rules answers: Ok exactly where none is broken, and else the first that is.
-abbrev pub TellsFirst : {T R : Type 0} → List (Option R) → Result T R → Type 0
-TellsFirst rules result = MatchResult result (λ _. first_broken rules ≡ None) (λ rule. first_broken rules ≡ Some rule)
+abbrev pub ReportsFirst : {T R : Type 0} → List (Option R) → Result T R → Type 0
+ReportsFirst rules result = MatchResult result (λ _. first_broken rules ≡ None) (λ rule. first_broken rules ≡ Some rule)
 
 -- Each rule of the list is kept: none is broken.
 abbrev pub AllKept : {R : Type 0} → List (Option R) → Type 0

@@ -66,7 +66,7 @@ impl<T> Many<T> {
 }
 
 impl<T: Drop> Many<T> {
-    /// Adds an item at the end; where memory is refused, the list stays as it was.
+    /// Adds an item at the end; where it is out of memory, the list stays as it was.
     pub fn push(&mut self, item: T) -> Result<(), OutOfMemory>
         ensures added { IfOk result (λ _. self.new ≡ self.old ++ item ∷ []) }
         ensures unchanged { OnErr result (self.new ≡ self.old) }

@@ -1,6 +1,6 @@
 use std::alloc::{AllocError, AllocFailed};
 
-/// Memory was refused. It is the one answer of a call that needs no other cause.
+/// The program is out of memory. It is the one answer of a call that needs no other cause.
 #[derive(Clone, Copy, Debug, PartialEq, Eq)]
 pub struct OutOfMemory;
 

@@ -4,7 +4,7 @@ use Rattle.book_step.specs.Soundness.{IsSound}
 use Rattle.book_step.specs.State.{State, state_of}
 use Rattle.book_engine.specs.declared.engine.Engine.TheInside.{Inside}
 
--- the state, and the tables that hold its book
+-- The state, and the tables that hold its book.
 pub record Kept : Type 0 where
   pub state : State
   pub plain : Plain
@@ -15,6 +15,6 @@ kept_by engine = record {
   plain = engine.state.plain;
 }
 
--- the state is sound
+-- The state is sound.
 abbrev pub IsKept : Inside → Type 0
 IsKept engine = IsSound (state_of engine.state.plain engine.state.next engine.state.version)

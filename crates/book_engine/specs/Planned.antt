@@ -14,36 +14,36 @@ use Rattle.book_command.specs.declared.command.Command.{Command}
 use Rattle.book_command.specs.declared.refusal.Refusal.{Refusal}
 use Rattle.book_command.specs.declared.refusal.Refusal.TheVariants as refusal
 
--- the edit of the book, the next number and the version after it, and the answer
+-- The edit of the book, the next number and the version after it, and the answer.
 pub record Planned : Type 0 where
   pub edit : Edit
   pub next : ℕ
   pub version : ℕ
   pub answer : Answer
 
--- what a plan holds: its step, and the version after it
+-- What a plan holds: its step, and the version after it.
 abbrev pub planned_by : Inside → Planned
 planned_by plan =
     record { edit = plan.step.edit; next = plan.step.next; version = plan.version; answer = plan.step.answer }
 
--- the state after a plan
+-- The state after a plan.
 abbrev pub after : State → Planned → State
 after state plan = record { book = edited plan.edit state.book; next = plan.next; version = plan.version }
 
--- the plan is the machine's step of a command from this state, with its whole answer
+-- The plan is the machine's step of a command from this state, with its whole answer.
 abbrev pub IsStepOf : State → Command → Planned → Type 0
 IsStepOf state command plan = step state command ≡ Done (after state plan) plan.answer
 
--- the plan is the step of some command from this state
+-- The plan is the step of some command from this state.
 pub record IsPlanFor (state : State) (plan : Planned) : Type 0 where
   pub command : Command
   pub made : IsStepOf state command plan
 
--- the step with the balances in its answer, which are those of the book that it leads to
+-- The step with the balances in its answer, which are those of the book that it leads to.
 abbrev pub whole_step : Book → Step → Step
 whole_step book step = record step { answer = with_balances (edited step.edit book) step.answer }
 
--- a refusal comes where the step is that broken rule, or out of memory
+-- A refusal comes where the step is that broken rule, or out of memory.
 abbrev pub IsRefusal : Outcome → Refusal → Type 0
 IsRefusal outcome (refusal.Broken rule) = outcome ≡ Broken rule
 IsRefusal outcome refusal.OutOfMemory = ⊤

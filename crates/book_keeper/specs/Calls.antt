@@ -2,6 +2,6 @@
 use Rattle.std.specs.Prelude.{ℕ, List, Contains}
 use Rattle.book_keeper.specs.Faults.{next_count}
 
--- the call after so many is one of those that are to fail
+-- The call after so many is one of those that are to fail.
 abbrev pub FailsNext : List ℕ → ℕ → Type 0
 FailsNext fail calls = Contains fail (next_count calls)

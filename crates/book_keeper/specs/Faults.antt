@@ -1,11 +1,11 @@
 -- Counts of faults. Each object of the outside has one; it begins at 0, never falls, and stays at 2 ^ 64 - 1.
 use Rattle.std.specs.Prelude.{◌≡◌, ℕ, ◌+◌, ◌-◌, ◌^◌, ◌≤◌, min, Result, OnOk, OnErr}
 
--- the count after one more; the last value of a counter is 2 ^ 64 - 1, and there it stays
+-- The count after one more; the last value of a counter is 2 ^ 64 - 1, and there it stays.
 abbrev pub next_count : ℕ → ℕ
 next_count count = min (count + 1) (2 ^ 64 - 1)
 
--- the count rose by at least one, or has its last value
+-- The count rose by at least one, or has its last value.
 abbrev pub Rose : ℕ → ℕ → Type 0
 Rose before now = next_count before ≤ now
 

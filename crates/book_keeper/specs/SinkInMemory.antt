@@ -3,8 +3,8 @@ use Rattle.std.specs.Prelude.{◌≡◌, ℕ, ◌-◌, ◌<◌, ◌⊎◌, List,
 use Rattle.book_keeper.specs.Calls.{FailsNext}
 use Rattle.book_keeper.specs.Faults.{next_count}
 
--- the bytes that it was given, how many more it has room for, the numbers of the calls that fail,
--- the number of calls so far, and the count of faults
+-- The bytes that it was given, how many more it has room for, the numbers of the calls that fail,
+-- the number of calls so far, and the count of faults.
 pub record SinkInMemory : Type 0 where
   pub written : List ℕ
   pub room : ℕ
@@ -12,15 +12,15 @@ pub record SinkInMemory : Type 0 where
   pub calls : ℕ
   pub faults : ℕ
 
--- the next call with this piece fails: it is one of those that are to fail, or there is no room for any of the piece
+-- The next call with this piece fails: it is one of those that are to fail, or there is no room for any of the piece.
 abbrev pub Refuses : SinkInMemory → List ℕ → Type 0
 Refuses sink bytes = FailsNext sink.fail sink.calls ⊎ ((0 < length bytes) × (sink.room ≡ 0))
 
--- the sink after a call that took so many bytes of the piece
+-- The sink after a call that took so many bytes of the piece.
 abbrev pub after_write : SinkInMemory → List ℕ → ℕ → SinkInMemory
 after_write sink bytes count =
     record sink { written = sink.written ++ take count bytes; room = sink.room - count; calls = next_count sink.calls }
 
--- the sink after a call that failed
+-- The sink after a call that failed.
 abbrev pub after_failed_write : SinkInMemory → SinkInMemory
 after_failed_write sink = record sink { calls = next_count sink.calls; faults = next_count sink.faults }

@@ -1,7 +1,7 @@
 -- What a source has left and what a sink was given, as far as they report it. What reports nothing claims nothing.
 use Rattle.std.specs.Prelude.{◌≡◌, ℕ, ◌<◌, List, ◌++◌, Option, IfSome, length}
 
--- the bytes that are reported are these
+-- The bytes that are reported are these.
 abbrev pub Are : Option (List ℕ) → List ℕ → Type 0
 Are reported bytes = IfSome reported (λ known. known ≡ bytes)
 
@@ -10,7 +10,7 @@ Are reported bytes = IfSome reported (λ known. known ≡ bytes)
 pub record Wrote (old new : List ℕ → Type 0) (bytes : List ℕ) : Type 0 where
   pub each : (before : List ℕ) → old before → new (before ++ bytes)
 
--- some of these bytes were added behind what was written, from their front on, and not all of them
+-- Some of these bytes were added behind what was written, from their front on, and not all of them.
 pub record WrotePart (old new : List ℕ → Type 0) (bytes : List ℕ) : Type 0 where
   pub part : List ℕ
   pub rest : List ℕ

@@ -11,24 +11,24 @@ use Rattle.book_lines.specs.declared.machine.Unanswered.TheVariants.{Memory as N
 use Rattle.book_lines.specs.declared.running.RunEnd.{RunEnd}
 use Rattle.book_lines.specs.declared.running.RunEnd.TheVariants.{Done, InputLimit, InputFault, OutputFault}
 
--- the answer that says why the machine gave none
+-- The answer that says why the machine gave none.
 abbrev pub text_of : Unanswered → List ℕ
 text_of NoMemory = memory_answer
 text_of NotKept = keeper_answer
 
--- the text that answers a line, whether the machine gave it or not
+-- The text that answers a line, whether the machine gave it or not.
 abbrev pub answer_of : Result (List ℕ) Unanswered → List ℕ
 answer_of (Ok text) = text
 answer_of (Err unanswered) = text_of unanswered
 
--- the machine, or the loop in its place, gave this answer to the line
+-- The machine, or the loop in its place, gave this answer to the line.
 pub record GaveAnswer {S : Type 0} (answers : AnswerRelation S) (old : S) (line answer : List ℕ) (new : S)
     (faults_before faults_after : ℕ) : Type 0 where
   pub answered : answers old line (mark_of answer) answer new
   pub one_line : is_one_line answer ≡ true
   pub kept : RoseForEach faults_before faults_after (mark_of answer ∷ [])
 
--- these lines were answered and the answers written
+-- These lines were answered and the answers written.
 pub record HasAnswered {S : Type 0} (answers : AnswerRelation S) (old : Moment S) (all : List (List ℕ))
     (new : Moment S) : Type 0 where
   pub text : List ℕ
@@ -36,7 +36,7 @@ pub record HasAnswered {S : Type 0} (answers : AnswerRelation S) (old : Moment S
   pub ends : last_piece text ≡ []
   pub answered : IsAnswered answers old all text new
 
--- these lines were answered, and the writing of the last answer failed
+-- These lines were answered, and the writing of the last answer failed.
 pub record HasBroken {S : Type 0} (answers : AnswerRelation S) (old : Moment S) (all : List (List ℕ))
     (new : Moment S) : Type 0 where
   pub text : List ℕ

@@ -7,14 +7,14 @@ use Rattle.book_lines.specs.Transcript.{AnswerRelation, IsTranscript, IsCutShort
 use Rattle.book_lines.specs.declared.running.RunEnd.{RunEnd}
 use Rattle.book_lines.specs.declared.running.RunEnd.TheVariants.{Done, InputLimit, InputFault, OutputFault}
 
--- what is seen at one moment: the machine's state, the bytes that the output may have been given, and the faults of
--- what is kept
+-- What is seen at one moment: the machine's state, the bytes that the output may have been given, and the faults of
+-- what is kept.
 pub record Moment (S : Type 0) : Type 1 where
   pub machine : S
   pub written : List ℕ → Type 0
   pub faults : ℕ
 
--- the moment of these three
+-- The moment of these three.
 abbrev pub at : {S : Type 0} → S → (List ℕ → Type 0) → ℕ → Moment S
 at machine written faults = record { machine = machine; written = written; faults = faults }
 

@@ -16,7 +16,7 @@ Run {S} answers old (line ∷ more) (mark ∷ others) text new = (answer : List 
 Run answers old [] (mark ∷ others) text new = ⊥
 Run answers old (line ∷ more) [] text new = ⊥
 
--- the text is the answers to the lines that are not blank, with the marks that it shows itself
+-- The text is the answers to the lines that are not blank, with the marks that it shows itself.
 abbrev pub IsTranscript : {S : Type 0} → (AnswerRelation S) → S → List (List ℕ) → List ℕ → S → Type 0
 IsTranscript answers old all text new = Run answers old (sent all) (marks text) text new
 

@@ -6,7 +6,7 @@ pub struct Page {
     pub commands: String,
     pub answers: String,
     /// The answers that stand in the page's tables.
-    pub told: String,
+    pub in_tables: String,
 }
 
 impl Page {
@@ -17,9 +17,9 @@ impl Page {
             .as_str()
             .lines()
             .zip(self.answers.as_str().lines());
-        let mut told = self.told.as_str().lines();
+        let mut in_tables = self.in_tables.as_str().lines();
         shown.all(|(command, answer)| has_pair(commands, answers, command, answer))
-            && told.all(|answer| answers.lines().any(|line| line == answer))
+            && in_tables.all(|answer| answers.lines().any(|line| line == answer))
     }
 }
 
@@ -43,7 +43,7 @@ pub fn page_of(alloc: Global, text: &str) -> Result<Page, AllocError> {
     let mut page = Page {
         commands: String::new(alloc),
         answers: String::new(alloc),
-        told: String::new(alloc),
+        in_tables: String::new(alloc),
     };
     for line in text.lines() {
         add(&mut page, line)?;
@@ -59,18 +59,18 @@ fn add(page: &mut Page, line: &str) -> Result<(), AllocError> {
             line.trim_start(),
         ),
         Some(_) => add_line(&mut page.answers, line.trim_start()),
-        None => add_told(page, line),
+        None => add_of_table(page, line),
     }
 }
 
 /// Adds the answers with a version that stand in a line of a table.
-fn add_told(page: &mut Page, line: &str) -> Result<(), AllocError> {
+fn add_of_table(page: &mut Page, line: &str) -> Result<(), AllocError> {
     if !line.starts_with("| `") {
         return Ok(());
     }
     for part in line.split('`') {
         if part.starts_with("{\"") && part.contains("\"version\":") && !part.contains("..") {
-            add_line(&mut page.told, part)?;
+            add_line(&mut page.in_tables, part)?;
         }
     }
     Ok(())

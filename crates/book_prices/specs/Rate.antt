@@ -7,26 +7,26 @@ use Rattle.book_commodity.specs.Table.{value_of}
 use Rattle.book_commodity.specs.declared.rate.Rate.{Rate}
 use Rattle.book_prices.specs.declared.price.Price.{Price}
 
--- a price of the pair, on or before the day
+-- A price of the pair, on or before the day.
 abbrev pub IsOf : ℕ → ℕ → ℤ → Price → Type 0
 IsOf commodity currency day price = (price.commodity ≡ commodity) × (price.currency ≡ currency) × (price.day ≤ℤ day)
 
--- the last price of the pair on or before the day: one of the prices, and none of them is later
+-- The last price of the pair on or before the day: one of the prices, and none of them is later.
 pub record IsLast (prices : List (ℕ × Price)) (commodity currency : ℕ) (day : ℤ) (price : Price) : Type 0 where
   pub of_pair : IsOf commodity currency day price
   pub there : Contains (map (λ entry. entry.1) prices) price
   pub last : All (λ entry. IsOf commodity currency day entry.1 → entry.1.day ≤ℤ price.day) prices
 
--- the pair has no price on or before the day
+-- The pair has no price on or before the day.
 abbrev pub HasNone : List (ℕ × Price) → ℕ → ℕ → ℤ → Type 0
 HasNone prices commodity currency day = All (λ entry. IsOf commodity currency day entry.1 → ⊥) prices
 
--- the last price of the pair on or before the day, if it has one
+-- The last price of the pair on or before the day, if it has one.
 abbrev pub IsBest : List (ℕ × Price) → ℕ → ℕ → ℤ → Option Price → Type 0
 IsBest prices commodity currency day None = HasNone prices commodity currency day
 IsBest prices commodity currency day (Some price) = IsLast prices commodity currency day price
 
--- a rate of num to denom
+-- A rate of num to denom.
 abbrev pub IsRatio : ℕ → ℕ → Rate → Type 0
 IsRatio num denom rate = (rate.num ≡ num) × (rate.denom ≡ denom)
 
@@ -39,16 +39,16 @@ IsPairRate prices commodity currency day rate =
     × IsSomeAnd rate (IsRatio price.denom price.num))
     ⊎ (HasNone prices commodity currency day × HasNone prices currency commodity day × IsNone rate))
 
--- the rate on a day: one to one between a commodity and itself, else that of the pair
+-- The rate on a day: one to one between a commodity and itself, else that of the pair.
 abbrev pub IsRate : List (ℕ × Price) → ℕ → ℕ → ℤ → Option Rate → Type 0
 IsRate prices commodity currency day rate =
     MatchBool (commodity == currency) (IsSomeAnd rate (IsRatio 1 1)) (IsPairRate prices commodity currency day rate)
 
--- the numbers of a price are from 1 to 10 ^ 9
+-- The numbers of a price are from 1 to 10 ^ 9.
 abbrev pub IsSound : Price → Type 0
 IsSound price = IsInRange 1 1_000_000_000 price.num × IsInRange 1 1_000_000_000 price.denom
 
--- two prices of one commodity, one currency and one day
+-- Two prices of one commodity, one currency and one day.
 abbrev pub is_same : Price → Price → Bool
 is_same one other = (one.commodity == other.commodity) && ((one.currency == other.currency) && int_eq one.day other.day)
 
@@ -57,11 +57,11 @@ abbrev pub AreOnce : List (ℕ × Price) → Type 0
 AreOnce [] = ⊤
 AreOnce (entry ∷ more) = All (λ other. is_same other.1 entry.1 ≡ false) more × AreOnce more
 
--- the prices of a book: each is sound, and there is one for each commodity, currency and day
+-- The prices of a book: each is sound, and there is one for each commodity, currency and day.
 abbrev pub AreKept : List (ℕ × Price) → Type 0
 AreKept prices = All (λ entry. IsSound entry.1) prices × AreOnce prices
 
--- the number under which a price of the same commodity, currency and day stands, if there is one
+-- The number under which a price of the same commodity, currency and day stands, if there is one.
 abbrev pub IsSame : List (ℕ × Price) → Price → Option ℕ → Type 0
 IsSame prices price None = All (λ entry. is_same entry.1 price ≡ false) prices
 IsSame prices price (Some number) =

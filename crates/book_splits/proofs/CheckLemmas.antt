@@ -7,10 +7,10 @@ use Rattle.std.proofs.lemmas.Bool.{not-false}
 use Rattle.std.proofs.lemmas.Bool.Decides.{Decides-int_eq, nat_tests}
 use Rattle.std.proofs.lemmas.List.{map-append, take_more}
 use Rattle.std.proofs.lemmas.List.Elements.{All-nil, All-cons}
-use Rattle.book_commodity.specs.Rules.{AllKept, TellsFirst, first_broken}
+use Rattle.book_commodity.specs.Rules.{AllKept, ReportsFirst, first_broken}
 use Rattle.book_commodity.specs.Table.{value_of}
 use Rattle.book_commodity.proofs.RuleLemmas.{first-past, first-here, kept_back, kept_both, kept_front, kept_of}
-use Rattle.book_commodity.proofs.RuleLemmas.{none_broken, not-broken, tells-past}
+use Rattle.book_commodity.proofs.RuleLemmas.{none_broken, not-broken, reports-past}
 use Rattle.book_commodity.specs.declared.commodity.Commodity.{Commodity}
 use Rattle.book_accounts.specs.declared.account.Account.{Account}
 use Rattle.book_splits.specs.Balance.{total, sum_of_values}
@@ -110,7 +110,7 @@ sound_of commodities accounts txn e =
 -- where a check reports that no rule is broken, the splits are sound
 pub sound-kept :
     {T : Type 0} (commodities : List (ℕ × Commodity)) (accounts : List (ℕ × Account)) (txn : Txn)
-    (result : Result T TxnRule) → TellsFirst (txn_rules commodities accounts txn) result
+    (result : Result T TxnRule) → ReportsFirst (txn_rules commodities accounts txn) result
     → OnOk result (IsSound txn.splits)
 sound-kept commodities accounts txn (Ok x) h = sound_of commodities accounts txn h
 sound-kept commodities accounts txn (Err rule) h = tt
@@ -143,19 +143,19 @@ pub reports-balance :
     → first_broken (split_count splits ∷ []) ≡ None
     → first_broken (currency_rules txn.currency (value_of txn.currency commodities)) ≡ None
     → first_broken (rules_of_splits accounts txn.currency 0 splits) ≡ None
-    → TellsFirst (unbalanced splits ∷ []) result
-    → TellsFirst (txn_rules commodities accounts txn) result
+    → ReportsFirst (unbalanced splits ∷ []) result
+    → ReportsFirst (txn_rules commodities accounts txn) result
 reports-balance {T} commodities accounts txn splits result same count currency kept reported =
     let currencies = currency_rules txn.currency (value_of txn.currency commodities) in
     let Reported : List Split → Type 0 =
-    λ given. TellsFirst (split_count given
+    λ given. ReportsFirst (split_count given
     ∷ (currencies ++ (rules_of_splits accounts txn.currency 0 given ++ (unbalanced given ∷ [])))) result in
     let balance = unbalanced splits ∷ [] in
     let rest = rules_of_splits accounts txn.currency 0 splits in
     subst Reported same
-    (tells-past (split_count splits ∷ []) (currencies ++ (rest ++ balance)) result count
-    (tells-past currencies (rest ++ balance) result currency
-    (tells-past rest balance result kept reported)))
+    (reports-past (split_count splits ∷ []) (currencies ++ (rest ++ balance)) result count
+    (reports-past currencies (rest ++ balance) result currency
+    (reports-past rest balance result kept reported)))
 
 pub sum_of_values-take :
     (splits : List Split) (i : ℕ) (d : Split) → i < length splits

@@ -4,36 +4,36 @@ use Rattle.std.specs.List.{list_any}
 use Rattle.book_splits.specs.declared.split.Split.{Split}
 use Rattle.book_splits.specs.declared.transaction.Txn.{Txn}
 
--- the sum of the amounts
+-- The sum of the amounts.
 abbrev pub total : List ℤ → ℤ
 total [] = pos 0
 total (amount ∷ more) = amount +ℤ total more
 
--- the sum of the values of the splits: zero where they balance
+-- The sum of the values of the splits: zero where they balance.
 abbrev pub sum_of_values : List Split → ℤ
 sum_of_values splits = total (map (λ split. split.value) splits)
 
--- the splits of the transactions, one after another; each stands with its number
+-- The splits of the transactions, one after another; each stands with its number.
 abbrev pub splits_of : List (ℕ × Txn) → List Split
 splits_of [] = []
 splits_of (entry ∷ more) = entry.1.splits ++ splits_of more
 
--- whether an account has a split
+-- Whether an account has a split.
 abbrev pub has_splits : List (ℕ × Txn) → ℕ → Bool
 has_splits transactions account = list_any (λ split. split.account == account) (splits_of transactions)
 
--- what the splits give to an account: the sum of the quantities of those that name it
+-- What the splits give to an account: the sum of the quantities of those that name it.
 abbrev pub quantity_on : ℕ → List Split → ℤ
 quantity_on account splits = total (map (λ split. split.quantity) (filter (λ split. split.account == account) splits))
 
--- what these splits give to the accounts of some splits, by place
+-- What these splits give to the accounts of some splits, by place.
 abbrev pub balances_in : List Split → List Split → List ℤ
 balances_in all splits = map (λ split. quantity_on split.account all) splits
 
--- the balance of an account over all days
+-- The balance of an account over all days.
 abbrev pub balance : List (ℕ × Txn) → ℕ → ℤ
 balance transactions account = quantity_on account (splits_of transactions)
 
--- the amount is small enough to be the sum of so many amounts of 64 bits
+-- The amount is small enough to be the sum of so many amounts of 64 bits.
 abbrev pub IsWithin : ℕ → ℤ → Type 0
 IsWithin count sum = ((pos 0 -ℤ pos (2 ^ 63 * count)) ≤ℤ sum) × (sum ≤ℤ pos (2 ^ 63 * count))

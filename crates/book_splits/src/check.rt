@@ -4,7 +4,7 @@ ghost use Rattle.book_splits.specs.Balance.{sum_of_values};
 ghost use Rattle.book_splits.specs.Check.{IsSound, currency_rules, is_over_limit, rules_at, rules_of_splits};
 ghost use Rattle.book_splits.specs.Check.{split_count};
 ghost use Rattle.book_splits.specs.Check.{txn_rules, unbalanced};
-ghost use Rattle.book_commodity.specs.Rules.{TellsFirst};
+ghost use Rattle.book_commodity.specs.Rules.{ReportsFirst};
 
 use crate::{Split, Txn, TxnRule};
 use book_accounts::Tree;
@@ -19,7 +19,7 @@ const MAX_AMOUNT: u64 = 1_000_000_000_000;
 /// most 10^12 in size, the basis of a security account is the currency, and on an account in the currency value and
 /// quantity are equal; last the values sum to zero. It takes no memory.
 pub fn check_txn(commodities: &Commodities, accounts: &Tree, txn: &Txn) -> Result<(), TxnRule>
-    ensures first_rule { TellsFirst (txn_rules commodities.now.entries accounts.now.entries txn.now) result }
+    ensures first_rule { ReportsFirst (txn_rules commodities.now.entries accounts.now.entries txn.now) result }
     ensures sound { OnOk result (IsSound txn.now.splits) }
 {
     let splits = txn.splits.as_slice();
@@ -31,7 +31,7 @@ pub fn check_txn(commodities: &Commodities, accounts: &Tree, txn: &Txn) -> Resul
 
 /// There are 1 to 500 splits.
 fn check_count(splits: &[Split]) -> Result<(), TxnRule>
-    ensures { TellsFirst (split_count splits.now ∷ []) result }
+    ensures { ReportsFirst (split_count splits.now ∷ []) result }
 {
     let count = splits.len();
     if count < 1 || count > MAX_SPLITS {
@@ -44,7 +44,7 @@ fn check_count(splits: &[Split]) -> Result<(), TxnRule>
 
 /// The commodity is known, and a currency.
 fn check_currency(commodities: &Commodities, currency: u64) -> Result<(), TxnRule>
-    ensures { TellsFirst (currency_rules currency (value_of currency commodities.now.entries)) result }
+    ensures { ReportsFirst (currency_rules currency (value_of currency commodities.now.entries)) result }
 {
     let Some(commodity) = commodities.find(currency) else {
         return Err(TxnRule::Unknown {
@@ -62,7 +62,7 @@ fn check_currency(commodities: &Commodities, currency: u64) -> Result<(), TxnRul
 
 /// Each split keeps its rules, asked in the order of the splits.
 fn check_splits(accounts: &Tree, currency: u64, splits: &[Split]) -> Result<(), TxnRule>
-    ensures { TellsFirst (rules_of_splits accounts.now.entries currency 0 splits.now) result }
+    ensures { ReportsFirst (rules_of_splits accounts.now.entries currency 0 splits.now) result }
 {
     for (place, split) in splits.iter().enumerate() {
         check_split(accounts, currency, place, split)?;
@@ -72,7 +72,7 @@ fn check_splits(accounts: &Tree, currency: u64, splits: &[Split]) -> Result<(), 
 
 /// The split at a place keeps its rules.
 fn check_split(accounts: &Tree, currency: u64, place: usize, split: &Split) -> Result<(), TxnRule>
-    ensures { TellsFirst (rules_at accounts.now.entries currency place split.now) result }
+    ensures { ReportsFirst (rules_at accounts.now.entries currency place split.now) result }
 {
     let Some(account) = accounts.find(split.account) else {
         return Err(TxnRule::Unknown {
@@ -113,7 +113,7 @@ fn is_over_limit(amount: i64) -> bool
 
 /// The values sum to zero.
 fn check_balance(splits: &[Split]) -> Result<(), TxnRule>
-    ensures { TellsFirst (unbalanced splits.now ∷ []) result }
+    ensures { ReportsFirst (unbalanced splits.now ∷ []) result }
 {
     let sum = sum_of_values(splits);
     if sum != 0 {

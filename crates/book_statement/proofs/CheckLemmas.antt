@@ -58,11 +58,11 @@ pub sound_more :
 sound_more ps p e holds = first_fault-past ps (p ∷ []) e ∙ ap (λ o. fault_at p.line o None) holds
 
 -- what a call answers of later checks it answers of all, behind checks that hold
-pub tells-past :
+pub reports-past :
     {X : Type 0} (cs ds : List Check) (value : X) (result : Result X Bad) → first_bad cs ≡ None
     → Tells ds value result → Tells (cs ++ ds) value result
-tells-past cs ds value (Ok given) e h = (first_bad-past cs ds e ∙ h.0, h.1)
-tells-past cs ds value (Err bad) e h = first_bad-past cs ds e ∙ h
+reports-past cs ds value (Ok given) e h = (first_bad-past cs ds e ∙ h.0, h.1)
+reports-past cs ds value (Err bad) e h = first_bad-past cs ds e ∙ h
 
 -- one check that holds, in front
 pub tells-held :

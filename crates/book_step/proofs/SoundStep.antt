@@ -23,14 +23,14 @@ use Rattle.book_step.proofs.SoundCommands.{book_currency-sound, commodity_add-so
 use Rattle.book_step.proofs.SoundOutcome.{unless_done}
 
 outcome-sound :
-    (state : State) (what : What) (new : State) (told : Answer) → IsSound state → outcome state what ≡ Done new told
+    (state : State) (what : What) (new : State) (answered : Answer) → IsSound state → outcome state what ≡ Done new answered
     → IsSound new
-outcome-sound state (BookCurrency commodity) new told is e = book_currency-sound state commodity new told is e
-outcome-sound state (CommodityAdd commodity) new told is e = commodity_add-sound state commodity new told is e
-outcome-sound state (AccountAdd account) new told is e = account_add-sound state account new told is e
-outcome-sound state (AccountEdit account given) new told is e = account_edit-sound state account given new told is e
-outcome-sound state (AccountDrop account) new told is e = account_drop-sound state account new told is e
-outcome-sound state (Post day given) new told is e = post-sound state day given new told is e
+outcome-sound state (BookCurrency commodity) new answered is e = book_currency-sound state commodity new answered is e
+outcome-sound state (CommodityAdd commodity) new answered is e = commodity_add-sound state commodity new answered is e
+outcome-sound state (AccountAdd account) new answered is e = account_add-sound state account new answered is e
+outcome-sound state (AccountEdit account given) new answered is e = account_edit-sound state account given new answered is e
+outcome-sound state (AccountDrop account) new answered is e = account_drop-sound state account new answered is e
+outcome-sound state (Post day given) new answered is e = post-sound state day given new answered is e
 
 -- A step that is done leads from a sound state to a sound one.
 pub step-sound :

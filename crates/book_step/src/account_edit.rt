@@ -1,5 +1,5 @@
 ghost use Rattle.std.specs.Prelude.{◌≡◌, [], ◌∷◌, IfOk, unwrap_or};
-ghost use Rattle.book_commodity.specs.Rules.{TellsFirst};
+ghost use Rattle.book_commodity.specs.Rules.{ReportsFirst};
 ghost use Rattle.book_accounts.specs.Tree.{IsRooted};
 ghost use Rattle.book_step.specs.Accounts.{account_edit, account_edit_of, becomes_placeholder, edit_rules};
 ghost use Rattle.book_step.specs.Accounts.{moved_rule, same_fields, with_given};
@@ -91,7 +91,7 @@ fn check_edit(
     old: &Account,
     new: &Account,
 ) -> Result<(), Rule>
-    ensures { TellsFirst (edit_rules present.now.book number parent old.now new.now) result }
+    ensures { ReportsFirst (edit_rules present.now.book number parent old.now new.now) result }
 {
     check_given(present, parent)?;
     check_not_root(old)?;
@@ -102,7 +102,7 @@ fn check_edit(
 /// The account may stand in the tree with its new name under its new parent.
 fn check_moved(accounts: &Tree, number: u64, new: &Account) -> Result<(), Rule>
     requires { IsRooted accounts.now.entries }
-    ensures { TellsFirst (moved_rule accounts.now.entries number new.now new.now.parent ∷ []) result }
+    ensures { ReportsFirst (moved_rule accounts.now.entries number new.now new.now.parent ∷ []) result }
 {
     let Some(parent) = new.parent else {
         return Err(Rule::ParentKind);
@@ -118,7 +118,7 @@ fn check_placeholder(
     old: &Account,
     new: &Account,
 ) -> Result<(), Rule>
-    ensures { TellsFirst (becomes_placeholder transactions.now.entries number old.now new.now ∷ []) result }
+    ensures { ReportsFirst (becomes_placeholder transactions.now.entries number old.now new.now ∷ []) result }
 {
     if !old.placeholder && new.placeholder && has_splits(transactions, number) {
         return Err(Rule::NotEmpty { account: number });

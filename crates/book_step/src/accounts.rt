@@ -1,5 +1,5 @@
 ghost use Rattle.std.specs.Prelude.{◌≡◌, [], ◌∷◌, Some, IfOk};
-ghost use Rattle.book_commodity.specs.Rules.{TellsFirst};
+ghost use Rattle.book_commodity.specs.Rules.{ReportsFirst};
 ghost use Rattle.book_commodity.specs.Table.{value_of};
 ghost use Rattle.book_step.specs.Accounts.{account_add, account_drop, add_rules, basis_shape, fits_basis};
 ghost use Rattle.book_step.specs.Accounts.{not_empty, root_stays, too_many_accounts, unknown_account};
@@ -39,7 +39,7 @@ pub(crate) fn account_drop(present: &Present, number: u64) -> Result<Step, Refus
 
 /// The account of this number has no account under it and no split.
 fn check_empty(present: &Present, number: u64) -> Result<(), Rule>
-    ensures { TellsFirst (not_empty present.now.book number ∷ []) result }
+    ensures { ReportsFirst (not_empty present.now.book number ∷ []) result }
 {
     let plain = present.plain;
     if plain.accounts.has_children(number) || has_splits(&plain.transactions, number) {
@@ -50,7 +50,7 @@ fn check_empty(present: &Present, number: u64) -> Result<(), Rule>
 
 /// A new account keeps its rules.
 fn check_new(present: &Present, account: &Account) -> Result<(), Rule>
-    ensures { TellsFirst (add_rules present.now.book account.now) result }
+    ensures { ReportsFirst (add_rules present.now.book account.now) result }
 {
     let plain = present.plain;
     check_known_commodity(&plain.commodities, account.commodity)?;
@@ -64,7 +64,7 @@ fn check_new(present: &Present, account: &Account) -> Result<(), Rule>
 /// The account of this number, which is one of the book's.
 pub(crate) fn known<'a>(present: &Present<'a>, number: u64) -> Result<&'a Account, Rule>
     ensures there { IfOk result (λ account. value_of number present.now.book.accounts ≡ Some account.now) }
-    ensures unknown { TellsFirst (unknown_account present.now.book.accounts number ∷ []) result }
+    ensures unknown { ReportsFirst (unknown_account present.now.book.accounts number ∷ []) result }
 {
     match present.plain.accounts.find(number) {
         Some(account) => Ok(account),
@@ -77,7 +77,7 @@ pub(crate) fn known<'a>(present: &Present<'a>, number: u64) -> Result<&'a Accoun
 
 /// The account of this number is one of the book's, where a number is given.
 pub(crate) fn check_given(present: &Present, number: Option<u64>) -> Result<(), Rule>
-    ensures { TellsFirst (unknown_given_account present.now.book.accounts number ∷ []) result }
+    ensures { ReportsFirst (unknown_given_account present.now.book.accounts number ∷ []) result }
 {
     if let Some(number) = number {
         known(present, number)?;
@@ -87,7 +87,7 @@ pub(crate) fn check_given(present: &Present, number: Option<u64>) -> Result<(), 
 
 /// The account isn't the root, which stays as it is.
 pub(crate) fn check_not_root(account: &Account) -> Result<(), Rule>
-    ensures { TellsFirst (root_stays account.now ∷ []) result }
+    ensures { ReportsFirst (root_stays account.now ∷ []) result }
 {
     if account.kind == AccountKind::Root {
         return Err(Rule::Root);
@@ -97,7 +97,7 @@ pub(crate) fn check_not_root(account: &Account) -> Result<(), Rule>
 
 /// The commodity of this number is one of the book's, where a number is given.
 fn check_given_commodity(commodities: &Commodities, number: Option<u64>) -> Result<(), Rule>
-    ensures { TellsFirst (unknown_given_commodity commodities.now.entries number ∷ []) result }
+    ensures { ReportsFirst (unknown_given_commodity commodities.now.entries number ∷ []) result }
 {
     match number {
         Some(number) => check_known_commodity(commodities, number),
@@ -107,7 +107,7 @@ fn check_given_commodity(commodities: &Commodities, number: Option<u64>) -> Resu
 
 /// The basis of the account fits its kind: a security account has a currency, another account has none.
 fn check_basis(commodities: &Commodities, account: &Account) -> Result<(), Rule>
-    ensures { TellsFirst (basis_shape commodities.now.entries account.now ∷ []) result }
+    ensures { ReportsFirst (basis_shape commodities.now.entries account.now ∷ []) result }
 {
     if fits_basis(commodities, account.kind.is_security(), account.basis) {
         Ok(())
@@ -128,7 +128,7 @@ fn fits_basis(commodities: &Commodities, is_security: bool, basis: Option<u64>) 
 
 /// The book has room for one account more.
 fn check_count(accounts: &Tree) -> Result<(), Rule>
-    ensures { TellsFirst (too_many_accounts accounts.now.entries ∷ []) result }
+    ensures { ReportsFirst (too_many_accounts accounts.now.entries ∷ []) result }
 {
     if accounts.len() >= MAX_ACCOUNTS {
         return Err(Rule::Limit {

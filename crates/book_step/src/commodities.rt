@@ -1,5 +1,5 @@
 ghost use Rattle.std.specs.Prelude.{◌≡◌, ◌<◌, [], ◌∷◌, Some, find, length, option_map, slice_get};
-ghost use Rattle.book_commodity.specs.Rules.{TellsFirst};
+ghost use Rattle.book_commodity.specs.Rules.{ReportsFirst};
 ghost use Rattle.book_commodity.specs.Table.{value_of};
 ghost use Rattle.book_step.specs.Commodities.{add_rules, book_currency, commodity_add, currency_rules};
 ghost use Rattle.book_step.specs.Commodities.{is_currency_of, is_namesake, unknown_commodity};
@@ -37,7 +37,7 @@ pub(crate) fn commodity_add(present: &Present, commodity: Commodity) -> Result<S
 
 /// The commodity of this number is one of the book's.
 pub(crate) fn check_known(commodities: &Commodities, number: u64) -> Result<(), Rule>
-    ensures { TellsFirst (unknown_commodity commodities.now.entries number ∷ []) result }
+    ensures { ReportsFirst (unknown_commodity commodities.now.entries number ∷ []) result }
 {
     match commodities.find(number) {
         Some(_) => Ok(()),
@@ -60,7 +60,7 @@ pub(crate) fn is_currency(commodities: &Commodities, number: u64) -> bool
 
 /// The commodity of this number is one of the book's, and a currency.
 fn check_currency(present: &Present, number: u64) -> Result<(), Rule>
-    ensures { TellsFirst (currency_rules present.now.book number) result }
+    ensures { ReportsFirst (currency_rules present.now.book number) result }
 {
     let commodities = &present.plain.commodities;
     check_known(commodities, number)?;
@@ -73,7 +73,7 @@ fn check_currency(present: &Present, number: u64) -> Result<(), Rule>
 /// A new commodity has a space and a name that no other has, and a fraction within its limits; and the book has room
 /// for it.
 fn check_new(present: &Present, commodity: &Commodity) -> Result<(), Rule>
-    ensures { TellsFirst (add_rules present.now.book commodity.now) result }
+    ensures { ReportsFirst (add_rules present.now.book commodity.now) result }
 {
     let commodities = &present.plain.commodities;
     if let Some(id) = namesake(commodities, commodity) {

@@ -1,5 +1,5 @@
 ghost use Rattle.std.specs.Prelude.{◌≡◌, ◌+◌, ◌<◌, ◌≤◌, ◌^◌, [], ◌∷◌, IfOk, OnOk, length, map};
-ghost use Rattle.book_commodity.specs.Rules.{TellsFirst};
+ghost use Rattle.book_commodity.specs.Rules.{ReportsFirst};
 ghost use Rattle.book_undo.specs.Book.{book_of};
 ghost use Rattle.book_step.specs.Outcome.{StepsTo};
 ghost use Rattle.book_step.specs.Posting.{broken_by, new_split, new_splits, new_transaction, post, post_rules};
@@ -88,7 +88,7 @@ fn new_split(number: u64, given: GivenSplit) -> Split
 
 /// A post of the transaction keeps its rules.
 fn check_post(present: &Present, transaction: &Txn) -> Result<(), Rule>
-    ensures rules { TellsFirst (post_rules present.now.book transaction.now) result }
+    ensures rules { ReportsFirst (post_rules present.now.book transaction.now) result }
     ensures few { OnOk result (length transaction.now.splits ≤ 500) }
 {
     check_transaction(present.plain, transaction)?;
@@ -98,7 +98,7 @@ fn check_post(present: &Present, transaction: &Txn) -> Result<(), Rule>
 
 /// The transaction breaks no rule of transactions among the commodities and the accounts of the book.
 fn check_transaction(plain: &Plain, transaction: &Txn) -> Result<(), Rule>
-    ensures rules { TellsFirst (broken_by (book_of plain.now) transaction.now ∷ []) result }
+    ensures rules { ReportsFirst (broken_by (book_of plain.now) transaction.now ∷ []) result }
     ensures few { OnOk result (length transaction.now.splits ≤ 500) }
 {
     check_txn(&plain.commodities, &plain.accounts, transaction)?;
@@ -107,7 +107,7 @@ fn check_transaction(plain: &Plain, transaction: &Txn) -> Result<(), Rule>
 
 /// The book has room for one transaction more.
 fn check_transactions(plain: &Plain) -> Result<(), Rule>
-    ensures { TellsFirst (too_many_transactions (book_of plain.now) ∷ []) result }
+    ensures { ReportsFirst (too_many_transactions (book_of plain.now) ∷ []) result }
 {
     if plain.transactions.len() >= MAX_TRANSACTIONS {
         return Err(Rule::Limit {
@@ -120,7 +120,7 @@ fn check_transactions(plain: &Plain) -> Result<(), Rule>
 
 /// The book has room for the splits of the transaction.
 fn check_splits(present: &Present, transaction: &Txn) -> Result<(), Rule>
-    ensures { TellsFirst (too_many_splits present.now.book transaction.now ∷ []) result }
+    ensures { ReportsFirst (too_many_splits present.now.book transaction.now ∷ []) result }
 {
     let room = MAX_SPLITS - present.plain.transactions.count_splits();
     if transaction.splits.len() as u64 > room {

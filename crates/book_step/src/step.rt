@@ -1,5 +1,5 @@
 ghost use Rattle.std.specs.Prelude.{◌≡◌, ◌<◌, ◌≤◌, ◌^◌, [], ◌∷◌};
-ghost use Rattle.book_commodity.specs.Rules.{TellsFirst};
+ghost use Rattle.book_commodity.specs.Rules.{ReportsFirst};
 ghost use Rattle.book_undo.specs.Edit.{is_unchanged};
 ghost use Rattle.book_step.specs.Outcome.{ChangesBy, LeavesBy, StepsTo, numbers, version_after};
 ghost use Rattle.book_step.specs.Soundness.{IsSound};
@@ -110,7 +110,7 @@ fn step_of_what(alloc: Global, present: &Present, what: What) -> Result<Step, Re
 
 /// The command is for the present version, where it is for one.
 fn check_version(present: &Present, at: Option<u64>) -> Result<(), Rule>
-    ensures { TellsFirst (stale present.now at ∷ []) result }
+    ensures { ReportsFirst (stale present.now at ∷ []) result }
 {
     match at {
         Some(at) if at != present.version => Err(Rule::Stale {
@@ -123,7 +123,7 @@ fn check_version(present: &Present, at: Option<u64>) -> Result<(), Rule>
 /// So many more numbers of things, and one more version, stay below the limit of numbers.
 fn check_numbers(present: &Present, drawn: u64) -> Result<(), Rule>
     requires { drawn ≤ 2 ^ 62 }
-    ensures { TellsFirst (numbers present.now drawn ∷ []) result }
+    ensures { ReportsFirst (numbers present.now drawn ∷ []) result }
 {
     if present.next + drawn >= NUMBERS_LIMIT || present.version + 1 >= NUMBERS_LIMIT {
         return Err(Rule::Limit {

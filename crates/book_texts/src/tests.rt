@@ -155,3 +155,62 @@ fn writes_refusals(rt: HostRuntime) -> Result<(), OutOfMemory> {
     );
     Ok(())
 }
+
+/// The words of all kinds of things.
+static KINDS: [(Kind, &str); 10] = [
+    (Kind::Commodity, "commodity"),
+    (Kind::Account, "account"),
+    (Kind::Transaction, "transaction"),
+    (Kind::Split, "split"),
+    (Kind::Price, "price"),
+    (Kind::Schedule, "schedule"),
+    (Kind::Statement, "statement"),
+    (Kind::Line, "line"),
+    (Kind::Binding, "binding"),
+    (Kind::Reconciliation, "reconciliation"),
+];
+
+/// The words of all that has a limit.
+static LIMITS: [(Counted, &str); 14] = [
+    (Counted::Amount, "amount"),
+    (Counted::Transactions, "transactions"),
+    (Counted::Splits, "splits"),
+    (Counted::Accounts, "accounts"),
+    (Counted::Commodities, "commodities"),
+    (Counted::Prices, "prices"),
+    (Counted::Schedules, "schedules"),
+    (Counted::Lines, "lines"),
+    (Counted::Statements, "statements"),
+    (Counted::Bindings, "bindings"),
+    (Counted::Recons, "recons"),
+    (Counted::Days, "days"),
+    (Counted::Window, "window"),
+    (Counted::Numbers, "numbers"),
+];
+
+/// Whether the line of the rule has this member before its version.
+fn has_member(alloc: Global, rule: Rule, member: &str, word: &str) -> Result<bool, OutOfMemory> {
+    let text = rule_text(alloc, &rule, 0)?;
+    let Ok(text) = str::from_utf8(text.as_slice()) else {
+        return Ok(false);
+    };
+    let mut members = text.split(',');
+    let found = members.any(|part| {
+        let mut parts = part.split('"');
+        parts.any(|it| it == member) && parts.any(|it| it == word)
+    });
+    Ok(found)
+}
+
+#[test]
+fn writes_each_kind_and_each_limit(rt: HostRuntime) -> Result<(), OutOfMemory> {
+    for (kind, word) in KINDS {
+        let rule = Rule::Unknown { kind, id: 1 };
+        assert!(rt; has_member(rt.alloc(), rule, "kind", word)?, "{word}");
+    }
+    for (which, word) in LIMITS {
+        let rule = Rule::Limit { which, at: 1 };
+        assert!(rt; has_member(rt.alloc(), rule, "which", word)?, "{word}");
+    }
+    Ok(())
+}

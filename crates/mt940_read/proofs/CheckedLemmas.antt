@@ -8,7 +8,7 @@ use Rattle.book_statement.specs.declared.bad.Bad.TheVariants.{UnknownCurrency, C
 use Rattle.book_statement.specs.Checks.{Check, check, first_bad, Tells}
 use Rattle.book_statement.specs.Currencies.{fraction_of}
 use Rattle.book_statement.specs.Keys.{same_text}
-use Rattle.book_statement.proofs.CheckLemmas.{first_bad-here, tells-past}
+use Rattle.book_statement.proofs.CheckLemmas.{first_bad-here, reports-past}
 use Rattle.mt940_read.specs.declared.message.Message.{Message}
 use Rattle.mt940_read.specs.declared.page.Page.{Page}
 use Rattle.mt940_read.specs.Amounts.{amount_checks}
@@ -83,7 +83,7 @@ later_tells known m text v r a b h =
     let holds : first_bad front ≡ None =
     ap (λ t. first_bad (check t UnknownCurrency ∷ check (same_text (balance_currency text) m.currency) CurrencyDiffers ∷ [])) a
     ∙ ap (λ t. first_bad (check t CurrencyDiffers ∷ [])) b in
-    tells-past front (amount_checks m.fraction (balance_amount text)) v r holds h
+    reports-past front (amount_checks m.fraction (balance_amount text)) v r holds h
 
 pub opening_unknown : (known : List (ℕ × Commodity)) (page : Option Page) (statements : ℕ) (m : Message) (goes_on : Bool) (text : List ℕ)
     → is_some (fraction_of (balance_currency text) known) ≡ false
@@ -114,7 +114,7 @@ opening_tells known page statements m goes_on text v r a e h =
     let pages : List Check = page_checks page statements m goes_on (balance_currency text) (balance (fraction_in known (balance_currency text)) text) in
     let one : List Check = check (is_some (fraction_of (balance_currency text) known)) UnknownCurrency ∷ [] in
     let holds : first_bad one ≡ None = ap (λ t. first_bad (check t UnknownCurrency ∷ [])) a in
-    tells-past one (amounts ++ pages) v r holds (tells-past amounts pages v r e h)
+    reports-past one (amounts ++ pages) v r holds (reports-past amounts pages v r e h)
 
 pub room_full : (page : Option Page) (last_lines : ℕ) (m : Message) → nat_lt (lines_before page last_lines m) 10_000 ≡ false
     → first_bad (room_checks page last_lines m) ≡ Some TooMany

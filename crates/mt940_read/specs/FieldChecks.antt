@@ -25,7 +25,7 @@ page_checks page statements m goes_on currency opening =
     check (not (joins_page page m.account goes_on) || agrees page currency opening goes_on) PageOrder
     ∷ check (joins_page page m.account goes_on || nat_lt statements 1_000) TooMany ∷ []
 
--- its currency is one of the book's, and the balance a whole number of its smallest units
+-- Its currency is one of the book's, and the balance a whole number of its smallest units.
 unfoldable pub opening_currency_checks : List (ℕ × Commodity) → Option Page → ℕ → Message → Bool → List ℕ → List Check
 opening_currency_checks known page statements m goes_on text =
     check (is_some (fraction_of (balance_currency text) known)) UnknownCurrency
@@ -52,7 +52,7 @@ reckoned_checks m closing = check (int_eq closing (reckoned m)) (BalanceMismatch
 unfoldable pub closing_checks : List (ℕ × Commodity) → Message → List ℕ → List Check
 closing_checks known m text = later_checks known m text ++ reckoned_checks m (balance m.fraction text)
 
--- how many lines the statement has before a line of this message
+-- How many lines the statement has before a line of this message.
 abbrev pub lines_before : Option Page → ℕ → Message → ℕ
 lines_before page last_lines m = (if joins_page page m.account m.opens_page then last_lines else 0) + length m.lines
 
@@ -70,7 +70,7 @@ line_checks page last_lines m text = line_form text ++ line_amount_checks page l
 abbrev pub some_checks : List ℕ → List Check
 some_checks text = check (not (is_nothing text)) FieldForm ∷ []
 
--- the checks of a field behind others, without that of the order
+-- The checks of a field behind others, without that of the order.
 abbrev pub own_checks : List (ℕ × Commodity) → Past → Message → Tag → List ℕ → List Check
 own_checks known past m Reference text = []
 own_checks known past m Related text = []
@@ -83,12 +83,12 @@ own_checks known past m (Closing goes_on) text = closing_checks known m text
 own_checks known past m Available text = later_checks known m text
 own_checks known past m Forward text = later_checks known m text
 
--- the checks of a field, behind the fields whose values are `m` and the messages that are `past`
+-- The checks of a field, behind the fields whose values are `m` and the messages that are `past`.
 abbrev pub field_checks : List (ℕ × Commodity) → Past → Message → Tag → List ℕ → List Check
 field_checks known past m tag text =
     check (may_follow m.last (is_some m.closing) tag) FieldOrder ∷ own_checks known past m tag text
 
--- the amount of a field, 0 for one without an amount
+-- The amount of a field, 0 for one without an amount.
 abbrev pub amount_in : List (ℕ × Commodity) → Message → Tag → List ℕ → ℤ
 amount_in known m (Opening goes_on) text = balance (fraction_in known (balance_currency text)) text
 amount_in known m Line text = line_amount m.fraction text
@@ -97,7 +97,7 @@ amount_in known m Available text = balance m.fraction text
 amount_in known m Forward text = balance m.fraction text
 amount_in known m _ text = pos 0
 
--- what a field's checks leave of its form, for what is kept of it
+-- What a field's checks leave of its form, for what is kept of it.
 abbrev pub Fits : Message → Tag → List ℕ → Type 0
 Fits m (Opening goes_on) text = first_bad (balance_form text) ≡ None
 Fits m (Closing goes_on) text = first_bad (balance_form text) ≡ None

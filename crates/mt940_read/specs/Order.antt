@@ -40,7 +40,7 @@ abbrev pub is_forward : Tag → Bool
 is_forward Forward = true
 is_forward _ = false
 
--- which field may stand behind the last one, in a message that has its closing balance or not
+-- Which field may stand behind the last one, in a message that has its closing balance or not.
 abbrev pub may_follow : Option Tag → Bool → Tag → Bool
 may_follow None closed tag = true
 may_follow (Some Reference) closed tag = is_related tag || is_account tag

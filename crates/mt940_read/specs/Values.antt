@@ -51,7 +51,7 @@ abbrev pub day_given : List FieldLines → Tag → List ℕ → Option ℤ
 day_given before (Closing goes_on) text = Some (balance_day text)
 day_given before _ text = None
 
--- the values of a message with these fields
+-- The values of a message with these fields.
 abbrev pub values : List (ℕ × Commodity) → List FieldLines → Message
 values known fields = record {
   last = last_tag fields;
@@ -67,16 +67,16 @@ values known fields = record {
   lines = entries known [] fields;
 }
 
--- the closing balance that the opening balance and the lines of the message give
+-- The closing balance that the opening balance and the lines of the message give.
 abbrev pub reckoned : Message → ℤ
 reckoned message = unwrap_or message.opening (pos 0) +ℤ total_of message.lines
 
--- whether the last field is a 61
+-- Whether the last field is a 61.
 abbrev pub ends_in_line : Option Tag → Bool
 ends_in_line None = false
 ends_in_line (Some tag) = is_line tag
 
--- the values with one field more: a law of `values`, by which a message is read from its first field on
+-- The values with one field more: a law of `values`, by which a message is read from its first field on.
 abbrev pub after : List (ℕ × Commodity) → Message → Tag → List ℕ → Message
 after known m Reference text = record m { last = Some Reference }
 after known m Related text = record m { last = Some Related }
@@ -103,6 +103,6 @@ after known m (Closing goes_on) text = record m {
 after known m Available text = record m { last = Some Available }
 after known m Forward text = record m { last = Some Forward }
 
--- the values with one further line behind a field that is a 61 or its text
+-- The values with one further line behind a field that is a 61 or its text.
 abbrev pub after_more : Message → List ℕ → Message
 after_more m piece = record m { lines = on_last (add_text piece) m.lines }

@@ -1,6 +1,6 @@
 use Rattle.std.proofs.Common.{◌≡◌, rules, Some}
 use Rattle.book_splits.specs.Check.{txn_rules}
-use Rattle.book_commodity.specs.Rules.{TellsFirst, first_broken}
+use Rattle.book_commodity.specs.Rules.{ReportsFirst, first_broken}
 use Rattle.book_splits.proofs.CheckLemmas.{first-of_txn, reports-balance, sound-kept}
 use Rattle.book_splits.proofs.check.check_txn.Goals as goal
 
@@ -16,7 +16,7 @@ returns-in_err-check_splits-clause-first_rule c =
     search rules
 
 reported : (c : goal.After-check_balance)
-    → TellsFirst (txn_rules c.args.commodities.now.entries c.args.accounts.now.entries c.args.txn.now)
+    → ReportsFirst (txn_rules c.args.commodities.now.entries c.args.accounts.now.entries c.args.txn.now)
     c.check_balance.result
 reported c =
     reports-balance c.args.commodities.now.entries c.args.accounts.now.entries c.args.txn.now
