@@ -1,10 +1,10 @@
 -- Laws of checks and of the first place at which one fails.
-use Rattle.std.proofs.Common.{◌≡◌, ℕ, Bool, true, false, List, [], ◌∷◌, ◌++◌, Option, Some, None, refl, sym, ap, ◌∙◌}
+use Rattle.std.proofs.Common.{◌≡◌, ℕ, Bool, true, false, List, [], ◌∷◌, ◌++◌, Option, Some, None, Result, Ok, Err, refl, sym, ap, ◌∙◌}
 use Rattle.std.specs.Option.{option_or}
 use Rattle.std.specs.Prelude.{if◌then◌else◌}
 use Rattle.book_statement.specs.declared.bad.Bad.{Bad}
 use Rattle.book_statement.specs.declared.fault.StatementFault.{StatementFault}
-use Rattle.book_statement.specs.Checks.{Check, first_bad, Place, fault_at, first_fault}
+use Rattle.book_statement.specs.Checks.{Check, check, Tells, first_bad, Place, fault_at, first_fault}
 
 -- of checks one behind the other, the first ones are asked first
 pub first_bad-append : (cs ds : List Check) → first_bad (cs ++ ds) ≡ option_or (first_bad cs) (first_bad ds)
@@ -48,3 +48,18 @@ fault_there ps p qs bad e fails = first_fault-past ps (p ∷ qs) e ∙ ap (λ o.
 -- one more place where all holds
 pub sound_more : (ps : List Place) (p : Place) → first_fault ps ≡ None → first_bad p.checks ≡ None → first_fault (ps ++ p ∷ []) ≡ None
 sound_more ps p e holds = first_fault-past ps (p ∷ []) e ∙ ap (λ o. fault_at p.line o None) holds
+
+-- what a call answers of later checks it answers of all, behind checks that hold
+pub tells-past : {X : Type 0} (cs ds : List Check) (value : X) (result : Result X Bad) → first_bad cs ≡ None → Tells ds value result → Tells (cs ++ ds) value result
+tells-past cs ds value (Ok given) e h = (first_bad-past cs ds e ∙ h.0, h.1)
+tells-past cs ds value (Err bad) e h = first_bad-past cs ds e ∙ h
+
+-- one check that holds, in front
+pub tells-held : {X : Type 0} (holds : Bool) (bad : Bad) (ds : List Check) (value : X) (result : Result X Bad) → holds ≡ true → Tells ds value result → Tells (check holds bad ∷ ds) value result
+tells-held true bad ds value result e h = h
+tells-held false bad ds value result e h = absurd cc
+
+-- one check that fails, in front
+pub tells-failed : {X : Type 0} (holds : Bool) (bad : Bad) (ds : List Check) (value : X) → holds ≡ false → Tells (check holds bad ∷ ds) value (Err bad)
+tells-failed true bad ds value e = absurd cc
+tells-failed false bad ds value e = refl

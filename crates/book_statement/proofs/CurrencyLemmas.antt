@@ -1,7 +1,8 @@
 -- Looking for a currency, place by place.
-use Rattle.std.proofs.Common.{◌≡◌, ℕ, suc, ◌<◌, length, subst, arith, ◌+◌, List, [], ◌∷◌, drop, Option, Some, None, Bool, true, false, option_map, is_some, slice_get, refl, sym, ap, ◌∙◌, All}
-use Rattle.std.specs.Prelude.{if◌then◌else◌}
+use Rattle.std.proofs.Common.{◌≡◌, ℕ, zero, suc, cond, ◌<◌, length, subst, arith, ◌+◌, List, [], ◌∷◌, drop, Option, Some, None, Bool, true, false, option_map, is_some, slice_get, refl, sym, ap, ◌∙◌, All}
+use Rattle.std.specs.Prelude.{if◌then◌else◌, nat_lt, ◌==◌}
 use Rattle.std.specs.Option.{option_or}
+use Rattle.book_commodity.specs.Table.{with_entry}
 use Rattle.book_commodity.specs.declared.commodity.Commodity.{Commodity}
 use Rattle.book_statement.specs.Currencies.{fraction_if, fraction_of, is_currency_named, IsFraction, HaveFractions}
 use Rattle.book_statement.proofs.ListLemmas.{drop_at, mapped_some}
@@ -39,3 +40,23 @@ fraction_is code (entry ∷ es) n all e =
       | true ↦ λ k. let same : entry.1.fraction ≡ n = cc in subst IsFraction same head
       | false ↦ λ k. fraction_is code es n tail k
     ] e
+
+-- commodities with one more in front, or put under a number
+pub fractions-cons : (e : ℕ × Commodity) (es : List (ℕ × Commodity)) → IsFraction e.1.fraction → HaveFractions es → HaveFractions (e ∷ es)
+fractions-cons e es f all zero d h = f
+fractions-cons e es f all (suc k) d h = all k d (omega arith)
+
+fractions-tail : (e : ℕ × Commodity) (es : List (ℕ × Commodity)) → HaveFractions (e ∷ es) → HaveFractions es
+fractions-tail e es all k d h = all (suc k) d (let more : suc k < length (e ∷ es) = omega arith in more)
+
+pub fractions-put : (n : ℕ) (c : Commodity) (es : List (ℕ × Commodity)) → IsFraction c.fraction → HaveFractions es → HaveFractions (with_entry n c es)
+fractions-put n c [] f all = fractions-cons (n, c) [] f all
+fractions-put n c (e ∷ es) f all =
+    let head : IsFraction e.1.fraction = all 0 e (let here : 0 < length (e ∷ es) = omega arith in here) in
+    elim (nat_lt n e.0) as (λ t. HaveFractions (cond t ((n, c) ∷ e ∷ es) (if n == e.0 then (n, c) ∷ es else e ∷ with_entry n c es))) [
+      | true ↦ fractions-cons (n, c) (e ∷ es) f all
+      | false ↦ elim (n == e.0) as (λ t. HaveFractions (cond t ((n, c) ∷ es) (e ∷ with_entry n c es))) [
+        | true ↦ fractions-cons (n, c) es f (fractions-tail e es all)
+        | false ↦ fractions-cons e (with_entry n c es) head (fractions-put n c es f (fractions-tail e es all))
+      ]
+    ]

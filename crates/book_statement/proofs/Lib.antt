@@ -4,4 +4,5 @@ pub mod DateLemmas
 pub mod KeyLemmas
 pub mod ListLemmas
 pub mod NumberLemmas
+pub mod PieceLemmas
 pub mod TextLemmas

@@ -25,7 +25,7 @@ pub record Grows {X Y : Type 0} (alone : X → Y) (onto : X → Y → Y) (grow :
   pub more : (x y : X) (group : Y) → grow (onto x group) y ≡ onto x (grow group y)
 
 -- there is a first group
-grouped-some : {X Y : Type 0} (joins : X → X → Bool) (alone : X → Y) (onto : X → Y → Y) (x : X) (xs : List X)
+pub grouped-some : {X Y : Type 0} (joins : X → X → Bool) (alone : X → Y) (onto : X → Y → Y) (x : X) (xs : List X)
     → (first : Y) × (more : List Y) × (grouped joins alone onto (x ∷ xs) ≡ first ∷ more)
 grouped-some joins alone onto x [] = (alone x, [], refl)
 grouped-some {X} {Y} joins alone onto x (y ∷ ys) = cons_in_front (joins x y) (grouped joins alone onto (y ∷ ys))

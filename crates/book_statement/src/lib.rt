@@ -22,6 +22,8 @@ mod pieces;
 mod read_error;
 mod statement;
 mod statement_line;
+#[cfg(test)]
+mod tests;
 mod texts;
 
 pub use bad::Bad;
@@ -39,7 +41,7 @@ pub use line_state::LineState;
 pub use lines::next_line;
 pub use numbers::{LARGEST_AMOUNT, has_digits, number, units_of};
 pub use part::Part;
-pub use pieces::{after_chars, text_before, text_behind};
+pub use pieces::{after_chars, first_chars, text_before, text_behind};
 pub use read_error::ReadError;
 pub use statement::Statement;
 pub use statement_line::StatementLine;

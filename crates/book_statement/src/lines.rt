@@ -1,4 +1,5 @@
 ghost use Rattle.std.specs.Prelude.{◌≡◌, ◌<◌, ◌≤◌, ◌==◌, take, slice_index, ◌∷◌, length, position};
+ghost use Rattle.std.specs.Str.{IsUtf8};
 ghost use Rattle.std.specs.Str.Lines.{strip_carriage_return};
 ghost use Rattle.book_statement.specs.Texts.{lines_of, without_spaces, trimmed};
 
@@ -9,6 +10,7 @@ pub fn next_line(text: &str) -> (&str, &str)
     requires { 0 < length text.now }
     ensures lines { lines_of text.now ≡ result.0.now ∷ lines_of result.1.now }
     ensures shorter { length result.1.now < length text.now }
+    ensures utf8 { IsUtf8 result.1.now }
 {
     match line_feed(text.as_bytes()) {
         Some(end) => (trimmed(text_before(text, end)), text_behind(text, end)),

@@ -1,9 +1,11 @@
-ghost use Rattle.std.specs.Prelude.{◌≡◌, ◌+◌, ◌<◌, length, take, drop, slice_index};
-ghost use Rattle.book_statement.specs.Pieces.{after_chars, past_continuations, is_continuation};
+ghost use Rattle.std.specs.Prelude.{◌≡◌, ◌+◌, ◌<◌, ◌≤◌, length, take, drop, slice_index};
+ghost use Rattle.book_statement.specs.Pieces.{after_chars, first_chars, past_continuations, is_continuation};
 
 /// What stands behind the first `count` characters of a text, as bytes.
+#[tactic(auto, using(crate::proofs::PieceLemmas::after_chars_le))]
 pub fn after_chars(text: &[u8], count: usize) -> &[u8]
-    ensures { result.now ≡ after_chars count text.now }
+    ensures rest { result.now ≡ after_chars count text.now }
+    ensures shorter { length result.now ≤ length text.now }
 {
     let mut rest = text;
     let mut left = count;
@@ -12,6 +14,13 @@ pub fn after_chars(text: &[u8], count: usize) -> &[u8]
         left -= 1;
     }
     rest
+}
+
+/// The first `count` characters of a text, as bytes.
+pub fn first_chars(text: &[u8], count: usize) -> &[u8]
+    ensures { result.now ≡ first_chars count text.now }
+{
+    &text[..text.len() - after_chars(text, count).len()]
 }
 
 /// The bytes from the next character on.

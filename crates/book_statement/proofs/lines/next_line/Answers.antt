@@ -1,5 +1,6 @@
 use Rattle.std.proofs.Common.{◌≡◌, ◌∷◌, [], ◌+◌, List, ℕ, Some, None, drop, position, refl, sym, ap, ◌∙◌, arith, rules}
 use Rattle.std.specs.Prelude.{map}
+use Rattle.std.proofs.lemmas.Str.{IsUtf8-nil}
 use Rattle.book_statement.specs.Texts.{trimmed, lines_of, raw_lines}
 use Rattle.book_statement.proofs.TextLemmas.{is_line_feed, first_line, only_line}
 use Rattle.book_statement.proofs.lines.next_line.Goals as goal
@@ -32,3 +33,9 @@ returns-in-None-clause-lines c =
     let found : position is_line_feed c.args.text.now ≡ None =
     ap (λ l. position is_line_feed l) (sym c.as_bytes.ensures.value) ∙ sym c.line_feed.ensures ∙ c.in-None.is in
     ap (map trimmed) (only_line c.args.text.now c.requires found) ∙ ap (λ l. l ∷ []) (sym c.trimmed-in-None.ensures)
+
+pub returns-in-Some-clause-utf8 : goal.returns-in-Some-clause-utf8
+returns-in-Some-clause-utf8 c = c.text_behind.utf8
+
+pub returns-in-None-clause-utf8 : goal.returns-in-None-clause-utf8
+returns-in-None-clause-utf8 c = IsUtf8-nil

@@ -1,0 +1,7 @@
+use Rattle.std.proofs.Common.{◌≡◌, List, ℕ, true, subst, sym, ap, ◌∙◌}
+use Rattle.mt940_read.specs.Amounts.{is_amount}
+use Rattle.mt940_read.proofs.FormLemmas.{line_parts}
+use Rattle.mt940_read.proofs.line_field.line_amount.Goals as goal
+
+pub amount-requires : goal.amount-requires
+amount-requires c = ap is_amount c.amount_part.ensures ∙ (line_parts c.args.text.now c.requires).amount

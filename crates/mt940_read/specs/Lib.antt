@@ -1,0 +1,14 @@
+pub mod Amounts
+pub mod Balances
+pub mod Entries
+pub mod EntryDate
+pub mod FieldChecks
+pub mod Kinds
+pub mod LineField
+pub mod Order
+pub mod Pages
+pub mod Reading
+pub mod Steps
+pub mod Totals
+pub mod Tree
+pub mod Values

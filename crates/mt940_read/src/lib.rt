@@ -1,0 +1,27 @@
+//! Reads bank statements in the format MT940 (SWIFT, customer statement message): `read_mt940` gives the statements of
+//! a text, or the first place at which it breaks a rule of the format.
+#![tactic(auto)]
+
+mod amount;
+mod answer;
+mod balance;
+mod checks;
+mod entry_date;
+mod fraction;
+mod kept;
+mod kinds;
+mod line_field;
+mod lines;
+mod message;
+mod order;
+mod page;
+mod read;
+mod reader;
+mod slashes;
+mod statements;
+mod tag;
+#[cfg(test)]
+mod tests;
+mod texts;
+
+pub use read::read_mt940;

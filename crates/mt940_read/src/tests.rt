@@ -1,0 +1,153 @@
+ghost use Rattle.std.specs.Prelude.{IfOk};
+ghost use Rattle.book_statement.specs.Currencies.{HaveFractions};
+
+mod files;
+
+use crate::read_mt940;
+use book_commodity::{Commodities, Commodity, Day, Many, OutOfMemory, Text};
+use book_statement::{Bad, ReadError, Statement, StatementFault, as_text};
+use std::alloc::Global;
+use std::test::Fail;
+
+const WORKED: &str = ":20:STMT1
+:25:NL01BANK0123456789
+:28C:1/1
+:60F:C240101EUR1000,00
+:61:2401050105D200,00NTRFRENT//B77
+:86:January rent
+:61:240108RD50,00NTRFNONREF
+";
+
+fn currency(alloc: Global, name: &str, fraction: u64) -> Result<Commodity, OutOfMemory>
+    ensures { IfOk result (λ given. given.fraction ≡ fraction) }
+{
+    Ok(Commodity {
+        space: Text::of(String::from_str(alloc, "CURRENCY")?),
+        name: Text::of(String::from_str(alloc, name)?),
+        full_name: Text::new(alloc),
+        fraction,
+    })
+}
+
+/// Euros in cents, yens without a part, and a currency with nine decimals.
+fn known(alloc: Global) -> Result<Commodities, OutOfMemory>
+    ensures { IfOk result (λ known. HaveFractions known.entries) }
+{
+    let mut known = Commodities::new(alloc);
+    known.reserve(1)?;
+    known.put(1, currency(alloc, "EUR", 100)?);
+    known.reserve(1)?;
+    known.put(2, currency(alloc, "JPY", 1)?);
+    known.reserve(1)?;
+    known.put(3, currency(alloc, "XTS", 1_000_000_000)?);
+    known.reserve(1)?;
+    known.put(4, currency(alloc, "USD", 100)?);
+    Ok(known)
+}
+
+/// The statements of a file in two pieces, or its fault.
+fn read(alloc: Global, front: &str, end: &str) -> Result<Many<Statement>, ReadError> {
+    let mut bytes = Vec::from_slice(alloc, front.as_bytes())?;
+    bytes.extend_from_slice(end.as_bytes())?;
+    let text = as_text(alloc, bytes.as_slice())?;
+    let known = known(alloc)?;
+    read_mt940(alloc, &text, &known)
+}
+
+fn day(number: i32) -> Option<Day> {
+    Day::of_number(number)
+}
+
+#[test]
+fn worked_file(rt: HostRuntime) -> Result<(), Fail> {
+    let statements = read(rt.alloc(), WORKED, ":62F:C240131EUR850,00\n")?;
+    assert_eq!(rt; statements.len(), 1);
+    let statement = &statements.as_slice()[0];
+    assert_eq!(rt; statement.account_text.as_str(), "NL01BANK0123456789");
+    assert_eq!(rt; statement.number.as_str(), "1");
+    assert_eq!(rt; statement.currency.as_str(), "EUR");
+    assert_eq!(rt; statement.opening, Some(100_000));
+    assert_eq!(rt; statement.closing, Some(85_000));
+    assert_eq!(rt; Some(statement.day), day(19_753));
+    assert_eq!(rt; statement.ties, Some(true));
+    assert_eq!(rt; statement.lines.len(), 2);
+    let rent = &statement.lines.as_slice()[0];
+    assert_eq!(rt; (rent.amount, Some(rent.day)), (-20_000, day(19_727)));
+    assert_eq!(rt; rent.kind.as_str(), "NTRF");
+    assert_eq!(rt; rent.ref_own.as_str(), "RENT");
+    assert_eq!(rt; rent.ref_bank.as_str(), "B77");
+    assert_eq!(rt; rent.text.as_str(), "January rent");
+    let reversal = &statement.lines.as_slice()[1];
+    assert_eq!(rt; (reversal.amount, Some(reversal.day)), (5_000, day(19_730)));
+    Ok(())
+}
+
+/// Whether a file in two pieces has this fault.
+fn has_fault(alloc: Global, front: &str, end: &str, line: u64, bad: Bad) -> bool {
+    match read(alloc, front, end) {
+        Err(ReadError::Fault(fault)) => fault == StatementFault { line, bad },
+        _ => false,
+    }
+}
+
+#[test]
+fn faults_of_files(rt: HostRuntime) {
+    let alloc = rt.alloc();
+    let mismatch = Bad::BalanceMismatch {
+        said: 95_000,
+        reckoned: 85_000,
+    };
+    for (front, end, line, bad) in [
+        (WORKED, ":62F:C240131EUR950,00\n", 8, mismatch),
+        (WORKED, "", 7, Bad::CutOff),
+        ("", "", 0, Bad::NoStatement),
+        (":20:X", "", 1, Bad::CutOff),
+        (FRONT, ":60F:C240101EUR1000\n", 4, Bad::AmountForm),
+        (FRONT, ":60F:C240231EUR1000,00\n", 4, Bad::DateForm),
+        (":20:STMT1\n", ":28C:1/1\n", 2, Bad::FieldOrder),
+        (files::SECOND_ACCOUNT, "", 13, Bad::FieldOrder),
+        (FRONT, ":60F:C240101GBP1,\n", 4, Bad::UnknownCurrency),
+        (FRONT, ":60F:C240101EUR1,005\n", 4, Bad::TooManyDecimals),
+        (FRONT, ":60F:C24\u{fc}101EUR1,00\n", 4, Bad::DateForm),
+    ] {
+        assert!(rt; has_fault(alloc, front, end, line, bad), "{end}");
+    }
+}
+
+const FRONT: &str = ":20:STMT1\n:25:NL01BANK0123456789\n:28C:1/1\n";
+
+#[test]
+fn pages(rt: HostRuntime) -> Result<(), Fail> {
+    let alloc = rt.alloc();
+    let mut front = String::from_str(alloc, WORKED)?;
+    front.push_str(":62M:C240131EUR850,00\n:20:STMT2\n:25:NL01BANK0123456789\n:28C:1/2\n")?;
+    let end = ":60M:C240131EUR850,00\n:62F:C240131EUR850,00\n";
+    let statements = read(alloc, front.as_str(), end)?;
+    assert_eq!(rt; statements.len(), 1);
+    assert_eq!(rt; statements.as_slice()[0].lines.len(), 2);
+    let other = ":60M:C240131EUR851,00\n:62F:C240131EUR851,00\n";
+    assert!(rt; has_fault(alloc, front.as_str(), other, 12, Bad::PageOrder));
+    Ok(())
+}
+
+#[test]
+fn drawn_files(rt: HostRuntime) -> Result<(), Fail> {
+    for (file, lines) in [
+        (files::THREE_PAGES, 19),
+        (files::NINE_DECIMALS, 7),
+        (files::NO_DECIMALS, 7),
+        (files::DEBIT_PAGES, 10),
+        (files::WINDOW_OF_YEARS, 8),
+        (files::TURN_OF_THE_YEAR, 17),
+        (files::LINE_OUTSIDE, 17),
+        (files::NO_FIELD, 1),
+        (files::EQUAL_LINES, 2),
+        (files::CARRIAGE_RETURNS, 20),
+        (files::EXAMPLE, 6),
+    ] {
+        let statements = read(rt.alloc(), file, "")?;
+        assert_eq!(rt; statements.len(), 1);
+        assert_eq!(rt; statements.as_slice()[0].lines.len(), lines);
+    }
+    Ok(())
+}
