@@ -16,7 +16,7 @@ returns c =
       | else-self-lt4-via-else-self-lt4 w ↦ inl w.if-self-lt4.false
     ] in
     let sum : c.in_ok-count_on.field-0 ≡ c.args.self.fields + field_count c.args.more.now =
-    c.in_ok-count_on.ensures ∙ ap (λ (n : ℕ). c.args.self.fields + n) c.field_count.ensures in
+    c.in_ok-count_on.ensures.sum ∙ ap (λ (n : ℕ). c.args.self.fields + n) c.field_count.ensures in
     λ old is begins known.
     subst (λ (n : ℕ). HasExtent c.args.kind c.args.body.now n c.args.self.full) (sym sum)
     (grown_extent c.args.kind old c.args.body.now c.args.more.now c.args.self.fields c.args.self.full is begins known
