@@ -1,7 +1,7 @@
 //! The program's work as one call, generic over where the lines come from and where the answers go: `book_main`
 //! takes the words, reads the input to its end, and says how it ended. Its clause `run` is the whole promise of a run:
-//! what was written is what the machine of whole books answers to the lines that were read. `run_program` is the same
-//! over a program's own words and standard streams, and `Ended` is what the program's `main` answers.
+//! what was written is what the machine of whole books answers to the lines that were read. `run_program` hands
+//! it a program's own words and standard streams, and `Ended` is what the program's `main` answers.
 #![tactic(auto)]
 
 mod main_call;

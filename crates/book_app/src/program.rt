@@ -12,8 +12,8 @@ use std::io::{ErrorKind, Input, Print};
 use std::process::{ExitCode, Termination};
 use std::{env, io};
 
-/// How the program ended. `run_program` alone makes it, so a `main` that answers it can neither end by another number
-/// nor leave out the line on standard error.
+/// How the program ended. `run_program` alone makes it, so a `main` that answers it can't end by another number. It
+/// also writes the status's line on standard error, which no contract can see and a test shows.
 #[derive(Debug, Drop)]
 pub struct Ended {
     status: Status,

@@ -11,8 +11,7 @@ use book_step::{Answer, Step};
 use book_undo::{Edit, Plain, Thing};
 use std::alloc::Global;
 
-/// The step with the balances in its answer, which are those of the book that it leads to. One pass over the
-/// transactions where the answer has balances.
+/// The step with the balances in its answer, which are those of the book that it leads to.
 pub(crate) fn with_balances(alloc: Global, plain: &Plain, step: Step) -> Result<Step, OutOfMemory>
     requires few { length (splits_of plain.now.transactions.entries) ≤ 1000000 }
     requires posts { PostsAnswered (book_of plain.now) step.edit step.answer }

@@ -2,7 +2,7 @@
 //! Each reports by ghost members what it has left, what it was given and how often it failed, so that
 //! contracts above speak of the bytes themselves. `MemSource` and `MemSink` report all of it and fail at chosen
 //! calls; `FileSource` and `StreamSink` join std's readers and writers, report the bytes that these report, and
-//! count a fault for each call that fails. A call that succeeds hides no fault.
+//! count a fault for each call that fails. A call that succeeds leaves the count.
 #![tactic(auto)]
 
 mod calls;

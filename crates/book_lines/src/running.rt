@@ -123,8 +123,8 @@ fn run_pieces<W, K, M: Machine<W, K>, S: Source, O: Sink>(
 
 /// Answers the lines of the input on the output, one answer line for each line that is not blank, and says how it
 /// ended. A rest without line feed at the end is a line; one at InputLimit, InputFault or OutputFault is not run.
-/// At most one byte past 2^33 is read. No read or write that failed is made again: a run that ends by Done or
-/// InputLimit met no fault, and one that ends by a fault met that fault alone.
+/// At most one byte past 2^33 is read. A run that ends by Done or InputLimit met no fault of the input or the output,
+/// and one that ends by a fault of one met none of the other.
 pub fn run<W, K, M: Machine<W, K>, S: Source, O: Sink>(
     alloc: Global,
     machine: &mut M,
