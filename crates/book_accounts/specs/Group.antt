@@ -29,12 +29,14 @@ is_security Stock = true
 is_security Mutual = true
 is_security _ = false
 
+-- Whether two groups are the same.
 abbrev pub is_same_group : AccountGroup → AccountGroup → Bool
 is_same_group group.AssetsAndLiabilities group.AssetsAndLiabilities = true
 is_same_group group.IncomeAndExpenses group.IncomeAndExpenses = true
 is_same_group group.Equity group.Equity = true
 is_same_group _ _ = false
 
+-- Whether an account of the one group may stand under one of the other: a root has no group.
 abbrev pub is_group_under : Option AccountGroup → Option AccountGroup → Bool
 is_group_under None above = false
 is_group_under (Some lower) None = true

@@ -47,9 +47,11 @@ abbrev pub parent_kind : Option AccountKind → Option AccountKind → Option Tr
 parent_kind (Some kind) (Some above) = if fits_under kind above then None else Some ParentKind
 parent_kind _ _ = None
 
+-- The kind of the account under a number, if there is one.
 abbrev pub kind_at : List (ℕ × Account) → ℕ → Option AccountKind
 kind_at tree number = option_map (λ account. account.kind) (value_of number tree)
 
+-- The rule that a new account breaks under the parent that it is given.
 abbrev pub add_rule_under : List (ℕ × Account) → Account → Option ℕ → Option TreeRule
 add_rule_under tree account None = Some ParentKind
 add_rule_under tree account (Some parent) =

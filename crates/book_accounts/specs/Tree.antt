@@ -18,6 +18,7 @@ IsWayUp tree number (parent ∷ above) = (parent_of tree number ≡ Some parent)
 pub record IsRooted (tree : List (ℕ × Account)) : Type 0 where
   pub up : (number : ℕ) → IsSome (value_of number tree) → (way : List ℕ) × IsWayUp tree number way
 
+-- The parent, if there is one, and the way further up from it.
 abbrev pub followed_up : Option ℕ → (ℕ → List ℕ) → List ℕ
 followed_up None more = []
 followed_up (Some parent) more = parent ∷ more parent

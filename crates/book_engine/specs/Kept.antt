@@ -9,6 +9,7 @@ pub record Kept : Type 0 where
   pub state : State
   pub plain : Plain
 
+-- What contracts see of an engine.
 abbrev pub kept_by : Inside → Kept
 kept_by engine = record {
   state = state_of engine.state.plain engine.state.next engine.state.version;

@@ -11,6 +11,7 @@ pub record Check : Type 0 where
   pub holds : Bool
   pub bad : Bad
 
+-- A check of a condition, with what is wrong where it does not hold.
 abbrev pub check : Bool → Bad → Check
 check holds bad = record { holds = holds; bad = bad }
 
@@ -24,6 +25,7 @@ pub record Place : Type 0 where
   pub line : ℕ
   pub checks : List Check
 
+-- A place of the file with its checks.
 abbrev pub place : ℕ → List Check → Place
 place line checks = record { line = line; checks = checks }
 

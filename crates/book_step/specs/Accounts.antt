@@ -40,6 +40,7 @@ abbrev pub unknown_given_account : List (ℕ × Account) → Option ℕ → Opti
 unknown_given_account accounts None = None
 unknown_given_account accounts (Some number) = unknown_account accounts number
 
+-- The same of a commodity.
 abbrev pub unknown_given_commodity : List (ℕ × Commodity) → Option ℕ → Option Rule
 unknown_given_commodity commodities None = None
 unknown_given_commodity commodities (Some number) = unknown_commodity commodities number
@@ -97,6 +98,7 @@ HasSameFields old new =
     × ((new.code ≡ old.code) ×
     ((new.note ≡ old.note) × ((new.hidden ≡ old.hidden) × (new.placeholder ≡ old.placeholder)))))
 
+-- Whether it has them.
 abbrev pub same_fields : (old new : Account) → Decision (HasSameFields old new)
 same_fields old new =
     both (same_text new.name old.name)
@@ -152,6 +154,7 @@ edit_rules book number parent old new =
     ∷ becomes_placeholder book.transactions number old new
     ∷ []
 
+-- The edit of an account that is there.
 abbrev pub account_edit_of : State → ℕ → GivenAccount → Account → Outcome
 account_edit_of state number given old =
     let new = with_given old given in
@@ -159,6 +162,7 @@ account_edit_of state number given old =
     if (stays old given).is then leaving state rules answer.AccountEdit
     else changing state rules (edit.Put number (thing.Account new)) 0 answer.AccountEdit
 
+-- The edit of an account, if it is there.
 abbrev pub account_edit_at : State → ℕ → GivenAccount → Option Account → Outcome
 account_edit_at state number given None = Broken (Unknown kind.Account number)
 account_edit_at state number given (Some old) = account_edit_of state number given old
@@ -174,6 +178,7 @@ not_empty book number =
     broken_where (nat_lt 0 (length (children_of book.accounts (Some number))) || has_splits book.transactions
     number) (NotEmpty number)
 
+-- The deletion of an account, if it is there.
 abbrev pub account_drop_of : State → ℕ → Option Account → Outcome
 account_drop_of state number None = Broken (Unknown kind.Account number)
 account_drop_of state number (Some account) =

@@ -14,6 +14,7 @@ use Rattle.book_command.specs.declared.rule.Rule.{Rule}
 use Rattle.book_command.specs.declared.rule.Rule.TheVariants.{Limit}
 use Rattle.book_step.specs.declared.step.Step.{Step}
 
+-- A command is broken with a rule, or done with the state after it and its answer.
 pub data Outcome : Type 0 where
   Broken : Rule → Outcome
   Done : State → Answer → Outcome
