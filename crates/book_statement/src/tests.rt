@@ -9,101 +9,120 @@ fn text(alloc: Global, text: &str) -> Result<Text, OutOfMemory> {
     Ok(Text::of(String::from_str(alloc, text)?))
 }
 
-fn day(number: i32) -> Result<Day, OutOfMemory> {
-    Day::of_number(number).ok_or(OutOfMemory)
+/// 1970-01-01.
+fn day() -> Day {
+    let Some(day) = Day::of_number(0) else {
+        unreachable!()
+    };
+    day
 }
 
-fn line(alloc: Global, amount: i64, words: &str) -> Result<StatementLine, OutOfMemory> {
-    let mut parts = Many::new(alloc);
-    parts.push(Part {
-        category: text(alloc, "Food")?,
-        memo: text(alloc, "bread")?,
+fn line(alloc: Global, amount: i64, text: Text) -> StatementLine {
+    StatementLine {
+        day: day(),
+        value_day: day(),
         amount,
-    })?;
-    Ok(StatementLine {
-        day: day(19_762)?,
-        value_day: day(19_763)?,
-        amount,
-        kind: text(alloc, "NMSC")?,
-        ref_own: text(alloc, "A1")?,
-        ref_bank: text(alloc, "B1")?,
-        text: text(alloc, words)?,
-        category: text(alloc, "Household")?,
-        parts,
-    })
+        kind: Text::new(alloc),
+        ref_own: Text::new(alloc),
+        ref_bank: Text::new(alloc),
+        text,
+        category: Text::new(alloc),
+        parts: Many::new(alloc),
+    }
+}
+
+/// Three lines, of which the first and the last are equal.
+fn lines(alloc: Global) -> Result<Many<StatementLine>, OutOfMemory> {
+    let mut lines = Many::new(alloc);
+    for amount in [-300, 500, -300] {
+        lines.push(line(alloc, amount, Text::new(alloc)))?;
+    }
+    Ok(lines)
+}
+
+fn statement(alloc: Global, lines: Many<StatementLine>) -> Statement {
+    Statement {
+        account_text: Text::new(alloc),
+        number: Text::new(alloc),
+        currency: Text::new(alloc),
+        opening: None,
+        closing: None,
+        day: day(),
+        ties: None,
+        lines,
+    }
 }
 
 #[test]
 fn texts_of_files(rt: HostRuntime) -> Result<(), Fail> {
-    let alloc = rt.alloc();
-    let marked = as_text(alloc, b"\xEF\xBB\xBFcaf\xC3\xA9")?;
+    let marked = as_text(rt.alloc(), b"\xEF\xBB\xBFcaf\xC3\xA9")?;
     assert_eq!(rt; marked.as_str(), "caf\u{e9}");
-    let latin = as_text(alloc, b"caf\xE9")?;
+    let latin = as_text(rt.alloc(), b"caf\xE9")?;
     assert_eq!(rt; latin.as_str(), "caf\u{e9}");
-    let mut joined = text(alloc, "")?;
-    for piece in ["January", "", "rent"] {
-        add_piece(alloc, &mut joined, piece)?;
-    }
+    Ok(())
+}
+
+#[test]
+fn pieces_are_joined(rt: HostRuntime) -> Result<(), Fail> {
+    let mut joined = text(rt.alloc(), "January")?;
+    add_piece(rt.alloc(), &mut joined, "")?;
+    add_piece(rt.alloc(), &mut joined, "rent")?;
     assert_eq!(rt; joined.as_str(), "January rent");
     Ok(())
 }
 
 #[test]
 fn equal_lines_have_ordinals(rt: HostRuntime) -> Result<(), Fail> {
-    let alloc = rt.alloc();
-    let mut lines = Many::new(alloc);
-    for (amount, words) in [
-        (-300, "COFFEE"),
-        (-300, "COFFEE"),
-        (-300, "TEA"),
-        (-300, "COFFEE"),
-    ] {
-        lines.push(line(alloc, amount, words)?)?;
-    }
-    let statement = Statement {
-        account_text: text(alloc, "NL01")?,
-        number: text(alloc, "1")?,
-        currency: text(alloc, "EUR")?,
-        opening: None,
-        closing: None,
-        day: day(19_762)?,
-        ties: None,
-        lines,
-    };
-    let keys = keys_of(alloc, 3, &statement)?;
-    assert_eq!(rt; keys.len(), 4);
-    for (key, ordinal) in keys.as_slice().iter().zip([0, 1, 0, 2]) {
-        assert_eq!(rt; (key.account, key.ordinal), (3, ordinal));
-    }
+    let statement = statement(rt.alloc(), lines(rt.alloc())?);
+    let keys = keys_of(rt.alloc(), 3, &statement)?;
+    assert_eq!(rt; keys.len(), 3);
+    assert_eq!(rt; keys.as_slice()[0].ordinal, 0);
+    assert_eq!(rt; keys.as_slice()[1].ordinal, 0);
+    assert_eq!(rt; keys.as_slice()[2].ordinal, 1);
     Ok(())
 }
 
 #[test]
-fn copies(rt: HostRuntime) -> Result<(), Fail> {
-    let alloc = rt.alloc();
+fn lines_are_copied(rt: HostRuntime) -> Result<(), Fail> {
+    let mut body = line(rt.alloc(), -300, text(rt.alloc(), "COFFEE")?);
+    body.parts.push(Part {
+        category: Text::new(rt.alloc()),
+        memo: Text::new(rt.alloc()),
+        amount: -300,
+    })?;
     let kept = Line {
         account: 3,
         statement: 4,
         ordinal: 1,
-        body: line(alloc, -300, "COFFEE")?,
+        body,
         state: LineState::Matched(7),
     };
     let copy = kept.copy()?;
     assert_eq!(rt; copy.state, LineState::Matched(7));
-    assert_eq!(rt; copy.body.category.as_str(), "Household");
+    assert_eq!(rt; copy.body.text.as_str(), "COFFEE");
     assert_eq!(rt; copy.body.parts.len(), 1);
+    Ok(())
+}
+
+#[test]
+fn statements_are_copied(rt: HostRuntime) -> Result<(), Fail> {
     let held = Held {
         account: 3,
-        account_text: text(alloc, "NL01")?,
-        number: text(alloc, "1")?,
+        account_text: Text::new(rt.alloc()),
+        number: Text::new(rt.alloc()),
         opening: Some(5),
         closing: None,
-        day: day(19_762)?,
+        day: day(),
         ties: Some(true),
     };
     assert_eq!(rt; held.copy()?.opening, Some(5));
+    Ok(())
+}
+
+#[test]
+fn bindings_are_copied(rt: HostRuntime) -> Result<(), Fail> {
     let binding = Binding {
-        text: text(alloc, "NL01")?,
+        text: text(rt.alloc(), "NL01")?,
         account: 3,
     };
     assert_eq!(rt; binding.copy()?.text.as_str(), "NL01");

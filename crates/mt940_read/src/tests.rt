@@ -1,10 +1,10 @@
-ghost use Rattle.std.specs.Prelude.{IfOk};
-ghost use Rattle.book_statement.specs.Currencies.{HaveFractions};
+ghost use Rattle.std.specs.Prelude.{◌≡◌, IfOk};
+ghost use Rattle.book_statement.specs.Currencies.{HaveFractions, IsFraction};
 
 mod files;
 
 use crate::read_mt940;
-use book_commodity::{Commodities, Commodity, Day, Many, OutOfMemory, Text};
+use book_commodity::{Commodities, Commodity, Many, OutOfMemory, Text};
 use book_statement::{Bad, ReadError, Statement, StatementFault, as_text};
 use std::alloc::Global;
 use std::test::Fail;
@@ -29,20 +29,32 @@ fn currency(alloc: Global, name: &str, fraction: u64) -> Result<Commodity, OutOf
     })
 }
 
-/// Euros in cents, yens without a part, and a currency with nine decimals.
+/// Commodities with one currency more.
+fn with(
+    alloc: Global,
+    known: Commodities,
+    number: u64,
+    name: &str,
+    fraction: u64,
+) -> Result<Commodities, OutOfMemory>
+    requires fraction { IsFraction fraction }
+    requires known { HaveFractions known.entries }
+    ensures { IfOk result (λ more. HaveFractions more.entries) }
+{
+    let mut known = known;
+    known.reserve(1)?;
+    known.put(number, currency(alloc, name, fraction)?);
+    Ok(known)
+}
+
+/// Euros and dollars in cents, yens, and a currency with nine decimals.
 fn known(alloc: Global) -> Result<Commodities, OutOfMemory>
     ensures { IfOk result (λ known. HaveFractions known.entries) }
 {
-    let mut known = Commodities::new(alloc);
-    known.reserve(1)?;
-    known.put(1, currency(alloc, "EUR", 100)?);
-    known.reserve(1)?;
-    known.put(2, currency(alloc, "JPY", 1)?);
-    known.reserve(1)?;
-    known.put(3, currency(alloc, "XTS", 1_000_000_000)?);
-    known.reserve(1)?;
-    known.put(4, currency(alloc, "USD", 100)?);
-    Ok(known)
+    let known = with(alloc, Commodities::new(alloc), 1, "EUR", 100)?;
+    let known = with(alloc, known, 2, "USD", 100)?;
+    let known = with(alloc, known, 3, "JPY", 1)?;
+    with(alloc, known, 4, "XTS", 1_000_000_000)
 }
 
 /// The statements of a file in two pieces, or its fault.
@@ -54,31 +66,37 @@ fn read(alloc: Global, front: &str, end: &str) -> Result<Many<Statement>, ReadEr
     read_mt940(alloc, &text, &known)
 }
 
-fn day(number: i32) -> Option<Day> {
-    Day::of_number(number)
-}
-
 #[test]
-fn worked_file(rt: HostRuntime) -> Result<(), Fail> {
+fn worked_statement(rt: HostRuntime) -> Result<(), Fail> {
     let statements = read(rt.alloc(), WORKED, ":62F:C240131EUR850,00\n")?;
     assert_eq!(rt; statements.len(), 1);
     let statement = &statements.as_slice()[0];
     assert_eq!(rt; statement.account_text.as_str(), "NL01BANK0123456789");
     assert_eq!(rt; statement.number.as_str(), "1");
     assert_eq!(rt; statement.currency.as_str(), "EUR");
-    assert_eq!(rt; statement.opening, Some(100_000));
-    assert_eq!(rt; statement.closing, Some(85_000));
-    assert_eq!(rt; Some(statement.day), day(19_753));
-    assert_eq!(rt; statement.ties, Some(true));
-    assert_eq!(rt; statement.lines.len(), 2);
-    let rent = &statement.lines.as_slice()[0];
-    assert_eq!(rt; (rent.amount, Some(rent.day)), (-20_000, day(19_727)));
-    assert_eq!(rt; rent.kind.as_str(), "NTRF");
-    assert_eq!(rt; rent.ref_own.as_str(), "RENT");
-    assert_eq!(rt; rent.ref_bank.as_str(), "B77");
-    assert_eq!(rt; rent.text.as_str(), "January rent");
-    let reversal = &statement.lines.as_slice()[1];
-    assert_eq!(rt; (reversal.amount, Some(reversal.day)), (5_000, day(19_730)));
+    assert_eq!(rt;
+        (statement.opening, statement.closing),
+        (Some(100_000), Some(85_000))
+    );
+    assert_eq!(rt;
+        (statement.day.number(), statement.ties),
+        (19_753, Some(true))
+    );
+    Ok(())
+}
+
+#[test]
+fn worked_lines(rt: HostRuntime) -> Result<(), Fail> {
+    let statements = read(rt.alloc(), WORKED, ":62F:C240131EUR850,00\n")?;
+    assert_eq!(rt; statements.len(), 1);
+    let lines = statements.as_slice()[0].lines.as_slice();
+    assert_eq!(rt; lines.len(), 2);
+    assert_eq!(rt; (lines[0].amount, lines[0].day.number()), (-20_000, 19_727));
+    assert_eq!(rt; lines[0].kind.as_str(), "NTRF");
+    assert_eq!(rt; lines[0].ref_own.as_str(), "RENT");
+    assert_eq!(rt; lines[0].ref_bank.as_str(), "B77");
+    assert_eq!(rt; lines[0].text.as_str(), "January rent");
+    assert_eq!(rt; (lines[1].amount, lines[1].day.number()), (5_000, 19_730));
     Ok(())
 }
 
@@ -116,17 +134,25 @@ fn faults_of_files(rt: HostRuntime) {
 
 const FRONT: &str = ":20:STMT1\n:25:NL01BANK0123456789\n:28C:1/1\n";
 
+const FIRST_PAGE: &str = ":20:STMT1
+:25:NL01BANK0123456789
+:28C:1/1
+:60F:C240101EUR1000,00
+:61:2401050105D150,00NTRFRENT
+:62M:C240131EUR850,00
+:20:STMT2
+:25:NL01BANK0123456789
+:28C:1/2
+";
+
 #[test]
 fn pages(rt: HostRuntime) -> Result<(), Fail> {
-    let alloc = rt.alloc();
-    let mut front = String::from_str(alloc, WORKED)?;
-    front.push_str(":62M:C240131EUR850,00\n:20:STMT2\n:25:NL01BANK0123456789\n:28C:1/2\n")?;
     let end = ":60M:C240131EUR850,00\n:62F:C240131EUR850,00\n";
-    let statements = read(alloc, front.as_str(), end)?;
+    let statements = read(rt.alloc(), FIRST_PAGE, end)?;
     assert_eq!(rt; statements.len(), 1);
-    assert_eq!(rt; statements.as_slice()[0].lines.len(), 2);
+    assert_eq!(rt; statements.as_slice()[0].lines.len(), 1);
     let other = ":60M:C240131EUR851,00\n:62F:C240131EUR851,00\n";
-    assert!(rt; has_fault(alloc, front.as_str(), other, 12, Bad::PageOrder));
+    assert!(rt; has_fault(rt.alloc(), FIRST_PAGE, other, 10, Bad::PageOrder));
     Ok(())
 }
 
