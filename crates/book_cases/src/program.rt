@@ -8,7 +8,7 @@ use std::io;
 use std::io::{BufRead, Eprint, ErrorKind, Input, Lines, Print};
 use std::process::{ExitCode, Termination};
 
-/// A host with these words, whose input is a salary. It takes what is written and what is said on standard error, and
+/// A host with these words, whose input is a salary, and whose output may fail. It takes what is written and what is said on standard error, and
 /// notes whether these are the bytes and the line that a test expects.
 #[derive(Drop)]
 struct Host {
@@ -17,6 +17,7 @@ struct Host {
     input: &'static [u8],
     output: &'static [u8],
     line: &'static str,
+    fails: bool,
     written: Cell<usize>,
     lines: Cell<u32>,
     differs: Cell<bool>,
@@ -28,6 +29,7 @@ impl Host {
         words: &'static [&'static [u8]],
         output: &'static str,
         line: &'static str,
+        fails: bool,
     ) -> Host {
         Host {
             alloc,
@@ -35,6 +37,7 @@ impl Host {
             input: SALARY.as_bytes(),
             output: output.as_bytes(),
             line,
+            fails,
             written: Cell::new(0),
             lines: Cell::new(0),
             differs: Cell::new(false),
@@ -97,6 +100,9 @@ impl Print for Host {
     }
 
     fn write_all(&self, bytes: &[u8]) -> io::Result<()> {
+        if self.fails {
+            return Err(io::Error::other("broken"));
+        }
         let rest = self.output.get(self.written.get()..).unwrap_or(&[]);
         if !rest.starts_with(bytes) {
             self.differs.set(true);
@@ -123,9 +129,11 @@ impl Eprint for Host {
 
 const USAGE: &str = "usage: book run BOOK";
 
-/// A host's words, what is written, what is said on standard error, how often, and the number at the end.
+/// A host's words, whether its output fails, what is written, what is said on standard error, how often, and the
+/// number at the end.
 type Row = (
     &'static [&'static [u8]],
+    bool,
     &'static str,
     &'static str,
     u32,
@@ -133,23 +141,46 @@ type Row = (
 );
 
 // A word that is not UTF-8 is no word of the program: wrong words, and not out of memory.
-static ROWS: [Row; 4] = [
+static ROWS: [Row; 5] = [
     (
         &[b"book", b"run", b"household.book"],
+        false,
         SALARY_ANSWERS,
         "",
         0,
         0,
     ),
-    (&[b"book", b"run"], "", USAGE, 1, 2),
-    (&[b"book", b"run", b"-household.book"], "", USAGE, 1, 2),
-    (&[b"book", b"run", b"household\xff.book"], "", USAGE, 1, 2),
+    (&[b"book", b"run"], false, "", USAGE, 1, 2),
+    (
+        &[b"book", b"run", b"-household.book"],
+        false,
+        "",
+        USAGE,
+        1,
+        2,
+    ),
+    (
+        &[b"book", b"run", b"household\xff.book"],
+        false,
+        "",
+        USAGE,
+        1,
+        2,
+    ),
+    (
+        &[b"book", b"run", b"household.book"],
+        true,
+        "",
+        "book: the output failed",
+        1,
+        5,
+    ),
 ];
 
 #[test]
 fn words_and_streams(rt: HostRuntime) {
-    for (words, output, line, lines, number) in ROWS {
-        let host = Host::new(rt.alloc(), words, output, line);
+    for (words, fails, output, line, lines, number) in ROWS {
+        let host = Host::new(rt.alloc(), words, output, line, fails);
         let code = run_program(&host).report(&host);
         assert_eq!(rt; code, ExitCode::from(number));
         assert_eq!(rt; host.written.get(), output.len());
@@ -171,7 +202,7 @@ static ENDS: [(Status, &str, u32, u8); 6] = [
 #[test]
 fn lines_on_standard_error(rt: HostRuntime) {
     for (status, line, lines, number) in ENDS {
-        let host = Host::new(rt.alloc(), &[], "", line);
+        let host = Host::new(rt.alloc(), &[], "", line, false);
         let code = status.report(&host);
         assert_eq!(rt; code, ExitCode::from(number));
         assert_eq!(rt; host.lines.get(), lines);
