@@ -1,5 +1,5 @@
 -- Looking for a currency, place by place.
-use Rattle.std.proofs.Common.{◌≡◌, ℕ, zero, suc, cond, ◌<◌, length, subst, arith, ◌+◌, List, [], ◌∷◌, drop, Option, Some, None, Bool, true, false, option_map, is_some, slice_get, refl, sym, ap, ◌∙◌, All}
+use Rattle.std.proofs.Common.{◌≡◌, ℕ, zero, suc, cond, ◌<◌, length, subst, arith, ◌+◌, List, [], ◌∷◌, drop, Option, Some, None, true, false, option_map, is_some, slice_get, sym, ap, ◌∙◌}
 use Rattle.std.specs.Prelude.{if◌then◌else◌, nat_lt, ◌==◌}
 use Rattle.std.specs.Option.{option_or}
 use Rattle.book_commodity.specs.Table.{with_entry}

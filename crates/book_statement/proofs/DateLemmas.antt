@@ -1,5 +1,5 @@
 -- A date is one of the calendar exactly where its test passes.
-use Rattle.std.proofs.Common.{◌≡◌, ℕ, ◌≤◌, Bool, true, false, List, take, drop, Option, Some, None, IsSome, refl, sym, ap, subst, ◌∙◌, arith, ℤ, pos, ◌↔◌}
+use Rattle.std.proofs.Common.{◌≡◌, ℕ, ◌≤◌, true, false, List, take, drop, Option, Some, None, IsSome, refl, sym, ap, subst, ◌∙◌, arith, ℤ, pos, ◌↔◌}
 use Rattle.std.specs.Prelude.{IfSome, nat_le}
 use Rattle.std.proofs.lemmas.Bool.{and_parts, leb-true, le-leb, and_from, cond-true, cond-false, false_from_ne_true}
 use Rattle.std.proofs.lemmas.Int.{ints}

@@ -1,5 +1,5 @@
 -- The first line of a text, and the spaces at a line's end.
-use Rattle.std.proofs.Common.{◌≡◌, inl, inr, get_or, Option, Some, None, position, encode_utf8, encode_utf8_all, add-one, ℕ, zero, suc, ◌+◌, ◌-◌, ◌<◌, ◌≤◌, Bool, true, false, List, [], ◌∷◌, ◌++◌, length, take, drop, eqb, cond, not, append_assoc, refl, sym, ap, subst, ◌∙◌, arith}
+use Rattle.std.proofs.Common.{◌≡◌, inl, inr, get_or, Some, None, position, encode_utf8, encode_utf8_all, add-one, ℕ, zero, suc, ◌+◌, ◌-◌, ◌<◌, ◌≤◌, Bool, true, false, List, [], ◌∷◌, ◌++◌, length, take, drop, cond, not, append_assoc, refl, sym, ap, subst, ◌∙◌, arith}
 use Rattle.std.specs.Prelude.{◌==◌, if◌then◌else◌, nat_eq}
 use lib.Pointwise.{bytes_decides}
 use Rattle.std.specs.List.{position_or_len, starts_with}

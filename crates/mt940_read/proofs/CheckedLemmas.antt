@@ -1,5 +1,5 @@
 -- What checks answer, by the conditions that they ask.
-use Rattle.std.proofs.Common.{◌≡◌, ℕ, ℤ, pos, List, [], ◌∷◌, ◌++◌, length, Option, Some, None, Bool, true, false, is_some, Result, Ok, Err, refl, sym, ap, subst, ◌∙◌}
+use Rattle.std.proofs.Common.{◌≡◌, ℕ, ℤ, List, [], ◌∷◌, ◌++◌, Option, Some, None, Bool, true, false, is_some, Result, ap, subst, ◌∙◌}
 use Rattle.std.specs.Prelude.{not, ◌||◌, nat_lt}
 use Rattle.std.specs.Ordering.{int_eq}
 use Rattle.book_commodity.specs.declared.commodity.Commodity.{Commodity}

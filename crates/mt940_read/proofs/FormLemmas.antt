@@ -1,5 +1,5 @@
 -- What the checks of a form say where all hold.
-use Rattle.std.proofs.Common.{◌≡◌, ℕ, zero, suc, inl, inr, ◌+◌, ◌-◌, ◌<◌, ◌≤◌, List, [], ◌∷◌, length, take, drop, get_or, Option, Some, None, Bool, true, false, cond, is_some, ℤ, refl, sym, ap, subst, ◌∙◌, arith}
+use Rattle.std.proofs.Common.{◌≡◌, ℕ, zero, suc, inl, inr, ◌+◌, ◌-◌, ◌<◌, List, [], ◌∷◌, length, take, drop, get_or, Option, Some, None, Bool, true, false, cond, is_some, ℤ, refl, sym, ap, subst, ◌∙◌, arith}
 use Rattle.std.specs.Prelude.{◌&&◌, ◌||◌, ◌==◌, not, nat_le, slice_index}
 use Rattle.std.specs.Char.{is_ascii_digit, is_ascii_uppercase}
 use Rattle.std.specs.List.{list_all}
@@ -15,7 +15,7 @@ use Rattle.book_statement.specs.Numbers.{has_digits, number}
 use Rattle.book_statement.specs.Texts.{is_nothing}
 use Rattle.mt940_read.specs.Amounts.{is_amount}
 use Rattle.mt940_read.specs.Balances.{is_credit, is_debit, is_code, balance_form, balance_currency, balance_date, balance_amount}
-use Rattle.mt940_read.specs.LineField.{before_slashes, behind_slashes, has_entry_date, line, line_amount, line_day, references, value_day, is_kind, is_kind_byte, kind_part, mark_part, amount_part, line_form, line_days, kind_place, value_part, entry_part, entry_len, entry_place, mark_place}
+use Rattle.mt940_read.specs.LineField.{before_slashes, behind_slashes, has_entry_date, line, line_amount, line_day, references, value_day, is_kind, is_kind_byte, kind_part, mark_part, amount_part, line_form, line_days, kind_place, value_part, entry_part, entry_place, mark_place}
 
 -- checks that hold
 pub held : (holds : Bool) (bad : Bad) (cs : List Check) → first_bad (check holds bad ∷ cs) ≡ None → (holds ≡ true) × (first_bad cs ≡ None)

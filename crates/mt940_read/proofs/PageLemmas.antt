@@ -1,15 +1,13 @@
 -- The statements of a file with one message more.
-use Rattle.std.proofs.Common.{◌≡◌, ℕ, suc, ◌-◌, ◌<◌, length, get_or, arith, List, [], ◌∷◌, ◌++◌, Option, Some, None, Bool, true, false, cond, refl, sym, ap, ◌∙◌, append_assoc}
+use Rattle.std.proofs.Common.{◌≡◌, ℕ, suc, ◌-◌, ◌<◌, length, get_or, arith, List, [], ◌∷◌, ◌++◌, Some, refl, sym, ap, ◌∙◌, append_assoc}
 use Rattle.book_commodity.specs.declared.commodity.Commodity.{Commodity}
 use Rattle.book_statement.specs.declared.statement.Statement.{Statement}
 use Rattle.book_statement.specs.declared.statement_line.StatementLine.{StatementLine}
-use Rattle.book_statement.specs.Lists.{grouped, on_last}
 use Rattle.book_statement.proofs.ListLemmas.{Grows, grouped-push, grouped-some}
-use Rattle.mt940_read.specs.declared.message.Message.{Message}
-use Rattle.mt940_read.specs.Pages.{page_of, joins_page, last_lines, last_page, statement_alone, with_page, with_end, with_last_page, joins, statements_of, with_message}
+use Rattle.mt940_read.specs.Pages.{page_of, last_lines, last_page, statement_alone, with_page, with_last_page, joins, statements_of, with_message}
 use Rattle.mt940_read.specs.Tree.{MessageLines}
 use Rattle.mt940_read.specs.Values.{values}
-use Rattle.mt940_read.proofs.EntryLemmas.{Snoc, IsEmpty, HasLast, snoc}
+use Rattle.mt940_read.proofs.EntryLemmas.{IsEmpty, HasLast, snoc}
 
 pub last_page-push : (known : List (ℕ × Commodity)) (ms : List MessageLines) (m : MessageLines) → last_page known (ms ++ m ∷ []) ≡ Some (page_of (values known m.fields))
 last_page-push known [] m = refl

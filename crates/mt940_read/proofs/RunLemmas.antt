@@ -1,10 +1,9 @@
 -- A reader goes through the lines of a text: what it keeps is what the definition says of the lines read.
-use Rattle.std.proofs.Common.{◌≡◌, ℕ, ◌+◌, ◌<◌, ◌≤◌, List, [], ◌∷◌, ◌++◌, length, Option, Some, None, Result, Ok, Err, false, refl, sym, ap, subst, ◌∙◌, arith}
+use Rattle.std.proofs.Common.{◌≡◌, ℕ, ◌+◌, ◌<◌, ◌≤◌, List, [], ◌∷◌, length, Some, None, Err, false, refl, sym, ap, subst, ◌∙◌, arith}
 use Rattle.book_commodity.specs.declared.commodity.Commodity.{Commodity}
 use Rattle.book_statement.specs.declared.fault.StatementFault.{StatementFault}
 use Rattle.book_statement.specs.declared.read_error.ReadError.{ReadError}
 use Rattle.book_statement.specs.declared.read_error.ReadError.TheVariants.{Fault, OutOfMemory}
-use Rattle.book_statement.specs.declared.statement.Statement.{Statement}
 use Rattle.book_statement.specs.Checks.{Gives, first_bad, fault_at}
 use Rattle.book_statement.specs.Texts.{lines_of}
 use Rattle.mt940_read.specs.declared.reader.Reader.{Reader}

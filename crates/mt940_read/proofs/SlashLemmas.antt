@@ -1,8 +1,7 @@
 -- The first double slash of a text.
-use Rattle.std.proofs.Common.{◌≡◌, ℕ, ◌+◌, ◌<◌, ◌≤◌, List, [], ◌∷◌, ◌++◌, take, drop, length, get_or, Bool, true, false, ◌&&◌, cond, nat_eq, codes, refl, sym, ap, ◌∙◌, arith}
+use Rattle.std.proofs.Common.{◌≡◌, ℕ, ◌≤◌, List, [], ◌∷◌, drop, length, get_or, true, false, ◌&&◌, cond, nat_eq, codes, sym, ap, ◌∙◌, arith}
 use Rattle.std.specs.List.{starts_with}
 use Rattle.std.proofs.lemmas.Bool.{and_parts, eqb-true}
-use Rattle.std.proofs.lemmas.List.{drop_more, take_more, append_assoc, get_or-drop, length-drop, drop-drop, append-nil, take_all, drop_all}
 use Rattle.mt940_read.specs.LineField.{before_slashes, behind_slashes}
 
 -- a double slash in front

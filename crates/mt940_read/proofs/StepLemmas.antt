@@ -7,7 +7,6 @@ use lib.Pointwise.{pointwise}
 use Rattle.book_commodity.specs.declared.commodity.Commodity.{Commodity}
 use Rattle.book_statement.specs.declared.bad.Bad.{Bad}
 use Rattle.book_statement.specs.declared.bad.Bad.TheVariants.{CutOff, FieldOrder}
-use Rattle.book_statement.specs.declared.fault.StatementFault.{StatementFault}
 use Rattle.book_statement.specs.declared.read_error.ReadError.{ReadError}
 use Rattle.book_statement.specs.declared.read_error.ReadError.TheVariants.{Fault, OutOfMemory}
 use Rattle.book_statement.specs.declared.statement.Statement.{Statement}
@@ -20,7 +19,7 @@ use Rattle.mt940_read.specs.declared.tag.Tag.TheVariants.{Reference, Related, Ac
 use Rattle.mt940_read.specs.declared.tag.Kind.TheVariants.{Begins, Field, Ends, More}
 use Rattle.mt940_read.specs.declared.tag.Kind.{Kind}
 use Rattle.mt940_read.specs.Balances.{balance, balance_form}
-use Rattle.mt940_read.specs.FieldChecks.{Fits, field_checks, own_checks, opening_checks, opening_currency_checks, closing_checks, reckoned_checks, later_checks, later_currency_checks, line_checks, line_amount_checks}
+use Rattle.mt940_read.specs.FieldChecks.{Fits, field_checks, opening_checks, opening_currency_checks, closing_checks, reckoned_checks, later_checks, later_currency_checks, line_checks, line_amount_checks}
 use Rattle.mt940_read.specs.Kinds.{field_text, kind_of, has_tag, field_kind, tag_of, tag_width}
 use Rattle.mt940_read.specs.LineField.{line_form}
 use Rattle.mt940_read.specs.Order.{may_follow}

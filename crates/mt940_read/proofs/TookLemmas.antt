@@ -1,18 +1,16 @@
 -- What becomes of a line: what a reader keeps stays what the definition says of the lines read, and a fault is that of the
 -- file, whatever follows.
-use Rattle.std.proofs.Common.{◌≡◌, ℕ, ◌+◌, List, [], ◌∷◌, ◌++◌, length, Option, Some, None, Bool, true, false, cond, is_some, Result, Ok, Err, refl, sym, ap, subst, ◌∙◌, append_assoc}
-use Rattle.std.specs.Prelude.{◌&&◌, ◌||◌, if◌then◌else◌}
+use Rattle.std.proofs.Common.{◌≡◌, ℕ, ◌+◌, List, [], ◌∷◌, ◌++◌, length, Option, Some, None, Bool, true, false, cond, is_some, Err, refl, sym, ap, subst, ◌∙◌, append_assoc}
+use Rattle.std.specs.Prelude.{◌&&◌, ◌||◌}
 use Rattle.std.proofs.lemmas.List.{append-nil}
 use Rattle.book_commodity.specs.declared.commodity.Commodity.{Commodity}
 use Rattle.book_statement.specs.declared.bad.Bad.{Bad}
-use Rattle.book_statement.specs.declared.bad.Bad.TheVariants.{CutOff, NoStatement}
+use Rattle.book_statement.specs.declared.bad.Bad.TheVariants.{CutOff}
 use Rattle.book_statement.specs.declared.fault.StatementFault.{StatementFault}
-use Rattle.book_statement.specs.declared.read_error.ReadError.{ReadError}
-use Rattle.book_statement.specs.declared.read_error.ReadError.TheVariants.{Fault, OutOfMemory}
 use Rattle.book_statement.specs.declared.statement.Statement.{Statement}
 use Rattle.book_statement.specs.Checks.{Check, check, Place, place, first_bad, first_fault, fault_at, unless_fault}
 use Rattle.book_statement.specs.Lists.{each_after}
-use Rattle.book_statement.proofs.CheckLemmas.{first_fault-append, first_fault-past, first_fault-here, fault_there, sound_more}
+use Rattle.book_statement.proofs.CheckLemmas.{first_fault-here, fault_there, sound_more}
 use Rattle.book_statement.proofs.ListLemmas.{each_after-append, each_after-push}
 use Rattle.mt940_read.specs.declared.message.Message.{Message}
 use Rattle.mt940_read.specs.declared.page.Page.{Page}

@@ -1,10 +1,10 @@
 -- The sum of the amounts of lines, and a list with its last item changed.
-use Rattle.std.proofs.Common.{◌≡◌, ℕ, ◌+◌, ◌<◌, List, [], ◌∷◌, ◌++◌, length, take, get_or, map, refl, sym, ap, ◌∙◌, ℤ, pos, ◌+ℤ◌}
+use Rattle.std.proofs.Common.{◌≡◌, ℕ, ◌+◌, ◌<◌, List, [], ◌∷◌, ◌++◌, length, take, get_or, refl, sym, ap, ◌∙◌, ◌+ℤ◌}
 use Rattle.std.proofs.Math.IntN.{+ℤ_assoc, +ℤ_idl, +ℤ_idr}
 use Rattle.std.proofs.lemmas.List.{take_more}
 use Rattle.book_statement.specs.declared.statement_line.StatementLine.{StatementLine}
 use Rattle.book_statement.specs.Lists.{on_last}
-use Rattle.mt940_read.specs.Totals.{total, total_of}
+use Rattle.mt940_read.specs.Totals.{total_of}
 
 pub total_of-push : (lines : List StatementLine) (line : StatementLine) → total_of (lines ++ line ∷ []) ≡ total_of lines +ℤ line.amount
 total_of-push [] line = +ℤ_idr line.amount ∙ sym (+ℤ_idl line.amount)

@@ -1,5 +1,5 @@
 -- The tree of the lines that were read, with a hole for the lines that follow.
-use Rattle.std.proofs.Common.{◌≡◌, ℕ, ◌+◌, List, [], ◌∷◌, ◌++◌, refl, sym, ap, ◌∙◌, append_assoc}
+use Rattle.std.proofs.Common.{◌≡◌, ℕ, ◌+◌, List, [], ◌∷◌, ◌++◌, refl, append_assoc}
 use Rattle.std.proofs.lemmas.List.{append-nil}
 use Rattle.mt940_read.specs.declared.tag.Tag.{Tag}
 use Rattle.mt940_read.specs.declared.tag.Tag.TheVariants.{Reference}

@@ -1,5 +1,5 @@
 -- The values of a message with one field or one further line more.
-use Rattle.std.proofs.Common.{◌≡◌, ℕ, List, [], ◌∷◌, ◌++◌, Option, Some, None, Bool, true, false, ◌⊎◌, inl, inr, cond, is_some, unwrap_or, refl, sym, ap, ◌∙◌, ℤ, pos}
+use Rattle.std.proofs.Common.{◌≡◌, ℕ, List, [], ◌∷◌, ◌++◌, Some, Bool, true, false, ◌⊎◌, inl, inr, cond, unwrap_or, refl, sym, ap, ◌∙◌, pos}
 use Rattle.std.specs.Option.{option_or}
 use Rattle.std.specs.Prelude.{◌&&◌, ◌||◌, if◌then◌else◌}
 use Rattle.std.proofs.lemmas.Bool.{or_parts}
@@ -10,12 +10,12 @@ use Rattle.book_statement.specs.Lists.{on_last}
 use Rattle.mt940_read.specs.declared.message.Message.{Message}
 use Rattle.mt940_read.specs.declared.tag.Tag.{Tag}
 use Rattle.mt940_read.specs.declared.tag.Tag.TheVariants.{Reference, Related, Account, Number, Opening, Line, Text, Closing, Available, Forward}
-use Rattle.mt940_read.specs.Entries.{last_given, last_tag, fraction_given, fraction_behind, entry, entries}
+use Rattle.mt940_read.specs.Entries.{last_given, last_tag, fraction_given, fraction_behind, entries}
 use Rattle.mt940_read.specs.LineField.{line, add_text}
 use Rattle.mt940_read.specs.Order.{is_line, is_text}
 use Rattle.mt940_read.specs.Tree.{FieldLines}
 use Rattle.mt940_read.specs.Values.{account_given, number_given, currency_given, opening_given, opens_given, closing_given, closes_given, day_given, values, after, after_more, ends_in_line}
-use Rattle.mt940_read.proofs.EntryLemmas.{last_given-push, last_tag-push, entries-push, entries-text, entry-line, entry-other, longer, entries-longer_line, entries-longer_text}
+use Rattle.mt940_read.proofs.EntryLemmas.{last_given-push, last_tag-push, entries-push, entries-text, entry-other, longer, entries-longer_line, entries-longer_text}
 
 -- messages with equal values are equal
 same_message : (m n : Message) → m.last ≡ n.last → m.account ≡ n.account → m.number ≡ n.number → m.currency ≡ n.currency → m.fraction ≡ n.fraction

@@ -1,10 +1,8 @@
 -- Worked files: what the definition says of them is computed.
-use Rattle.std.proofs.Common.{◌≡◌, ℕ, List, [], ◌∷◌, Option, Some, None, true, refl, ℤ, pos, negsuc, codes, Ok, Err, Result}
-use Rattle.std.specs.Prelude.{position}
+use Rattle.std.proofs.Common.{◌≡◌, ℕ, List, [], ◌∷◌, Some, true, refl, pos, negsuc, codes, Ok, Err}
 use Rattle.jiff_core.specs.Calendar.{days_from_civil, day_count, days_of_years, days_of_months}
 use Rattle.book_commodity.specs.declared.commodity.Commodity.{Commodity}
-use Rattle.book_statement.specs.declared.bad.Bad.TheVariants.{BalanceMismatch, CutOff, PageOrder, AmountForm, DateForm, FieldOrder, NoStatement}
-use Rattle.book_statement.specs.declared.fault.StatementFault.{StatementFault}
+use Rattle.book_statement.specs.declared.bad.Bad.TheVariants.{BalanceMismatch, CutOff, PageOrder, NoStatement}
 use Rattle.book_statement.specs.declared.statement.Statement.{Statement}
 use Rattle.book_statement.specs.declared.statement_line.StatementLine.{StatementLine}
 use Rattle.book_statement.specs.Currencies.{fraction_of}

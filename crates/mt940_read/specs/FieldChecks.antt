@@ -1,5 +1,5 @@
 -- The checks of a field, in the order in which they are asked.
-use Rattle.std.specs.Prelude.{ℕ, ◌≡◌, ◌<◌, ◌+◌, None, ⊤, nat_lt, Bool, true, not, ◌||◌, List, [], ◌∷◌, ◌++◌, length, Option, is_some, if◌then◌else◌, ℤ, pos}
+use Rattle.std.specs.Prelude.{ℕ, ◌≡◌, ◌+◌, None, ⊤, nat_lt, Bool, not, ◌||◌, List, [], ◌∷◌, ◌++◌, length, Option, is_some, if◌then◌else◌, ℤ, pos}
 use Rattle.std.specs.Ordering.{int_eq}
 use Rattle.book_commodity.specs.declared.commodity.Commodity.{Commodity}
 use Rattle.book_statement.specs.declared.bad.Bad.TheVariants.{FieldOrder, FieldForm, UnknownCurrency, CurrencyDiffers, PageOrder, BalanceMismatch, TooMany}

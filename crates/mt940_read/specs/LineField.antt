@@ -1,5 +1,5 @@
 -- A line of a statement (SWIFT, MT940 field 61): value date, [entry date], mark, [funds code], amount, type, references.
-use Rattle.std.specs.Prelude.{ℕ, zero, suc, ◌+◌, ◌-◌, ◌==◌, nat_eq, Bool, not, Option, Some, None, ◌&&◌, ◌||◌, List, [], ◌∷◌, ◌++◌, length, take, drop, slice_index, is_some, unwrap_or, if◌then◌else◌, ℤ, pos, codes}
+use Rattle.std.specs.Prelude.{ℕ, ◌+◌, ◌-◌, ◌==◌, nat_eq, Bool, not, Option, Some, None, ◌&&◌, ◌||◌, List, [], ◌∷◌, length, take, drop, slice_index, is_some, unwrap_or, if◌then◌else◌, ℤ, pos, codes}
 use Rattle.std.specs.Char.{is_ascii_digit, is_ascii_uppercase}
 use Rattle.std.specs.List.{list_all, prefix_len, starts_with}
 use lib.Pointwise.{pointwise}

@@ -1,5 +1,5 @@
 -- Pages: messages that follow each other in the file and are one statement (SWIFT, MT940: 60M and 62M).
-use Rattle.std.specs.Prelude.{ℕ, Bool, true, false, nat_lt, ◌&&◌, ◌||◌, not, List, [], ◌∷◌, ◌++◌, length, Option, Some, None, unwrap_or, if◌then◌else◌, ℤ, pos}
+use Rattle.std.specs.Prelude.{ℕ, Bool, true, false, ◌&&◌, ◌||◌, List, [], ◌∷◌, ◌++◌, length, Option, Some, None, unwrap_or, if◌then◌else◌, ℤ, pos}
 use Rattle.std.specs.Ordering.{int_eq}
 use Rattle.book_commodity.specs.declared.commodity.Commodity.{Commodity}
 use Rattle.book_statement.specs.declared.statement.Statement.{Statement}

@@ -1,5 +1,5 @@
 -- What a text says in MT940: its statements, or the first place at which a check fails.
-use Rattle.std.specs.Prelude.{ℕ, List, [], ◌∷◌, ◌++◌, is_some, Result, Ok, Err}
+use Rattle.std.specs.Prelude.{ℕ, List, [], ◌∷◌, ◌++◌, is_some, Result, Err}
 use Rattle.book_commodity.specs.declared.commodity.Commodity.{Commodity}
 use Rattle.book_statement.specs.declared.bad.Bad.TheVariants.{NoStatement, CutOff}
 use Rattle.book_statement.specs.declared.fault.StatementFault.{StatementFault}

@@ -1,4 +1,4 @@
-use Rattle.std.proofs.Common.{◌≡◌, ◌+◌, drop, Some, None, Option, is_some, sym, ap, ◌∙◌, rules, arith}
+use Rattle.std.proofs.Common.{sym, ap, ◌∙◌, rules, arith}
 use Rattle.std.proofs.lemmas.List.{drop_all}
 use Rattle.book_statement.specs.Currencies.{fraction_of}
 use Rattle.book_statement.proofs.CurrencyLemmas.{fraction_of-found, fraction_of-other}

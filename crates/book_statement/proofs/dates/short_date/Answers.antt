@@ -1,4 +1,4 @@
-use Rattle.std.proofs.Common.{◌≡◌, sym, ap, ◌∙◌}
+use Rattle.std.proofs.Common.{sym, ◌∙◌}
 use Rattle.book_statement.proofs.DateLemmas.{short_date-parts, short_date-none}
 use Rattle.book_statement.proofs.dates.short_date.Goals as goal
 

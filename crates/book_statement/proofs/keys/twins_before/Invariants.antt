@@ -1,5 +1,5 @@
-use Rattle.std.proofs.Common.{take, drop, ◌≡◌, IfOk, count_by, ℕ, ◌+◌, ◌-◌, ◌*◌, ◌<◌, ◌≤◌, length}
-use Rattle.book_statement.specs.Keys.{is_twin, key, keys_of}
+use Rattle.std.proofs.Common.{take, ◌≡◌, count_by, ◌≤◌}
+use Rattle.book_statement.specs.Keys.{is_twin}
 use Rattle.book_statement.proofs.keys.twins_before.Given as goal
 
 abbrev pub invariant-loop-other : goal.invariant-loop-other

@@ -1,7 +1,5 @@
-use Rattle.std.proofs.Common.{take, drop, ◌≡◌, ◌<◌, ◌≤◌, ◌^◌, IsTrue, length, pos, ℕ, ◌+◌, ◌-◌, ◌*◌}
-use Rattle.book_statement.specs.Checks.{Tells}
-use Rattle.book_statement.specs.Currencies.{IsFraction}
-use Rattle.book_statement.specs.Numbers.{has_digits, number, number_onto, units, unit_checks}
+use Rattle.std.proofs.Common.{drop, ◌≡◌, ◌<◌, ◌^◌}
+use Rattle.book_statement.specs.Numbers.{number, number_onto}
 use Rattle.book_statement.proofs.numbers.number.Given as goal
 
 -- the number so far, with the digits that are left, is the number of all

@@ -1,4 +1,4 @@
-use Rattle.std.proofs.Common.{◌≡◌, ◌-◌, length, refl, sym, ap, ◌∙◌, arith}
+use Rattle.std.proofs.Common.{◌-◌, length, ap, ◌∙◌}
 use Rattle.std.proofs.lemmas.List.{take_rest}
 use Rattle.book_statement.specs.Pieces.{after_chars, past_continuations}
 use Rattle.book_statement.proofs.TextLemmas.{after_chars-step, has_length}

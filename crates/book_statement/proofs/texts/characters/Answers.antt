@@ -1,4 +1,4 @@
-use Rattle.std.proofs.Common.{◌≡◌, ◌++◌, ◌∷◌, [], ◌+◌, get_or, take, encode_utf8_all, refl, sym, ap, ◌∙◌, arith}
+use Rattle.std.proofs.Common.{arith}
 use Rattle.book_statement.proofs.TextLemmas.{encodes-push}
 use Rattle.book_statement.proofs.texts.characters.Goals as goal
 

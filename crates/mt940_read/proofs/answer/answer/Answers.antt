@@ -1,4 +1,4 @@
-use Rattle.std.proofs.Common.{◌≡◌, Ok, Err, false, true, [], refl, sym, ap, subst, ◌∙◌}
+use Rattle.std.proofs.Common.{◌≡◌, Ok, Err, false, true, sym, ap, subst, ◌∙◌}
 use Rattle.book_statement.specs.declared.read_error.ReadError.{ReadError}
 use Rattle.book_statement.specs.Checks.{Gives, unless_fault}
 use Rattle.mt940_read.specs.Steps.{no_statement}

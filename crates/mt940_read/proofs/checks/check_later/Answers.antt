@@ -1,7 +1,6 @@
-use Rattle.std.proofs.Common.{◌≡◌, sym, ap, ◌∙◌}
 use Rattle.book_statement.proofs.CheckLemmas.{first_bad-here, tells-past}
 use Rattle.mt940_read.specs.Balances.{balance_form}
-use Rattle.mt940_read.specs.FieldChecks.{later_checks, later_currency_checks}
+use Rattle.mt940_read.specs.FieldChecks.{later_checks}
 use Rattle.mt940_read.proofs.checks.check_later.Goals as goal
 
 pub returns-in-Err : goal.returns-in-Err

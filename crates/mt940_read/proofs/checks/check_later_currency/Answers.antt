@@ -1,4 +1,4 @@
-use Rattle.std.proofs.Common.{◌≡◌, sym, ◌∙◌}
+use Rattle.std.proofs.Common.{sym, ◌∙◌}
 use Rattle.mt940_read.specs.Balances.{balance}
 use Rattle.mt940_read.proofs.CheckedLemmas.{later_unknown, later_differs, later_tells}
 use Rattle.mt940_read.proofs.checks.check_later_currency.Goals as goal

@@ -1,7 +1,6 @@
-use Rattle.std.proofs.Common.{◌≡◌, sym, ap, ◌∙◌}
 use Rattle.book_statement.proofs.CheckLemmas.{first_bad-here, tells-past}
 use Rattle.mt940_read.specs.LineField.{line_form}
-use Rattle.mt940_read.specs.FieldChecks.{line_checks, line_amount_checks}
+use Rattle.mt940_read.specs.FieldChecks.{line_checks}
 use Rattle.mt940_read.proofs.checks.check_line.Goals as goal
 
 pub returns-in-Err : goal.returns-in-Err

@@ -1,4 +1,4 @@
-use Rattle.std.proofs.Common.{◌≡◌, sym, ap, ◌∙◌, arith, to_z, of_z, w64}
+use Rattle.std.proofs.Common.{arith, to_z, of_z, w64}
 use Rattle.std.proofs.lemmas.Int.{ints}
 use Rattle.book_statement.proofs.CheckLemmas.{first_bad-here, tells-past}
 use Rattle.mt940_read.specs.Amounts.{amount_checks}

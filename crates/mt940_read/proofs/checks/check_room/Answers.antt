@@ -1,4 +1,4 @@
-use Rattle.std.proofs.Common.{◌≡◌, refl, sym, ◌∙◌, arith}
+use Rattle.std.proofs.Common.{sym, ◌∙◌, arith}
 use Rattle.std.proofs.lemmas.Int.{ints}
 use Rattle.mt940_read.proofs.CheckedLemmas.{room_full, room_left}
 use Rattle.mt940_read.proofs.checks.check_room.Goals as goal

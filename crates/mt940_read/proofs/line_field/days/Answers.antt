@@ -1,4 +1,4 @@
-use Rattle.std.proofs.Common.{◌≡◌, sym, ap, ◌∙◌}
+use Rattle.std.proofs.Common.{sym, ap, ◌∙◌}
 use Rattle.book_statement.specs.Dates.{short_date}
 use Rattle.book_statement.specs.Numbers.{has_digits}
 use Rattle.book_statement.specs.Texts.{is_nothing}

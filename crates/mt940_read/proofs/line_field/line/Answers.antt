@@ -1,8 +1,8 @@
-use Rattle.std.proofs.Common.{◌≡◌, ◌+◌, ◌<◌, List, ℕ, None, Some, is_some, length, get_or, take, drop, true, false, sym, ap, subst, ◌∙◌, arith, to_z, of_z, w64}
+use Rattle.std.proofs.Common.{◌≡◌, ◌+◌, ◌<◌, List, ℕ, get_or, drop, sym, ap, subst, ◌∙◌, arith, to_z, of_z, w64}
 use Rattle.std.proofs.lemmas.Int.{ints}
 use Rattle.std.specs.Str.{IsAscii}
 use Rattle.mt940_read.specs.LineField.{before_slashes, behind_slashes, kind_part, kind_place, line_days, references}
-use Rattle.mt940_read.proofs.FormLemmas.{IsLine, line_parts, no_days, kind_within, kind_ascii, line_is}
+use Rattle.mt940_read.proofs.FormLemmas.{line_parts, no_days, kind_within, kind_ascii, line_is}
 use Rattle.mt940_read.proofs.line_field.line.Goals as goal
 
 pub unreachable-requires : goal.unreachable-requires

@@ -1,8 +1,7 @@
-use Rattle.std.proofs.Common.{◌≡◌, ◌+◌, [], length, sym, ap, subst, ◌∙◌, arith}
+use Rattle.std.proofs.Common.{◌≡◌, [], length, sym, subst}
 use Rattle.std.proofs.lemmas.List.{nil_from_length}
 use Rattle.std.proofs.lemmas.Bool.{eqb-true}
 use Rattle.book_statement.specs.Checks.{Gives}
-use Rattle.mt940_read.specs.Reading.{reading}
 use Rattle.mt940_read.proofs.RunLemmas.{SoFar, first, step, fault_gives, end}
 use Rattle.mt940_read.proofs.read.read_mt940.Goals as goal
 

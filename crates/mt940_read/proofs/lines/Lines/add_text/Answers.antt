@@ -1,4 +1,4 @@
-use Rattle.std.proofs.Common.{◌≡◌, ◌++◌, ◌∷◌, [], sym, ap, ◌∙◌}
+use Rattle.std.proofs.Common.{sym, ◌∙◌}
 use Rattle.mt940_read.proofs.AnswerLemmas.{ok_then, text_added}
 use Rattle.mt940_read.proofs.lines.Lines.add_text.Goals as goal
 

@@ -1,6 +1,3 @@
-use Rattle.std.proofs.Common.{◌≡◌, Err, sym, ap, subst, ◌∙◌}
-use Rattle.book_statement.specs.Checks.{Gives, unless_fault}
-use Rattle.mt940_read.specs.Steps.{finished, no_statement}
 use Rattle.mt940_read.proofs.StepLemmas.{finish_ok, finish_err}
 use Rattle.mt940_read.proofs.reader.Reader.finish.Goals as goal
 

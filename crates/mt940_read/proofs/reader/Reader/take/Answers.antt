@@ -1,8 +1,7 @@
-use Rattle.std.proofs.Common.{◌≡◌, sym, ap, subst, ◌∙◌}
-use Rattle.mt940_read.specs.declared.tag.Kind.{Kind}
-use Rattle.mt940_read.specs.declared.tag.Kind.TheVariants.{Begins, Field, Passed, Ends, More}
+use Rattle.std.proofs.Common.{sym, ap, ◌∙◌}
+use Rattle.mt940_read.specs.declared.tag.Kind.TheVariants.{Begins, Ends, More}
 use Rattle.mt940_read.specs.Kinds.{kind_of}
-use Rattle.mt940_read.specs.Steps.{Steps, line_checks_of, line_of_fault, next}
+use Rattle.mt940_read.specs.Steps.{next}
 use Rattle.mt940_read.proofs.StepLemmas.{tag_of_kind, steps_kind, steps_free}
 use Rattle.mt940_read.proofs.reader.Reader.take.Goals as goal
 

@@ -1,4 +1,4 @@
-use Rattle.std.proofs.Common.{◌≡◌, sym, ap, ◌∙◌, arith}
+use Rattle.std.proofs.Common.{sym, ◌∙◌}
 use Rattle.mt940_read.specs.Pages.{with_end}
 use Rattle.mt940_read.proofs.AnswerLemmas.{last_changed}
 use Rattle.mt940_read.proofs.statements.Statements.add_page.Goals as goal
