@@ -1,5 +1,31 @@
 -- Laws of what items give with those before them, and of neighbours that belong together.
-use Rattle.std.proofs.Common.{◌≡◌, ℕ, zero, suc, ◌+◌, drop, Option, Some, None, option_map, slice_get, add-one, Bool, true, false, cond, List, [], ◌∷◌, ◌++◌, refl, sym, ap, ◌∙◌, append_assoc}
+use Rattle.std.proofs.Common.{
+  ◌≡◌,
+  ℕ,
+  zero,
+  suc,
+  ◌+◌,
+  drop,
+  Option,
+  Some,
+  None,
+  option_map,
+  slice_get,
+  add-one,
+  Bool,
+  true,
+  false,
+  cond,
+  List,
+  [],
+  ◌∷◌,
+  ◌++◌,
+  refl,
+  sym,
+  ap,
+  ◌∙◌,
+  append_assoc,
+}
 use Rattle.std.proofs.lemmas.List.{append-nil}
 use Rattle.book_statement.specs.Lists.{each_after, in_front, grouped, on_last}
 
@@ -11,7 +37,8 @@ each_after-append gives before (x ∷ xs) ys =
     ap (λ l. gives before x ++ l)
     (each_after-append gives (before ++ x ∷ []) xs ys
     ∙ ap (λ b. each_after gives (before ++ x ∷ []) xs ++ each_after gives b ys) (append_assoc before (x ∷ []) xs))
-    ∙ sym (append_assoc (gives before x) (each_after gives (before ++ x ∷ []) xs) (each_after gives (before ++ x ∷ xs) ys))
+    ∙ sym (append_assoc (gives before x) (each_after gives (before ++ x ∷ []) xs)
+    (each_after gives (before ++ x ∷ xs) ys))
 
 -- one item more
 pub each_after-push : {X Y : Type 0} (gives : List X → X → List Y) (xs : List X) (x : X)
@@ -30,7 +57,8 @@ pub grouped-some : {X Y : Type 0} (joins : X → X → Bool) (alone : X → Y) (
 grouped-some joins alone onto x [] = (alone x, [], refl)
 grouped-some {X} {Y} joins alone onto x (y ∷ ys) = cons_in_front (joins x y) (grouped joins alone onto (y ∷ ys))
   where
-    cons_in_front : (t : Bool) (groups : List Y) → (first : Y) × (more : List Y) × (in_front onto alone t x groups ≡ first ∷ more)
+    cons_in_front : (t : Bool) (groups : List Y) → (first : Y) × (more : List Y)
+        × (in_front onto alone t x groups ≡ first ∷ more)
     cons_in_front t [] = (alone x, [], refl)
     cons_in_front true (g ∷ gs) = (onto x g, gs, refl)
     cons_in_front false (g ∷ gs) = (alone x, g ∷ gs, refl)
@@ -38,7 +66,8 @@ grouped-some {X} {Y} joins alone onto x (y ∷ ys) = cons_in_front (joins x y) (
 module _ {X Y : Type 0} (alone : X → Y) (onto : X → Y → Y) (grow : Y → X → Y) (grows : Grows alone onto grow) where
   -- an item put in front doesn't touch the last group, but where that is the first one too
   in_front-grow : (t : Bool) (x y : X) (g : Y) (gs : List Y)
-      → in_front onto alone t x (on_last (λ group. grow group y) (g ∷ gs)) ≡ on_last (λ group. grow group y) (in_front onto alone t x (g ∷ gs))
+      → in_front onto alone t x (on_last (λ group. grow group y) (g ∷ gs)) ≡ on_last (λ group. grow group y)
+      (in_front onto alone t x (g ∷ gs))
   in_front-grow true x y g [] = ap (λ group. group ∷ []) (sym (grows.more x y g))
   in_front-grow true x y g (h ∷ gs) = refl
   in_front-grow false x y g [] = refl
@@ -53,7 +82,8 @@ module _ {X Y : Type 0} (alone : X → Y) (onto : X → Y → Y) (grow : Y → X
   abbrev pushed : Bool → X → List Y → List Y
   pushed t y groups = cond t (on_last (λ group. grow group y) groups) (groups ++ alone y ∷ [])
 
-  in_front-pushed : (t u : Bool) (x y : X) (groups : List Y) → ((first : Y) × (more : List Y) × (groups ≡ first ∷ more))
+  in_front-pushed : (t u : Bool) (x y : X) (groups : List Y)
+      → ((first : Y) × (more : List Y) × (groups ≡ first ∷ more))
       → in_front onto alone t x (pushed u y groups) ≡ pushed u y (in_front onto alone t x groups)
   in_front-pushed t true x y [] some = absurd cc
   in_front-pushed t false x y [] some = absurd cc
@@ -70,7 +100,8 @@ module _ {X Y : Type 0} (alone : X → Y) (onto : X → Y → Y) (grow : Y → X
       ∙ in_front-pushed (joins z x) (joins x y) z y (alone x ∷ []) (alone x, [], refl)
   grouped-push joins (z ∷ w ∷ ws) x y =
       ap (in_front onto alone (joins z w) z) (grouped-push joins (w ∷ ws) x y)
-      ∙ in_front-pushed (joins z w) (joins x y) z y (grouped joins alone onto (w ∷ (ws ++ x ∷ []))) (grouped-some joins alone onto w (ws ++ x ∷ []))
+      ∙ in_front-pushed (joins z w) (joins x y) z y (grouped joins alone onto (w ∷ (ws ++ x ∷ [])))
+      (grouped-some joins alone onto w (ws ++ x ∷ []))
 
 -- what is left of a list from a place on begins with the item there
 pub drop_at : {X : Type 0} (xs : List X) (i : ℕ) (x : X) → slice_get xs i ≡ Some x → drop i xs ≡ x ∷ drop (i + 1) xs
@@ -82,6 +113,7 @@ drop_at xs i x e = from_suc xs i x e ∙ ap (λ (k : ℕ). x ∷ drop k xs) (sym
     from_suc (y ∷ xs) (suc i) x e = from_suc xs i x e
 
 -- the item of which a function gives a value
-pub mapped_some : {X Y : Type 0} (f : X → Y) (o : Option X) (y : Y) → option_map f o ≡ Some y → (x : X) × (o ≡ Some x) × (f x ≡ y)
+pub mapped_some : {X Y : Type 0} (f : X → Y) (o : Option X) (y : Y) → option_map f o ≡ Some y → (x : X)
+    × (o ≡ Some x) × (f x ≡ y)
 mapped_some f None y e = absurd cc
 mapped_some f (Some x) y e = (x, refl, cc)

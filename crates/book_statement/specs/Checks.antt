@@ -1,4 +1,5 @@
--- Checks of a statement file: the fault of a file is the first place at which a check fails, with the first failing check there.
+-- Checks of a statement file: the fault of a file is the first place at which a check fails, with the first failing
+-- check there.
 use Rattle.std.specs.Prelude.{ℕ, ◌≡◌, Bool, List, [], ◌∷◌, Option, Some, None, Result, Ok, Err, if◌then◌else◌, ⊤}
 use Rattle.book_statement.specs.declared.bad.Bad.{Bad}
 use Rattle.book_statement.specs.declared.fault.StatementFault.{StatementFault}
@@ -41,12 +42,14 @@ abbrev pub unless_fault : {X : Type 0} → Option StatementFault → X → Resul
 unless_fault (Some fault) value = Err fault
 unless_fault None value = Ok value
 
--- what a call answers that makes checks and reads a value: the value exactly where no check fails, else the first failure
+-- what a call answers that makes checks and reads a value: the value exactly where no check fails, else the first
+-- failure
 abbrev pub Tells : {X : Type 0} → List Check → X → Result X Bad → Type 0
 Tells checks value (Ok given) = (first_bad checks ≡ None) × (given ≡ value)
 Tells checks value (Err bad) = first_bad checks ≡ Some bad
 
--- what a reader answers of a file that says this: exactly its statements or exactly its fault; out of memory at any file
+-- what a reader answers of a file that says this: exactly its statements or exactly its fault; out of memory at any
+-- file
 abbrev pub Gives : {X : Type 0} → Result X StatementFault → Result X ReadError → Type 0
 Gives said (Ok given) = said ≡ Ok given
 Gives said (Err OutOfMemory) = ⊤

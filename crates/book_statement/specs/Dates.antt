@@ -1,5 +1,21 @@
 -- Dates of statement files.
-use Rattle.std.specs.Prelude.{ℕ, ◌+◌, nat_le, nat_lt, Bool, ◌&&◌, List, take, drop, Option, Some, None, if◌then◌else◌, ℤ, pos}
+use Rattle.std.specs.Prelude.{
+  ℕ,
+  ◌+◌,
+  nat_le,
+  nat_lt,
+  Bool,
+  ◌&&◌,
+  List,
+  take,
+  drop,
+  Option,
+  Some,
+  None,
+  if◌then◌else◌,
+  ℤ,
+  pos,
+}
 use Rattle.jiff_core.specs.Calendar.{days_from_civil, days_in_month}
 use Rattle.book_statement.specs.Numbers.{has_digits, number}
 

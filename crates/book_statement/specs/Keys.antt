@@ -1,5 +1,5 @@
 -- Keys of a statement's lines, by which a line is known when its file is imported again.
-use Rattle.std.specs.Prelude.{ℕ, nat_eq, Bool, ◌&&◌, List, [], ◌∷◌, count_by}
+use Rattle.std.specs.Prelude.{ℕ, ℤ, nat_eq, Bool, ◌&&◌, List, [], ◌∷◌, count_by}
 use Rattle.std.specs.Ordering.{int_eq}
 use lib.Pointwise.{pointwise}
 use Rattle.book_statement.specs.declared.line_key.LineKey.{LineKey}
@@ -10,11 +10,15 @@ use Rattle.book_statement.specs.Lists.{each_after}
 abbrev pub same_text : List ℕ → List ℕ → Bool
 same_text = pointwise nat_eq
 
--- two lines that are equal in day, amount, type, references and text
+-- whether a line has this day, amount, type, these references and this text
+abbrev pub has_parts : ℤ → ℤ → List ℕ → List ℕ → List ℕ → List ℕ → StatementLine → Bool
+has_parts day amount kind own bank text line =
+    int_eq line.day day && (int_eq line.amount amount && (same_text line.kind kind
+    && (same_text line.ref_own own && (same_text line.ref_bank bank && same_text line.text text))))
+
+-- whether another line is equal to this one in day, amount, type, references and text
 abbrev pub is_twin : StatementLine → StatementLine → Bool
-is_twin line other =
-    int_eq line.day other.day && (int_eq line.amount other.amount && (same_text line.kind other.kind
-    && (same_text line.ref_own other.ref_own && (same_text line.ref_bank other.ref_bank && same_text line.text other.text))))
+is_twin line = has_parts line.day line.amount line.kind line.ref_own line.ref_bank line.text
 
 -- the key of a line with this ordinal
 abbrev pub key : ℕ → StatementLine → ℕ → LineKey

@@ -1,5 +1,20 @@
 -- Pieces of a text by their places, counted in characters (UTF-8, RFC 3629).
-use Rattle.std.specs.Prelude.{ℕ, zero, suc, ◌-◌, nat_le, nat_lt, Bool, ◌&&◌, List, [], ◌∷◌, length, take, if◌then◌else◌}
+use Rattle.std.specs.Prelude.{
+  ℕ,
+  zero,
+  suc,
+  ◌-◌,
+  nat_le,
+  nat_lt,
+  Bool,
+  ◌&&◌,
+  List,
+  [],
+  ◌∷◌,
+  length,
+  take,
+  if◌then◌else◌,
+}
 
 -- a byte that goes on with a character, which an earlier byte has begun
 abbrev pub is_continuation : ℕ → Bool

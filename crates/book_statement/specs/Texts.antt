@@ -1,5 +1,20 @@
 -- The text of a statement file: what its bytes say, and its lines.
-use Rattle.std.specs.Prelude.{ℕ, ◌==◌, nat_eq, Bool, ◌&&◌, List, [], ◌∷◌, ◌++◌, length, drop, map, if◌then◌else◌, encode_utf8_all}
+use Rattle.std.specs.Prelude.{
+  ℕ,
+  ◌==◌,
+  nat_eq,
+  Bool,
+  ◌&&◌,
+  List,
+  [],
+  ◌∷◌,
+  ◌++◌,
+  length,
+  drop,
+  map,
+  if◌then◌else◌,
+  encode_utf8_all,
+}
 use Rattle.std.specs.List.{starts_with}
 use Rattle.std.specs.Str.{is_utf8}
 use Rattle.std.specs.Str.Lines.{strip_carriage_return}

@@ -1,7 +1,7 @@
 use crate::{CountOf, Level};
 
-/// What is wrong at a place of a statement file. Amounts are in smallest units: `said` is what the file says, `reckoned`
-/// what its other parts give.
+/// What is wrong at a place of a statement file. Amounts are in smallest units: `said` is what the file says,
+/// `reckoned` what its other parts give.
 #[derive(Clone, Copy, Debug, PartialEq, Eq)]
 pub enum Bad {
     /// The file has no statement.

@@ -3,8 +3,8 @@ ghost use Rattle.std.specs.Prelude.{◌≡◌, IfOk};
 use crate::{LineState, StatementLine};
 use book_commodity::OutOfMemory;
 
-/// A statement's line in the book: the account and the statement that it belongs to, its ordinal among the lines of that
-/// statement that are equal to it, what it says, and what became of it.
+/// A statement's line in the book: the account and the statement that it belongs to, its ordinal among the lines of
+/// that statement that are equal to it, what it says, and what became of it.
 #[derive(Drop)]
 pub struct Line {
     pub account: u64,

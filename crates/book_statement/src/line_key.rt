@@ -1,7 +1,7 @@
 use book_commodity::{Day, Text};
 
-/// By what a line of a statement is known when its file is imported again: its account, what it says without value day,
-/// category and parts, and its ordinal among the lines of its statement that are equal in all this.
+/// By what a line of a statement is known when its file is imported again: its account, what it says without value
+/// day, category and parts, and its ordinal among the lines of its statement that are equal in all this.
 #[derive(Drop)]
 pub struct LineKey {
     pub account: u64,

@@ -10,7 +10,8 @@ is_comma byte = byte == 44
 -- 1 to 12 digits, a comma, and at most 9 digits
 unfoldable pub is_amount : List ℕ → Bool
 is_amount text =
-    is_some (position is_comma text) && has_digits 1 12 (before_first is_comma text) && has_digits 0 9 (after_first is_comma text)
+    is_some (position is_comma text) && has_digits 1 12 (before_first is_comma text)
+    && has_digits 0 9 (after_first is_comma text)
 
 -- a text and what stands before and behind its first comma
 pub record IsParted (text whole decimals : List ℕ) : Type 0 where

@@ -1,5 +1,21 @@
 -- Balances (SWIFT, MT940 fields 60, 62, 64 and 65): the mark C or D, the date YYMMDD, the currency, the amount.
-use Rattle.std.specs.Prelude.{ℕ, ◌==◌, nat_eq, Bool, ◌&&◌, ◌||◌, List, [], ◌∷◌, length, is_some, unwrap_or, ℤ, pos, codes}
+use Rattle.std.specs.Prelude.{
+  ℕ,
+  ◌==◌,
+  nat_eq,
+  Bool,
+  ◌&&◌,
+  ◌||◌,
+  List,
+  [],
+  ◌∷◌,
+  length,
+  is_some,
+  unwrap_or,
+  ℤ,
+  pos,
+  codes,
+}
 use Rattle.std.specs.Char.{is_ascii_uppercase}
 use Rattle.std.specs.List.{list_all}
 use lib.Pointwise.{pointwise}

@@ -12,7 +12,8 @@ use Rattle.mt940_read.specs.Order.{is_line, is_text}
 use Rattle.mt940_read.specs.Tree.{FieldLines}
 
 -- what the last field gives that gives something; `gives` sees the fields before it, its tag and its text
-abbrev pub last_given : {X : Type 0} → (List FieldLines → Tag → List ℕ → Option X) → List FieldLines → List FieldLines → Option X
+abbrev pub last_given : {X : Type 0} → (List FieldLines → Tag → List ℕ → Option X) → List FieldLines
+    → List FieldLines → Option X
 last_given gives before [] = None
 last_given gives before (f ∷ fs) = option_or (last_given gives (before ++ f ∷ []) fs) (gives before f.tag f.first)
 

@@ -1,5 +1,20 @@
 -- The entry date of a line has no year: it is taken from the value date.
-use Rattle.std.specs.Prelude.{ℕ, ◌+◌, ◌-◌, nat_lt, List, take, drop, Option, Some, None, if◌then◌else◌, ℤ, ◌-ℤ◌, unsigned_abs}
+use Rattle.std.specs.Prelude.{
+  ℕ,
+  ◌+◌,
+  ◌-◌,
+  nat_lt,
+  List,
+  take,
+  drop,
+  Option,
+  Some,
+  None,
+  if◌then◌else◌,
+  ℤ,
+  ◌-ℤ◌,
+  unsigned_abs,
+}
 use Rattle.book_statement.specs.Dates.{date, year_of_two}
 use Rattle.book_statement.specs.Numbers.{number}
 

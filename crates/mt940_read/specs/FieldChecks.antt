@@ -1,8 +1,36 @@
 -- The checks of a field, in the order in which they are asked.
-use Rattle.std.specs.Prelude.{ℕ, ◌≡◌, ◌+◌, None, ⊤, nat_lt, Bool, not, ◌||◌, List, [], ◌∷◌, ◌++◌, length, Option, is_some, if◌then◌else◌, ℤ, pos}
+use Rattle.std.specs.Prelude.{
+  ℕ,
+  ◌≡◌,
+  ◌+◌,
+  None,
+  ⊤,
+  nat_lt,
+  Bool,
+  not,
+  ◌||◌,
+  List,
+  [],
+  ◌∷◌,
+  ◌++◌,
+  length,
+  Option,
+  is_some,
+  if◌then◌else◌,
+  ℤ,
+  pos,
+}
 use Rattle.std.specs.Ordering.{int_eq}
 use Rattle.book_commodity.specs.declared.commodity.Commodity.{Commodity}
-use Rattle.book_statement.specs.declared.bad.Bad.TheVariants.{FieldOrder, FieldForm, UnknownCurrency, CurrencyDiffers, PageOrder, BalanceMismatch, TooMany}
+use Rattle.book_statement.specs.declared.bad.Bad.TheVariants.{
+  FieldOrder,
+  FieldForm,
+  UnknownCurrency,
+  CurrencyDiffers,
+  PageOrder,
+  BalanceMismatch,
+  TooMany,
+}
 use Rattle.book_statement.specs.Checks.{Check, check, first_bad}
 use Rattle.book_statement.specs.Currencies.{fraction_of}
 use Rattle.book_statement.specs.Keys.{same_text}
@@ -10,7 +38,18 @@ use Rattle.book_statement.specs.Texts.{is_nothing}
 use Rattle.mt940_read.specs.declared.message.Message.{Message}
 use Rattle.mt940_read.specs.declared.page.Page.{Page}
 use Rattle.mt940_read.specs.declared.tag.Tag.{Tag}
-use Rattle.mt940_read.specs.declared.tag.Tag.TheVariants.{Reference, Related, Account, Number, Opening, Line, Text, Closing, Available, Forward}
+use Rattle.mt940_read.specs.declared.tag.Tag.TheVariants.{
+  Reference,
+  Related,
+  Account,
+  Number,
+  Opening,
+  Line,
+  Text,
+  Closing,
+  Available,
+  Forward,
+}
 use Rattle.mt940_read.specs.Amounts.{amount_checks}
 use Rattle.mt940_read.specs.Balances.{balance, balance_form, balance_amount, balance_currency}
 use Rattle.mt940_read.specs.Entries.{fraction_in}
@@ -30,7 +69,8 @@ unfoldable pub opening_currency_checks : List (ℕ × Commodity) → Option Page
 opening_currency_checks known page statements m goes_on text =
     check (is_some (fraction_of (balance_currency text) known)) UnknownCurrency
     ∷ (amount_checks (fraction_in known (balance_currency text)) (balance_amount text)
-    ++ page_checks page statements m goes_on (balance_currency text) (balance (fraction_in known (balance_currency text)) text))
+    ++ page_checks page statements m goes_on (balance_currency text)
+    (balance (fraction_in known (balance_currency text)) text))
 
 unfoldable pub opening_checks : List (ℕ × Commodity) → Option Page → ℕ → Message → Bool → List ℕ → List Check
 opening_checks known page statements m goes_on text =
@@ -39,8 +79,10 @@ opening_checks known page statements m goes_on text =
 -- 62, 64 and 65: the currency is that of the 60, which was asked there, or else at least one of the book's
 unfoldable pub later_currency_checks : List (ℕ × Commodity) → Message → List ℕ → List Check
 later_currency_checks known m text =
-    check (same_text (balance_currency text) m.currency || is_some (fraction_of (balance_currency text) known)) UnknownCurrency
-    ∷ check (same_text (balance_currency text) m.currency) CurrencyDiffers ∷ amount_checks m.fraction (balance_amount text)
+    check (same_text (balance_currency text) m.currency || is_some (fraction_of (balance_currency text) known))
+    UnknownCurrency
+    ∷ check (same_text (balance_currency text) m.currency) CurrencyDiffers ∷ amount_checks m.fraction
+    (balance_amount text)
 
 unfoldable pub later_checks : List (ℕ × Commodity) → Message → List ℕ → List Check
 later_checks known m text = balance_form text ++ later_currency_checks known m text
@@ -61,7 +103,8 @@ unfoldable pub room_checks : Option Page → ℕ → Message → List Check
 room_checks page last_lines m = check (nat_lt (lines_before page last_lines m) 10_000) TooMany ∷ []
 
 unfoldable pub line_amount_checks : Option Page → ℕ → Message → List ℕ → List Check
-line_amount_checks page last_lines m text = amount_checks m.fraction (amount_part text) ++ room_checks page last_lines m
+line_amount_checks page last_lines m text = amount_checks m.fraction (amount_part text) ++ room_checks page
+    last_lines m
 
 unfoldable pub line_checks : Option Page → ℕ → Message → List ℕ → List Check
 line_checks page last_lines m text = line_form text ++ line_amount_checks page last_lines m text

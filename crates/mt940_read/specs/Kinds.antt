@@ -1,5 +1,24 @@
 -- What the lines of a message are (SWIFT, MT940: fields are a colon, a tag, a colon and a text).
-use Rattle.std.specs.Prelude.{ℕ, ◌-◌, ◌==◌, nat_eq, Bool, true, false, ◌&&◌, ◌||◌, List, take, drop, slice_index, Option, Some, None, if◌then◌else◌, codes}
+use Rattle.std.specs.Prelude.{
+  ℕ,
+  ◌-◌,
+  ◌==◌,
+  nat_eq,
+  Bool,
+  true,
+  false,
+  ◌&&◌,
+  ◌||◌,
+  List,
+  take,
+  drop,
+  slice_index,
+  Option,
+  Some,
+  None,
+  if◌then◌else◌,
+  codes,
+}
 use Rattle.std.specs.Char.{is_ascii_digit, is_ascii_uppercase}
 use Rattle.std.specs.List.{starts_with}
 use lib.Pointwise.{pointwise}

@@ -1,5 +1,32 @@
--- A line of a statement (SWIFT, MT940 field 61): value date, [entry date], mark, [funds code], amount, type, references.
-use Rattle.std.specs.Prelude.{ℕ, ◌+◌, ◌-◌, ◌==◌, nat_eq, Bool, not, Option, Some, None, ◌&&◌, ◌||◌, List, [], ◌∷◌, length, take, drop, slice_index, is_some, unwrap_or, if◌then◌else◌, ℤ, pos, codes}
+-- A line of a statement (SWIFT, MT940 field 61): value date, [entry date], mark, [funds code], amount, type,
+-- references.
+use Rattle.std.specs.Prelude.{
+  ℕ,
+  ◌+◌,
+  ◌-◌,
+  ◌==◌,
+  nat_eq,
+  Bool,
+  not,
+  Option,
+  Some,
+  None,
+  ◌&&◌,
+  ◌||◌,
+  List,
+  [],
+  ◌∷◌,
+  length,
+  take,
+  drop,
+  slice_index,
+  is_some,
+  unwrap_or,
+  if◌then◌else◌,
+  ℤ,
+  pos,
+  codes,
+}
 use Rattle.std.specs.Char.{is_ascii_digit, is_ascii_uppercase}
 use Rattle.std.specs.List.{list_all, prefix_len, starts_with}
 use lib.Pointwise.{pointwise}
@@ -104,7 +131,8 @@ has_entry_date text =
 -- the day and the value day of a line, where neither date is broken
 unfoldable pub line_days : List ℕ → Option (ℤ × ℤ)
 line_days text =
-    if is_some (short_date (value_part text)) && has_entry_date text then Some (line_day text, value_day text) else None
+    if is_some (short_date (value_part text))
+    && has_entry_date text then Some (line_day text, value_day text) else None
 
 -- the form of a line
 unfoldable pub line_form : List ℕ → List Check

@@ -2,7 +2,18 @@
 -- any number of 65, [86].
 use Rattle.std.specs.Prelude.{Bool, true, false, ◌||◌, not, ◌&&◌, Option, Some, None}
 use Rattle.mt940_read.specs.declared.tag.Tag.{Tag}
-use Rattle.mt940_read.specs.declared.tag.Tag.TheVariants.{Reference, Related, Account, Number, Opening, Line, Text, Closing, Available, Forward}
+use Rattle.mt940_read.specs.declared.tag.Tag.TheVariants.{
+  Reference,
+  Related,
+  Account,
+  Number,
+  Opening,
+  Line,
+  Text,
+  Closing,
+  Available,
+  Forward,
+}
 
 abbrev pub is_account : Tag → Bool
 is_account Account = true

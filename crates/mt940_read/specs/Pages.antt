@@ -1,5 +1,24 @@
 -- Pages: messages that follow each other in the file and are one statement (SWIFT, MT940: 60M and 62M).
-use Rattle.std.specs.Prelude.{ℕ, Bool, true, false, ◌&&◌, ◌||◌, List, [], ◌∷◌, ◌++◌, length, Option, Some, None, unwrap_or, if◌then◌else◌, ℤ, pos}
+use Rattle.std.specs.Prelude.{
+  ℕ,
+  Bool,
+  true,
+  false,
+  ◌&&◌,
+  ◌||◌,
+  List,
+  [],
+  ◌∷◌,
+  ◌++◌,
+  length,
+  Option,
+  Some,
+  None,
+  unwrap_or,
+  if◌then◌else◌,
+  ℤ,
+  pos,
+}
 use Rattle.std.specs.Ordering.{int_eq}
 use Rattle.book_commodity.specs.declared.commodity.Commodity.{Commodity}
 use Rattle.book_statement.specs.declared.statement.Statement.{Statement}
@@ -13,7 +32,13 @@ use Rattle.mt940_read.specs.Values.{values}
 
 -- what the next message has to know of one
 abbrev pub page_of : Message → Page
-page_of m = record { account = m.account; currency = m.currency; closing = unwrap_or m.closing (pos 0); closes_page = m.closes_page }
+page_of m = record {
+  account = m.account;
+  currency = m.currency;
+  closing = unwrap_or m.closing (pos 0);
+  closes_page =
+      m.closes_page;
+}
 
 -- a message belongs to the statement of the message before: they have one account, and the first closes or the second
 -- opens a page in the middle of a statement
@@ -59,19 +84,22 @@ with_page m statement = record statement {
 
 -- a statement with another closing balance and day, and more lines
 abbrev pub with_end : Option ℤ → ℤ → List StatementLine → Statement → Statement
-with_end closing day lines statement = record statement { closing = closing; day = day; lines = statement.lines ++ lines }
+with_end closing day lines statement = record statement
+    { closing = closing; day = day; lines = statement.lines ++ lines }
 
 -- a page behind a statement
 abbrev pub with_last_page : Statement → Message → Statement
 with_last_page statement m = with_end m.closing m.day m.lines statement
 
 abbrev pub joins : List (ℕ × Commodity) → MessageLines → MessageLines → Bool
-joins known m n = joins_page (Some (page_of (values known m.fields))) (values known n.fields).account (values known n.fields).opens_page
+joins known m n = joins_page (Some (page_of (values known m.fields))) (values known n.fields).account
+    (values known n.fields).opens_page
 
 -- the statements of a file: messages that belong together are one
 abbrev pub statements_of : List (ℕ × Commodity) → List MessageLines → List Statement
 statements_of known messages =
-    grouped (joins known) (λ m. statement_alone (values known m.fields)) (λ m s. with_page (values known m.fields) s) messages
+    grouped (joins known) (λ m. statement_alone (values known m.fields)) (λ m s. with_page (values known m.fields) s)
+    messages
 
 -- how many lines the last statement has
 abbrev pub last_lines : List Statement → ℕ
@@ -95,4 +123,5 @@ past_of known before = record {
 -- the statements with one message more
 abbrev pub with_message : Option Page → Message → List Statement → List Statement
 with_message page m done =
-    if joins_page page m.account m.opens_page then on_last (λ s. with_last_page s m) done else done ++ statement_alone m ∷ []
+    if joins_page page m.account m.opens_page then on_last (λ s. with_last_page s m) done else done ++
+    statement_alone m ∷ []

@@ -1,6 +1,27 @@
--- What a reader keeps of the lines that it has read, and how a line changes it: laws of the definition in Reading, which
--- speaks of the whole file.
-use Rattle.std.specs.Prelude.{ℕ, ◌+◌, ◌≡◌, Bool, false, ◌&&◌, ◌||◌, List, [], ◌∷◌, length, Option, Some, None, is_some, Result, Ok, Err, if◌then◌else◌, ⊤}
+-- What a reader keeps of the lines that it has read, and how a line changes it: laws of the definition in Reading,
+-- which speaks of the whole file.
+use Rattle.std.specs.Prelude.{
+  ℕ,
+  ◌+◌,
+  ◌≡◌,
+  Bool,
+  false,
+  ◌&&◌,
+  ◌||◌,
+  List,
+  [],
+  ◌∷◌,
+  length,
+  Option,
+  Some,
+  None,
+  is_some,
+  Result,
+  Ok,
+  Err,
+  if◌then◌else◌,
+  ⊤,
+}
 use Rattle.book_commodity.specs.declared.commodity.Commodity.{Commodity}
 use Rattle.book_statement.specs.declared.bad.Bad.TheVariants.{CutOff, NoStatement}
 use Rattle.book_statement.specs.declared.fault.StatementFault.{StatementFault}

@@ -46,7 +46,8 @@ in_front n line (Field tag) part = record {
 }
 in_front n line Passed part = record { loose = []; fields = part.fields; last = part.last; messages = part.messages }
 in_front n line Ends part = record { loose = []; fields = []; last = n; messages = part.messages }
-in_front n line More part = record { loose = line ∷ part.loose; fields = part.fields; last = part.last; messages = part.messages }
+in_front n line More part = record
+    { loose = line ∷ part.loose; fields = part.fields; last = part.last; messages = part.messages }
 
 -- the lines from one on, behind n lines of the file
 abbrev pub part_after : ℕ → List (List ℕ) → Part

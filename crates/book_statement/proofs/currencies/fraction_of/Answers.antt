@@ -6,14 +6,17 @@ use Rattle.book_statement.proofs.currencies.fraction_of.Goals as goal
 
 pub returns-then-is_some : goal.returns-then-is_some
 returns-then-is_some c =
-    fraction_of-found c.args.code.now c.args.known.now.entries c.loop-place.place c.fraction_if-found.result c.fraction_if-found.ensures (search rules)
+    fraction_of-found c.args.code.now c.args.known.now.entries c.loop-place.place c.fraction_if-found.result
+    c.fraction_if-found.ensures (search rules)
     ∙ c.loop-place.invariant
 
 pub loop-place-preserved : goal.loop-place-preserved
 loop-place-preserved c =
-    sym (fraction_of-other c.args.code.now c.args.known.now.entries c.loop-place.place c.fraction_if-found.result c.fraction_if-found.ensures (search rules))
+    sym (fraction_of-other c.args.code.now c.args.known.now.entries c.loop-place.place c.fraction_if-found.result
+    c.fraction_if-found.ensures (search rules))
     ∙ c.loop-place.invariant
 
 pub returns : goal.returns
 unfolding fraction_of
-returns c = sym (ap (fraction_of c.args.code.now) (drop_all c.loop-place.place c.args.known.now.entries (omega arith))) ∙ c.loop-place.invariant
+returns c = sym (ap (fraction_of c.args.code.now)
+    (drop_all c.loop-place.place c.args.known.now.entries (omega arith))) ∙ c.loop-place.invariant

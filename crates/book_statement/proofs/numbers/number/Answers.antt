@@ -15,12 +15,15 @@ overflow_add-number c =
 pub loop-digit-preserved : goal.loop-digit-preserved
 loop-digit-preserved c =
     let d = digit_at c.args.digits.now c.loop-digit.digit-index c.requires.digits (omega arith) in (
-      sym (number_onto-digit c.loop-digit.number c.args.digits.now c.loop-digit.digit-index (omega arith)) ∙ c.loop-digit.invariant.0,
-      power_more c.loop-digit.number (get_or c.args.digits.now c.loop-digit.digit-index 0 - 48) c.loop-digit.digit-index c.loop-digit.invariant.1 (omega arith),
+      sym (number_onto-digit c.loop-digit.number c.args.digits.now c.loop-digit.digit-index (omega arith))
+          ∙ c.loop-digit.invariant.0,
+      power_more c.loop-digit.number (get_or c.args.digits.now c.loop-digit.digit-index 0 - 48)
+          c.loop-digit.digit-index c.loop-digit.invariant.1 (omega arith),
     )
 
 pub returns-clause-value : goal.returns-clause-value
 unfolding number_onto
 returns-clause-value c =
-    sym (ap (λ l. number_onto c.loop-digit.number l) (drop_all c.loop-digit.digit-index c.args.digits.now (omega arith)))
+    sym (ap (λ l. number_onto c.loop-digit.number l)
+    (drop_all c.loop-digit.digit-index c.args.digits.now (omega arith)))
     ∙ c.loop-digit.invariant.0

@@ -11,4 +11,5 @@ returns-in_ok-from_str-in-Ok c =
 
 pub returns-in_ok-characters-in-Err : goal.returns-in_ok-characters-in-Err
 returns-in_ok-characters-in-Err c =
-    c.of-in-Err.ensures ∙ c.in_ok-characters-in-Err.ensures ∙ sym (text_of_others c.args.bytes.now c.in-Err.ensures.cases.0)
+    c.of-in-Err.ensures ∙ c.in_ok-characters-in-Err.ensures
+    ∙ sym (text_of_others c.args.bytes.now c.in-Err.ensures.cases.0)

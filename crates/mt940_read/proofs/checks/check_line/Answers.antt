@@ -9,4 +9,5 @@ returns-in-Err c = first_bad-here (line_form c.args.text.now) _ c.in-Err.bad c.i
 
 pub returns-in-Ok : goal.returns-in-Ok
 unfolding line_checks
-returns-in-Ok c = tells-past (line_form c.args.text.now) _ _ c.check_line_amount.result c.in-Ok.ensures.0 c.check_line_amount.ensures
+returns-in-Ok c = tells-past (line_form c.args.text.now) _ _ c.check_line_amount.result c.in-Ok.ensures.0
+    c.check_line_amount.ensures

@@ -9,4 +9,5 @@ returns-in-Err c = first_bad-here (balance_form c.args.text.now) _ c.in-Err.bad 
 
 pub returns-in-Ok : goal.returns-in-Ok
 unfolding opening_checks
-returns-in-Ok c = tells-past (balance_form c.args.text.now) _ _ c.check_opening_currency.result c.in-Ok.ensures.0 c.check_opening_currency.ensures
+returns-in-Ok c = tells-past (balance_form c.args.text.now) _ _ c.check_opening_currency.result c.in-Ok.ensures.0
+    c.check_opening_currency.ensures
