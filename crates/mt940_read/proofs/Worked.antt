@@ -48,7 +48,6 @@ use Rattle.mt940_read.specs.LineField.{
   line,
 }
 use Rattle.mt940_read.specs.Reading.{result_of}
-use Rattle.mt940_read.specs.Totals.{total_of}
 use Rattle.mt940_read.specs.Tree.{messages_of}
 use Rattle.mt940_read.specs.Values.{number_part}
 

@@ -1,9 +1,9 @@
-use Rattle.std.proofs.Common.{◌≡◌, ℕ, ◌≤◌, length, take, count_by, unwrap_or, ap, sym, ◌∙◌, arith, refl}
+use Rattle.std.proofs.Common.{take, unwrap_or, ap, ◌∙◌, arith, refl}
 use Rattle.std.proofs.lemmas.List.{take_all, length-take}
 use Rattle.std.proofs.lemmas.List.Sums.{count_by-le-length}
-use Rattle.std.specs.BTreeMap.{get, is_at}
+use Rattle.std.specs.BTreeMap.{is_at}
 use Rattle.std.specs.Map.{lookup}
-use Rattle.book_statement.specs.Keys.{is_twin, keys_of}
+use Rattle.book_statement.specs.Keys.{keys_of}
 use Rattle.book_statement.proofs.KeyLemmas.{keys_of-next}
 use Rattle.book_statement.proofs.TwinLemmas.{has_twin, IsTwinOf, count-own, twins-next, twin_cmp}
 use Rattle.book_statement.proofs.keys.keys_of.Goals as goal
