@@ -1,6 +1,24 @@
 -- Laws of checks and of the first place at which one fails.
-use Rattle.std.proofs.Common.{◌≡◌, ℕ, Bool, true, false, List, [], ◌∷◌, ◌++◌, Option, Some, None, Result, Ok, Err, refl}
-use Rattle.std.proofs.Common.{sym, ap, ◌∙◌}
+use Rattle.std.proofs.Common.{
+  ◌≡◌,
+  ℕ,
+  Bool,
+  true,
+  false,
+  List,
+  [],
+  ◌∷◌,
+  ◌++◌,
+  Option,
+  Some,
+  None,
+  Result,
+  Ok,
+  Err,
+  refl,
+  ap,
+  ◌∙◌,
+}
 use Rattle.std.specs.Option.{option_or}
 use Rattle.std.specs.Prelude.{if◌then◌else◌}
 use Rattle.book_statement.specs.declared.bad.Bad.{Bad}
@@ -23,9 +41,8 @@ first_bad-past cs ds e = first_bad-append cs ds ∙ ap (λ o. option_or o (first
 pub first_bad-here : (cs ds : List Check) (bad : Bad) → first_bad cs ≡ Some bad → first_bad (cs ++ ds) ≡ Some bad
 first_bad-here cs ds bad e = first_bad-append cs ds ∙ ap (λ o. option_or o (first_bad ds)) e
 
-fault_at-or :
-    (line : ℕ) (found : Option Bad) (f g : Option StatementFault) → fault_at line found (option_or f g) ≡ option_or
-    (fault_at line found f) g
+fault_at-or : (line : ℕ) (found : Option Bad) (f g : Option StatementFault)
+    → fault_at line found (option_or f g) ≡ option_or (fault_at line found f) g
 fault_at-or line (Some bad) f g = refl
 fault_at-or line None f g = refl
 
@@ -41,39 +58,35 @@ pub first_fault-past : (ps qs : List Place) → first_fault ps ≡ None → firs
 first_fault-past ps qs e = first_fault-append ps qs ∙ ap (λ o. option_or o (first_fault qs)) e
 
 -- a fault stays the first one, whatever places stand behind
-pub first_fault-here :
-    (ps qs : List Place) (fault : StatementFault) → first_fault ps ≡ Some fault → first_fault (ps ++ qs) ≡ Some fault
+pub first_fault-here : (ps qs : List Place) (fault : StatementFault) → first_fault ps ≡ Some fault
+    → first_fault (ps ++ qs) ≡ Some fault
 first_fault-here ps qs fault e = first_fault-append ps qs ∙ ap (λ o. option_or o (first_fault qs)) e
 
 -- behind places where all holds, a place at which a check fails is the fault, whatever places stand behind
-pub fault_there :
-    (ps : List Place) (p : Place) (qs : List Place) (bad : Bad) → first_fault ps ≡ None → first_bad p.checks ≡ Some bad
+pub fault_there : (ps : List Place) (p : Place) (qs : List Place) (bad : Bad) → first_fault ps ≡ None
+    → first_bad p.checks ≡ Some bad
     → first_fault (ps ++ p ∷ qs) ≡ Some (record { line = p.line; bad = bad })
 fault_there ps p qs bad e fails = first_fault-past ps (p ∷ qs) e ∙ ap (λ o. fault_at p.line o (first_fault qs)) fails
 
 -- one more place where all holds
-pub sound_more :
-    (ps : List Place) (p : Place) → first_fault ps ≡ None → first_bad p.checks ≡ None
+pub sound_more : (ps : List Place) (p : Place) → first_fault ps ≡ None → first_bad p.checks ≡ None
     → first_fault (ps ++ p ∷ []) ≡ None
 sound_more ps p e holds = first_fault-past ps (p ∷ []) e ∙ ap (λ o. fault_at p.line o None) holds
 
 -- what a call answers of later checks it answers of all, behind checks that hold
-pub reports-past :
-    {X : Type 0} (cs ds : List Check) (value : X) (result : Result X Bad) → first_bad cs ≡ None
+pub tells-past : {X : Type 0} (cs ds : List Check) (value : X) (result : Result X Bad) → first_bad cs ≡ None
     → Tells ds value result → Tells (cs ++ ds) value result
-reports-past cs ds value (Ok given) e h = (first_bad-past cs ds e ∙ h.0, h.1)
-reports-past cs ds value (Err bad) e h = first_bad-past cs ds e ∙ h
+tells-past cs ds value (Ok given) e h = (first_bad-past cs ds e ∙ h.0, h.1)
+tells-past cs ds value (Err bad) e h = first_bad-past cs ds e ∙ h
 
 -- one check that holds, in front
-pub tells-held :
-    {X : Type 0} (holds : Bool) (bad : Bad) (ds : List Check) (value : X) (result : Result X Bad) → holds ≡ true
-    → Tells ds value result → Tells (check holds bad ∷ ds) value result
+pub tells-held : {X : Type 0} (holds : Bool) (bad : Bad) (ds : List Check) (value : X) (result : Result X Bad)
+    → holds ≡ true → Tells ds value result → Tells (check holds bad ∷ ds) value result
 tells-held true bad ds value result e h = h
 tells-held false bad ds value result e h = absurd cc
 
 -- one check that fails, in front
-pub tells-failed :
-    {X : Type 0} (holds : Bool) (bad : Bad) (ds : List Check) (value : X) → holds ≡ false
+pub tells-failed : {X : Type 0} (holds : Bool) (bad : Bad) (ds : List Check) (value : X) → holds ≡ false
     → Tells (check holds bad ∷ ds) value (Err bad)
 tells-failed true bad ds value e = absurd cc
 tells-failed false bad ds value e = refl

@@ -1,6 +1,27 @@
 -- A date is one of the calendar exactly where its test passes.
-use Rattle.std.proofs.Common.{◌≡◌, ℕ, ◌≤◌, Bool, true, false, List, take, drop, Option, Some, None, IsSome, refl, sym}
-use Rattle.std.proofs.Common.{ap, subst, ◌∙◌, arith, ℤ, pos, ◌↔◌}
+use Rattle.std.proofs.Common.{
+  ◌≡◌,
+  ℕ,
+  ◌≤◌,
+  true,
+  false,
+  List,
+  take,
+  drop,
+  Option,
+  Some,
+  None,
+  IsSome,
+  refl,
+  sym,
+  ap,
+  subst,
+  ◌∙◌,
+  arith,
+  ℤ,
+  pos,
+  ◌↔◌,
+}
 use Rattle.std.specs.Prelude.{IfSome, nat_le}
 use Rattle.std.proofs.lemmas.Bool.{and_parts, leb-true, le-leb, and_from, cond-true, cond-false, false_from_ne_true}
 use Rattle.std.proofs.lemmas.Int.{ints}
@@ -47,8 +68,8 @@ date_at_year year month day (Some d) some is =
     ap Some is ∙ sym (cond-true (is_date year month day) _ None (test_from_book_date year month day (some.0 refl)))
 
 -- what `Day::of_parts` answers is the day of the date
-pub date_from_parts :
-    (year month day : ℕ) (z : ℤ) (found : Option ℤ) → z ≡ pos year → (IsSome found ↔ IsBookDate z month day)
+pub date_from_parts : (year month day : ℕ) (z : ℤ) (found : Option ℤ) → z ≡ pos year
+    → (IsSome found ↔ IsBookDate z month day)
     → IfSome found (λ d. d ≡ days_from_civil z month day) → found ≡ date year month day
 date_from_parts year month day z found e some is =
     date_at_year year month day found
@@ -56,9 +77,8 @@ date_from_parts year month day z found e some is =
     (subst (λ y. IfSome found (λ d. d ≡ days_from_civil y month day)) e is)
 
 -- the day of six digits by the numbers that they spell
-pub short_date-parts :
-    (text : List ℕ) (yy year month day : ℕ) → has_digits 6 6 text ≡ true → yy ≡ number (take 2 text)
-    → year ≡ year_of_two yy
+pub short_date-parts : (text : List ℕ) (yy year month day : ℕ) → has_digits 6 6 text ≡ true
+    → yy ≡ number (take 2 text) → year ≡ year_of_two yy
     → month ≡ number (take 2 (drop 2 text)) → day ≡ number (take 2 (drop 4 text))
     → date year month day ≡ short_date text
 unfolding short_date

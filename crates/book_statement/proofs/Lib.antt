@@ -6,3 +6,4 @@ pub mod ListLemmas
 pub mod NumberLemmas
 pub mod PieceLemmas
 pub mod TextLemmas
+pub mod TwinLemmas

@@ -1,6 +1,31 @@
 -- Laws of what items give with those before them, and of neighbours that belong together.
-use Rattle.std.proofs.Common.{◌≡◌, ℕ, zero, suc, ◌+◌, drop, Option, Some, None, option_map, slice_get, add-one, Bool}
-use Rattle.std.proofs.Common.{true, false, cond, List, [], ◌∷◌, ◌++◌, refl, sym, ap, ◌∙◌, append_assoc}
+use Rattle.std.proofs.Common.{
+  ◌≡◌,
+  ℕ,
+  zero,
+  suc,
+  ◌+◌,
+  drop,
+  Option,
+  Some,
+  None,
+  option_map,
+  slice_get,
+  add-one,
+  Bool,
+  true,
+  false,
+  cond,
+  List,
+  [],
+  ◌∷◌,
+  ◌++◌,
+  refl,
+  sym,
+  ap,
+  ◌∙◌,
+  append_assoc,
+}
 use Rattle.std.proofs.lemmas.List.{append-nil}
 use Rattle.book_statement.specs.Lists.{each_after, in_front, grouped, on_last}
 
@@ -57,7 +82,8 @@ module _ {X Y : Type 0} (alone : X → Y) (onto : X → Y → Y) (grow : Y → X
   abbrev pushed : Bool → X → List Y → List Y
   pushed t y groups = cond t (on_last (λ group. grow group y) groups) (groups ++ alone y ∷ [])
 
-  in_front-pushed : (t u : Bool) (x y : X) (groups : List Y) → ((first : Y) × (more : List Y) × (groups ≡ first ∷ more))
+  in_front-pushed : (t u : Bool) (x y : X) (groups : List Y)
+      → ((first : Y) × (more : List Y) × (groups ≡ first ∷ more))
       → in_front onto alone t x (pushed u y groups) ≡ pushed u y (in_front onto alone t x groups)
   in_front-pushed t true x y [] some = absurd cc
   in_front-pushed t false x y [] some = absurd cc
@@ -87,7 +113,7 @@ drop_at xs i x e = from_suc xs i x e ∙ ap (λ (k : ℕ). x ∷ drop k xs) (sym
     from_suc (y ∷ xs) (suc i) x e = from_suc xs i x e
 
 -- the item of which a function gives a value
-pub mapped_some :
-    {X Y : Type 0} (f : X → Y) (o : Option X) (y : Y) → option_map f o ≡ Some y → (x : X) × (o ≡ Some x) × (f x ≡ y)
+pub mapped_some : {X Y : Type 0} (f : X → Y) (o : Option X) (y : Y) → option_map f o ≡ Some y → (x : X)
+    × (o ≡ Some x) × (f x ≡ y)
 mapped_some f None y e = absurd cc
 mapped_some f (Some x) y e = (x, refl, cc)

@@ -1,7 +1,36 @@
 -- Laws of the numbers that digits spell.
-use Rattle.std.proofs.Common.{◌≡◌, ℕ, zero, suc, ◌+◌, ◌-◌, ◌*◌, ◌/◌, ◌%◌, ◌^◌, ◌<◌, ◌≤◌, Bool, true, false, List, []}
-use Rattle.std.proofs.Common.{◌∷◌, ◌++◌, length, take, drop, get_or, Some, None, refl, sym, ap, ◌∙◌, arith, rules}
-use Rattle.std.proofs.Common.{add-one}
+use Rattle.std.proofs.Common.{
+  ◌≡◌,
+  ℕ,
+  zero,
+  suc,
+  ◌+◌,
+  ◌-◌,
+  ◌*◌,
+  ◌/◌,
+  ◌%◌,
+  ◌^◌,
+  ◌<◌,
+  ◌≤◌,
+  Bool,
+  true,
+  List,
+  [],
+  ◌∷◌,
+  ◌++◌,
+  length,
+  take,
+  drop,
+  get_or,
+  Some,
+  None,
+  refl,
+  sym,
+  ap,
+  ◌∙◌,
+  arith,
+  add-one,
+}
 use Rattle.std.specs.Prelude.{nat_le, ◌&&◌, ◌==◌}
 use Rattle.std.proofs.lemmas.List.{at_drop_more}
 use Rattle.std.proofs.Math.Nat.{pow-suc, add-mul, pow-le-pow_right}
@@ -10,8 +39,15 @@ use Rattle.std.specs.List.{list_all}
 use Rattle.std.specs.Char.{is_ascii_digit}
 use Rattle.book_statement.specs.Checks.{Check, check, first_bad}
 use Rattle.book_statement.specs.declared.bad.Bad.TheVariants.{TooManyDecimals, AmountForm}
-use Rattle.book_statement.specs.Numbers.{units, unit_checks, fine_units, largest_amount, number, number_onto}
-use Rattle.book_statement.specs.Numbers.{has_digits}
+use Rattle.book_statement.specs.Numbers.{
+  units,
+  unit_checks,
+  fine_units,
+  largest_amount,
+  number,
+  number_onto,
+  has_digits,
+}
 
 shifted : (n d p q r : ℕ) → q ≡ p * 10 → (n * 10 + d) * p + r ≡ n * q + ((0 * 10 + d) * p + r)
 shifted n d p q r e = rw (e, add-mul) (omega arith)
@@ -38,24 +74,23 @@ number-append xs ys = number_onto-append 0 xs ys ∙ number_onto-split (number x
 pub digit_range : (d : ℕ) → is_ascii_digit d ≡ true → (48 ≤ d) × (d ≤ 57)
 digit_range d e = let p = and_parts (nat_le 48 d) (nat_le d 57) e in (leb-true 48 d p.0, leb-true d 57 p.1)
 
-pub digit_at :
-    (ds : List ℕ) (i : ℕ) → list_all is_ascii_digit ds ≡ true → i < length ds → (48 ≤ get_or ds i 0)
+pub digit_at : (ds : List ℕ) (i : ℕ) → list_all is_ascii_digit ds ≡ true → i < length ds → (48 ≤ get_or ds i 0)
     × (get_or ds i 0 ≤ 57)
 digit_at [] i e h = absurd (omega arith)
 digit_at (d ∷ ds) zero e h = digit_range d (and_parts (is_ascii_digit d) (list_all is_ascii_digit ds) e).0
-digit_at (d ∷ ds) (suc i) e h =
-    digit_at ds i (and_parts (is_ascii_digit d) (list_all is_ascii_digit ds) e).1 (omega arith)
+digit_at (d ∷ ds) (suc i) e h = digit_at ds i (and_parts (is_ascii_digit d) (list_all is_ascii_digit ds) e).1
+    (omega arith)
 
 -- parts of a list of which each item passes
-pub list_all-take :
-    {X : Type 0} (p : X → Bool) (n : ℕ) (xs : List X) → list_all p xs ≡ true → list_all p (take n xs) ≡ true
+pub list_all-take : {X : Type 0} (p : X → Bool) (n : ℕ) (xs : List X) → list_all p xs ≡ true
+    → list_all p (take n xs) ≡ true
 list_all-take p zero xs e = refl
 list_all-take p (suc n) [] e = refl
-list_all-take p (suc n) (x ∷ xs) e =
-    let both = and_parts (p x) (list_all p xs) e in and_from (p x) _ both.0 (list_all-take p n xs both.1)
+list_all-take p (suc n) (x ∷ xs) e = let both = and_parts (p x) (list_all p xs) e in and_from (p x) _ both.0
+    (list_all-take p n xs both.1)
 
-pub list_all-drop :
-    {X : Type 0} (p : X → Bool) (n : ℕ) (xs : List X) → list_all p xs ≡ true → list_all p (drop n xs) ≡ true
+pub list_all-drop : {X : Type 0} (p : X → Bool) (n : ℕ) (xs : List X) → list_all p xs ≡ true
+    → list_all p (drop n xs) ≡ true
 list_all-drop p zero xs e = e
 list_all-drop p (suc n) [] e = refl
 list_all-drop p (suc n) (x ∷ xs) e = list_all-drop p n xs (and_parts (p x) (list_all p xs) e).1
@@ -83,8 +118,8 @@ unfolding number_onto
 number_onto-digit n ds i h = at_drop_more (λ l. number_onto n l) ds i 0 h
 
 pub power_more : (n d i : ℕ) → n < 10 ^ i → d ≤ 9 → n * 10 + d < 10 ^ (i + 1)
-power_more n d i h k =
-    let up : 10 ^ (i + 1) ≡ 10 ^ i * 10 = ap (λ m. 10 ^ m) (add-one i) ∙ pow-suc 10 i in omega (arith, up)
+power_more n d i h k = let up : 10 ^ (i + 1) ≡ 10 ^ i * 10 = ap (λ m. 10 ^ m) (add-one i)
+    ∙ pow-suc 10 i in omega (arith, up)
 
 -- the checks of an amount, by its fine units and their scale
 abbrev pub checks_by : ℕ → ℕ → List Check
@@ -98,8 +133,7 @@ pub record IsDecimal (whole decimals : List ℕ) (fraction before behind scale f
   pub back : behind ≡ number decimals
   pub all : fine ≡ (before * scale + behind) * fraction
 
-pub fine_units-by :
-    (whole decimals : List ℕ) (fraction before behind scale fine : ℕ)
+pub fine_units-by : (whole decimals : List ℕ) (fraction before behind scale fine : ℕ)
     → IsDecimal whole decimals fraction before behind scale fine
     → fine_units whole decimals fraction ≡ fine
 fine_units-by whole decimals fraction before behind scale fine is =
@@ -108,8 +142,7 @@ fine_units-by whole decimals fraction before behind scale fine is =
     ∙ ap (λ n. (number whole * scale + n) * fraction) is.back
     ∙ ap (λ n. (number whole * n + number decimals) * fraction) is.scaled)
 
-pub unit_checks-by :
-    (whole decimals : List ℕ) (fraction before behind scale fine : ℕ)
+pub unit_checks-by : (whole decimals : List ℕ) (fraction before behind scale fine : ℕ)
     → IsDecimal whole decimals fraction before behind scale fine
     → unit_checks whole decimals fraction ≡ checks_by fine scale
 unfolding unit_checks units
@@ -117,8 +150,7 @@ unit_checks-by whole decimals fraction before behind scale fine is =
     ap (λ n. checks_by n (10 ^ length decimals)) (fine_units-by whole decimals fraction before behind scale fine is)
     ∙ ap (checks_by fine) (sym is.scaled)
 
-pub units-by :
-    (whole decimals : List ℕ) (fraction before behind scale fine : ℕ)
+pub units-by : (whole decimals : List ℕ) (fraction before behind scale fine : ℕ)
     → IsDecimal whole decimals fraction before behind scale fine
     → units whole decimals fraction ≡ fine / scale
 unfolding units
@@ -129,11 +161,10 @@ units-by whole decimals fraction before behind scale fine is =
 pub too_fine : (fine scale : ℕ) → (fine % scale ≡ 0 → ⊥) → first_bad (checks_by fine scale) ≡ Some TooManyDecimals
 too_fine fine scale h = rw (ne_eqb (fine % scale) 0 h) refl
 
-pub too_large :
-    (fine scale : ℕ) → fine % scale ≡ 0 → largest_amount < fine / scale
+pub too_large : (fine scale : ℕ) → fine % scale ≡ 0 → largest_amount < fine / scale
     → first_bad (checks_by fine scale) ≡ Some AmountForm
 too_large fine scale whole h = rw (eq-eqb (fine % scale) 0 whole, lt-leb (fine / scale) largest_amount h) refl
 
-pub sound_units :
-    (fine scale : ℕ) → fine % scale ≡ 0 → fine / scale ≤ largest_amount → first_bad (checks_by fine scale) ≡ None
+pub sound_units : (fine scale : ℕ) → fine % scale ≡ 0 → fine / scale ≤ largest_amount
+    → first_bad (checks_by fine scale) ≡ None
 sound_units fine scale whole h = rw (eq-eqb (fine % scale) 0 whole, le-leb (fine / scale) largest_amount h) refl

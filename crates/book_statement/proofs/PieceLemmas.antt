@@ -1,5 +1,5 @@
 -- How long the rest of a text is behind some characters.
-use Rattle.std.proofs.Common.{ℕ, zero, suc, ◌≤◌, List, [], ◌∷◌, length, Bool, true, false, cond, arith}
+use Rattle.std.proofs.Common.{ℕ, zero, suc, ◌≤◌, List, [], ◌∷◌, length, true, false, cond, arith}
 use Rattle.book_statement.specs.Pieces.{after_chars, past_continuations, is_continuation}
 
 past_continuations_le : (text : List ℕ) → length (past_continuations text) ≤ length text

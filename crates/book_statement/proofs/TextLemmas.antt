@@ -1,7 +1,42 @@
 -- The first line of a text, and the spaces at a line's end.
-use Rattle.std.proofs.Common.{◌≡◌, inl, inr, get_or, Option, Some, None, position, encode_utf8, encode_utf8_all}
-use Rattle.std.proofs.Common.{add-one, ℕ, zero, suc, ◌+◌, ◌-◌, ◌<◌, ◌≤◌, Bool, true, false, List, [], ◌∷◌, ◌++◌, length}
-use Rattle.std.proofs.Common.{take, drop, eqb, cond, not, append_assoc, refl, sym, ap, subst, ◌∙◌, arith}
+use Rattle.std.proofs.Common.{
+  ◌≡◌,
+  inl,
+  inr,
+  get_or,
+  Some,
+  None,
+  position,
+  encode_utf8,
+  encode_utf8_all,
+  add-one,
+  ℕ,
+  zero,
+  suc,
+  ◌+◌,
+  ◌-◌,
+  ◌<◌,
+  ◌≤◌,
+  Bool,
+  true,
+  false,
+  List,
+  [],
+  ◌∷◌,
+  ◌++◌,
+  length,
+  take,
+  drop,
+  cond,
+  not,
+  append_assoc,
+  refl,
+  sym,
+  ap,
+  subst,
+  ◌∙◌,
+  arith,
+}
 use Rattle.std.specs.Prelude.{◌==◌, if◌then◌else◌, nat_eq}
 use lib.Pointwise.{bytes_decides}
 use Rattle.std.specs.List.{position_or_len, starts_with}
@@ -12,16 +47,25 @@ use Rattle.std.proofs.lemmas.List.Quantifiers.{position-Some}
 use Rattle.std.proofs.lemmas.Str.{encodes-append, IsUtf8-from_is_utf8, is_utf8-from_IsUtf8}
 use Rattle.std.specs.Str.{IsUtf8, is_utf8}
 use Rattle.book_statement.specs.Pieces.{after_chars, past_continuations}
-use Rattle.book_statement.specs.Texts.{raw_lines, onto_first, without_spaces, is_nothing, add_piece, joined}
-use Rattle.book_statement.specs.Texts.{byte_order_mark, without_mark, text_of_bytes}
+use Rattle.book_statement.specs.Texts.{
+  raw_lines,
+  onto_first,
+  without_spaces,
+  is_nothing,
+  add_piece,
+  joined,
+  byte_order_mark,
+  without_mark,
+  text_of_bytes,
+}
 
 abbrev pub is_line_feed : ℕ → Bool
 is_line_feed b = b == 10
 
 -- the first line ends at the first line feed
 pub raw_lines-at : (text : List ℕ) → position_or_len is_line_feed text < length text
-    → raw_lines text ≡ take (position_or_len is_line_feed text) text
-    ∷ raw_lines (drop (suc (position_or_len is_line_feed text)) text)
+    → raw_lines text ≡ take (position_or_len is_line_feed text) text ∷ raw_lines
+    (drop (suc (position_or_len is_line_feed text)) text)
 raw_lines-at [] h = absurd (omega arith)
 raw_lines-at (b ∷ bs) h =
     let q : ℕ = position_or_len is_line_feed bs in
@@ -35,8 +79,8 @@ raw_lines-at (b ∷ bs) h =
     ] h
 
 -- a text with no line feed is a line
-pub raw_lines-alone :
-    (text : List ℕ) → 0 < length text → length text ≤ position_or_len is_line_feed text → raw_lines text ≡ text ∷ []
+pub raw_lines-alone : (text : List ℕ) → 0 < length text → length text ≤ position_or_len is_line_feed text
+    → raw_lines text ≡ text ∷ []
 raw_lines-alone [] some all = absurd (omega arith)
 raw_lines-alone (b ∷ []) some all =
     elim (b == 10) as (λ t. 1 ≤ cond (not t) (1 + 0) 0 → (if t then [] ∷ [] else (b ∷ []) ∷ []) ≡ (b ∷ []) ∷ [])
@@ -46,8 +90,8 @@ raw_lines-alone (b ∷ c ∷ bs) some all =
     elim (b == 10) as (λ t. suc (length (c ∷ bs)) ≤ cond (not t) (1 + q) 0
     → (if t then [] ∷ raw_lines (c ∷ bs) else onto_first b (raw_lines (c ∷ bs))) ≡ (b ∷ c ∷ bs) ∷ []) [
       | true ↦ λ k. absurd (omega arith)
-      | false ↦
-          λ k. ap (onto_first b) (raw_lines-alone (c ∷ bs) (omega arith) (omega arith))
+      | false ↦ λ k. ap (onto_first b)
+          (raw_lines-alone (c ∷ bs) (omega arith) (omega arith))
     ] all
 
 -- spaces at the end fall away
@@ -79,8 +123,8 @@ pub ends_here : (line : List ℕ) (end : ℕ) → end ≤ length line → (0 < e
 ends_here line zero within stop = refl
 ends_here line (suc n) within stop =
     let here : suc n - 1 ≡ n = omega arith in
-    let other : get_or line n 0 == 32 ≡ false =
-    ne_eqb (get_or line n 0) 32 (λ e. stop (omega arith) (ap (λ k. get_or line k 0) here ∙ e)) in
+    let other : get_or line n 0 == 32 ≡ false = ne_eqb (get_or line n 0) 32
+    (λ e. stop (omega arith) (ap (λ k. get_or line k 0) here ∙ e)) in
     let all : take (suc n) line ≡ take n line ++ get_or line n 0 ∷ [] = ap (λ k. take k line) (sym (add-one n))
     ∙ take_more line n 0 (omega arith) in
     ap without_spaces all ∙ without_spaces-other (take n line) (get_or line n 0) other ∙ sym all
@@ -94,8 +138,8 @@ pub record FirstLine (text : List ℕ) (end : ℕ) : Type 0 where
 pub first_line : (text : List ℕ) (end : ℕ) → position is_line_feed text ≡ Some end → FirstLine text end
 first_line text end e =
     let found = position-Some is_line_feed text end 0 e in
-    let place : position_or_len is_line_feed text ≡ end =
-    position_or_len_is is_line_feed text end 0 (omega (arith, found.0)) found.2 (λ _. found.1) in
+    let place : position_or_len is_line_feed text ≡ end = position_or_len_is is_line_feed text end 0
+    (omega (arith, found.0)) found.2 (λ _. found.1) in
     record {
       within = found.0;
       feed = eqb-true (get_or text end 0) 10 found.1;
@@ -109,8 +153,8 @@ pub only_line : (text : List ℕ) → 0 < length text → position is_line_feed 
 only_line text some e =
     raw_lines-alone text some
     (elim (cases_lt (position_or_len is_line_feed text) (length text)) [
-      | inl lt ↦ absurd (some_none
-          (sym (ap (λ t. cond t (Some (position_or_len is_line_feed text)) None) (lt-ltb _ _ lt)) ∙ e))
+      | inl lt ↦ absurd (some_none (sym
+          (ap (λ t. cond t (Some (position_or_len is_line_feed text)) None) (lt-ltb _ _ lt)) ∙ e))
       | inr ge ↦ ge
     ])
   where
@@ -118,8 +162,8 @@ only_line text some e =
     some_none p = absurd cc
 
 -- a text that begins with a front is that front and what stands behind it
-pub begins_with :
-    (text front : List ℕ) → starts_with nat_eq text front ≡ true → text ≡ front ++ drop (length front) text
+pub begins_with : (text front : List ℕ) → starts_with nat_eq text front ≡ true
+    → text ≡ front ++ drop (length front) text
 begins_with text front e =
     sym (take-append-drop (length front) text)
     ∙ ap (λ l. l ++ drop (length front) text) (sym ((bytes_decides front (take (length front) text)).0 e))
@@ -140,8 +184,8 @@ text_of_utf8 bytes h = cond-true (is_utf8 bytes) _ _ (is_utf8-from_IsUtf8 bytes 
 
 pub text_of_others : (bytes : List ℕ) → ¬ (IsUtf8 bytes) → text_of_bytes bytes ≡ encode_utf8_all bytes
 unfolding text_of_bytes
-text_of_others bytes h =
-    cond-false (is_utf8 bytes) _ _ (false_from_ne_true (is_utf8 bytes) (λ e. h (IsUtf8-from_is_utf8 bytes e)))
+text_of_others bytes h = cond-false (is_utf8 bytes) _ _
+    (false_from_ne_true (is_utf8 bytes) (λ e. h (IsUtf8-from_is_utf8 bytes e)))
 
 -- joining is associative
 pub add_piece-assoc : (a b c : List ℕ) → add_piece (add_piece a b) c ≡ add_piece a (add_piece b c)
@@ -150,8 +194,8 @@ add_piece-assoc a [] (c ∷ cs) = refl
 add_piece-assoc [] (b ∷ bs) (c ∷ cs) = refl
 add_piece-assoc (a ∷ as') (b ∷ bs) (c ∷ cs) = append_assoc (a ∷ as') (32 ∷ b ∷ bs) (32 ∷ c ∷ cs)
 
-pub joined-push :
-    (pieces : List (List ℕ)) (piece : List ℕ) → joined (pieces ++ piece ∷ []) ≡ add_piece (joined pieces) piece
+pub joined-push : (pieces : List (List ℕ)) (piece : List ℕ)
+    → joined (pieces ++ piece ∷ []) ≡ add_piece (joined pieces) piece
 joined-push [] [] = refl
 joined-push [] (b ∷ bs) = refl
 joined-push (p ∷ pieces) piece =
@@ -162,12 +206,12 @@ pub after_chars-step : (left : ℕ) (text : List ℕ) → 0 < left → 0 < lengt
     → after_chars (left - 1) (past_continuations (drop 1 text)) ≡ after_chars left text
 after_chars-step zero text some more = absurd (omega arith)
 after_chars-step (suc n) [] some more = absurd (omega arith)
-after_chars-step (suc n) (b ∷ bs) some more =
-    ap (λ k. after_chars k (past_continuations bs)) (let e : suc n - 1 ≡ n = omega arith in e)
+after_chars-step (suc n) (b ∷ bs) some more = ap (λ k. after_chars k (past_continuations bs))
+    (let e : suc n - 1 ≡ n = omega arith in e)
 
 -- one byte more, as a character
-pub encodes-push :
-    (bytes : List ℕ) (i : ℕ) (before after : List ℕ) → i < length bytes → before ≡ encode_utf8_all (take i bytes)
+pub encodes-push : (bytes : List ℕ) (i : ℕ) (before after : List ℕ) → i < length bytes
+    → before ≡ encode_utf8_all (take i bytes)
     → after ≡ before ++ encode_utf8 (get_or bytes i 0) → after ≡ encode_utf8_all (take (i + 1) bytes)
 encodes-push bytes i before after h b a =
     a ∙ ap (λ l. l ++ encode_utf8 (get_or bytes i 0)) b

@@ -1,37 +1,54 @@
 -- Digits and amounts in statement files.
-use Rattle.std.specs.Prelude.{ℕ, ◌+◌, ◌-◌, ◌*◌, ◌/◌, ◌%◌, ◌^◌, ◌==◌, nat_le, Bool, ◌&&◌, List, [], ◌∷◌, ◌++◌, length}
-use Rattle.std.specs.Prelude.{fold}
+use Rattle.std.specs.Prelude.{
+  ℕ,
+  ◌+◌,
+  ◌-◌,
+  ◌*◌,
+  ◌/◌,
+  ◌%◌,
+  ◌^◌,
+  ◌==◌,
+  nat_le,
+  Bool,
+  ◌&&◌,
+  List,
+  [],
+  ◌∷◌,
+  ◌++◌,
+  length,
+  fold,
+}
 use Rattle.std.specs.Char.{is_ascii_digit}
 use Rattle.std.specs.List.{list_all}
 use Rattle.book_statement.specs.declared.bad.Bad.TheVariants.{TooManyDecimals, AmountForm}
 use Rattle.book_statement.specs.Checks.{Check, check}
 
--- Only digits, from `least` to `most` of them.
+-- only digits, from `least` to `most` of them
 abbrev pub has_digits : ℕ → ℕ → List ℕ → Bool
 has_digits least most text =
     nat_le least (length text) && nat_le (length text) most && list_all is_ascii_digit text
 
--- The number that digits spell, behind a number that others before them spelled.
+-- the number that digits spell, behind a number that others before them spelled
 unfoldable pub number_onto : ℕ → List ℕ → ℕ
 number_onto before digits = fold (λ number digit. number * 10 + (digit - 48)) before digits
 
--- The number that digits spell.
+-- the number that digits spell
 abbrev pub number : List ℕ → ℕ
 number digits = number_onto 0 digits
 
--- The largest amount: 10^12 smallest units, a limit of this project.
+-- the largest amount: 10^12 smallest units, a limit of this project
 abbrev pub largest_amount : ℕ
 largest_amount = 1_000_000_000_000
 
--- How many 10^k-th parts of a smallest unit a decimal number with k decimals is.
+-- how many 10^k-th parts of a smallest unit a decimal number with k decimals is
 abbrev pub fine_units : List ℕ → List ℕ → ℕ → ℕ
 fine_units whole decimals fraction = number (whole ++ decimals) * fraction
 
--- A decimal number in smallest units of a commodity with this fraction.
+-- a decimal number in smallest units of a commodity with this fraction
 unfoldable pub units : List ℕ → List ℕ → ℕ → ℕ
 units whole decimals fraction = fine_units whole decimals fraction / 10 ^ length decimals
 
--- It has to be a whole number of smallest units, and not above the largest amount.
+-- it has to be a whole number of smallest units, and not above the largest amount
 unfoldable pub unit_checks : List ℕ → List ℕ → ℕ → List Check
 unit_checks whole decimals fraction =
     check (fine_units whole decimals fraction % 10 ^ length decimals == 0) TooManyDecimals

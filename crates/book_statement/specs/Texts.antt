@@ -1,11 +1,25 @@
 -- The text of a statement file: what its bytes say, and its lines.
-use Rattle.std.specs.Prelude.{ℕ, ◌-◌, ◌==◌, nat_eq, Bool, ◌&&◌, List, [], ◌∷◌, ◌++◌, length, take, drop, map}
-use Rattle.std.specs.Prelude.{if◌then◌else◌, encode_utf8_all}
+use Rattle.std.specs.Prelude.{
+  ℕ,
+  ◌==◌,
+  nat_eq,
+  Bool,
+  ◌&&◌,
+  List,
+  [],
+  ◌∷◌,
+  ◌++◌,
+  length,
+  drop,
+  map,
+  if◌then◌else◌,
+  encode_utf8_all,
+}
 use Rattle.std.specs.List.{starts_with}
 use Rattle.std.specs.Str.{is_utf8}
 use Rattle.std.specs.Str.Lines.{strip_carriage_return}
 
--- Whether there is nothing in the list.
+-- whether there is nothing in the list
 abbrev pub is_nothing : {X : Type 0} → List X → Bool
 is_nothing xs = length xs == 0
 
@@ -13,46 +27,46 @@ is_nothing xs = length xs == 0
 abbrev pub byte_order_mark : List ℕ
 byte_order_mark = 239 ∷ 187 ∷ 191 ∷ []
 
--- A text without one byte order mark in front.
+-- a text without one byte order mark in front
 abbrev pub without_mark : List ℕ → List ℕ
 without_mark text = if starts_with nat_eq text byte_order_mark then drop 3 text else text
 
--- The text of a file: its bytes where they are UTF-8, without one byte order mark in front; else each byte as the
--- character of its number (ISO 8859-1), of which none is the mark.
+-- the text of a file: its bytes where they are UTF-8, without one byte order mark in front; else each byte as the
+-- character of its number (ISO 8859-1), of which none is the mark
 unfoldable pub text_of_bytes : List ℕ → List ℕ
 text_of_bytes bytes = if is_utf8 bytes then without_mark bytes else encode_utf8_all bytes
 
--- A byte in front of the first line.
+-- a byte in front of the first line
 abbrev pub onto_first : ℕ → List (List ℕ) → List (List ℕ)
 onto_first b [] = (b ∷ []) ∷ []
 onto_first b (line ∷ lines) = (b ∷ line) ∷ lines
 
--- A line ends by a line feed, and a rest behind the last line feed is a line where it is not empty.
+-- a line ends by a line feed, and a rest behind the last line feed is a line where it is not empty
 abbrev pub raw_lines : List ℕ → List (List ℕ)
 raw_lines [] = []
 raw_lines (b ∷ bs) = if b == 10 then [] ∷ raw_lines bs else onto_first b (raw_lines bs)
 
--- A line without the spaces at its end.
+-- a line without the spaces at its end
 abbrev pub without_spaces : List ℕ → List ℕ
 without_spaces [] = []
 without_spaces (b ∷ bs) =
     let rest = without_spaces bs in if is_nothing rest && (b == 32) then [] else b ∷ rest
 
--- A line without one carriage return at its end, and then without the spaces at its end.
+-- a line without one carriage return at its end, and then without the spaces at its end
 abbrev pub trimmed : List ℕ → List ℕ
 trimmed line = without_spaces (strip_carriage_return line)
 
--- The lines of a statement file.
+-- the lines of a statement file
 abbrev pub lines_of : List ℕ → List (List ℕ)
 lines_of text = map trimmed (raw_lines text)
 
--- Two pieces of text joined by a space, where neither is empty; else the one that is not.
+-- two pieces of text joined by a space, where neither is empty; else the one that is not
 abbrev pub add_piece : List ℕ → List ℕ → List ℕ
 add_piece front [] = front
 add_piece [] (b ∷ bs) = b ∷ bs
 add_piece (a ∷ front) (b ∷ bs) = (a ∷ front) ++ 32 ∷ (b ∷ bs)
 
--- Pieces of text joined by one space, empty ones left out.
+-- pieces of text joined by one space, empty ones left out
 abbrev pub joined : List (List ℕ) → List ℕ
 joined [] = []
 joined (piece ∷ pieces) = add_piece piece (joined pieces)

@@ -44,7 +44,8 @@ pub fn units_of(whole: &[u8], decimals: &[u8], fraction: u64) -> Result<i64, Bad
     requires whole { IsTrue (has_digits 0 12 whole.now) }
     requires decimals { IsTrue (has_digits 0 9 decimals.now) }
     requires fraction { IsFraction fraction }
-    ensures { Tells (unit_checks whole.now decimals.now fraction) (pos (units whole.now decimals.now fraction)) result }
+    ensures { Tells (unit_checks whole.now decimals.now fraction) (pos (units whole.now decimals.now fraction))
+        result }
 {
     let scale = 10u128.pow(decimals.len() as u32);
     let numeral = number(whole) as u128 * scale + number(decimals) as u128;

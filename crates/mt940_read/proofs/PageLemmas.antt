@@ -1,27 +1,57 @@
 -- The statements of a file with one message more.
-use Rattle.std.proofs.Common.{◌≡◌, ℕ, suc, ◌-◌, ◌<◌, length, get_or, arith, List, [], ◌∷◌, ◌++◌, Option, Some, None, Bool, true, false, cond, refl, sym, ap, ◌∙◌, append_assoc}
+use Rattle.std.proofs.Common.{
+  ◌≡◌,
+  ℕ,
+  suc,
+  ◌-◌,
+  ◌<◌,
+  length,
+  get_or,
+  arith,
+  List,
+  [],
+  ◌∷◌,
+  ◌++◌,
+  Some,
+  refl,
+  sym,
+  ap,
+  ◌∙◌,
+  append_assoc,
+}
 use Rattle.book_commodity.specs.declared.commodity.Commodity.{Commodity}
 use Rattle.book_statement.specs.declared.statement.Statement.{Statement}
 use Rattle.book_statement.specs.declared.statement_line.StatementLine.{StatementLine}
-use Rattle.book_statement.specs.Lists.{grouped, on_last}
 use Rattle.book_statement.proofs.ListLemmas.{Grows, grouped-push, grouped-some}
-use Rattle.mt940_read.specs.declared.message.Message.{Message}
-use Rattle.mt940_read.specs.Pages.{page_of, joins_page, last_lines, last_page, statement_alone, with_page, with_end, with_last_page, joins, statements_of, with_message}
+use Rattle.mt940_read.specs.Pages.{
+  page_of,
+  last_lines,
+  last_page,
+  statement_alone,
+  with_page,
+  with_last_page,
+  joins,
+  statements_of,
+  with_message,
+}
 use Rattle.mt940_read.specs.Tree.{MessageLines}
 use Rattle.mt940_read.specs.Values.{values}
-use Rattle.mt940_read.proofs.EntryLemmas.{Snoc, IsEmpty, HasLast, snoc}
+use Rattle.mt940_read.proofs.EntryLemmas.{IsEmpty, HasLast, snoc}
 
-pub last_page-push : (known : List (ℕ × Commodity)) (ms : List MessageLines) (m : MessageLines) → last_page known (ms ++ m ∷ []) ≡ Some (page_of (values known m.fields))
+pub last_page-push : (known : List (ℕ × Commodity)) (ms : List MessageLines) (m : MessageLines)
+    → last_page known (ms ++ m ∷ []) ≡ Some (page_of (values known m.fields))
 last_page-push known [] m = refl
 last_page-push known (n ∷ []) m = refl
 last_page-push known (n ∷ o ∷ ms) m = last_page-push known (o ∷ ms) m
 
 -- a page behind a statement, and a page in front of it
 pages_grow : (known : List (ℕ × Commodity)) → Grows (λ (m : MessageLines). statement_alone (values known m.fields))
-    (λ (m : MessageLines) (s : Statement). with_page (values known m.fields) s) (λ (s : Statement) (m : MessageLines). with_last_page s (values known m.fields))
+    (λ (m : MessageLines) (s : Statement). with_page (values known m.fields) s)
+    (λ (s : Statement) (m : MessageLines). with_last_page s (values known m.fields))
 pages_grow known = record {
   first = λ x y. refl;
-  more = λ x y group. ap (λ l. with_lines l (with_page (values known x.fields) (with_last_page group (values known y.fields))))
+  more = λ x y group. ap (λ l. with_lines l
+      (with_page (values known x.fields) (with_last_page group (values known y.fields))))
       (append_assoc (values known x.fields).lines group.lines (values known y.fields).lines);
 }
   where
@@ -30,7 +60,8 @@ pages_grow known = record {
 
 -- a message more joins the last statement, or is one of its own
 pub statements-push : (known : List (ℕ × Commodity)) (ms : List MessageLines) (m : MessageLines)
-    → statements_of known (ms ++ m ∷ []) ≡ with_message (last_page known ms) (values known m.fields) (statements_of known ms)
+    → statements_of known (ms ++ m ∷ []) ≡ with_message (last_page known ms) (values known m.fields)
+    (statements_of known ms)
 statements-push known ms m = elim (snoc ms) [
   | IsEmpty e ↦
       ap (λ l. statements_of known (l ++ m ∷ [])) e
@@ -38,14 +69,18 @@ statements-push known ms m = elim (snoc ms) [
   | HasLast init last e ↦
       ap (λ l. statements_of known (l ++ m ∷ [])) e
       ∙ ap (statements_of known) (append_assoc init (last ∷ []) (m ∷ []))
-      ∙ grouped-push (λ (n : MessageLines). statement_alone (values known n.fields)) (λ (n : MessageLines) (s : Statement). with_page (values known n.fields) s)
-      (λ (s : Statement) (n : MessageLines). with_last_page s (values known n.fields)) (pages_grow known) (joins known) init last m
-      ∙ ap (λ p. with_message p (values known m.fields) (statements_of known (init ++ last ∷ []))) (sym (last_page-push known init last))
+      ∙ grouped-push (λ (n : MessageLines). statement_alone (values known n.fields))
+      (λ (n : MessageLines) (s : Statement). with_page (values known n.fields) s)
+      (λ (s : Statement) (n : MessageLines). with_last_page s (values known n.fields)) (pages_grow known)
+      (joins known) init last m
+      ∙ ap (λ p. with_message p (values known m.fields) (statements_of known (init ++ last ∷ [])))
+      (sym (last_page-push known init last))
       ∙ sym (ap (λ l. with_message (last_page known l) (values known m.fields) (statements_of known l)) e)
 ]
 
 -- the last statement by its place
-pub last_lines-at : (ss : List Statement) (s : Statement) → 0 < length ss → last_lines ss ≡ length (get_or ss (length ss - 1) s).lines
+pub last_lines-at : (ss : List Statement) (s : Statement) → 0 < length ss
+    → last_lines ss ≡ length (get_or ss (length ss - 1) s).lines
 last_lines-at [] s h = absurd (omega arith)
 last_lines-at (a ∷ []) s h = refl
 last_lines-at (a ∷ b ∷ bs) s h =
@@ -56,4 +91,5 @@ last_lines-at (a ∷ b ∷ bs) s h =
 pub statements-some : (known : List (ℕ × Commodity)) (m : MessageLines) (ms : List MessageLines)
     → (s : Statement) × (more : List Statement) × (statements_of known (m ∷ ms) ≡ s ∷ more)
 statements-some known m ms =
-    grouped-some (joins known) (λ (n : MessageLines). statement_alone (values known n.fields)) (λ (n : MessageLines) (s : Statement). with_page (values known n.fields) s) m ms
+    grouped-some (joins known) (λ (n : MessageLines). statement_alone (values known n.fields))
+    (λ (n : MessageLines) (s : Statement). with_page (values known n.fields) s) m ms

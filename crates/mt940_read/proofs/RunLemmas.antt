@@ -1,10 +1,29 @@
 -- A reader goes through the lines of a text: what it keeps is what the definition says of the lines read.
-use Rattle.std.proofs.Common.{◌≡◌, ℕ, ◌+◌, ◌<◌, ◌≤◌, List, [], ◌∷◌, ◌++◌, length, Option, Some, None, Result, Ok, Err, false, refl, sym, ap, subst, ◌∙◌, arith}
+use Rattle.std.proofs.Common.{
+  ◌≡◌,
+  ℕ,
+  ◌+◌,
+  ◌<◌,
+  ◌≤◌,
+  List,
+  [],
+  ◌∷◌,
+  length,
+  Some,
+  None,
+  Err,
+  false,
+  refl,
+  sym,
+  ap,
+  subst,
+  ◌∙◌,
+  arith,
+}
 use Rattle.book_commodity.specs.declared.commodity.Commodity.{Commodity}
 use Rattle.book_statement.specs.declared.fault.StatementFault.{StatementFault}
 use Rattle.book_statement.specs.declared.read_error.ReadError.{ReadError}
 use Rattle.book_statement.specs.declared.read_error.ReadError.TheVariants.{Fault, OutOfMemory}
-use Rattle.book_statement.specs.declared.statement.Statement.{Statement}
 use Rattle.book_statement.specs.Checks.{Gives, first_bad, fault_at}
 use Rattle.book_statement.specs.Texts.{lines_of}
 use Rattle.mt940_read.specs.declared.reader.Reader.{Reader}
@@ -23,7 +42,8 @@ pub record SoFar (known : List (ℕ × Commodity)) (text : List ℕ) (k : Reader
   pub whole : messages_of (lines_of text) ≡ fill tree (part_after count (lines_of rest))
   pub few : count + length rest ≤ length text
 
-pub first : (known : List (ℕ × Commodity)) (text : List ℕ) (k : Reader) → k ≡ record { done = []; page = None; message = values known []; goes = false }
+pub first : (known : List (ℕ × Commodity)) (text : List ℕ) (k : Reader)
+    → k ≡ record { done = []; page = None; message = values known []; goes = false }
     → SoFar known text k 0 text
 first known text k e = record {
   tree = Between [];
@@ -39,42 +59,53 @@ first known text k e = record {
 }
 
 -- the tree with a line more
-moved : (known : List (ℕ × Commodity)) (text : List ℕ) (k : Reader) (count : ℕ) (rest line behind : List ℕ) (s : SoFar known text k count rest)
-    → lines_of rest ≡ line ∷ lines_of behind → messages_of (lines_of text) ≡ fill (add count line (kind_of line) s.tree) (part_after (count + 1) (lines_of behind))
+moved : (known : List (ℕ × Commodity)) (text : List ℕ) (k : Reader) (count : ℕ) (rest line behind : List ℕ)
+    (s : SoFar known text k count rest)
+    → lines_of rest ≡ line ∷ lines_of behind
+    → messages_of (lines_of text) ≡ fill (add count line (kind_of line) s.tree)
+    (part_after (count + 1) (lines_of behind))
 moved known text k count rest line behind s split =
     s.whole ∙ ap (λ ls. fill s.tree (part_after count ls)) split
     ∙ fill-add count line (kind_of line) s.tree (part_after (count + 1) (lines_of behind))
 
-pub step : (known : List (ℕ × Commodity)) (text : List ℕ) (k new : Reader) (count : ℕ) (rest line behind : List ℕ) → SoFar known text k count rest
+pub step : (known : List (ℕ × Commodity)) (text : List ℕ) (k new : Reader) (count : ℕ) (rest line behind : List ℕ)
+    → SoFar known text k count rest
     → lines_of rest ≡ line ∷ lines_of behind → length behind < length rest
     → (first_bad (line_checks_of known (kind_of line) line k) ≡ None) × (new ≡ next known (kind_of line) line k)
     → SoFar known text new (count + 1) behind
 step known text k new count rest line behind s split shorter took = record {
   tree = add count line (kind_of line) s.tree;
-  knows = subst (λ r. Knows known r (add count line (kind_of line) s.tree)) (sym took.1) (kept_ok known count line (kind_of line) k s.tree s.knows took.0);
+  knows = subst (λ r. Knows known r (add count line (kind_of line) s.tree)) (sym took.1)
+      (kept_ok known count line (kind_of line) k s.tree s.knows took.0);
   whole = moved known text k count rest line behind s split;
   few = omega (arith, s.few);
 }
 
-pub fault : (known : List (ℕ × Commodity)) (text : List ℕ) (k : Reader) (count : ℕ) (rest line behind : List ℕ) (bad : StatementFault) → SoFar known text k count rest
+pub fault : (known : List (ℕ × Commodity)) (text : List ℕ) (k : Reader) (count : ℕ) (rest line behind : List ℕ)
+    (bad : StatementFault) → SoFar known text k count rest
     → lines_of rest ≡ line ∷ lines_of behind
-    → fault_at (line_of_fault (kind_of line) count) (first_bad (line_checks_of known (kind_of line) line k)) None ≡ Some bad
+    → fault_at (line_of_fault (kind_of line) count) (first_bad (line_checks_of known (kind_of line) line k)) None ≡
+    Some bad
     → reading known text ≡ Err bad
 unfolding reading
 fault known text k count rest line behind bad s split e =
     ap (result_of known) (moved known text k count rest line behind s split)
     ∙ kept_bad known count line (kind_of line) k s.tree bad s.knows e (part_after (count + 1) (lines_of behind))
 
-pub end : (known : List (ℕ × Commodity)) (text : List ℕ) (k : Reader) (count : ℕ) (rest : List ℕ) → SoFar known text k count rest → rest ≡ []
+pub end : (known : List (ℕ × Commodity)) (text : List ℕ) (k : Reader) (count : ℕ) (rest : List ℕ)
+    → SoFar known text k count rest → rest ≡ []
     → reading known text ≡ finished known count k
 unfolding reading
 end known text k count rest s e =
     ap (result_of known) (s.whole ∙ ap (λ r. fill s.tree (part_after count (lines_of r))) e)
     ∙ finished_is known count k s.tree s.knows
 
-pub fault_gives : (known : List (ℕ × Commodity)) (text : List ℕ) (k new : Reader) (count : ℕ) (rest line behind : List ℕ) (e : ReadError) → SoFar known text k count rest
+pub fault_gives : (known : List (ℕ × Commodity)) (text : List ℕ) (k new : Reader) (count : ℕ)
+    (rest line behind : List ℕ) (e : ReadError) → SoFar known text k count rest
     → lines_of rest ≡ line ∷ lines_of behind
-    → Steps {X = Unit {0}} (line_of_fault (kind_of line) count) (line_checks_of known (kind_of line) line k) (next known (kind_of line) line k) (Err e) new
+    → Steps {X = Unit {0}} (line_of_fault (kind_of line) count) (line_checks_of known (kind_of line) line k)
+    (next known (kind_of line) line k) (Err e) new
     → Gives (reading known text) (Err e)
 fault_gives known text k new count rest line behind OutOfMemory s split h = tt
-fault_gives known text k new count rest line behind (Fault f) s split h = fault known text k count rest line behind f s split h
+fault_gives known text k new count rest line behind (Fault f) s split h = fault known text k count rest line behind f
+    s split h

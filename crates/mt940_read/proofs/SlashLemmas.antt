@@ -1,8 +1,27 @@
 -- The first double slash of a text.
-use Rattle.std.proofs.Common.{◌≡◌, ℕ, ◌+◌, ◌<◌, ◌≤◌, List, [], ◌∷◌, ◌++◌, take, drop, length, get_or, Bool, true, false, ◌&&◌, cond, nat_eq, codes, refl, sym, ap, ◌∙◌, arith}
+use Rattle.std.proofs.Common.{
+  ◌≡◌,
+  ℕ,
+  ◌≤◌,
+  List,
+  [],
+  ◌∷◌,
+  drop,
+  length,
+  get_or,
+  true,
+  false,
+  ◌&&◌,
+  cond,
+  nat_eq,
+  codes,
+  sym,
+  ap,
+  ◌∙◌,
+  arith,
+}
 use Rattle.std.specs.List.{starts_with}
 use Rattle.std.proofs.lemmas.Bool.{and_parts, eqb-true}
-use Rattle.std.proofs.lemmas.List.{drop_more, take_more, append_assoc, get_or-drop, length-drop, drop-drop, append-nil, take_all, drop_all}
 use Rattle.mt940_read.specs.LineField.{before_slashes, behind_slashes}
 
 -- a double slash in front
@@ -28,12 +47,14 @@ slashes_here (a ∷ b ∷ bs) e =
     }
 
 -- another front
-pub other_front : (text : List ℕ) (b : ℕ) (rest : List ℕ) → text ≡ b ∷ rest → starts_with nat_eq text (codes "//") ≡ false
+pub other_front : (text : List ℕ) (b : ℕ) (rest : List ℕ) → text ≡ b ∷ rest
+    → starts_with nat_eq text (codes "//") ≡ false
     → (before_slashes text ≡ b ∷ before_slashes rest) × (behind_slashes text ≡ behind_slashes rest)
 other_front [] b rest e n = absurd cc
 other_front (c ∷ cs) b rest e n =
     let head : c ≡ b = cc in
     let tail : cs ≡ rest = cc in (
-      ap (λ t. cond t [] (c ∷ before_slashes cs)) n ∙ ap (λ k. k ∷ before_slashes cs) head ∙ ap (λ l. b ∷ before_slashes l) tail,
+      ap (λ t. cond t [] (c ∷ before_slashes cs)) n ∙ ap (λ k. k ∷ before_slashes cs) head
+          ∙ ap (λ l. b ∷ before_slashes l) tail,
       ap (λ t. cond t (drop 1 cs) (behind_slashes cs)) n ∙ ap behind_slashes tail,
     )

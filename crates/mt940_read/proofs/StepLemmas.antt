@@ -1,5 +1,29 @@
 -- What a reader's calls answer, by the checks of the line that they take.
-use Rattle.std.proofs.Common.{◌≡◌, ℕ, ◌+◌, List, [], ◌∷◌, ◌++◌, Option, Some, None, Bool, true, false, cond, is_some, Result, Ok, Err, refl, sym, ap, subst, ◌∙◌}
+use Rattle.std.proofs.Common.{
+  ◌≡◌,
+  ℕ,
+  ◌+◌,
+  List,
+  [],
+  ◌∷◌,
+  ◌++◌,
+  Option,
+  Some,
+  None,
+  Bool,
+  true,
+  false,
+  cond,
+  is_some,
+  Result,
+  Ok,
+  Err,
+  refl,
+  sym,
+  ap,
+  subst,
+  ◌∙◌,
+}
 use Rattle.std.specs.Option.{option_or}
 use Rattle.std.specs.Prelude.{codes, nat_eq, take, drop, ◌-◌, ◌||◌}
 use Rattle.std.specs.List.{starts_with}
@@ -7,7 +31,6 @@ use lib.Pointwise.{pointwise}
 use Rattle.book_commodity.specs.declared.commodity.Commodity.{Commodity}
 use Rattle.book_statement.specs.declared.bad.Bad.{Bad}
 use Rattle.book_statement.specs.declared.bad.Bad.TheVariants.{CutOff, FieldOrder}
-use Rattle.book_statement.specs.declared.fault.StatementFault.{StatementFault}
 use Rattle.book_statement.specs.declared.read_error.ReadError.{ReadError}
 use Rattle.book_statement.specs.declared.read_error.ReadError.TheVariants.{Fault, OutOfMemory}
 use Rattle.book_statement.specs.declared.statement.Statement.{Statement}
@@ -16,16 +39,49 @@ use Rattle.book_statement.proofs.CheckLemmas.{first_bad-append}
 use Rattle.mt940_read.specs.declared.message.Message.{Message}
 use Rattle.mt940_read.specs.declared.reader.Reader.{Reader}
 use Rattle.mt940_read.specs.declared.tag.Tag.{Tag}
-use Rattle.mt940_read.specs.declared.tag.Tag.TheVariants.{Reference, Related, Account, Number, Opening, Line, Text, Closing, Available, Forward}
+use Rattle.mt940_read.specs.declared.tag.Tag.TheVariants.{
+  Reference,
+  Related,
+  Account,
+  Number,
+  Opening,
+  Line,
+  Text,
+  Closing,
+  Available,
+  Forward,
+}
 use Rattle.mt940_read.specs.declared.tag.Kind.TheVariants.{Begins, Field, Ends, More}
 use Rattle.mt940_read.specs.declared.tag.Kind.{Kind}
 use Rattle.mt940_read.specs.Balances.{balance, balance_form}
-use Rattle.mt940_read.specs.FieldChecks.{Fits, field_checks, own_checks, opening_checks, opening_currency_checks, closing_checks, reckoned_checks, later_checks, later_currency_checks, line_checks, line_amount_checks}
+use Rattle.mt940_read.specs.FieldChecks.{
+  Fits,
+  field_checks,
+  opening_checks,
+  opening_currency_checks,
+  closing_checks,
+  reckoned_checks,
+  later_checks,
+  later_currency_checks,
+  line_checks,
+  line_amount_checks,
+}
 use Rattle.mt940_read.specs.Kinds.{field_text, kind_of, has_tag, field_kind, tag_of, tag_width}
 use Rattle.mt940_read.specs.LineField.{line_form}
 use Rattle.mt940_read.specs.Order.{may_follow}
 use Rattle.mt940_read.specs.Pages.{Past, page_of, with_message}
-use Rattle.mt940_read.specs.Steps.{Steps, past_kept, is_within, ended, end_checks, line_checks_of, line_of_fault, next, finished, no_statement}
+use Rattle.mt940_read.specs.Steps.{
+  Steps,
+  past_kept,
+  is_within,
+  ended,
+  end_checks,
+  line_checks_of,
+  line_of_fault,
+  next,
+  finished,
+  no_statement,
+}
 use Rattle.mt940_read.specs.Values.{values}
 use Rattle.mt940_read.proofs.FormLemmas.{held}
 
@@ -38,7 +94,8 @@ front_holds cs ds e = front (first_bad cs) (first_bad ds) (sym (first_bad-append
     front (Some x) b e = absurd cc
 
 -- what the checks of a field leave of its form
-pub fits_of : (known : List (ℕ × Commodity)) (past : Past) (m : Message) (tag : Tag) (text : List ℕ) → first_bad (field_checks known past m tag text) ≡ None → Fits m tag text
+pub fits_of : (known : List (ℕ × Commodity)) (past : Past) (m : Message) (tag : Tag) (text : List ℕ)
+    → first_bad (field_checks known past m tag text) ≡ None → Fits m tag text
 unfolding opening_checks closing_checks later_checks line_checks
 fits_of known past m Reference text e = tt
 fits_of known past m Related text e = tt
@@ -46,7 +103,8 @@ fits_of known past m Account text e = tt
 fits_of known past m Number text e = tt
 fits_of known past m (Opening g) text e =
     front_holds (balance_form text) (opening_currency_checks known past.page past.statements m g text)
-    (held (may_follow m.last (is_some m.closing) (Opening g)) FieldOrder (opening_checks known past.page past.statements m g text) e).1
+    (held (may_follow m.last (is_some m.closing) (Opening g)) FieldOrder
+    (opening_checks known past.page past.statements m g text) e).1
 fits_of known past m Line text e =
     front_holds (line_form text) (line_amount_checks past.page past.lines m text)
     (held (may_follow m.last (is_some m.closing) Line) FieldOrder (line_checks past.page past.lines m text) e).1
@@ -59,18 +117,27 @@ fits_of known past m Available text e = tt
 fits_of known past m Forward text e = tt
 
 -- a field at which a check fails
-pub field_bad : (known : List (ℕ × Commodity)) (k : Reader) (before : ℕ) (tag : Tag) (line : List ℕ) (bad : Bad) → is_within k ≡ true
+pub field_bad : (known : List (ℕ × Commodity)) (k : Reader) (before : ℕ) (tag : Tag) (line : List ℕ) (bad : Bad)
+    → is_within k ≡ true
     → first_bad (field_checks known (past_kept k) k.message tag (field_text line)) ≡ Some bad
-    → fault_at (before + 1) (first_bad (line_checks_of known (Field tag) line k)) None ≡ Some (record { line = before + 1; bad = bad })
+    → fault_at (before + 1) (first_bad (line_checks_of known (Field tag) line k)) None ≡ Some
+    (record { line = before + 1; bad = bad })
 field_bad known k before tag line bad within e =
-    ap (λ t. fault_at (before + 1) (first_bad (cond t (field_checks known (past_kept k) k.message tag (field_text line)) [])) None) within
+    ap (λ t. fault_at (before + 1)
+    (first_bad (cond t (field_checks known (past_kept k) k.message tag (field_text line)) [])) None) within
     ∙ ap (λ o. fault_at (before + 1) o None) e
 
 -- no message has begun
-pub end_none : (known : List (ℕ × Commodity)) (k : Reader) → is_within k ≡ false → (first_bad (end_checks k) ≡ None) × (k ≡ ended known k)
+pub end_none : (known : List (ℕ × Commodity)) (k : Reader) → is_within k ≡ false → (first_bad (end_checks k) ≡ None)
+    × (k ≡ ended known k)
 end_none known k without = (
   ap (λ t. first_bad (cond t (check (is_some k.message.closing) CutOff ∷ []) [])) without,
-  sym (ap (λ t. cond t (record { done = with_message k.page k.message k.done; page = Some (page_of k.message); message = values known []; goes = false }) k) without),
+  sym (ap (λ t. cond t (record {
+    done = with_message k.page k.message k.done;
+    page = Some (page_of k.message);
+    message = values known [];
+    goes = false;
+  }) k) without),
 )
 
 -- a message without its closing balance
@@ -83,10 +150,22 @@ end_cut k last within open' =
 -- a whole message
 pub end_whole : (known : List (ℕ × Commodity)) (k : Reader) → is_within k ≡ true → is_some k.message.closing ≡ true
     → (first_bad (end_checks k) ≡ None)
-    × (record { done = with_message k.page k.message k.done; page = Some (page_of k.message); message = values known []; goes = false } ≡ ended known k)
+    × (record {
+      done = with_message k.page k.message k.done;
+      page = Some (page_of k.message);
+      message = values known
+          [];
+      goes = false;
+    } ≡ ended known k)
 end_whole known k within closed = (
-  ap (λ t. first_bad (cond t (check (is_some k.message.closing) CutOff ∷ []) [])) within ∙ ap (λ t. first_bad (check t CutOff ∷ [])) closed,
-  sym (ap (λ t. cond t (record { done = with_message k.page k.message k.done; page = Some (page_of k.message); message = values known []; goes = false }) k) within),
+  ap (λ t. first_bad (cond t (check (is_some k.message.closing) CutOff ∷ []) [])) within
+      ∙ ap (λ t. first_bad (check t CutOff ∷ [])) closed,
+  sym (ap (λ t. cond t (record {
+    done = with_message k.page k.message k.done;
+    page = Some (page_of k.message);
+    message = values known [];
+    goes = false;
+  }) k) within),
 )
 
 -- an error says the same, whatever would have been kept
@@ -96,13 +175,15 @@ steps_err line checks a b OutOfMemory m n h = tt
 steps_err line checks a b (Fault f) m n h = h
 
 -- where there is no check the line doesn't matter
-pub steps_free : {X : Type 0} (m n : ℕ) (a : Reader) (r : Result X ReadError) (new : Reader) → Steps m [] a r new → Steps n [] a r new
+pub steps_free : {X : Type 0} (m n : ℕ) (a : Reader) (r : Result X ReadError) (new : Reader) → Steps m [] a r new
+    → Steps n [] a r new
 steps_free m n a (Ok x) new h = h
 steps_free m n a (Err OutOfMemory) new h = tt
 steps_free m n a (Err (Fault f)) new h = h
 
 -- by the kind of the line
-pub steps_kind : {X : Type 0} (known : List (ℕ × Commodity)) (before : ℕ) (kind is : Kind) (line : List ℕ) (k : Reader) (r : Result X ReadError) (new : Reader) → kind ≡ is
+pub steps_kind : {X : Type 0} (known : List (ℕ × Commodity)) (before : ℕ) (kind is : Kind) (line : List ℕ)
+    (k : Reader) (r : Result X ReadError) (new : Reader) → kind ≡ is
     → Steps (line_of_fault is before) (line_checks_of known is line k) (next known is line k) r new
     → Steps (line_of_fault kind before) (line_checks_of known kind line k) (next known kind line k) r new
 steps_kind known before kind is line k r new e h =
@@ -118,22 +199,26 @@ tag_of_kind line tag e = by_front (starts_with nat_eq line (codes ":20:")) (has_
     by_end false k = absurd cc
 
     by_front : (a b : Bool) → has_tag line ≡ b
-        → cond a Begins (cond b (field_kind (tag_of (take (tag_width line - 2) (drop 1 line)))) (cond (pointwise nat_eq line (codes "-") || starts_with nat_eq line (codes "-}")) Ends More)) ≡ Field tag
+        → cond a Begins (cond b (field_kind (tag_of (take (tag_width line - 2) (drop 1 line))))
+        (cond (pointwise nat_eq line (codes "-") || starts_with nat_eq line (codes "-}")) Ends More)) ≡ Field tag
         → has_tag line ≡ true
     by_front true b h k = absurd cc
     by_front false true h k = h
-    by_front false false h k = absurd (by_end (pointwise nat_eq line (codes "-") || starts_with nat_eq line (codes "-}")) k)
+    by_front false false h k = absurd
+        (by_end (pointwise nat_eq line (codes "-") || starts_with nat_eq line (codes "-}")) k)
 
 -- what is said at the end of the file
 pub finish_ok : (known : List (ℕ × Commodity)) (last : ℕ) (k new : Reader) (r : Result (List Statement) ReadError)
-    → (first_bad (end_checks k) ≡ None) × (new ≡ ended known k) → Gives (unless_fault (no_statement new.done) new.done) r → Gives (finished known last k) r
+    → (first_bad (end_checks k) ≡ None) × (new ≡ ended known k)
+    → Gives (unless_fault (no_statement new.done) new.done) r → Gives (finished known last k) r
 finish_ok known last k new r took h =
     let same : unless_fault (no_statement new.done) new.done ≡ finished known last k =
     ap (λ (x : Reader). unless_fault (no_statement x.done) x.done) took.1
     ∙ ap (λ o. unless_fault (fault_at last o (no_statement (ended known k).done)) (ended known k).done) (sym took.0) in
     subst (λ s. Gives s r) same h
 
-pub finish_err : (known : List (ℕ × Commodity)) (last : ℕ) (k new : Reader) (e : ReadError) → Steps {X = Unit {0}} last (end_checks k) (ended known k) (Err e) new
+pub finish_err : (known : List (ℕ × Commodity)) (last : ℕ) (k new : Reader) (e : ReadError)
+    → Steps {X = Unit {0}} last (end_checks k) (ended known k) (Err e) new
     → Gives (finished known last k) (Err e)
 finish_err known last k new OutOfMemory h = tt
 finish_err known last k new (Fault f) h = by_checks (first_bad (end_checks k)) h

@@ -1,5 +1,5 @@
 -- The tree of the lines that were read, with a hole for the lines that follow.
-use Rattle.std.proofs.Common.{◌≡◌, ℕ, ◌+◌, List, [], ◌∷◌, ◌++◌, refl, sym, ap, ◌∙◌, append_assoc}
+use Rattle.std.proofs.Common.{◌≡◌, ℕ, ◌+◌, List, [], ◌∷◌, ◌++◌, refl, append_assoc}
 use Rattle.std.proofs.lemmas.List.{append-nil}
 use Rattle.mt940_read.specs.declared.tag.Tag.{Tag}
 use Rattle.mt940_read.specs.declared.tag.Tag.TheVariants.{Reference}
@@ -38,7 +38,8 @@ fill (Within done fs (Open tag n first more)) part =
 -- what was read with a line more, behind n lines of the file
 abbrev pub add : ℕ → List ℕ → Kind → Begun → Begun
 add n line Begins (Between done) = Within done [] (Open Reference (n + 1) (field_text line) [])
-add n line Begins (Within done fs last) = Within (done ++ message (with_last fs last) n ∷ []) [] (Open Reference (n + 1) (field_text line) [])
+add n line Begins (Within done fs last) = Within (done ++ message (with_last fs last) n ∷ []) []
+    (Open Reference (n + 1) (field_text line) [])
 add n line (Field tag) (Between done) = Between done
 add n line (Field tag) (Within done fs last) = Within done (with_last fs last) (Open tag (n + 1) (field_text line) [])
 add n line Passed (Between done) = Between done
@@ -50,7 +51,8 @@ add n line More (Within done fs Closed) = Within done fs Closed
 add n line More (Within done fs (Open tag m first more)) = Within done fs (Open tag m first (more ++ line ∷ []))
 
 -- a line moves from what follows to what was read
-pub fill-add : (n : ℕ) (line : List ℕ) (kind : Kind) (t : Begun) (part : Part) → fill t (in_front n line kind part) ≡ fill (add n line kind t) part
+pub fill-add : (n : ℕ) (line : List ℕ) (kind : Kind) (t : Begun) (part : Part)
+    → fill t (in_front n line kind part) ≡ fill (add n line kind t) part
 fill-add n line Begins (Between done) part = refl
 fill-add n line Begins (Within done fs Closed) part = simp (append_assoc, append-nil)
 fill-add n line Begins (Within done fs (Open tag m first more)) part = simp (append_assoc, append-nil)

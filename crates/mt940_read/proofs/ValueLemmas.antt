@@ -1,5 +1,26 @@
 -- The values of a message with one field or one further line more.
-use Rattle.std.proofs.Common.{◌≡◌, ℕ, List, [], ◌∷◌, ◌++◌, Option, Some, None, Bool, true, false, ◌⊎◌, inl, inr, cond, is_some, unwrap_or, refl, sym, ap, ◌∙◌, ℤ, pos}
+use Rattle.std.proofs.Common.{
+  ◌≡◌,
+  ℕ,
+  List,
+  [],
+  ◌∷◌,
+  ◌++◌,
+  Some,
+  Bool,
+  true,
+  false,
+  ◌⊎◌,
+  inl,
+  inr,
+  cond,
+  unwrap_or,
+  refl,
+  sym,
+  ap,
+  ◌∙◌,
+  pos,
+}
 use Rattle.std.specs.Option.{option_or}
 use Rattle.std.specs.Prelude.{◌&&◌, ◌||◌, if◌then◌else◌}
 use Rattle.std.proofs.lemmas.Bool.{or_parts}
@@ -9,17 +30,52 @@ use Rattle.book_statement.specs.declared.statement_line.StatementLine.{Statement
 use Rattle.book_statement.specs.Lists.{on_last}
 use Rattle.mt940_read.specs.declared.message.Message.{Message}
 use Rattle.mt940_read.specs.declared.tag.Tag.{Tag}
-use Rattle.mt940_read.specs.declared.tag.Tag.TheVariants.{Reference, Related, Account, Number, Opening, Line, Text, Closing, Available, Forward}
-use Rattle.mt940_read.specs.Entries.{last_given, last_tag, fraction_given, fraction_behind, entry, entries}
+use Rattle.mt940_read.specs.declared.tag.Tag.TheVariants.{
+  Reference,
+  Related,
+  Account,
+  Number,
+  Opening,
+  Line,
+  Text,
+  Closing,
+  Available,
+  Forward,
+}
+use Rattle.mt940_read.specs.Entries.{last_given, last_tag, fraction_given, fraction_behind, entries}
 use Rattle.mt940_read.specs.LineField.{line, add_text}
 use Rattle.mt940_read.specs.Order.{is_line, is_text}
 use Rattle.mt940_read.specs.Tree.{FieldLines}
-use Rattle.mt940_read.specs.Values.{account_given, number_given, currency_given, opening_given, opens_given, closing_given, closes_given, day_given, values, after, after_more, ends_in_line}
-use Rattle.mt940_read.proofs.EntryLemmas.{last_given-push, last_tag-push, entries-push, entries-text, entry-line, entry-other, longer, entries-longer_line, entries-longer_text}
+use Rattle.mt940_read.specs.Values.{
+  account_given,
+  number_given,
+  currency_given,
+  opening_given,
+  opens_given,
+  closing_given,
+  closes_given,
+  day_given,
+  values,
+  after,
+  after_more,
+  ends_in_line,
+}
+use Rattle.mt940_read.proofs.EntryLemmas.{
+  last_given-push,
+  last_tag-push,
+  entries-push,
+  entries-text,
+  entry-other,
+  longer,
+  entries-longer_line,
+  entries-longer_text,
+}
 
 -- messages with equal values are equal
-same_message : (m n : Message) → m.last ≡ n.last → m.account ≡ n.account → m.number ≡ n.number → m.currency ≡ n.currency → m.fraction ≡ n.fraction
-    → m.opening ≡ n.opening → m.opens_page ≡ n.opens_page → m.closing ≡ n.closing → m.closes_page ≡ n.closes_page → m.day ≡ n.day → m.lines ≡ n.lines
+same_message : (m n : Message) → m.last ≡ n.last → m.account ≡ n.account → m.number ≡ n.number
+    → m.currency ≡ n.currency → m.fraction ≡ n.fraction
+    → m.opening ≡ n.opening → m.opens_page ≡ n.opens_page → m.closing ≡ n.closing → m.closes_page ≡ n.closes_page
+    → m.day ≡ n.day → m.lines ≡ n.lines
     → m ≡ n
 same_message m n a b c d e f g h j k l = λ i. record {
   last = a i;
@@ -71,10 +127,12 @@ abbrev new_field : Tag → ℕ → List ℕ → FieldLines
 new_field tag n first = record { tag = tag; line = n; first = first; more = [] }
 
 -- a field that is neither a 61 nor a text gives no line
-no_line : (known : List (ℕ × Commodity)) (fs : List FieldLines) (f : FieldLines) → is_line f.tag ≡ false → is_text f.tag ≡ false
+no_line : (known : List (ℕ × Commodity)) (fs : List FieldLines) (f : FieldLines) → is_line f.tag ≡ false
+    → is_text f.tag ≡ false
     → entries known [] (fs ++ f ∷ []) ≡ entries known [] fs
 no_line known fs f not_line not_text =
-    entries-push known fs f (ap (λ t. ends_in_line (last_tag fs) && t) not_text ∙ and-false (ends_in_line (last_tag fs)))
+    entries-push known fs f (ap (λ t. ends_in_line (last_tag fs) && t) not_text
+    ∙ and-false (ends_in_line (last_tag fs)))
     ∙ ap (λ t. entries known [] fs ++ cond t (line (fraction_behind known fs) f.first (f.more ++ []) ∷ []) []) not_line
     ∙ append-nil (entries known [] fs)
   where
@@ -83,7 +141,8 @@ no_line known fs f not_line not_text =
     and-false false = refl
 
 new_line : (known : List (ℕ × Commodity)) (fs : List FieldLines) (n : ℕ) (first : List ℕ)
-    → entries known [] (fs ++ new_field Line n first ∷ []) ≡ entries known [] fs ++ line (fraction_behind known fs) first [] ∷ []
+    → entries known [] (fs ++ new_field Line n first ∷ []) ≡ entries known [] fs ++ line (fraction_behind known fs)
+    first [] ∷ []
 new_line known fs n first = entries-push known fs (new_field Line n first) (and-false (ends_in_line (last_tag fs)))
   where
     and-false : (t : Bool) → (t && false) ≡ false
@@ -95,32 +154,45 @@ new_text : (known : List (ℕ × Commodity)) (fs : List FieldLines) (n : ℕ) (f
     ≡ (if ends_in_line (last_tag fs) then on_last (add_text first) (entries known [] fs) else entries known [] fs)
 new_text known fs n first =
     let P : Bool → Type 0 = λ t. ends_in_line (last_tag fs) ≡ t
-    → entries known [] (fs ++ new_field Text n first ∷ []) ≡ (if t then on_last (add_text first) (entries known [] fs) else entries known [] fs) in
+    → entries known [] (fs ++ new_field Text n first ∷ []) ≡
+    (if t then on_last (add_text first) (entries known [] fs) else entries known [] fs) in
     elim (ends_in_line (last_tag fs)) as P [
       | true ↦ λ e. entries-text known fs (new_field Text n first) e refl refl
-      | false ↦ λ e. entries-push known fs (new_field Text n first) (ap (λ t. t && true) e) ∙ append-nil (entries known [] fs)
+      | false ↦ λ e. entries-push known fs (new_field Text n first) (ap (λ t. t && true) e)
+          ∙ append-nil (entries known [] fs)
     ] refl
 
 -- the law by which a message is read from its first field on
 pub values-push : (known : List (ℕ × Commodity)) (fs : List FieldLines) (tag : Tag) (n : ℕ) (first : List ℕ)
     → values known (fs ++ new_field tag n first ∷ []) ≡ after known (values known fs) tag first
-values-push known fs Reference n first = values_pushed known fs (new_field Reference n first) ∙ ap (pushed known fs Reference first) (no_line known fs (new_field Reference n first) refl refl)
-values-push known fs Related n first = values_pushed known fs (new_field Related n first) ∙ ap (pushed known fs Related first) (no_line known fs (new_field Related n first) refl refl)
-values-push known fs Account n first = values_pushed known fs (new_field Account n first) ∙ ap (pushed known fs Account first) (no_line known fs (new_field Account n first) refl refl)
-values-push known fs Number n first = values_pushed known fs (new_field Number n first) ∙ ap (pushed known fs Number first) (no_line known fs (new_field Number n first) refl refl)
-values-push known fs (Opening g) n first = values_pushed known fs (new_field (Opening g) n first) ∙ ap (pushed known fs (Opening g) first) (no_line known fs (new_field (Opening g) n first) refl refl)
-values-push known fs Line n first = values_pushed known fs (new_field Line n first) ∙ ap (pushed known fs Line first) (new_line known fs n first)
-values-push known fs Text n first = values_pushed known fs (new_field Text n first) ∙ ap (pushed known fs Text first) (new_text known fs n first)
-values-push known fs (Closing g) n first = values_pushed known fs (new_field (Closing g) n first) ∙ ap (pushed known fs (Closing g) first) (no_line known fs (new_field (Closing g) n first) refl refl)
-values-push known fs Available n first = values_pushed known fs (new_field Available n first) ∙ ap (pushed known fs Available first) (no_line known fs (new_field Available n first) refl refl)
-values-push known fs Forward n first = values_pushed known fs (new_field Forward n first) ∙ ap (pushed known fs Forward first) (no_line known fs (new_field Forward n first) refl refl)
+values-push known fs Reference n first = values_pushed known fs (new_field Reference n first)
+    ∙ ap (pushed known fs Reference first) (no_line known fs (new_field Reference n first) refl refl)
+values-push known fs Related n first = values_pushed known fs (new_field Related n first)
+    ∙ ap (pushed known fs Related first) (no_line known fs (new_field Related n first) refl refl)
+values-push known fs Account n first = values_pushed known fs (new_field Account n first)
+    ∙ ap (pushed known fs Account first) (no_line known fs (new_field Account n first) refl refl)
+values-push known fs Number n first = values_pushed known fs (new_field Number n first)
+    ∙ ap (pushed known fs Number first) (no_line known fs (new_field Number n first) refl refl)
+values-push known fs (Opening g) n first = values_pushed known fs (new_field (Opening g) n first)
+    ∙ ap (pushed known fs (Opening g) first) (no_line known fs (new_field (Opening g) n first) refl refl)
+values-push known fs Line n first = values_pushed known fs (new_field Line n first)
+    ∙ ap (pushed known fs Line first) (new_line known fs n first)
+values-push known fs Text n first = values_pushed known fs (new_field Text n first)
+    ∙ ap (pushed known fs Text first) (new_text known fs n first)
+values-push known fs (Closing g) n first = values_pushed known fs (new_field (Closing g) n first)
+    ∙ ap (pushed known fs (Closing g) first) (no_line known fs (new_field (Closing g) n first) refl refl)
+values-push known fs Available n first = values_pushed known fs (new_field Available n first)
+    ∙ ap (pushed known fs Available first) (no_line known fs (new_field Available n first) refl refl)
+values-push known fs Forward n first = values_pushed known fs (new_field Forward n first)
+    ∙ ap (pushed known fs Forward first) (no_line known fs (new_field Forward n first) refl refl)
 
 -- whether further lines of a field belong to the text of a line
 abbrev pub takes_more : List FieldLines → Tag → Bool
 takes_more fs tag = is_line tag || (is_text tag && ends_in_line (last_tag fs))
 
 -- further lines that belong to the text of a line
-pub values-more : (known : List (ℕ × Commodity)) (fs : List FieldLines) (f : FieldLines) (piece : List ℕ) → takes_more fs f.tag ≡ true
+pub values-more : (known : List (ℕ × Commodity)) (fs : List FieldLines) (f : FieldLines) (piece : List ℕ)
+    → takes_more fs f.tag ≡ true
     → values known (fs ++ longer f piece ∷ []) ≡ after_more (values known (fs ++ f ∷ [])) piece
 values-more known fs f piece e =
     values_pushed known fs (longer f piece)
@@ -133,23 +205,28 @@ values-more known fs f piece e =
     takes_cases false true false e = absurd cc
     takes_cases false false c e = absurd cc
 
-    longer_entries : (known : List (ℕ × Commodity)) (fs : List FieldLines) (f : FieldLines) (piece : List ℕ) → takes_more fs f.tag ≡ true
+    longer_entries : (known : List (ℕ × Commodity)) (fs : List FieldLines) (f : FieldLines) (piece : List ℕ)
+        → takes_more fs f.tag ≡ true
         → entries known [] (fs ++ longer f piece ∷ []) ≡ on_last (add_text piece) (entries known [] (fs ++ f ∷ []))
-    longer_entries known fs f piece e = elim (takes_cases (is_line f.tag) (is_text f.tag) (ends_in_line (last_tag fs)) e) [
-      | inl is ↦ entries-longer_line known fs f piece is
-      | inr both ↦ entries-longer_text known fs f piece both.0 both.1
-    ]
+    longer_entries known fs f piece e = elim
+        (takes_cases (is_line f.tag) (is_text f.tag) (ends_in_line (last_tag fs)) e) [
+          | inl is ↦ entries-longer_line known fs f piece is
+          | inr both ↦ entries-longer_text known fs f piece both.0 both.1
+        ]
 
 -- further lines that do not
-pub values-idle : (known : List (ℕ × Commodity)) (fs : List FieldLines) (f : FieldLines) (piece : List ℕ) → takes_more fs f.tag ≡ false
+pub values-idle : (known : List (ℕ × Commodity)) (fs : List FieldLines) (f : FieldLines) (piece : List ℕ)
+    → takes_more fs f.tag ≡ false
     → values known (fs ++ longer f piece ∷ []) ≡ values known (fs ++ f ∷ [])
 values-idle known fs f piece e =
     let none = or_parts (is_line f.tag) (is_text f.tag && ends_in_line (last_tag fs)) e in
-    let apart : (ends_in_line (last_tag fs) && is_text f.tag) ≡ false = and-comm (ends_in_line (last_tag fs)) (is_text f.tag) ∙ none.1 in
+    let apart : (ends_in_line (last_tag fs)
+    && is_text f.tag) ≡ false = and-comm (ends_in_line (last_tag fs)) (is_text f.tag) ∙ none.1 in
     values_pushed known fs (longer f piece)
     ∙ ap (pushed known fs f.tag f.first)
     (entries-push known fs (longer f piece) apart
-    ∙ ap (λ l. entries known [] fs ++ l) (entry-other known fs (longer f piece) [] none.0 ∙ sym (entry-other known fs f [] none.0))
+    ∙ ap (λ l. entries known [] fs ++ l) (entry-other known fs (longer f piece) [] none.0
+    ∙ sym (entry-other known fs f [] none.0))
     ∙ sym (entries-push known fs f apart))
     ∙ sym (values_pushed known fs f)
   where

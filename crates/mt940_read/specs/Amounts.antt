@@ -10,22 +10,23 @@ is_comma byte = byte == 44
 -- 1 to 12 digits, a comma, and at most 9 digits
 unfoldable pub is_amount : List ℕ → Bool
 is_amount text =
-    is_some (position is_comma text) && has_digits 1 12 (before_first is_comma text) && has_digits 0 9 (after_first is_comma text)
+    is_some (position is_comma text) && has_digits 1 12 (before_first is_comma text)
+    && has_digits 0 9 (after_first is_comma text)
 
--- A text and what stands before and behind its first comma.
+-- a text and what stands before and behind its first comma
 pub record IsParted (text whole decimals : List ℕ) : Type 0 where
   pub found : is_some (position is_comma text) ≡ true
   pub front : whole ≡ before_first is_comma text
   pub back : decimals ≡ after_first is_comma text
 
--- An amount in smallest units of a commodity with this fraction.
+-- an amount in smallest units of a commodity with this fraction
 unfoldable pub amount : ℕ → List ℕ → ℕ
 amount fraction text = units (before_first is_comma text) (after_first is_comma text) fraction
 
--- The checks of an amount that has the form of one.
+-- the checks of an amount that has the form of one
 unfoldable pub amount_checks : ℕ → List ℕ → List Check
 amount_checks fraction text = unit_checks (before_first is_comma text) (after_first is_comma text) fraction
 
--- An amount is negative or not by its mark.
+-- an amount is negative or not by its mark
 abbrev pub signed : Bool → ℕ → ℤ
 signed negative size = if negative then neg_ℤ (pos size) else pos size

@@ -1,5 +1,21 @@
 -- Balances (SWIFT, MT940 fields 60, 62, 64 and 65): the mark C or D, the date YYMMDD, the currency, the amount.
-use Rattle.std.specs.Prelude.{ℕ, ◌==◌, nat_eq, Bool, ◌&&◌, ◌||◌, List, [], ◌∷◌, length, is_some, unwrap_or, ℤ, pos, codes}
+use Rattle.std.specs.Prelude.{
+  ℕ,
+  ◌==◌,
+  nat_eq,
+  Bool,
+  ◌&&◌,
+  ◌||◌,
+  List,
+  [],
+  ◌∷◌,
+  length,
+  is_some,
+  unwrap_or,
+  ℤ,
+  pos,
+  codes,
+}
 use Rattle.std.specs.Char.{is_ascii_uppercase}
 use Rattle.std.specs.List.{list_all}
 use lib.Pointwise.{pointwise}
@@ -9,7 +25,7 @@ use Rattle.book_statement.specs.Dates.{short_date}
 use Rattle.book_statement.specs.Pieces.{after_chars, first_chars}
 use Rattle.mt940_read.specs.Amounts.{is_amount, amount, signed}
 
--- The parts by their places, counted in characters: one, six and three, and the rest.
+-- the parts by their places, counted in characters: one, six and three, and the rest
 unfoldable pub balance_mark : List ℕ → List ℕ
 balance_mark text = first_chars 1 text
 
@@ -29,21 +45,21 @@ is_debit text = pointwise nat_eq (balance_mark text) (codes "D")
 abbrev pub is_credit : List ℕ → Bool
 is_credit text = pointwise nat_eq (balance_mark text) (codes "C")
 
--- The code of a currency is three capital letters (ISO 4217).
+-- the code of a currency is three capital letters (ISO 4217)
 abbrev pub is_code : List ℕ → Bool
 is_code text = (length text == 3) && list_all is_ascii_uppercase text
 
--- The form of a balance.
+-- the form of a balance
 unfoldable pub balance_form : List ℕ → List Check
 balance_form text =
     check ((is_credit text || is_debit text) && is_code (balance_currency text)) FieldForm
     ∷ check (is_some (short_date (balance_date text))) DateForm
     ∷ check (is_amount (balance_amount text)) AmountForm ∷ []
 
--- The balance in smallest units of a currency with this fraction, negative for a debit.
+-- the balance in smallest units of a currency with this fraction, negative for a debit
 unfoldable pub balance : ℕ → List ℕ → ℤ
 balance fraction text = signed (is_debit text) (amount fraction (balance_amount text))
 
--- The day of a balance.
+-- the day of a balance
 unfoldable pub balance_day : List ℕ → ℤ
 balance_day text = unwrap_or (short_date (balance_date text)) (pos 0)

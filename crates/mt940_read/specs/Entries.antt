@@ -11,36 +11,37 @@ use Rattle.mt940_read.specs.LineField.{line}
 use Rattle.mt940_read.specs.Order.{is_line, is_text}
 use Rattle.mt940_read.specs.Tree.{FieldLines}
 
--- What the last field gives that gives something; `gives` sees the fields before it, its tag and its text.
-abbrev pub last_given : {X : Type 0} → (List FieldLines → Tag → List ℕ → Option X) → List FieldLines → List FieldLines → Option X
+-- what the last field gives that gives something; `gives` sees the fields before it, its tag and its text
+abbrev pub last_given : {X : Type 0} → (List FieldLines → Tag → List ℕ → Option X) → List FieldLines
+    → List FieldLines → Option X
 last_given gives before [] = None
 last_given gives before (f ∷ fs) = option_or (last_given gives (before ++ f ∷ []) fs) (gives before f.tag f.first)
 
--- The tag of the last field.
+-- the tag of the last field
 abbrev pub last_tag : List FieldLines → Option Tag
 last_tag [] = None
 last_tag (f ∷ []) = Some f.tag
 last_tag (f ∷ g ∷ gs) = last_tag (g ∷ gs)
 
--- The fraction of a currency; 1 where the book has no such currency.
+-- the fraction of a currency; 1 where the book has no such currency
 abbrev pub fraction_in : List (ℕ × Commodity) → List ℕ → ℕ
 fraction_in known code = unwrap_or (fraction_of code known) 1
 
--- The fraction that a field 60 gives.
+-- the fraction that a field 60 gives
 abbrev pub fraction_given : List (ℕ × Commodity) → List FieldLines → Tag → List ℕ → Option ℕ
 fraction_given known before (Opening goes_on) text = Some (fraction_in known (balance_currency text))
 fraction_given known before _ text = None
 
--- The fraction in which the amounts behind some fields are counted: that of the 60 before them.
+-- the fraction in which the amounts behind some fields are counted: that of the 60 before them
 abbrev pub fraction_behind : List (ℕ × Commodity) → List FieldLines → ℕ
 fraction_behind known fields = unwrap_or (last_given (fraction_given known) [] fields) 1
 
--- The pieces of text that a 61 has from a 86 directly behind it.
+-- the pieces of text that a 61 has from a 86 directly behind it
 abbrev pub text_behind : List FieldLines → List (List ℕ)
 text_behind [] = []
 text_behind (f ∷ fs) = if is_text f.tag then f.first ∷ f.more else []
 
--- The lines: one for each 61, with its further lines and then those of the 86 as its text.
+-- the lines: one for each 61, with its further lines and then those of the 86 as its text
 abbrev pub entry : List (ℕ × Commodity) → List FieldLines → FieldLines → List FieldLines → List StatementLine
 entry known before f behind =
     if is_line f.tag then line (fraction_behind known before) f.first (f.more ++ text_behind behind) ∷ [] else []

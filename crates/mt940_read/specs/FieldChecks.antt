@@ -1,8 +1,36 @@
 -- The checks of a field, in the order in which they are asked.
-use Rattle.std.specs.Prelude.{ℕ, ◌≡◌, ◌<◌, ◌+◌, None, ⊤, nat_lt, Bool, true, not, ◌||◌, List, [], ◌∷◌, ◌++◌, length, Option, is_some, if◌then◌else◌, ℤ, pos}
+use Rattle.std.specs.Prelude.{
+  ℕ,
+  ◌≡◌,
+  ◌+◌,
+  None,
+  ⊤,
+  nat_lt,
+  Bool,
+  not,
+  ◌||◌,
+  List,
+  [],
+  ◌∷◌,
+  ◌++◌,
+  length,
+  Option,
+  is_some,
+  if◌then◌else◌,
+  ℤ,
+  pos,
+}
 use Rattle.std.specs.Ordering.{int_eq}
 use Rattle.book_commodity.specs.declared.commodity.Commodity.{Commodity}
-use Rattle.book_statement.specs.declared.bad.Bad.TheVariants.{FieldOrder, FieldForm, UnknownCurrency, CurrencyDiffers, PageOrder, BalanceMismatch, TooMany}
+use Rattle.book_statement.specs.declared.bad.Bad.TheVariants.{
+  FieldOrder,
+  FieldForm,
+  UnknownCurrency,
+  CurrencyDiffers,
+  PageOrder,
+  BalanceMismatch,
+  TooMany,
+}
 use Rattle.book_statement.specs.Checks.{Check, check, first_bad}
 use Rattle.book_statement.specs.Currencies.{fraction_of}
 use Rattle.book_statement.specs.Keys.{same_text}
@@ -10,7 +38,18 @@ use Rattle.book_statement.specs.Texts.{is_nothing}
 use Rattle.mt940_read.specs.declared.message.Message.{Message}
 use Rattle.mt940_read.specs.declared.page.Page.{Page}
 use Rattle.mt940_read.specs.declared.tag.Tag.{Tag}
-use Rattle.mt940_read.specs.declared.tag.Tag.TheVariants.{Reference, Related, Account, Number, Opening, Line, Text, Closing, Available, Forward}
+use Rattle.mt940_read.specs.declared.tag.Tag.TheVariants.{
+  Reference,
+  Related,
+  Account,
+  Number,
+  Opening,
+  Line,
+  Text,
+  Closing,
+  Available,
+  Forward,
+}
 use Rattle.mt940_read.specs.Amounts.{amount_checks}
 use Rattle.mt940_read.specs.Balances.{balance, balance_form, balance_amount, balance_currency}
 use Rattle.mt940_read.specs.Entries.{fraction_in}
@@ -25,12 +64,13 @@ page_checks page statements m goes_on currency opening =
     check (not (joins_page page m.account goes_on) || agrees page currency opening goes_on) PageOrder
     ∷ check (joins_page page m.account goes_on || nat_lt statements 1_000) TooMany ∷ []
 
--- Its currency is one of the book's, and the balance a whole number of its smallest units.
+-- its currency is one of the book's, and the balance a whole number of its smallest units
 unfoldable pub opening_currency_checks : List (ℕ × Commodity) → Option Page → ℕ → Message → Bool → List ℕ → List Check
 opening_currency_checks known page statements m goes_on text =
     check (is_some (fraction_of (balance_currency text) known)) UnknownCurrency
     ∷ (amount_checks (fraction_in known (balance_currency text)) (balance_amount text)
-    ++ page_checks page statements m goes_on (balance_currency text) (balance (fraction_in known (balance_currency text)) text))
+    ++ page_checks page statements m goes_on (balance_currency text)
+    (balance (fraction_in known (balance_currency text)) text))
 
 unfoldable pub opening_checks : List (ℕ × Commodity) → Option Page → ℕ → Message → Bool → List ℕ → List Check
 opening_checks known page statements m goes_on text =
@@ -39,8 +79,10 @@ opening_checks known page statements m goes_on text =
 -- 62, 64 and 65: the currency is that of the 60, which was asked there, or else at least one of the book's
 unfoldable pub later_currency_checks : List (ℕ × Commodity) → Message → List ℕ → List Check
 later_currency_checks known m text =
-    check (same_text (balance_currency text) m.currency || is_some (fraction_of (balance_currency text) known)) UnknownCurrency
-    ∷ check (same_text (balance_currency text) m.currency) CurrencyDiffers ∷ amount_checks m.fraction (balance_amount text)
+    check (same_text (balance_currency text) m.currency || is_some (fraction_of (balance_currency text) known))
+    UnknownCurrency
+    ∷ check (same_text (balance_currency text) m.currency) CurrencyDiffers ∷ amount_checks m.fraction
+    (balance_amount text)
 
 unfoldable pub later_checks : List (ℕ × Commodity) → Message → List ℕ → List Check
 later_checks known m text = balance_form text ++ later_currency_checks known m text
@@ -52,7 +94,7 @@ reckoned_checks m closing = check (int_eq closing (reckoned m)) (BalanceMismatch
 unfoldable pub closing_checks : List (ℕ × Commodity) → Message → List ℕ → List Check
 closing_checks known m text = later_checks known m text ++ reckoned_checks m (balance m.fraction text)
 
--- How many lines the statement has before a line of this message.
+-- how many lines the statement has before a line of this message
 abbrev pub lines_before : Option Page → ℕ → Message → ℕ
 lines_before page last_lines m = (if joins_page page m.account m.opens_page then last_lines else 0) + length m.lines
 
@@ -61,7 +103,8 @@ unfoldable pub room_checks : Option Page → ℕ → Message → List Check
 room_checks page last_lines m = check (nat_lt (lines_before page last_lines m) 10_000) TooMany ∷ []
 
 unfoldable pub line_amount_checks : Option Page → ℕ → Message → List ℕ → List Check
-line_amount_checks page last_lines m text = amount_checks m.fraction (amount_part text) ++ room_checks page last_lines m
+line_amount_checks page last_lines m text = amount_checks m.fraction (amount_part text) ++ room_checks page
+    last_lines m
 
 unfoldable pub line_checks : Option Page → ℕ → Message → List ℕ → List Check
 line_checks page last_lines m text = line_form text ++ line_amount_checks page last_lines m text
@@ -70,7 +113,7 @@ line_checks page last_lines m text = line_form text ++ line_amount_checks page l
 abbrev pub some_checks : List ℕ → List Check
 some_checks text = check (not (is_nothing text)) FieldForm ∷ []
 
--- The checks of a field behind others, without that of the order.
+-- the checks of a field behind others, without that of the order
 abbrev pub own_checks : List (ℕ × Commodity) → Past → Message → Tag → List ℕ → List Check
 own_checks known past m Reference text = []
 own_checks known past m Related text = []
@@ -83,12 +126,12 @@ own_checks known past m (Closing goes_on) text = closing_checks known m text
 own_checks known past m Available text = later_checks known m text
 own_checks known past m Forward text = later_checks known m text
 
--- The checks of a field, behind the fields whose values are `m` and the messages that are `past`.
+-- the checks of a field, behind the fields whose values are `m` and the messages that are `past`
 abbrev pub field_checks : List (ℕ × Commodity) → Past → Message → Tag → List ℕ → List Check
 field_checks known past m tag text =
     check (may_follow m.last (is_some m.closing) tag) FieldOrder ∷ own_checks known past m tag text
 
--- The amount of a field, 0 for one without an amount.
+-- the amount of a field, 0 for one without an amount
 abbrev pub amount_in : List (ℕ × Commodity) → Message → Tag → List ℕ → ℤ
 amount_in known m (Opening goes_on) text = balance (fraction_in known (balance_currency text)) text
 amount_in known m Line text = line_amount m.fraction text
@@ -97,7 +140,7 @@ amount_in known m Available text = balance m.fraction text
 amount_in known m Forward text = balance m.fraction text
 amount_in known m _ text = pos 0
 
--- What a field's checks leave of its form, for what is kept of it.
+-- what a field's checks leave of its form, for what is kept of it
 abbrev pub Fits : Message → Tag → List ℕ → Type 0
 Fits m (Opening goes_on) text = first_bad (balance_form text) ≡ None
 Fits m (Closing goes_on) text = first_bad (balance_form text) ≡ None

@@ -2,7 +2,18 @@
 -- any number of 65, [86].
 use Rattle.std.specs.Prelude.{Bool, true, false, ◌||◌, not, ◌&&◌, Option, Some, None}
 use Rattle.mt940_read.specs.declared.tag.Tag.{Tag}
-use Rattle.mt940_read.specs.declared.tag.Tag.TheVariants.{Reference, Related, Account, Number, Opening, Line, Text, Closing, Available, Forward}
+use Rattle.mt940_read.specs.declared.tag.Tag.TheVariants.{
+  Reference,
+  Related,
+  Account,
+  Number,
+  Opening,
+  Line,
+  Text,
+  Closing,
+  Available,
+  Forward,
+}
 
 abbrev pub is_account : Tag → Bool
 is_account Account = true
@@ -40,7 +51,7 @@ abbrev pub is_forward : Tag → Bool
 is_forward Forward = true
 is_forward _ = false
 
--- Which field may stand behind the last one, in a message that has its closing balance or not.
+-- which field may stand behind the last one, in a message that has its closing balance or not
 abbrev pub may_follow : Option Tag → Bool → Tag → Bool
 may_follow None closed tag = true
 may_follow (Some Reference) closed tag = is_related tag || is_account tag

@@ -1,5 +1,24 @@
 -- Pages: messages that follow each other in the file and are one statement (SWIFT, MT940: 60M and 62M).
-use Rattle.std.specs.Prelude.{ℕ, Bool, true, false, nat_lt, ◌&&◌, ◌||◌, not, List, [], ◌∷◌, ◌++◌, length, Option, Some, None, unwrap_or, if◌then◌else◌, ℤ, pos}
+use Rattle.std.specs.Prelude.{
+  ℕ,
+  Bool,
+  true,
+  false,
+  ◌&&◌,
+  ◌||◌,
+  List,
+  [],
+  ◌∷◌,
+  ◌++◌,
+  length,
+  Option,
+  Some,
+  None,
+  unwrap_or,
+  if◌then◌else◌,
+  ℤ,
+  pos,
+}
 use Rattle.std.specs.Ordering.{int_eq}
 use Rattle.book_commodity.specs.declared.commodity.Commodity.{Commodity}
 use Rattle.book_statement.specs.declared.statement.Statement.{Statement}
@@ -11,29 +30,35 @@ use Rattle.mt940_read.specs.declared.page.Page.{Page}
 use Rattle.mt940_read.specs.Tree.{MessageLines}
 use Rattle.mt940_read.specs.Values.{values}
 
--- What the next message has to know of one.
+-- what the next message has to know of one
 abbrev pub page_of : Message → Page
-page_of m = record { account = m.account; currency = m.currency; closing = unwrap_or m.closing (pos 0); closes_page = m.closes_page }
+page_of m = record {
+  account = m.account;
+  currency = m.currency;
+  closing = unwrap_or m.closing (pos 0);
+  closes_page =
+      m.closes_page;
+}
 
--- A message belongs to the statement of the message before: they have one account, and the first closes or the second
--- opens a page in the middle of a statement.
+-- a message belongs to the statement of the message before: they have one account, and the first closes or the second
+-- opens a page in the middle of a statement
 abbrev pub joins_page : Option Page → List ℕ → Bool → Bool
 joins_page None account opens = false
 joins_page (Some page) account opens = same_text page.account account && (page.closes_page || opens)
 
--- A page goes on with the one before: both are in the middle of a statement, and the balances agree.
+-- a page goes on with the one before: both are in the middle of a statement, and the balances agree
 abbrev pub agrees : Option Page → List ℕ → ℤ → Bool → Bool
 agrees None currency opening opens = true
 agrees (Some page) currency opening opens =
     page.closes_page && opens && int_eq page.closing opening && same_text page.currency currency
 
--- The last message of some.
+-- the last message of some
 abbrev pub last_page : List (ℕ × Commodity) → List MessageLines → Option Page
 last_page known [] = None
 last_page known (m ∷ []) = Some (page_of (values known m.fields))
 last_page known (m ∷ n ∷ ms) = last_page known (n ∷ ms)
 
--- The statement of a message alone.
+-- the statement of a message alone
 abbrev pub statement_alone : Message → Statement
 statement_alone m = record {
   account_text = m.account;
@@ -46,8 +71,8 @@ statement_alone m = record {
   lines = m.lines;
 }
 
--- A page in front of a statement: the number and the opening balance are the first page's, the closing balance and the
--- day the last one's.
+-- a page in front of a statement: the number and the opening balance are the first page's, the closing balance and the
+-- day the last one's
 abbrev pub with_page : Message → Statement → Statement
 with_page m statement = record statement {
   account_text = m.account;
@@ -57,29 +82,32 @@ with_page m statement = record statement {
   lines = m.lines ++ statement.lines;
 }
 
--- A statement with another closing balance and day, and more lines.
+-- a statement with another closing balance and day, and more lines
 abbrev pub with_end : Option ℤ → ℤ → List StatementLine → Statement → Statement
-with_end closing day lines statement = record statement { closing = closing; day = day; lines = statement.lines ++ lines }
+with_end closing day lines statement = record statement
+    { closing = closing; day = day; lines = statement.lines ++ lines }
 
--- A page behind a statement.
+-- a page behind a statement
 abbrev pub with_last_page : Statement → Message → Statement
 with_last_page statement m = with_end m.closing m.day m.lines statement
 
 abbrev pub joins : List (ℕ × Commodity) → MessageLines → MessageLines → Bool
-joins known m n = joins_page (Some (page_of (values known m.fields))) (values known n.fields).account (values known n.fields).opens_page
+joins known m n = joins_page (Some (page_of (values known m.fields))) (values known n.fields).account
+    (values known n.fields).opens_page
 
--- The statements of a file: messages that belong together are one.
+-- the statements of a file: messages that belong together are one
 abbrev pub statements_of : List (ℕ × Commodity) → List MessageLines → List Statement
 statements_of known messages =
-    grouped (joins known) (λ m. statement_alone (values known m.fields)) (λ m s. with_page (values known m.fields) s) messages
+    grouped (joins known) (λ m. statement_alone (values known m.fields)) (λ m s. with_page (values known m.fields) s)
+    messages
 
--- How many lines the last statement has.
+-- how many lines the last statement has
 abbrev pub last_lines : List Statement → ℕ
 last_lines [] = 0
 last_lines (s ∷ []) = length s.lines
 last_lines (s ∷ t ∷ ts) = last_lines (t ∷ ts)
 
--- What the messages before a message are to it.
+-- what the messages before a message are to it
 pub record Past : Type 0 where
   pub page : Option Page
   pub statements : ℕ
@@ -92,7 +120,8 @@ past_of known before = record {
   lines = last_lines (statements_of known before);
 }
 
--- The statements with one message more.
+-- the statements with one message more
 abbrev pub with_message : Option Page → Message → List Statement → List Statement
 with_message page m done =
-    if joins_page page m.account m.opens_page then on_last (λ s. with_last_page s m) done else done ++ statement_alone m ∷ []
+    if joins_page page m.account m.opens_page then on_last (λ s. with_last_page s m) done else done ++
+    statement_alone m ∷ []

@@ -1,5 +1,5 @@
 -- What a text says in MT940: its statements, or the first place at which a check fails.
-use Rattle.std.specs.Prelude.{ℕ, List, [], ◌∷◌, ◌++◌, is_some, Result, Ok, Err}
+use Rattle.std.specs.Prelude.{ℕ, List, [], ◌∷◌, ◌++◌, is_some, Result, Err}
 use Rattle.book_commodity.specs.declared.commodity.Commodity.{Commodity}
 use Rattle.book_statement.specs.declared.bad.Bad.TheVariants.{NoStatement, CutOff}
 use Rattle.book_statement.specs.declared.fault.StatementFault.{StatementFault}
@@ -12,14 +12,14 @@ use Rattle.mt940_read.specs.Pages.{Past, past_of, statements_of}
 use Rattle.mt940_read.specs.Tree.{FieldLines, MessageLines, messages_of}
 use Rattle.mt940_read.specs.Values.{values}
 
--- A field is checked with the fields and the messages before it.
+-- a field is checked with the fields and the messages before it
 abbrev pub field_place : List (ℕ × Commodity) → Past → List FieldLines → FieldLines → List Place
 field_place known past before f = place f.line (field_checks known past (values known before) f.tag f.first) ∷ []
 
 abbrev pub field_places : List (ℕ × Commodity) → Past → List FieldLines → List Place
 field_places known past fields = each_after (field_place known past) [] fields
 
--- At the end of a message: its closing balance has to be there.
+-- at the end of a message: its closing balance has to be there
 abbrev pub end_place : List (ℕ × Commodity) → MessageLines → Place
 end_place known m = place m.last (check (is_some (values known m.fields).closing) CutOff ∷ [])
 
@@ -29,11 +29,11 @@ message_places known before m = field_places known (past_of known before) m.fiel
 abbrev pub file_places : List (ℕ × Commodity) → List MessageLines → List Place
 file_places known messages = each_after (message_places known) [] messages
 
--- The statements of messages, or their first fault; a file without a message has no statement.
+-- the statements of messages, or their first fault; a file without a message has no statement
 abbrev pub result_of : List (ℕ × Commodity) → List MessageLines → Result (List Statement) StatementFault
 result_of known [] = Err (record { line = 0; bad = NoStatement })
 result_of known (m ∷ ms) = unless_fault (first_fault (file_places known (m ∷ ms))) (statements_of known (m ∷ ms))
 
--- What a text says, where the book has these commodities.
+-- what a text says, where the book has these commodities
 unfoldable pub reading : List (ℕ × Commodity) → List ℕ → Result (List Statement) StatementFault
 reading known text = result_of known (messages_of (lines_of text))

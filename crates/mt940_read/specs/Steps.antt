@@ -1,6 +1,27 @@
--- What a reader keeps of the lines that it has read, and how a line changes it: laws of the definition in Reading, which
--- speaks of the whole file.
-use Rattle.std.specs.Prelude.{ℕ, ◌+◌, ◌≡◌, Bool, false, ◌&&◌, ◌||◌, List, [], ◌∷◌, ◌++◌, length, Option, Some, None, is_some, Result, Ok, Err, if◌then◌else◌, ⊤}
+-- What a reader keeps of the lines that it has read, and how a line changes it: laws of the definition in Reading,
+-- which speaks of the whole file.
+use Rattle.std.specs.Prelude.{
+  ℕ,
+  ◌+◌,
+  ◌≡◌,
+  Bool,
+  false,
+  ◌&&◌,
+  ◌||◌,
+  List,
+  [],
+  ◌∷◌,
+  length,
+  Option,
+  Some,
+  None,
+  is_some,
+  Result,
+  Ok,
+  Err,
+  if◌then◌else◌,
+  ⊤,
+}
 use Rattle.book_commodity.specs.declared.commodity.Commodity.{Commodity}
 use Rattle.book_statement.specs.declared.bad.Bad.TheVariants.{CutOff, NoStatement}
 use Rattle.book_statement.specs.declared.fault.StatementFault.{StatementFault}
@@ -18,15 +39,15 @@ use Rattle.mt940_read.specs.Order.{is_line, is_text}
 use Rattle.mt940_read.specs.Pages.{Past, last_lines, page_of, with_message}
 use Rattle.mt940_read.specs.Values.{after, after_more, ends_in_line, values}
 
--- What the statements before are to the message that is read.
+-- what the statements before are to the message that is read
 abbrev pub past_kept : Reader → Past
 past_kept k = record { page = k.page; statements = length k.done; lines = last_lines k.done }
 
--- Whether a message has begun.
+-- whether a message has begun
 abbrev pub is_within : Reader → Bool
 is_within k = is_some k.message.last
 
--- The message is whole: a page of the last statement, or a statement of its own.
+-- the message is whole: a page of the last statement, or a statement of its own
 abbrev pub ended : List (ℕ × Commodity) → Reader → Reader
 ended known k =
     if is_within k then record {
@@ -39,7 +60,7 @@ ended known k =
 abbrev pub begun : Reader → Reader
 begun k = record k { message = record k.message { last = Some Reference } }
 
--- What is kept behind one line more.
+-- what is kept behind one line more
 abbrev pub next : List (ℕ × Commodity) → Kind → List ℕ → Reader → Reader
 next known Begins line k = begun (ended known k)
 next known (Field tag) line k =
@@ -51,7 +72,7 @@ next known Passed line k = record k { goes = false }
 next known Ends line k = ended known k
 next known More line k = if k.goes then record k { message = after_more k.message line } else k
 
--- The checks that a line brings, and the line at which they fail.
+-- the checks that a line brings, and the line at which they fail
 abbrev pub end_checks : Reader → List Check
 end_checks k = if is_within k then check (is_some k.message.closing) CutOff ∷ [] else []
 
@@ -67,18 +88,18 @@ abbrev pub line_of_fault : Kind → ℕ → ℕ
 line_of_fault (Field tag) n = n + 1
 line_of_fault _ n = n
 
--- What a call answers that makes these checks for a line, and what it then keeps.
+-- what a call answers that makes these checks for a line, and what it then keeps
 abbrev pub Steps : {X : Type 0} → ℕ → List Check → Reader → Result X ReadError → Reader → Type 0
 Steps line checks after' (Ok _) new = (first_bad checks ≡ None) × (new ≡ after')
 Steps line checks after' (Err OutOfMemory) new = ⊤
 Steps line checks after' (Err (Fault fault)) new = fault_at line (first_bad checks) None ≡ Some fault
 
--- No statement in the whole file.
+-- no statement in the whole file
 abbrev pub no_statement : List Statement → Option StatementFault
 no_statement [] = Some (record { line = 0; bad = NoStatement })
 no_statement (s ∷ ss) = None
 
--- What is said at the end of the file, behind so many lines.
+-- what is said at the end of the file, behind so many lines
 abbrev pub finished : List (ℕ × Commodity) → ℕ → Reader → Result (List Statement) StatementFault
 finished known last k =
     unless_fault (fault_at last (first_bad (end_checks k)) (no_statement (ended known k).done)) (ended known k).done

@@ -1,15 +1,43 @@
 -- The values of a message: what its fields say.
-use Rattle.std.specs.Prelude.{ℕ, ◌==◌, Bool, true, false, List, [], ◌∷◌, ◌++◌, Option, Some, None, unwrap_or, option_map, is_some, if◌then◌else◌, ℤ, pos, ◌+ℤ◌}
+use Rattle.std.specs.Prelude.{
+  ℕ,
+  ◌==◌,
+  Bool,
+  false,
+  List,
+  [],
+  ◌∷◌,
+  ◌++◌,
+  Option,
+  Some,
+  None,
+  unwrap_or,
+  if◌then◌else◌,
+  ℤ,
+  pos,
+  ◌+ℤ◌,
+}
 use Rattle.std.specs.List.{before_first}
 use Rattle.book_commodity.specs.declared.commodity.Commodity.{Commodity}
 use Rattle.book_statement.specs.Lists.{on_last}
 use Rattle.mt940_read.specs.declared.message.Message.{Message}
 use Rattle.mt940_read.specs.declared.tag.Tag.{Tag}
-use Rattle.mt940_read.specs.declared.tag.Tag.TheVariants.{Reference, Related, Account, Number, Opening, Line, Text, Closing, Available, Forward}
+use Rattle.mt940_read.specs.declared.tag.Tag.TheVariants.{
+  Reference,
+  Related,
+  Account,
+  Number,
+  Opening,
+  Line,
+  Text,
+  Closing,
+  Available,
+  Forward,
+}
 use Rattle.mt940_read.specs.Balances.{balance, balance_currency, balance_day}
-use Rattle.mt940_read.specs.Entries.{last_given, fraction_in, fraction_given, fraction_behind, last_tag, entries}
+use Rattle.mt940_read.specs.Entries.{last_given, fraction_in, fraction_behind, last_tag, entries}
 use Rattle.mt940_read.specs.LineField.{line, add_text}
-use Rattle.mt940_read.specs.Order.{is_line, is_text}
+use Rattle.mt940_read.specs.Order.{is_line}
 use Rattle.mt940_read.specs.Totals.{total_of}
 use Rattle.mt940_read.specs.Tree.{FieldLines}
 
@@ -51,7 +79,7 @@ abbrev pub day_given : List FieldLines → Tag → List ℕ → Option ℤ
 day_given before (Closing goes_on) text = Some (balance_day text)
 day_given before _ text = None
 
--- The values of a message with these fields.
+-- the values of a message with these fields
 abbrev pub values : List (ℕ × Commodity) → List FieldLines → Message
 values known fields = record {
   last = last_tag fields;
@@ -67,16 +95,16 @@ values known fields = record {
   lines = entries known [] fields;
 }
 
--- The closing balance that the opening balance and the lines of the message give.
+-- the closing balance that the opening balance and the lines of the message give
 abbrev pub reckoned : Message → ℤ
 reckoned message = unwrap_or message.opening (pos 0) +ℤ total_of message.lines
 
--- Whether the last field is a 61.
+-- whether the last field is a 61
 abbrev pub ends_in_line : Option Tag → Bool
 ends_in_line None = false
 ends_in_line (Some tag) = is_line tag
 
--- The values with one field more: a law of `values`, by which a message is read from its first field on.
+-- the values with one field more: a law of `values`, by which a message is read from its first field on
 abbrev pub after : List (ℕ × Commodity) → Message → Tag → List ℕ → Message
 after known m Reference text = record m { last = Some Reference }
 after known m Related text = record m { last = Some Related }
@@ -103,6 +131,6 @@ after known m (Closing goes_on) text = record m {
 after known m Available text = record m { last = Some Available }
 after known m Forward text = record m { last = Some Forward }
 
--- The values with one further line behind a field that is a 61 or its text.
+-- the values with one further line behind a field that is a 61 or its text
 abbrev pub after_more : Message → List ℕ → Message
 after_more m piece = record m { lines = on_last (add_text piece) m.lines }

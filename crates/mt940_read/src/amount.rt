@@ -14,7 +14,8 @@ fn comma(text: &[u8]) -> Option<usize>
 
 /// What stands before and behind the first comma; `None` where there is no comma.
 fn parted(text: &[u8]) -> Option<(&[u8], &[u8])>
-    ensures { MatchOption result (position is_comma text.now ≡ None) (λ parts. IsParted text.now parts.0.now parts.1.now) }
+    ensures { MatchOption result (position is_comma text.now ≡ None)
+        (λ parts. IsParted text.now parts.0.now parts.1.now) }
 {
     match comma(text) {
         Some(place) => Some((&text[..place], &text[place + 1..])),
@@ -33,8 +34,8 @@ pub fn is_amount(text: &[u8]) -> bool
     }
 }
 
-/// An amount in smallest units of a currency, negative where it is a debit; `TooManyDecimals` where it is no whole number
-/// of them, then `AmountForm` where it is above 10^12.
+/// An amount in smallest units of a currency, negative where it is a debit; `TooManyDecimals` where it is no whole
+/// number of them, then `AmountForm` where it is above 10^12.
 pub fn amount(text: &[u8], fraction: Fraction, negative: bool) -> Result<i64, Bad>
     requires { IsTrue (is_amount text.now) }
     ensures { Tells (amount_checks fraction text.now) (signed negative (amount fraction text.now)) result }

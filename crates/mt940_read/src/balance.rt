@@ -3,7 +3,18 @@ ghost use Rattle.std.specs.Char.{is_ascii_uppercase};
 ghost use Rattle.std.specs.List.{list_all};
 ghost use Rattle.book_statement.specs.Checks.{Tells, first_bad};
 ghost use Rattle.mt940_read.specs.Amounts.{amount_checks, is_amount};
-ghost use Rattle.mt940_read.specs.Balances.{balance, balance_amount, balance_currency, balance_date, balance_day, balance_form, balance_mark, is_code, is_credit, is_debit};
+ghost use Rattle.mt940_read.specs.Balances.{
+  balance,
+  balance_amount,
+  balance_currency,
+  balance_date,
+  balance_day,
+  balance_form,
+  balance_mark,
+  is_code,
+  is_credit,
+  is_debit,
+};
 
 use crate::amount::{amount, is_amount};
 use crate::fraction::Fraction;

@@ -5,7 +5,23 @@ ghost use Rattle.book_statement.specs.Currencies.{HaveFractions, fraction_of};
 ghost use Rattle.book_statement.specs.Keys.{same_text};
 ghost use Rattle.mt940_read.specs.Balances.{balance, balance_currency, balance_form};
 ghost use Rattle.mt940_read.specs.Entries.{fraction_in};
-ghost use Rattle.mt940_read.specs.FieldChecks.{lines_before, amount_in, closing_checks, field_checks, later_checks, later_currency_checks, line_amount_checks, line_checks, opening_checks, opening_currency_checks, own_checks, page_checks, reckoned_checks, room_checks, some_checks};
+ghost use Rattle.mt940_read.specs.FieldChecks.{
+  lines_before,
+  amount_in,
+  closing_checks,
+  field_checks,
+  later_checks,
+  later_currency_checks,
+  line_amount_checks,
+  line_checks,
+  opening_checks,
+  opening_currency_checks,
+  own_checks,
+  page_checks,
+  reckoned_checks,
+  room_checks,
+  some_checks,
+};
 ghost use Rattle.mt940_read.specs.LineField.{line_amount, line_form};
 ghost use Rattle.mt940_read.specs.Pages.{agrees, joins_page};
 
@@ -19,9 +35,9 @@ use crate::tag::Tag;
 use book_commodity::Commodities;
 use book_statement::{Bad, MAX_LINES, MAX_STATEMENTS, fraction_of};
 
-/// The checks of a field behind the fields of a message, in their order; the amount of the field where all hold, 0 for a
-/// field without an amount. `page`, `statements` and `last_lines` are what stands before the message: the message before
-/// it, how many statements there are, and how many lines the last of them has.
+/// The checks of a field behind the fields of a message, in their order; the amount of the field where all hold,
+/// 0 for a field without an amount. `page`, `statements` and `last_lines` are what stands before the message: the
+/// message before it, how many statements there are, and how many lines the last of them has.
 pub fn check_field(
     known: &Commodities,
     page: &Option<Page>,
@@ -32,7 +48,9 @@ pub fn check_field(
     text: &[u8],
 ) -> Result<i64, Bad>
     requires { HaveFractions known.now.entries }
-    ensures { Tells (field_checks known.now.entries (record { page = page.now; statements = statements; lines = last_lines }) message.now tag text.now) (amount_in known.now.entries message.now tag text.now) result }
+    ensures { Tells (field_checks known.now.entries
+        (record { page = page.now; statements = statements; lines = last_lines }) message.now tag text.now)
+        (amount_in known.now.entries message.now tag text.now) result }
 {
     if !may_follow(message.last, message.closing.is_some(), tag) {
         return Err(Bad::FieldOrder);
@@ -51,7 +69,9 @@ fn check_own(
     text: &[u8],
 ) -> Result<i64, Bad>
     requires { HaveFractions known.now.entries }
-    ensures { Tells (own_checks known.now.entries (record { page = page.now; statements = statements; lines = last_lines }) message.now tag text.now) (amount_in known.now.entries message.now tag text.now) result }
+    ensures { Tells (own_checks known.now.entries
+        (record { page = page.now; statements = statements; lines = last_lines }) message.now tag text.now)
+        (amount_in known.now.entries message.now tag text.now) result }
 {
     match tag {
         Tag::Reference | Tag::Related | Tag::Text => Ok(0),
@@ -95,7 +115,8 @@ fn check_opening(
     text: &[u8],
 ) -> Result<i64, Bad>
     requires { HaveFractions known.now.entries }
-    ensures { Tells (opening_checks known.now.entries page.now statements message.now goes_on text.now) (balance (fraction_in known.now.entries (balance_currency text.now)) text.now) result }
+    ensures { Tells (opening_checks known.now.entries page.now statements message.now goes_on text.now)
+        (balance (fraction_in known.now.entries (balance_currency text.now)) text.now) result }
 {
     match check_balance_form(text) {
         Err(bad) => Err(bad),
@@ -114,7 +135,8 @@ fn check_opening_currency(
 ) -> Result<i64, Bad>
     requires fractions { HaveFractions known.now.entries }
     requires form { first_bad (balance_form text.now) ≡ None }
-    ensures { Tells (opening_currency_checks known.now.entries page.now statements message.now goes_on text.now) (balance (fraction_in known.now.entries (balance_currency text.now)) text.now) result }
+    ensures { Tells (opening_currency_checks known.now.entries page.now statements message.now goes_on text.now)
+        (balance (fraction_in known.now.entries (balance_currency text.now)) text.now) result }
 {
     let currency = balance_currency(text);
     if fraction_of(currency, known).is_none() {
@@ -154,7 +176,8 @@ fn is_page(
     currency: &[u8],
     opening: i64,
 ) -> bool
-    ensures { result ≡ (not (joins_page page.now message.now.account goes_on) || agrees page.now currency.now opening goes_on) }
+    ensures { result ≡ (not (joins_page page.now message.now.account goes_on) || agrees page.now currency.now opening
+        goes_on) }
 {
     !joins_page(page, message.account.as_str().as_bytes(), goes_on)
         || agrees(page, currency, opening, goes_on)
@@ -174,7 +197,8 @@ fn has_room_for_statement(
 
 /// The checks of a 64 and a 65, and those of a 62 but the last.
 fn check_later(known: &Commodities, message: &Message, text: &[u8]) -> Result<i64, Bad>
-    ensures { Tells (later_checks known.now.entries message.now text.now) (balance message.now.fraction text.now) result }
+    ensures { Tells (later_checks known.now.entries message.now text.now) (balance message.now.fraction text.now)
+        result }
 {
     match check_balance_form(text) {
         Err(bad) => Err(bad),
@@ -184,7 +208,8 @@ fn check_later(known: &Commodities, message: &Message, text: &[u8]) -> Result<i6
 
 fn check_later_currency(known: &Commodities, message: &Message, text: &[u8]) -> Result<i64, Bad>
     requires { first_bad (balance_form text.now) ≡ None }
-    ensures { Tells (later_currency_checks known.now.entries message.now text.now) (balance message.now.fraction text.now) result }
+    ensures { Tells (later_currency_checks known.now.entries message.now text.now)
+        (balance message.now.fraction text.now) result }
 {
     if !is_known(known, message, text) {
         return Err(Bad::UnknownCurrency);
@@ -204,14 +229,16 @@ fn has_currency(message: &Message, text: &[u8]) -> bool
 
 /// Whether a balance has the currency of the message, which was asked at its 60, or another one of the book's.
 fn is_known(known: &Commodities, message: &Message, text: &[u8]) -> bool
-    ensures { result ≡ (same_text (balance_currency text.now) message.now.currency || is_some (fraction_of (balance_currency text.now) known.now.entries)) }
+    ensures { result ≡ (same_text (balance_currency text.now) message.now.currency || is_some
+        (fraction_of (balance_currency text.now) known.now.entries)) }
 {
     has_currency(message, text) || fraction_of(balance_currency(text), known).is_some()
 }
 
 /// The checks of a 62.
 fn check_closing(known: &Commodities, message: &Message, text: &[u8]) -> Result<i64, Bad>
-    ensures { Tells (closing_checks known.now.entries message.now text.now) (balance message.now.fraction text.now) result }
+    ensures { Tells (closing_checks known.now.entries message.now text.now) (balance message.now.fraction text.now)
+        result }
 {
     match check_later(known, message, text) {
         Err(bad) => Err(bad),
@@ -246,7 +273,8 @@ fn check_line(
     message: &Message,
     text: &[u8],
 ) -> Result<i64, Bad>
-    ensures { Tells (line_checks page.now last_lines message.now text.now) (line_amount message.now.fraction text.now) result }
+    ensures { Tells (line_checks page.now last_lines message.now text.now)
+        (line_amount message.now.fraction text.now) result }
 {
     match check_line_form(text) {
         Err(bad) => Err(bad),
@@ -261,7 +289,8 @@ fn check_line_amount(
     text: &[u8],
 ) -> Result<i64, Bad>
     requires { first_bad (line_form text.now) ≡ None }
-    ensures { Tells (line_amount_checks page.now last_lines message.now text.now) (line_amount message.now.fraction text.now) result }
+    ensures { Tells (line_amount_checks page.now last_lines message.now text.now)
+        (line_amount message.now.fraction text.now) result }
 {
     match line_amount(text, message.fraction) {
         Err(bad) => Err(bad),

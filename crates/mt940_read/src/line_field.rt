@@ -2,7 +2,29 @@ ghost use Rattle.std.specs.Prelude.{ℕ, ◌≡◌, ◌+◌, ◌-◌, ◌≤◌,
 ghost use Rattle.std.specs.List.{list_all};
 ghost use Rattle.book_statement.specs.Checks.{Tells, first_bad};
 ghost use Rattle.mt940_read.specs.Amounts.{amount_checks, is_amount};
-ghost use Rattle.mt940_read.specs.LineField.{amount_len, amount_part, amount_place, entry_len, entry_part, entry_place, funds_len, funds_place, is_kind, is_kind_byte, is_taken, kind_part, kind_place, line, line_amount, line_days, line_form, mark_len, mark_part, mark_place, value_part};
+ghost use Rattle.mt940_read.specs.LineField.{
+  amount_len,
+  amount_part,
+  amount_place,
+  entry_len,
+  entry_part,
+  entry_place,
+  funds_len,
+  funds_place,
+  is_kind,
+  is_kind_byte,
+  is_taken,
+  kind_part,
+  kind_place,
+  line,
+  line_amount,
+  line_days,
+  line_form,
+  mark_len,
+  mark_part,
+  mark_place,
+  value_part,
+};
 
 use crate::amount::{amount, is_amount};
 use crate::entry_date::entry_date;
@@ -30,7 +52,8 @@ fn places_of(text: &[u8]) -> Places
     ensures funds { result.funds ≡ funds_place text.now }
     ensures amount { result.amount ≡ amount_place text.now }
     ensures kind { result.kind ≡ kind_place text.now }
-    ensures order { (result.entry ≤ result.mark) × (result.mark ≤ result.funds) × (result.funds ≤ result.amount) × (result.amount ≤ result.kind) × (result.kind ≤ length text.now) }
+    ensures order { (result.entry ≤ result.mark) × (result.mark ≤ result.funds) × (result.funds ≤ result.amount)
+        × (result.amount ≤ result.kind) × (result.kind ≤ length text.now) }
 {
     let entry = text.len() - after_chars(text, 6).len();
     let mark = entry + entry_len(&text[entry..]);
@@ -196,7 +219,8 @@ pub fn line_amount(text: &[u8], fraction: Fraction) -> Result<i64, Bad>
 /// The line that a field gives, with this amount, and with no text as yet.
 pub fn line(alloc: Global, text: &str, amount: i64) -> Result<StatementLine, OutOfMemory>
     requires { first_bad (line_form text.now) ≡ None }
-    ensures { IfOk result (λ given. (fraction : ℕ) → amount ≡ line_amount fraction text.now → given ≡ line fraction text.now []) }
+    ensures { IfOk result (λ given. (fraction : ℕ) → amount ≡ line_amount fraction text.now
+        → given ≡ line fraction text.now []) }
 {
     let bytes = text.as_bytes();
     let Some(days) = days(bytes) else {

@@ -115,7 +115,13 @@ impl Message {
     ) -> Result<(), OutOfMemory>
         requires fractions { HaveFractions known.now.entries }
         requires fits { first_bad (balance_form text.now) ≡ None }
-        ensures { OnOk result (self.new ≡ record self.old { currency = balance_currency text.now; fraction = fraction_in known.now.entries (balance_currency text.now); opening = Some amount; opens_page = goes_on }) }
+        ensures { OnOk result (self.new ≡ record self.old {
+          currency = balance_currency text.now;
+          fraction = fraction_in known.now.entries
+              (balance_currency text.now);
+          opening = Some amount;
+          opens_page = goes_on;
+        }) }
     {
         let currency = balance_currency(text.as_bytes());
         self.fraction = fraction_in(known, currency);
@@ -128,7 +134,8 @@ impl Message {
     /// Takes the closing balance.
     fn close(&mut self, goes_on: bool, text: &str, amount: i64)
         requires { first_bad (balance_form text.now) ≡ None }
-        ensures { self.new ≡ record self.old { closing = Some amount; closes_page = goes_on; day = balance_day text.now } }
+        ensures { self.new ≡ record self.old
+            { closing = Some amount; closes_page = goes_on; day = balance_day text.now } }
     {
         self.day = balance_day(text.as_bytes(), self.day);
         self.closing = Some(amount);

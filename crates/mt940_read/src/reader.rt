@@ -32,12 +32,23 @@ impl Reader {
     ghost use Rattle.book_statement.specs.Checks.{Gives, Tells};
     ghost use Rattle.mt940_read.specs.Kinds.{kind_of, has_tag, field_text};
     ghost use Rattle.mt940_read.specs.declared.tag.Kind.TheVariants.{Field, More};
-    ghost use Rattle.mt940_read.specs.Steps.{Steps, begun, end_checks, ended, finished, line_checks_of, line_of_fault, next, past_kept};
+    ghost use Rattle.mt940_read.specs.Steps.{
+      Steps,
+      begun,
+      end_checks,
+      ended,
+      finished,
+      line_checks_of,
+      line_of_fault,
+      next,
+      past_kept,
+    };
     ghost use Rattle.mt940_read.specs.Values.{values};
 
     /// The reader of no lines.
     pub fn new(alloc: Global) -> Reader
-        ensures { (known : List (ℕ × Commodity)) → result ≡ record { done = []; page = None; message = values known []; goes = false } }
+        ensures { (known : List (ℕ × Commodity))
+            → result ≡ record { done = []; page = None; message = values known []; goes = false } }
     {
         Reader {
             done: Statements::new(alloc),
@@ -57,7 +68,9 @@ impl Reader {
     ) -> Result<(), ReadError>
         requires fractions { HaveFractions known.now.entries }
         requires few { before + 1 < 2 ^ 64 }
-        ensures { Steps (line_of_fault (kind_of line.now) before) (line_checks_of known.now.entries (kind_of line.now) line.now self.old) (next known.now.entries (kind_of line.now) line.now self.old) result self.new }
+        ensures { Steps (line_of_fault (kind_of line.now) before)
+            (line_checks_of known.now.entries (kind_of line.now) line.now self.old)
+            (next known.now.entries (kind_of line.now) line.now self.old) result self.new }
     {
         match kind_of(line.as_bytes()) {
             Kind::Begins => self.begin(alloc, before),
@@ -73,7 +86,8 @@ impl Reader {
 
     /// Ends a message, if one has begun, and begins another.
     fn begin(&mut self, alloc: Global, before: u64) -> Result<(), ReadError>
-        ensures { (known : List (ℕ × Commodity)) (line : List ℕ) → Steps before (end_checks self.old) (begun (ended known self.old)) result self.new }
+        ensures { (known : List (ℕ × Commodity)) (line : List ℕ)
+            → Steps before (end_checks self.old) (begun (ended known self.old)) result self.new }
     {
         match self.end(alloc, before) {
             Ok(()) => {
@@ -96,7 +110,8 @@ impl Reader {
         requires fractions { HaveFractions known.now.entries }
         requires few { before + 1 < 2 ^ 64 }
         requires tag { IsTrue (has_tag line.now) }
-        ensures { Steps (before + 1) (line_checks_of known.now.entries (Field tag) line.now self.old) (next known.now.entries (Field tag) line.now self.old) result self.new }
+        ensures { Steps (before + 1) (line_checks_of known.now.entries (Field tag) line.now self.old)
+            (next known.now.entries (Field tag) line.now self.old) result self.new }
     {
         if self.message.last.is_none() {
             return Ok(());
@@ -115,7 +130,8 @@ impl Reader {
     /// The checks of a field, and its amount.
     fn check(&self, known: &Commodities, tag: Tag, text: &str) -> Result<i64, Bad>
         requires { HaveFractions known.now.entries }
-        ensures { Tells (field_checks known.now.entries (past_kept self.now) self.now.message tag text.now) (amount_in known.now.entries self.now.message tag text.now) result }
+        ensures { Tells (field_checks known.now.entries (past_kept self.now) self.now.message tag text.now)
+            (amount_in known.now.entries self.now.message tag text.now) result }
     {
         let statements = self.done.len() as u64;
         let last_lines = self.done.last_lines() as u64;
@@ -142,7 +158,8 @@ impl Reader {
 
     /// Ends the message, if one has begun: it has to have its closing balance, else `CutOff` at its last line.
     fn end(&mut self, alloc: Global, last: u64) -> Result<(), ReadError>
-        ensures { (known : List (ℕ × Commodity)) → Steps last (end_checks self.old) (ended known self.old) result self.new }
+        ensures { (known : List (ℕ × Commodity))
+            → Steps last (end_checks self.old) (ended known self.old) result self.new }
     {
         if self.message.last.is_none() {
             return Ok(());
@@ -160,7 +177,8 @@ impl Reader {
     /// Keeps a message that is whole: as a page of the last statement, or as a statement of its own.
     fn keep(&mut self, alloc: Global, joined: bool, message: Message) -> Result<(), OutOfMemory>
         requires { joined ≡ joins_page self.old.page message.account message.opens_page }
-        ensures { OnOk result (self.new ≡ record self.old { done = with_message self.old.page message self.old.done; page = Some (page_of message) }) }
+        ensures { OnOk result (self.new ≡ record self.old
+            { done = with_message self.old.page message self.old.done; page = Some (page_of message) }) }
     {
         let mut message = message;
         let lines = mem::replace(&mut message.lines, Lines::new(alloc)).into_vec();

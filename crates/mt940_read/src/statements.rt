@@ -91,7 +91,9 @@ impl Statements {
         message: &Message,
         lines: Vec<StatementLine>,
     ) -> Result<(), OutOfMemory>
-        ensures { OnOk result (self.new ≡ (if joined then on_last (with_end message.now.closing message.now.day lines.items) self.old else self.old ++ (record (statement_alone message.now) { lines = lines.items }) ∷ [])) }
+        ensures { OnOk result (self.new ≡
+            (if joined then on_last (with_end message.now.closing message.now.day lines.items) self.old else self.old
+            ++ (record (statement_alone message.now) { lines = lines.items }) ∷ [])) }
     {
         if joined {
             return self.add_page(message.closing, message.day, lines);

@@ -1,4 +1,4 @@
-use Rattle.std.proofs.Common.{◌≡◌, ◌+◌, drop, Some, None, Option, is_some, sym, ap, ◌∙◌, rules, arith}
+use Rattle.std.proofs.Common.{sym, ap, ◌∙◌, rules, arith}
 use Rattle.std.proofs.lemmas.List.{drop_all}
 use Rattle.book_statement.specs.Currencies.{fraction_of}
 use Rattle.book_statement.proofs.CurrencyLemmas.{fraction_of-found, fraction_of-other}
@@ -18,6 +18,5 @@ loop-place-preserved c =
 
 pub returns : goal.returns
 unfolding fraction_of
-returns c =
-    sym (ap (fraction_of c.args.code.now) (drop_all c.loop-place.place c.args.known.now.entries (omega arith)))
-    ∙ c.loop-place.invariant
+returns c = sym (ap (fraction_of c.args.code.now)
+    (drop_all c.loop-place.place c.args.known.now.entries (omega arith))) ∙ c.loop-place.invariant

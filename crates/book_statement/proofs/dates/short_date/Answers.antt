@@ -1,10 +1,10 @@
-use Rattle.std.proofs.Common.{◌≡◌, sym, ap, ◌∙◌}
+use Rattle.std.proofs.Common.{sym, ◌∙◌}
 use Rattle.book_statement.proofs.DateLemmas.{short_date-parts, short_date-none}
 use Rattle.book_statement.proofs.dates.short_date.Goals as goal
 
 pub returns-then-not-has_digits : goal.returns-then-not-has_digits
-returns-then-not-has_digits c =
-    sym (short_date-none c.args.text.now (sym c.has_digits.ensures ∙ c.if-not-has_digits.true))
+returns-then-not-has_digits c = sym
+    (short_date-none c.args.text.now (sym c.has_digits.ensures ∙ c.if-not-has_digits.true))
 
 pub returns : goal.returns
 returns c =

@@ -1,11 +1,16 @@
-use Rattle.std.proofs.Common.{◌≡◌, ◌-◌, ◌<◌, length, get_or, take, refl, sym, ap, ◌∙◌, arith, rules}
+use Rattle.std.proofs.Common.{sym, ap, ◌∙◌, arith}
 use Rattle.std.proofs.lemmas.List.{take_all}
 use Rattle.book_statement.specs.Texts.{without_spaces}
 use Rattle.book_statement.proofs.TextLemmas.{space_off, ends_here}
 use Rattle.book_statement.proofs.lines.kept_len.Goals as goal
 
 pub loop-end-init : goal.loop-end-init
-loop-end-init c = (omega arith, ap without_spaces (take_all _ c.args.line.now (omega arith)), λ h. absurd (omega arith))
+loop-end-init c = (
+  omega arith,
+  ap without_spaces (take_all _ c.args.line.now (omega arith)),
+  λ h. absurd
+      (omega arith),
+)
 
 pub loop-end-preserved : goal.loop-end-preserved
 loop-end-preserved c = (

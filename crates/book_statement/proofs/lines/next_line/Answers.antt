@@ -1,7 +1,7 @@
-use Rattle.std.proofs.Common.{◌≡◌, ◌∷◌, [], ◌+◌, List, ℕ, Some, None, drop, position, refl, sym, ap, ◌∙◌, arith, rules}
+use Rattle.std.proofs.Common.{◌≡◌, ◌∷◌, [], ◌+◌, Some, None, drop, position, sym, ap, ◌∙◌, arith}
 use Rattle.std.specs.Prelude.{map}
 use Rattle.std.proofs.lemmas.Str.{IsUtf8-nil}
-use Rattle.book_statement.specs.Texts.{trimmed, lines_of, raw_lines}
+use Rattle.book_statement.specs.Texts.{trimmed, lines_of}
 use Rattle.book_statement.proofs.TextLemmas.{is_line_feed, first_line, only_line}
 use Rattle.book_statement.proofs.lines.next_line.Goals as goal
 

@@ -1,4 +1,4 @@
-use Rattle.std.proofs.Common.{◌≡◌, ◌+◌, ◌*◌, ◌/◌, ◌%◌, ◌^◌, pos, refl, sym, ap, ◌∙◌, arith}
+use Rattle.std.proofs.Common.{◌+◌, ◌*◌, refl, ap, ◌∙◌, arith}
 use Rattle.std.proofs.lemmas.Int.{ints}
 use Rattle.book_statement.specs.Checks.{first_bad}
 use Rattle.book_statement.proofs.NumberLemmas.{IsDecimal, unit_checks-by, units-by, too_fine, too_large, sound_units}

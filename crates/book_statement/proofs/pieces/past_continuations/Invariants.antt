@@ -1,5 +1,5 @@
-use Rattle.std.proofs.Common.{◌≡◌, ◌+◌, ◌<◌, length, take, drop, slice_index, ℕ, ◌-◌, ◌*◌, ◌≤◌}
-use Rattle.book_statement.specs.Pieces.{after_chars, past_continuations, is_continuation}
+use Rattle.std.proofs.Common.{◌≡◌, drop}
+use Rattle.book_statement.specs.Pieces.{past_continuations}
 use Rattle.book_statement.proofs.pieces.past_continuations.Given as goal
 
 abbrev pub invariant-loop-i : goal.invariant-loop-i

@@ -1,7 +1,6 @@
-use Rattle.std.proofs.Common.{arith}
 use Rattle.std.proofs.lemmas.Str.{IsCharBoundary-after_ascii}
 use Rattle.book_statement.proofs.pieces.text_behind.Goals as goal
 
 pub range_from-requires : goal.range_from-requires
-range_from-requires c =
-    λ h. IsCharBoundary-after_ascii c.args.text.now c.args.place c.utf8.text c.requires.within c.requires.ascii
+range_from-requires c = λ h. IsCharBoundary-after_ascii c.args.text.now c.args.place c.utf8.text c.requires.within
+    c.requires.ascii

@@ -1,4 +1,4 @@
-use Rattle.std.proofs.Common.{refl, sym, ap, ◌∙◌, arith}
+use Rattle.std.proofs.Common.{sym, ap, ◌∙◌}
 use Rattle.book_statement.specs.Texts.{without_mark}
 use Rattle.book_statement.proofs.TextLemmas.{text_of_utf8, text_of_others}
 use Rattle.book_statement.proofs.texts.as_text.Goals as goal

@@ -1,6 +1,4 @@
-use Rattle.std.proofs.Common.{take, drop, ◌≡◌, ◌++◌, IfOk, encode_utf8_all, string_bytes, ℕ, ◌+◌, ◌-◌, ◌*◌, ◌<◌, ◌≤◌}
-use Rattle.std.proofs.Common.{length}
-use Rattle.book_statement.specs.Texts.{add_piece, text_of_bytes}
+use Rattle.std.proofs.Common.{take, ◌≡◌, encode_utf8_all, string_bytes}
 use Rattle.book_statement.proofs.texts.characters.Given as goal
 
 abbrev pub invariant-loop-byte : goal.invariant-loop-byte

@@ -1,4 +1,4 @@
-use Rattle.std.proofs.Common.{◌≡◌, refl, sym, ap, ◌∙◌, Some, position}
+use Rattle.std.proofs.Common.{◌≡◌, refl, sym, ◌∙◌, Some, position}
 use Rattle.mt940_read.specs.Amounts.{is_comma}
 use Rattle.mt940_read.proofs.AmountLemmas.{parted_at}
 use Rattle.mt940_read.proofs.amount.parted.Goals as goal

@@ -1,7 +1,6 @@
-use Rattle.std.proofs.Common.{◌≡◌, sym, ap, ◌∙◌}
-use Rattle.book_statement.proofs.CheckLemmas.{first_bad-here, reports-past}
+use Rattle.book_statement.proofs.CheckLemmas.{first_bad-here, tells-past}
 use Rattle.mt940_read.specs.Balances.{balance_form}
-use Rattle.mt940_read.specs.FieldChecks.{opening_checks, opening_currency_checks}
+use Rattle.mt940_read.specs.FieldChecks.{opening_checks}
 use Rattle.mt940_read.proofs.checks.check_opening.Goals as goal
 
 pub returns-in-Err : goal.returns-in-Err
@@ -10,4 +9,5 @@ returns-in-Err c = first_bad-here (balance_form c.args.text.now) _ c.in-Err.bad 
 
 pub returns-in-Ok : goal.returns-in-Ok
 unfolding opening_checks
-returns-in-Ok c = reports-past (balance_form c.args.text.now) _ _ c.check_opening_currency.result c.in-Ok.ensures.0 c.check_opening_currency.ensures
+returns-in-Ok c = tells-past (balance_form c.args.text.now) _ _ c.check_opening_currency.result c.in-Ok.ensures.0
+    c.check_opening_currency.ensures

@@ -3,4 +3,5 @@ use Rattle.book_statement.proofs.CurrencyLemmas.{fraction_is}
 use Rattle.mt940_read.proofs.checks.fraction_in.Goals as goal
 
 pub of-requires : goal.of-requires
-of-requires c = fraction_is c.args.code.now c.args.known.now.entries c.in-Some.number c.requires (sym c.fraction_of.ensures ∙ c.in-Some.is)
+of-requires c = fraction_is c.args.code.now c.args.known.now.entries c.in-Some.number c.requires
+    (sym c.fraction_of.ensures ∙ c.in-Some.is)

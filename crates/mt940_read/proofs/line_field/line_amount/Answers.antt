@@ -1,4 +1,4 @@
-use Rattle.std.proofs.Common.{◌≡◌, List, ℕ, true, subst, sym, ap, ◌∙◌}
+use Rattle.std.proofs.Common.{ap, ◌∙◌}
 use Rattle.mt940_read.specs.Amounts.{is_amount}
 use Rattle.mt940_read.proofs.FormLemmas.{line_parts}
 use Rattle.mt940_read.proofs.line_field.line_amount.Goals as goal

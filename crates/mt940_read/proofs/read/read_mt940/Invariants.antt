@@ -1,4 +1,4 @@
-use Rattle.std.proofs.Common.{ℕ, length}
+use Rattle.std.proofs.Common.{length}
 use Rattle.std.specs.Str.{IsUtf8}
 use Rattle.mt940_read.proofs.RunLemmas.{SoFar}
 use Rattle.mt940_read.proofs.read.read_mt940.Given as goal

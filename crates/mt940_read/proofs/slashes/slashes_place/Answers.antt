@@ -10,8 +10,10 @@ loop-place-preserved c =
     let text = c.args.text.now in
     let place = c.loop-place.place in
     let none : starts_with nat_eq (drop place text) (codes "//") ≡ false =
-    ap (λ l. starts_with nat_eq l (codes "//")) (sym (take_rest text place)) ∙ sym c.starts_with.ensures.value ∙ c.if-starts_with.false in
-    let other = other_front (drop place text) (get_or text place 0) (drop (place + 1) text) (drop_more text place 0 c.loop-place-test.true) none in (
+    ap (λ l. starts_with nat_eq l (codes "//")) (sym (take_rest text place)) ∙ sym c.starts_with.ensures.value
+    ∙ c.if-starts_with.false in
+    let other = other_front (drop place text) (get_or text place 0) (drop (place + 1) text)
+    (drop_more text place 0 c.loop-place-test.true) none in (
       ap (λ l. l ++ before_slashes (drop (place + 1) text)) (take_more text place 0 c.loop-place-test.true)
           ∙ append_assoc (take place text) (get_or text place 0 ∷ []) (before_slashes (drop (place + 1) text))
           ∙ ap (λ l. take place text ++ l) (sym other.0) ∙ c.loop-place.invariant.0,
@@ -23,7 +25,8 @@ returns-then-starts_with-clause-before c =
     let text = c.args.text.now in
     let place = c.loop-place.place in
     let front : starts_with nat_eq (drop place text) (codes "//") ≡ true =
-    ap (λ l. starts_with nat_eq l (codes "//")) (sym (take_rest text place)) ∙ sym c.starts_with.ensures.value ∙ c.if-starts_with.true in
+    ap (λ l. starts_with nat_eq l (codes "//")) (sym (take_rest text place)) ∙ sym c.starts_with.ensures.value
+    ∙ c.if-starts_with.true in
     let here = slashes_here (drop place text) front in
     sym (append-nil (take place text)) ∙ ap (λ l. take place text ++ l) (sym here.before) ∙ c.loop-place.invariant.0
 
@@ -32,6 +35,7 @@ returns-then-starts_with-clause-behind c =
     let text = c.args.text.now in
     let place = c.loop-place.place in
     let front : starts_with nat_eq (drop place text) (codes "//") ≡ true =
-    ap (λ l. starts_with nat_eq l (codes "//")) (sym (take_rest text place)) ∙ sym c.starts_with.ensures.value ∙ c.if-starts_with.true in
+    ap (λ l. starts_with nat_eq l (codes "//")) (sym (take_rest text place)) ∙ sym c.starts_with.ensures.value
+    ∙ c.if-starts_with.true in
     let here = slashes_here (drop place text) front in
     λ _. sym (drop-drop 2 place text) ∙ sym here.behind ∙ c.loop-place.invariant.1

@@ -1,4 +1,4 @@
-use Rattle.std.proofs.Common.{take, drop, ◌≡◌, IfOk, ℕ, ◌+◌, ◌-◌, ◌*◌, ◌<◌, ◌≤◌, length}
+use Rattle.std.proofs.Common.{take, ◌≡◌}
 use Rattle.book_statement.proofs.statement_line.StatementLine.copy.Given as goal
 
 abbrev pub invariant-loop-part : goal.invariant-loop-part

@@ -8,4 +8,5 @@ returns-in-Ok c known line = ((c.in-Ok.ensures known).0, ap begun (c.in-Ok.ensur
 
 pub returns-in-Err : goal.returns-in-Err
 returns-in-Err c known line =
-    steps_err c.args.before (end_checks c.args.self.now) (ended known c.args.self.now) (begun (ended known c.args.self.now)) c.in-Err.error c.end.new.self c.end.new.self (c.in-Err.ensures known)
+    steps_err c.args.before (end_checks c.args.self.now) (ended known c.args.self.now)
+    (begun (ended known c.args.self.now)) c.in-Err.error c.end.new.self c.end.new.self (c.in-Err.ensures known)

@@ -1,7 +1,5 @@
-use Rattle.std.proofs.Common.{◌≡◌, Some, false, refl, sym, ap, ◌∙◌}
-use Rattle.mt940_read.specs.declared.reader.Reader.{Reader}
+use Rattle.std.proofs.Common.{Some, false, ap, ◌∙◌}
 use Rattle.mt940_read.specs.Pages.{page_of, with_message}
-use Rattle.mt940_read.specs.Values.{values}
 use Rattle.mt940_read.proofs.StepLemmas.{end_whole, at_rest}
 use Rattle.mt940_read.proofs.reader.Reader.end.Goals as goal
 

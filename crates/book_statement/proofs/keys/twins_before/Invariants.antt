@@ -1,6 +1,0 @@
-use Rattle.std.proofs.Common.{take, drop, ◌≡◌, IfOk, count_by, ℕ, ◌+◌, ◌-◌, ◌*◌, ◌<◌, ◌≤◌, length}
-use Rattle.book_statement.specs.Keys.{is_twin, key, keys_of}
-use Rattle.book_statement.proofs.keys.twins_before.Given as goal
-
-abbrev pub invariant-loop-other : goal.invariant-loop-other
-invariant-loop-other l = (l.count ≡ count_by (is_twin l.line) (take l.other-index l.before)) × (l.count ≤ l.other-index)
