@@ -165,7 +165,7 @@ fn drawn_files(rt: HostRuntime) -> Result<(), Fail> {
         16,960,702,S,1,2,3,B2,,\n\
         16,960,327,0,B1,NONREF,DEPOSIT\n\
         88,and, more/\n\
-        16,165,442,Z,B2,R9,CHECK, PAID\n\
+        16,165,442,Z,B2,N9,CHECK, PAID\n\
         16,959,52,V,,,,RENT,\n\
         49,1523,7/\n\
         98,1523,1,9/\n\
@@ -178,12 +178,12 @@ fn drawn_files(rt: HostRuntime) -> Result<(), Fail> {
         "01,SEND,RECV,240331,1200,57,80,1,2/\n\
         02,RECV,SEND,1,240305,,EUR,2/\n\
         03,ACC80,EUR,010,87043,,,015,25753,,,100,700,2,Z/\n\
-        16,400,81,Z,B1,R3,\n\
+        16,400,81,Z,B1,N3,\n\
         49,113577,3/\n\
         03,ACC80,EUR,010,9249,,,015,88964,,,100,700,2,Z/\n\
-        16,100,81,,,R0,\n\
+        16,100,81,,,N0,\n\
         88,\n\
-        16,100,+79,V,240402,1200,B2,R13,CHECK, PAID\n\
+        16,100,+79,V,240402,1200,B2,N13,CHECK, PAID\n\
         49,99073,5/\n\
         98,212650,2,10/\n\
         99,212650,1,12/\n",
@@ -236,7 +236,7 @@ fn more_drawn_files(rt: HostRuntime) -> Result<(), Fail> {
         88,and, more/\n\
         16,165,245464,1,B1,NONREF,x/y\n\
         16,400,451875,D,0,B2,RENT,DEPOSIT\n\
-        16,960,464855,D,0,,R19,CHECK, PAID\n\
+        16,960,464855,D,0,,N19,CHECK, PAID\n\
         16,920,48696,,,RENT,DEPOSIT\n\
         49,1822066,8/\n\
         98,1822066,1,10/\n\
@@ -260,13 +260,13 @@ fn more_drawn_files(rt: HostRuntime) -> Result<(), Fail> {
         "01,SEND,RECV,240331,1200,16,80,1,2/\n\
         02,RECV,SEND,1,240323,,EUR,2/\n\
         03,ACC44,EUR/\n\
-        16,165,+862,V,240402,1200,B1,R2,DEPOSIT\n\
+        16,165,+862,V,240402,1200,B1,N2,DEPOSIT\n\
         88,and, more/\n\
         16,100,410,,B1,N1,CHECK, PAID\n\
         16,920,933,2,B2,N1,x/y\n\
         16,960,595,D,2,1,100,2,200,,RENT,DEPOSIT\n\
         16,475,595,V,240402,1200,B2,RENT,\n\
-        16,700,999837,1,,R1,x/y\n\
+        16,700,999837,1,,N1,x/y\n\
         49,1003232,9/\n\
         98,1003232,1,11/\n\
         02,RECV,SEND,1,240319,,,2/\n\
@@ -276,7 +276,7 @@ fn more_drawn_files(rt: HostRuntime) -> Result<(), Fail> {
         49,280111,4/\n\
         03,ACC44,EUR/\n\
         16,699,48,D,0,B1,,x/y\n\
-        16,400,999837,V,240402,1200,B2,R1,CHECK, PAID\n\
+        16,400,999837,V,240402,1200,B2,N1,CHECK, PAID\n\
         16,400,84174,1,B2,,\n\
         16,165,25999,D,2,1,100,2,200,,N1,DEPOSIT\n\
         88,\n\
@@ -293,19 +293,19 @@ fn more_drawn_files(rt: HostRuntime) -> Result<(), Fail> {
         16,999,12,2,B1,RENT,DEPOSIT\n\
         88,more text\n\
         16,960,248583,D,2,1,100,2,200,,,x/y\n\
-        16,999,163,V,,,,R1,\n\
-        16,999,163,1,,R1,CHECK, PAID\n\
+        16,999,163,V,,,,N1,\n\
+        16,999,163,1,,N1,CHECK, PAID\n\
         16,920,933,S,1,2,3,B1,NONREF,CHECK, PAID\n\
         16,100,492,2,B2,,CHECK, PAID\n\
         16,165,933,D,2,1,100,2,200,,NONREF,DEPOSIT\n\
-        16,999,999837,V,,,B1,R1,CHECK, PAID\n\
+        16,999,999837,V,,,B1,N1,CHECK, PAID\n\
         16,999,676,D,2,1,100,2,200,B1,N1,\n\
         16,475,676,2,B1,N1,CHECK, PAID\n\
         16,475,465,0,,NONREF,CHECK, PAID\n\
         16,165,75,S,1,2,3,,N1,DEPOSIT\n\
         16,959,653,V,,,,,DEPOSIT\n\
         16,920,653,0,B1,,CHECK, PAID\n\
-        16,960,163,S,1,2,3,B2,R1,\n\
+        16,960,163,S,1,2,3,B2,N1,\n\
         49,3683637,33/\n\
         98,3963748,2,39/\n\
         99,4966980,2,52/\n",
@@ -317,12 +317,12 @@ fn more_drawn_files(rt: HostRuntime) -> Result<(), Fail> {
         "01,SEND,RECV,240331,1200,22,80,1,2/\n\
         02,RECV,SEND,1,240217,,KWD,2/\n\
         03,ACC118,KWD,010,52937,,,015,59126,,/\n\
-        16,960,122307,D,0,B1,R10,DEPOSIT\n\
-        16,400,122307,D,0,,R10,x/y\n\
+        16,960,122307,D,0,B1,N10,DEPOSIT\n\
+        16,400,122307,D,0,,N10,x/y\n\
         16,960,12,0,B2,,DEPOSIT\n\
         16,960,69,2,,NONREF,DEPOSIT\n\
         16,920,120,D,0,B1,,DEPOSIT\n\
-        16,399,234662,,B2,R11,DEPOSIT\n\
+        16,399,234662,,B2,N11,DEPOSIT\n\
         49,591540,8/\n\
         98,591540,1,10/\n\
         02,RECV,SEND,1,240123,,KWD,2/\n\
@@ -395,7 +395,7 @@ fn drawn_broken_files(rt: HostRuntime) -> Result<(), Fail> {
         "01,SEND,RECV,240331,1200,78,80,1,2/\n\
         02,RECV,SEND,1,240311,,EUR,2/\n\
         03,ACC8,EUR/\n\
-        16,165,328850,V,,,B2,R6,CHECK, PAID\n\
+        16,165,328850,V,,,B2,N6,CHECK, PAID\n\
         16,400,23,0,,N1,x/y\n\
         16,475,23,2,B1,NONREF,\n\
         16,475,23,1,B1,NONREF,CHECK, PAID\n\
@@ -421,7 +421,7 @@ fn drawn_broken_files(rt: HostRuntime) -> Result<(), Fail> {
         "01,SEND,RECV,240331,1200,38,80,1,2/\n\
         02,RECV,SEND,1,240120,,EUR,2/\n\
         03,ACC6,EUR,100,700,2,Z/\n\
-        16,699,94,Z,B2,R2,CHECK, PAID\n\
+        16,699,94,Z,B2,N2,CHECK, PAID\n\
         88,more text\n\
         01,SEND,RECV,240331,1200,38,80,1,2/\n\
         16,919,105,2,B2,NONREF,DEPOSIT\n\

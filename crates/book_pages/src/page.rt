@@ -11,7 +11,7 @@ pub struct Page {
 
 impl Page {
     /// Whether each command stands in the session with its answer, and each answer of a table stands there too.
-    pub fn is_shown_in(&self, commands: &str, answers: &str) -> bool {
+    pub(crate) fn is_shown_in(&self, commands: &str, answers: &str) -> bool {
         let mut shown = self
             .commands
             .as_str()
@@ -39,7 +39,7 @@ fn add_line(lines: &mut String, line: &str) -> Result<(), AllocError> {
 
 /// What the text of a page shows: its commands and answers are indented by four blanks, and a command begins with its
 /// member `do`; the answers of a table stand between back quotes.
-pub fn page_of(alloc: Global, text: &str) -> Result<Page, AllocError> {
+pub(crate) fn page_of(alloc: Global, text: &str) -> Result<Page, AllocError> {
     let mut page = Page {
         commands: String::new(alloc),
         answers: String::new(alloc),

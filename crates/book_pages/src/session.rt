@@ -8,7 +8,7 @@ use std::str;
 const ROOM: usize = 1 << 20;
 
 /// The answers to the commands, from the fresh book on; none where the run did not end well.
-pub fn answers_to(alloc: Global, commands: &str) -> Result<String, AllocError> {
+pub(crate) fn answers_to(alloc: Global, commands: &str) -> Result<String, AllocError> {
     match run(alloc, commands) {
         Ok(answers) => Ok(answers),
         Err(OutOfMemory) => Err(AllocError),
