@@ -24,7 +24,8 @@ use Rattle.bai2_read.specs.declared.kind.Kind.TheVariants.{Unknown, NoRecord}
 use Rattle.bai2_read.specs.declared.reader.Reader.{Reader}
 use Rattle.bai2_read.proofs.ContextLemmas.{context_push}
 use Rattle.bai2_read.proofs.RecordLemmas.{whole_push}
-use Rattle.bai2_read.proofs.TreeLemmas.{Begun, Tree, add, behind, closed, fill, whole_of, with_begun, with_continuation}
+use Rattle.bai2_read.proofs.GatheredLemmas.{Begun, Gathered, add, behind, closed, fill, whole_of, with_begun}
+use Rattle.bai2_read.proofs.GatheredLemmas.{with_continuation}
 
 -- the last record
 abbrev pub pending_of : Option Begun → Option Record
@@ -32,7 +33,7 @@ pending_of None = None
 pending_of (Some b) = Some (whole_of b)
 
 -- the reader has what the complete records say, no check of theirs fails, and it has the last record
-pub record Knows (known : Known) (reader : Reader) (t : Tree) : Type 0 where
+pub record Knows (known : Known) (reader : Reader) (t : Gathered) : Type 0 where
   pub said : reader.context ≡ context t.done
   pub sound : first_fault (places known t.done) ≡ None
   pub pending : reader.pending ≡ pending_of t.last
@@ -107,7 +108,8 @@ begin_known known line kind body done last sound none =
 abbrev reader_of : List Record → Option Begun → Reader
 reader_of done last = record { context = context done; pending = pending_of last }
 
-is_reader_of : (known : Known) (reader : Reader) (t : Tree) → Knows known reader t → reader ≡ reader_of t.done t.last
+is_reader_of :
+    (known : Known) (reader : Reader) (t : Gathered) → Knows known reader t → reader ≡ reader_of t.done t.last
 is_reader_of known reader t k =
     ap (λ (c : Context). let r : Reader = record { context = c; pending = reader.pending } in r) k.said
     ∙ ap (λ (p : Option Record). let r : Reader = record { context = context t.done; pending = p } in r) k.pending
@@ -140,7 +142,7 @@ go_on_fault known line body done (Some b) fault sound fails part lines =
           (rw ends at fails) part lines)
     ]
 
-line_known : (known : Known) (line : ℕ) (kind : Kind) (body : List ℕ) (t : Tree)
+line_known : (known : Known) (line : ℕ) (kind : Kind) (body : List ℕ) (t : Gathered)
     → first_fault (places known t.done) ≡ None
     → faults_of_line known kind (reader_of t.done t.last) ≡ None
     → Knows known (next line kind body (reader_of t.done t.last)) (add line kind body t)
@@ -158,7 +160,7 @@ line_known known line FileTrailer body t sound none = begin_known known line Fil
 line_known known line Unknown body t sound none = begin_known known line Unknown body t.done t.last sound none
 line_known known line NoRecord body t sound none = begin_known known line NoRecord body t.done t.last sound none
 
-line_fault : (known : Known) (line : ℕ) (kind : Kind) (body : List ℕ) (t : Tree) (fault : StatementFault)
+line_fault : (known : Known) (line : ℕ) (kind : Kind) (body : List ℕ) (t : Gathered) (fault : StatementFault)
     → first_fault (places known t.done) ≡ None
     → faults_of_line known kind (reader_of t.done t.last) ≡ Some fault
     → (part : Part) (lines : ℕ) → result_of known lines (fill (add line kind body t) part) ≡ Err fault
@@ -185,7 +187,7 @@ line_fault known line NoRecord body t fault sound fails part lines =
     begin_fault known line NoRecord body t.done t.last fault sound fails part lines
 
 -- with one line more, where it brings no fault to light
-pub next_known : (known : Known) (line : ℕ) (kind : Kind) (body : List ℕ) (reader new : Reader) (t : Tree)
+pub next_known : (known : Known) (line : ℕ) (kind : Kind) (body : List ℕ) (reader new : Reader) (t : Gathered)
     → Knows known reader t → faults_of_line known kind reader ≡ None → new ≡ next line kind body reader
     → Knows known new (add line kind body t)
 next_known known line kind body reader new t k none is =
@@ -195,7 +197,7 @@ next_known known line kind body reader new t k none is =
 
 -- the fault that it brings to light is that of the file, whatever stands behind
 pub next_fault :
-    (known : Known) (line : ℕ) (kind : Kind) (body : List ℕ) (reader : Reader) (t : Tree) (fault : StatementFault)
+    (known : Known) (line : ℕ) (kind : Kind) (body : List ℕ) (reader : Reader) (t : Gathered) (fault : StatementFault)
     → Knows known reader t → faults_of_line known kind reader ≡ Some fault
     → (part : Part) (lines : ℕ) → result_of known lines (fill (add line kind body t) part) ≡ Err fault
 next_fault known line kind body reader t fault k fails part lines =
@@ -237,7 +239,7 @@ result_closed known lines done (Some b) sound =
     (context_push done r)
 
 -- what the reader says at the end of the file is what the file says
-pub end_known : (known : Known) (lines : ℕ) (reader : Reader) (t : Tree) → Knows known reader t
+pub end_known : (known : Known) (lines : ℕ) (reader : Reader) (t : Gathered) → Knows known reader t
     → end_result known lines reader ≡ result_of known lines (fill t no_part)
 end_known known lines reader t k =
     ap (end_result known lines) (is_reader_of known reader t k)

@@ -1,6 +1,9 @@
 -- What the records before a record say: the accounts of a group and the groups of a file, their sums and counts, and
--- the statements. An account is a header 03 with the records behind it up to its trailer 49, a group a header 02 with
--- its accounts up to its trailer 98, and a file a header 01 with its groups up to its trailer 99.
+-- the statements. A broken file has no tree, so this is asked of any list of records. An account is a header 03 with
+-- the records behind it up to its trailer 49, a group a header 02 with its accounts up to its trailer 98, and a file a
+-- header 01 with its groups up to its trailer 99. Each sum, count and list is one over a whole section of the list of
+-- records; nothing here is what a reader has kept on its way. The reader's own struct has fields of the same names,
+-- and its type serves as the record of these answers.
 use Rattle.std.specs.Prelude.{ℕ, Bool, List, [], ◌∷◌, fold, sum_by, codes, Option, Some, None, if◌then◌else◌, ℤ, pos}
 use Rattle.std.specs.Prelude.{◌+ℤ◌}
 use Rattle.std.specs.Ordering.{int_eq}

@@ -10,3 +10,5 @@ pub mod Reading
 pub mod Records
 pub mod Steps
 pub mod Summaries
+pub mod Tree
+pub mod TreeRules

@@ -1,6 +1,7 @@
 //! Bank statements in BAI2, the cash management balance reporting format of the Bank Administration Institute.
 //! `read_bai2` gives the statements of a file, one for each account, or the first line at which the file is broken and
-//! what is wrong there. The meaning of a file is `reading` in `specs/Reading.antt`.
+//! what is wrong there. An accepted file is a tree (`specs/Tree.antt`) that keeps the rules of `specs/TreeRules.antt`;
+//! the fault of another file is that of `reading` in `specs/Reading.antt`.
 #![tactic(auto)]
 
 mod amounts;
@@ -8,6 +9,8 @@ mod checks;
 mod context;
 mod days;
 mod details;
+#[cfg(test)]
+mod drawn_tests;
 mod extent;
 mod fields;
 mod funds;

@@ -10,7 +10,8 @@ use Rattle.std.proofs.lemmas.Bool.{and_parts, eqb-true, ne_eqb, not-true, not_fr
 use Rattle.book_commodity.specs.Rules.{AllHold, EachKeeps, stands_before}
 use Rattle.book_commodity.specs.Table.{Rises, value_of, with_entry, without_entry}
 use Rattle.book_commodity.specs.declared.commodity.Commodity.{Commodity}
-use Rattle.book_commodity.proofs.CommodityRuleLemmas.{Stays, currency_stays, some_stays}
+use Rattle.book_commodity.proofs.CommodityRuleLemmas.{currency_stays}
+use Rattle.book_commodity.proofs.DrawnLemmas.{Stays, some_stays}
 use Rattle.book_commodity.proofs.DrawnLemmas.{value_without}
 use Rattle.book_commodity.proofs.ListLemmas.{mapped_none}
 use Rattle.book_commodity.proofs.RuleLemmas.{each_still, every_with, find_with, find_without, none_before}

@@ -1,15 +1,15 @@
 -- The accounts stay one tree where one is added or moved by the rules, or one without children is taken out.
-use Rattle.std.proofs.Common.{◌≡◌, ℕ, ◌==◌, nat_eq, ◌&&◌, not, ◌⊎◌, inl, inr, Bool, true, false, cond, if◌then◌else◌}
+use Rattle.std.proofs.Common.{◌≡◌, ℕ, ◌==◌, nat_eq, ◌&&◌, not, inl, inr, Bool, true, false, cond, if◌then◌else◌}
 use Rattle.std.proofs.Common.{List, [], ◌∷◌, Option, Some, None, IsSome, IsNone, option_map, find, Result, Ok, Err}
 use Rattle.std.proofs.Common.{OnOk, refl, sym, ap, subst, ◌∙◌, eq-eqb, arith}
 use Rattle.std.specs.List.{list_any}
 use Rattle.std.specs.Option.{option_and_then, option_eq}
 use lib.Pointwise.{pointwise}
-use Rattle.std.proofs.lemmas.Bool.{eqb-true}
+use Rattle.std.proofs.lemmas.Bool.{eqb-true, ne_eqb}
 use Rattle.std.proofs.lemmas.Bool.Decides.{nat_tests}
 use Rattle.book_commodity.specs.Table.{Rises, value_of, with_entry, without_entry}
+use Rattle.book_commodity.proofs.DrawnLemmas.{value_with, value_without}
 use Rattle.book_commodity.proofs.ListLemmas.{mapped_none}
-use Rattle.book_commodity.proofs.TableLemmas as tables
 use Rattle.book_accounts.specs.Group.{fits_under}
 use Rattle.book_accounts.specs.Rules.{IsAnswer, is_namesake, is_within, name_taken, parent_kind}
 use Rattle.book_accounts.specs.Soundness.{IsTree, KeepsTree, IsMoved}
@@ -29,24 +29,6 @@ some_same a b e = cc
 some_of : (o : Option Account) → IsSome o → (a : Account) × (o ≡ Some a)
 some_of None h = absurd cc
 some_of (Some a) h = (a, refl)
-
--- what a tree with one account put says: that account, or one of the others
-split_with :
-    (tree : List (ℕ × Account)) (m : ℕ) (account : Account) (n : ℕ) (b : Account)
-    → value_of n (with_entry m account tree) ≡ Some b
-    → ((n ≡ m) × (account ≡ b)) ⊎ (((n == m) ≡ false) × (value_of n tree ≡ Some b))
-split_with tree m account n b e =
-    let said = sym (tables.value_of_with n m account tree) ∙ e in
-    let P : Bool → Type 0 = λ t. (n == m) ≡ t
-    → ((n ≡ m) × (account ≡ b)) ⊎ (((n == m) ≡ false) × (value_of n tree ≡ Some b)) in
-    elim (n == m) as P [
-      | true ↦ λ same. inl (
-        eqb-true n m same,
-        let here : Some account ≡ Some b =
-            sym (ap (λ (t : Bool). if t then Some account else value_of n tree) same) ∙ said in cc,
-      )
-      | false ↦ λ other. inr (other, sym (ap (λ (t : Bool). if t then Some account else value_of n tree) other) ∙ said)
-    ] refl
 
 -- what is put in place of an account, or as a new one, under a parent of a fitting kind and with a name of its own
 pub record Fits (tree : List (ℕ × Account)) (m : ℕ) (account : Account) (p : ℕ) (above : Account) : Type 0 where
@@ -68,35 +50,37 @@ pub tree_with :
 tree_with tree m account p above fits is = record {
   rooted = fits.rooted;
   one_top = λ k l a b ka lb ta tb.
-      elim (split_with tree m account k a ka) [
+      elim (value_with k m account a tree ka) [
         | inl here ↦ absurd (not_top account p fits.under (ap (λ (x : Account). x.parent) here.1 ∙ ta))
-        | inr old ↦ elim (split_with tree m account l b lb) [
+        | inr old ↦ elim (value_with l m account b tree lb) [
           | inl here ↦ absurd (not_top account p fits.under (ap (λ (x : Account). x.parent) here.1 ∙ tb))
           | inr other ↦ is.one_top k l a b old.1 other.1 ta tb
         ]
       ];
   top_is_root = λ n a na ta.
-      elim (split_with tree m account n a na) [
+      elim (value_with n m account a tree na) [
         | inl here ↦ absurd (not_top account p fits.under (ap (λ (x : Account). x.parent) here.1 ∙ ta))
         | inr old ↦ is.top_is_root n a old.1 ta
       ];
   names_differ = λ k l a b ka lb parents names.
-      elim (split_with tree m account k a ka) [
-        | inl here ↦ elim (split_with tree m account l b lb) [
+      elim (value_with k m account a tree ka) [
+        | inl here ↦ elim (value_with l m account b tree lb) [
           | inl too ↦ here.0 ∙ sym too.0
           | inr old ↦ absurd
-              (fits.own_name l b old.0 old.1 (sym parents ∙ sym (ap (λ (x : Account). x.parent) here.1) ∙ fits.under)
+              (fits.own_name l b (ne_eqb l m old.0) old.1
+              (sym parents ∙ sym (ap (λ (x : Account). x.parent) here.1) ∙ fits.under)
               (sym names ∙ sym (ap (λ (x : Account). x.name) here.1)))
         ]
-        | inr old ↦ elim (split_with tree m account l b lb) [
+        | inr old ↦ elim (value_with l m account b tree lb) [
           | inl here ↦ absurd
-              (fits.own_name k a old.0 old.1 (parents ∙ sym (ap (λ (x : Account). x.parent) here.1) ∙ fits.under)
+              (fits.own_name k a (ne_eqb k m old.0) old.1
+              (parents ∙ sym (ap (λ (x : Account). x.parent) here.1) ∙ fits.under)
               (names ∙ sym (ap (λ (x : Account). x.name) here.1)))
           | inr other ↦ is.names_differ k l a b old.1 other.1 parents names
         ]
       ];
   kinds_fit = λ n q a upper na up qu.
-      elim (split_with tree m account n a na) [
+      elim (value_with n m account a tree na) [
         | inl here ↦
             let first : Some p ≡ Some q = sym fits.under ∙ ap (λ (x : Account). x.parent) here.1 ∙ up in
             let same : p ≡ q = cc in
@@ -107,7 +91,7 @@ tree_with tree m account p above fits is = record {
             let one : above ≡ upper = cc in
             subst (λ (x : Account). fits_under x.kind upper.kind ≡ true) here.1
             (subst (λ (x : Account). fits_under account.kind x.kind ≡ true) one fits.kinds)
-        | inr old ↦ elim (split_with tree m account q upper qu) [
+        | inr old ↦ elim (value_with q m account upper tree qu) [
           | inl here ↦
               let parent : parent_of tree n ≡ Some q = ap (option_and_then (λ account. account.parent)) old.1 ∙ up in
               let way = is.rooted.up n (there_below tree n q parent) in
@@ -123,25 +107,13 @@ tree_with tree m account p above fits is = record {
       ];
 }
 
-from_without :
-    (tree : List (ℕ × Account)) (m : ℕ) → Rises tree → (n : ℕ) (b : Account)
-    → value_of n (without_entry m tree) ≡ Some b → value_of n tree ≡ Some b
-from_without tree m r n b e =
-    let said = sym (tables.value_of_without n m tree r) ∙ e in
-    let P : Bool → Type 0 = λ t. (n == m) ≡ t → value_of n tree ≡ Some b in
-    elim (n == m) as P [
-      | true ↦ λ same. absurd (let gone : None ≡ Some b =
-          sym (ap (λ (t : Bool). if t then None else value_of n tree) same) ∙ said in cc)
-      | false ↦ λ other. sym (ap (λ (t : Bool). if t then None else value_of n tree) other) ∙ said
-    ] refl
-
 -- one without children is taken out
 pub keeps_without :
     (tree : List (ℕ × Account)) (m : ℕ) → Rises tree → children_of tree (Some m) ≡ []
     → KeepsTree tree (without_entry m tree)
 keeps_without tree m r none = record {
   rooted = rooted_without tree m r none;
-  tree = λ is. let from = from_without tree m r in record {
+  tree = λ is. let from = λ (n : ℕ) (b : Account). value_without n m b tree r in record {
     rooted = rooted_without tree m r none is.rooted;
     one_top = λ k l a b ka lb. is.one_top k l a b (from k a ka) (from l b lb);
     top_is_root = λ n a na. is.top_is_root n a (from n a na);

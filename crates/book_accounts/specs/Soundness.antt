@@ -12,10 +12,13 @@ use Rattle.book_accounts.specs.declared.kind.AccountKind.TheVariants.{Root}
 pub record IsTree (tree : List (ℕ × Account)) : Type 0 where
   pub rooted : IsRooted tree
   -- One account at most is at the top, and that is the root.
-  pub one_top : (m n : ℕ) (a b : Account) → value_of m tree ≡ Some a → value_of n tree ≡ Some b → a.parent ≡ None → b.parent ≡ None → m ≡ n
+  pub one_top :
+      (m n : ℕ) (a b : Account) → value_of m tree ≡ Some a → value_of n tree ≡ Some b → a.parent ≡ None
+      → b.parent ≡ None → m ≡ n
   pub top_is_root : (n : ℕ) (a : Account) → value_of n tree ≡ Some a → a.parent ≡ None → a.kind ≡ Root
   pub names_differ :
-      (m n : ℕ) (a b : Account) → value_of m tree ≡ Some a → value_of n tree ≡ Some b → a.parent ≡ b.parent → a.name ≡ b.name → m ≡ n
+      (m n : ℕ) (a b : Account) → value_of m tree ≡ Some a → value_of n tree ≡ Some b → a.parent ≡ b.parent
+      → a.name ≡ b.name → m ≡ n
   pub kinds_fit :
       (n p : ℕ) (a above : Account) → value_of n tree ≡ Some a → a.parent ≡ Some p → value_of p tree ≡ Some above
       → IsTrue (fits_under a.kind above.kind)
@@ -26,7 +29,8 @@ pub record KeepsTree (old new : List (ℕ × Account)) : Type 0 where
   pub tree : IsTree old → IsTree new
 
 -- What an account is after a move: it has the name and the parent given, and the kind that it had.
-pub record IsMoved (tree : List (ℕ × Account)) (number : ℕ) (name : List ℕ) (parent : ℕ) (account : Account) : Type 0 where
+pub record IsMoved (tree : List (ℕ × Account)) (number : ℕ) (name : List ℕ) (parent : ℕ) (account : Account)
+    : Type 0 where
   pub named : account.name ≡ name
   pub under : account.parent ≡ Some parent
   pub same_kind : kind_at tree number ≡ Some account.kind
@@ -43,4 +47,5 @@ CanBeMoved tree number name parent =
 -- The tree stays rooted where the account gets this parent, if that is there.
 abbrev pub StaysRooted : List (ℕ × Account) → ℕ → ℕ → Type 0
 StaysRooted tree number parent =
-    IsSome (value_of parent tree) → (account : Account) → account.parent ≡ Some parent → IsRooted (with_entry number account tree)
+    IsSome (value_of parent tree) → (account : Account) → account.parent ≡ Some parent
+    → IsRooted (with_entry number account tree)

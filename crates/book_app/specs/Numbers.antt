@@ -1,5 +1,5 @@
--- The numbers of the statuses, and the statuses of a run of lines.
-use Rattle.std.specs.Prelude.{ℕ}
+-- The numbers and messages of the statuses, and the statuses of a run of lines.
+use Rattle.std.specs.Prelude.{ℕ, List, [], codes}
 use Rattle.book_lines.specs.declared.running.RunEnd.{RunEnd}
 use Rattle.book_lines.specs.declared.running.RunEnd.TheVariants as end
 use Rattle.book_app.specs.declared.status.Status.{Status}
@@ -13,6 +13,15 @@ number_of Memory = 3
 number_of InputFault = 4
 number_of OutputFault = 5
 number_of InputLimit = 9
+
+-- The line that the program prints on standard error; at Done it prints none.
+abbrev pub message_of : Status → List ℕ
+message_of Done = []
+message_of Usage = codes "usage: book run BOOK"
+message_of Memory = codes "book: out of memory"
+message_of InputFault = codes "book: the input failed"
+message_of OutputFault = codes "book: the output failed"
+message_of InputLimit = codes "book: the input is too long"
 
 -- The status of a run of lines that has ended so.
 abbrev pub status_of : RunEnd → Status

@@ -1,16 +1,19 @@
 //! The program's work as one call, generic over where the lines come from and where the answers go: `book_main`
 //! takes the words, reads the input to its end, and says how it ended. Its clause `run` is the whole promise of a run:
-//! what was written is what the machine of whole books answers to the lines that were read. `run_program` hands
-//! it a program's own words and standard streams, and `Ended` is what the program's `main` answers.
+//! what was written is what the machine of whole books answers to the lines that were read. `run_over` says the same
+//! over any reader and writer of std. `run_program` hands it a program's own words and standard streams, and `Ended` is
+//! what the program's `main` answers.
 #![tactic(auto)]
 
+mod ended;
 mod main_call;
 mod program;
 mod reply;
 mod status;
 mod words;
 
+pub use ended::{Ended, Ran, run_over};
 pub use main_call::{book_main, run_lines};
-pub use program::{Ended, run_program};
+pub use program::run_program;
 pub use reply::{Answering, NoKeeper};
 pub use status::Status;

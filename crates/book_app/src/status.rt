@@ -1,5 +1,5 @@
 ghost use Rattle.std.specs.Prelude.{◌≡◌};
-ghost use Rattle.book_app.specs.Numbers.{number_of, status_of};
+ghost use Rattle.book_app.specs.Numbers.{number_of, message_of, status_of};
 
 use book_lines::RunEnd;
 
@@ -36,7 +36,9 @@ impl Status {
     }
 
     /// The line that the program prints on standard error at this status; empty at Done, where it prints none.
-    pub fn message(self) -> &'static str {
+    pub fn message(self) -> &'static str
+        ensures { result.now ≡ message_of self }
+    {
         match self {
             Status::Done => "",
             Status::Usage => "usage: book run BOOK",

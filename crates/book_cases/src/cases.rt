@@ -9,21 +9,28 @@ type Row = (&'static str, &'static str);
 // a cycle and a command that is not built yet; lines that are no command.
 static ROWS: [Row; 6] = [
     (
-        r#"{"do":"account_add","name":"Bank","kind":"BANK","commodity":1,"parent":2}
+        concat!(
+            r#"{"do":"account_add","name":"Bank","kind":"BANK","commodity":1,"parent":2}
 {"do":"account_add","name":"Salary","kind":"INCOME","commodity":1,"parent":2}
-{"do":"post","day":"2024-01-05","currency":1,"description":"Pay","splits":[{"account":3,"value":100},{"account":4,"value":-99}]}
-"#,
+{"do":"post","day":"2024-01-05","currency":1,"description":"Pay","#,
+            r#""splits":[{"account":3,"value":100},{"account":4,"value":-99}]}
+"#
+        ),
         r#"{"account":3,"ok":"account_add","version":1}
 {"account":4,"ok":"account_add","version":2}
 {"broken":"Unbalanced","sum":"1","version":2}
 "#,
     ),
     (
-        r#"{"do":"account_add","name":"Bank","kind":"BANK","commodity":1,"parent":2}
+        concat!(
+            r#"{"do":"account_add","name":"Bank","kind":"BANK","commodity":1,"parent":2}
 {"do":"account_add","name":"Salary","kind":"INCOME","commodity":1,"parent":2}
-{"do":"post","day":"2024-01-05","currency":1,"splits":[{"account":3,"value":1000000000000},{"account":4,"value":-1000000000000}]}
-{"do":"post","day":"2024-01-05","currency":1,"splits":[{"account":3,"value":1000000000001},{"account":4,"value":-1000000000001}]}
-"#,
+{"do":"post","day":"2024-01-05","currency":1,"#,
+            r#""splits":[{"account":3,"value":1000000000000},{"account":4,"value":-1000000000000}]}
+{"do":"post","day":"2024-01-05","currency":1,"#,
+            r#""splits":[{"account":3,"value":1000000000001},{"account":4,"value":-1000000000001}]}
+"#
+        ),
         r#"{"account":3,"ok":"account_add","version":1}
 {"account":4,"ok":"account_add","version":2}
 {"balances":["1000000000000","-1000000000000"],"ok":"post","splits":[6,7],"transaction":5,"version":3}

@@ -1,15 +1,17 @@
 use crate::runs::{SALARY, SALARY_ANSWERS};
-use book_app::{Status, run_program};
+use book_app::{Status, run_over, run_program};
+use book_commodity::Text;
 use std::alloc::{Alloc, Allocator, Global};
 use std::cell::Cell;
 use std::env::{Env, FillError};
 use std::fmt::Display;
 use std::io;
-use std::io::{BufRead, Eprint, ErrorKind, Input, Lines, Print};
+use std::io::{BufRead, Eprint, ErrorKind, Input, Lines, Print, Read};
 use std::process::{ExitCode, Termination};
+use std::test::Fail;
 
-/// A host with these words, whose input is a salary, and whose output may fail. It takes what is written and what is said on standard error, and
-/// notes whether these are the bytes and the line that a test expects.
+/// A host with these words, whose input is a salary, and whose output may fail. It takes what is written and what is
+/// said on standard error, and notes whether these are the bytes and the line that a test expects.
 #[derive(Drop)]
 struct Host {
     alloc: Global,
@@ -187,6 +189,45 @@ fn words_and_streams(rt: HostRuntime) {
         assert_eq!(rt; host.lines.get(), lines);
         assert!(rt; !host.differs.get());
     }
+}
+
+/// A reader that gives the salary's lines and then fails.
+#[derive(Drop)]
+struct Broken {
+    left: &'static [u8],
+}
+
+impl Read for Broken {
+    fn read(&mut self, buffer: &mut [u8]) -> io::Result<usize> {
+        if self.left.is_empty() {
+            return Err(io::Error::other("broken"));
+        }
+        self.left.read(buffer)
+    }
+}
+
+#[test]
+fn a_reader_that_fails(rt: HostRuntime) -> Result<(), Fail> {
+    let host = Host::new(
+        rt.alloc(),
+        &[],
+        SALARY_ANSWERS,
+        "book: the input failed",
+        false,
+    );
+    let mut words = Vec::new(rt.alloc());
+    for word in ["run", "household.book"] {
+        words.push(Text::of(String::from_str(rt.alloc(), word)?))?;
+    }
+    let reader = Broken {
+        left: SALARY.as_bytes(),
+    };
+    let ran = run_over(rt.alloc(), words.as_slice(), reader, io::writer(&host));
+    assert_eq!(rt; ran.ended.report(&host), ExitCode::from(4));
+    assert_eq!(rt; host.written.get(), SALARY_ANSWERS.len());
+    assert_eq!(rt; host.lines.get(), 1);
+    assert!(rt; !host.differs.get());
+    Ok(())
 }
 
 // Each status but Done says its one line on standard error, and ends with its number.

@@ -13,11 +13,13 @@ pub(crate) const ACCOUNTS: &str =
 const ROOM: usize = 1 << 20;
 
 /// Two accounts, and a salary of 2,500.00 euro on the fifth of January 2024.
-pub(crate) const SALARY: &str =
+pub(crate) const SALARY: &str = concat!(
     r#"{"do":"account_add","name":"Bank","kind":"BANK","commodity":1,"parent":2}
 {"do":"account_add","name":"Salary","kind":"INCOME","commodity":1,"parent":2}
-{"do":"post","day":"2024-01-05","currency":1,"description":"Pay","splits":[{"account":3,"value":250000},{"account":4,"value":-250000}]}
-"#;
+{"do":"post","day":"2024-01-05","currency":1,"description":"Pay","#,
+    r#""splits":[{"account":3,"value":250000},{"account":4,"value":-250000}]}
+"#
+);
 
 /// What these lines are answered.
 pub(crate) const SALARY_ANSWERS: &str = r#"{"account":3,"ok":"account_add","version":1}

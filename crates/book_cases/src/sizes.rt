@@ -49,8 +49,8 @@ const FIVE: &str = concat!(
     r#"{"account":4,"value":-1},{"account":4,"value":-1}"#
 );
 
-/// The last command behind two thousand posts, and its answer.
-static PAST_ALL: [Row; 9] = [
+/// The last commands after two thousand posts, and the answer to the last of them.
+static PAST_ALL: [Row; 11] = [
     (
         "",
         concat!(
@@ -77,6 +77,22 @@ static PAST_ALL: [Row; 9] = [
     (
         r#"{"do":"book_currency","commodity":1}"#,
         r#"{"ok":"book_currency","version":2002}"#,
+    ),
+    (
+        concat!(
+            r#"{"do":"account_add","name":"Cash","kind":"CASH","commodity":1,"parent":2}"#,
+            "\n",
+            r#"{"do":"account_drop","account":12005}"#
+        ),
+        r#"{"ok":"account_drop","version":2004}"#,
+    ),
+    (
+        concat!(
+            r#"{"do":"commodity_add","space":"CURRENCY","name":"USD","fraction":100}"#,
+            "\n",
+            r#"{"do":"book_currency","commodity":12005}"#
+        ),
+        r#"{"ok":"book_currency","version":2004}"#,
     ),
     (
         r#"{"do":"account_drop","account":3,"at":2001}"#,
@@ -212,6 +228,56 @@ fn long_lines(rt: HostRuntime) -> Result<(), Fail> {
         line.push_str(behind)?;
         let last = last_answer(rt.alloc(), line.as_str())?;
         assert_eq!(rt; last.as_str(), answer);
+    }
+    Ok(())
+}
+
+/// A line, but for the number in its name, and how many of its kind a book may have beside those of a fresh one.
+type Limit = (&'static str, &'static str, &'static str);
+
+// A fresh book has one commodity and one account. It takes 9,999 more of each.
+static LIMITS: [Limit; 2] = [
+    (
+        r#"{"do":"commodity_add","space":"NYSE","name":"N"#,
+        r#"","fraction":1}"#,
+        r#"{"at":10000,"broken":"Limit","version":9999,"which":"commodities"}"#,
+    ),
+    (
+        r#"{"do":"account_add","name":"N"#,
+        r#"","kind":"BANK","commodity":1,"parent":2}"#,
+        r#"{"at":10000,"broken":"Limit","version":9999,"which":"accounts"}"#,
+    ),
+];
+
+/// So many lines, each with another number between the two parts.
+fn numbered(alloc: Global, before: &str, behind: &str, count: u32) -> Result<String, OutOfMemory> {
+    let mut lines = String::new(alloc);
+    for number in 0..count {
+        lines.push_str(before)?;
+        lines.push_str(number.to_string(alloc)?.as_str())?;
+        lines.push_str(behind)?;
+        lines.push_str("\n")?;
+    }
+    Ok(lines)
+}
+
+// The last commodity and the last account of a full book are taken, and one more is refused.
+#[test]
+fn full_books(rt: HostRuntime) -> Result<(), Fail> {
+    for (before, behind, refusal) in LIMITS {
+        let lines = numbered(rt.alloc(), before, behind, 10_000)?;
+        let ended = ran(
+            rt.alloc(),
+            &["run", "household.book"],
+            lines.as_bytes(),
+            65_536,
+            &[],
+            &[],
+        )?;
+        let answers = str::from_utf8(ended.output.written()).map_err(|_| "no text")?;
+        let refused = answers.lines().filter(|line| *line == refusal).count();
+        assert_eq!(rt; refused, 1);
+        assert_eq!(rt; answers.lines().last(), Some(refusal));
     }
     Ok(())
 }

@@ -21,4 +21,12 @@ pub enum Answer {
         splits: Many<u64>,
         balances: Many<i128>,
     },
+    /// The number of the transaction, which isn't written in the answer's line, the numbers of its splits by place,
+    /// and for each split the balance of its account after the edit, in smallest units of the account's commodity.
+    Edit {
+        transaction: u64,
+        splits: Many<u64>,
+        balances: Many<i128>,
+    },
+    Drop,
 }

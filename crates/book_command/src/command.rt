@@ -12,17 +12,44 @@ pub struct Command {
 #[derive(Drop)]
 pub enum What {
     /// The book's currency becomes this commodity.
-    BookCurrency { commodity: u64 },
+    BookCurrency {
+        commodity: u64,
+    },
     /// A new commodity.
-    CommodityAdd { commodity: Commodity },
+    CommodityAdd {
+        commodity: Commodity,
+    },
     /// A new account.
-    AccountAdd { account: Account },
+    AccountAdd {
+        account: Account,
+    },
     /// The account of this number has from now on what is given.
-    AccountEdit { account: u64, given: GivenAccount },
+    AccountEdit {
+        account: u64,
+        given: GivenAccount,
+    },
     /// The account of this number is deleted.
-    AccountDrop { account: u64 },
+    AccountDrop {
+        account: u64,
+    },
     /// A new transaction on the day.
-    Post { day: Day, given: GivenTxn },
+    Post {
+        day: Day,
+        given: GivenTxn,
+    },
+    /// The transaction of this number has from now on this day and what is given. Reconciled splits are removed or
+    /// changed only with force.
+    Edit {
+        transaction: u64,
+        force: bool,
+        day: Day,
+        given: GivenTxn,
+    },
+    /// The transaction of this number is deleted. One with reconciled splits is deleted only with force.
+    Drop {
+        transaction: u64,
+        force: bool,
+    },
 }
 
 /// What an account is to have from now on; what isn't given stays as it is.

@@ -37,6 +37,8 @@ pub enum Rule {
     ValueNotQuantity { place: u64 },
     /// The values of the splits sum to this and not to zero.
     Unbalanced { sum: i128 },
+    /// This split is reconciled with a statement, and would be removed, or have another account or quantity.
+    Reconciled { split: u64 },
     /// What is counted would pass its limit, which is `at`.
     Limit { which: Counted, at: u64 },
 }

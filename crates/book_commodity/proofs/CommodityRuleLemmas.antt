@@ -11,22 +11,7 @@ use Rattle.book_commodity.specs.declared.commodity.Commodity.{Commodity}
 use Rattle.book_commodity.proofs.DrawnLemmas.{drawn_below, value_kept}
 use Rattle.book_commodity.proofs.RuleLemmas.{each_with, none_before, none_before_with}
 
--- What stood under a number still stands under it.
-pub record Stays {T : Type 0} (old new : List (ℕ × T)) : Type 0 where
-  pub each : (number : ℕ) (value : T) → value_of number old ≡ Some value → value_of number new ≡ Some value
-
--- where a thing is put under a free number
-pub stays_with : {T : Type 0} (n : ℕ) (v : T) (es : List (ℕ × T)) → value_of n es ≡ None → Stays es (with_entry n v es)
-stays_with n v es free = record { each = λ m x there. value_kept m n v x es free there }
-
--- so a thing that is there still is
-pub some_stays :
-    {T : Type 0} (found later : Option T) → ((x : T) → found ≡ Some x → later ≡ Some x) → is_some found ≡ true
-    → is_some later ≡ true
-some_stays None later same e = absurd cc
-some_stays (Some x) later same e = ap is_some (same x refl)
-
--- and so is a currency
+-- a currency that is there still is
 pub currency_stays :
     (found later : Option Commodity) → ((c : Commodity) → found ≡ Some c → later ≡ Some c) → is_currency_of found ≡ true
     → is_currency_of later ≡ true

@@ -1,7 +1,8 @@
 -- A number that is drawn is above all numbers before, so nothing stands under it, and what is put there comes behind
 -- all.
 use Rattle.std.proofs.Common.{◌≡◌, ◌≢◌, ◌⊎◌, ◌==◌, nat_lt, true, false, ℕ, ◌<◌, ◌≤◌, ◌+◌, All, List, [], ◌∷◌, ◌++◌}
-use Rattle.std.proofs.Common.{length, is_none, if◌then◌else◌, Bool, Option, Some, None, refl, sym, ap, ◌∙◌, arith}
+use Rattle.std.proofs.Common.{length, is_none, is_some, if◌then◌else◌, Bool, Option, Some, None, refl, sym, ap, ◌∙◌}
+use Rattle.std.proofs.Common.{arith}
 use Rattle.std.proofs.lemmas.Bool.Decides.{nat_tests}
 use Rattle.std.proofs.lemmas.List.Elements.{All-head, All-tail, All-cons, All-weaker}
 use Rattle.book_commodity.specs.Table.{value_of, with_entry, without_entry, Rises}
@@ -85,6 +86,21 @@ pub value_kept :
     → value_of m (with_entry n v es) ≡ Some x
 value_kept m n v x es free e =
     value_beside m n v x es (λ same. let one = ap (λ (k : ℕ). value_of k es) same in absurd cc) e
+
+-- What stood under a number still stands under it.
+pub record Stays {T : Type 0} (old new : List (ℕ × T)) : Type 0 where
+  pub each : (number : ℕ) (value : T) → value_of number old ≡ Some value → value_of number new ≡ Some value
+
+-- where a thing is put under a free number
+pub stays_with : {T : Type 0} (n : ℕ) (v : T) (es : List (ℕ × T)) → value_of n es ≡ None → Stays es (with_entry n v es)
+stays_with n v es free = record { each = λ m x there. value_kept m n v x es free there }
+
+-- so a thing that is there still is
+pub some_stays :
+    {T : Type 0} (found later : Option T) → ((x : T) → found ≡ Some x → later ≡ Some x) → is_some found ≡ true
+    → is_some later ≡ true
+some_stays None later same e = absurd cc
+some_stays (Some x) later same e = ap is_some (same x refl)
 
 -- a value that stands with one taken stood there before
 pub value_without :

@@ -1,7 +1,9 @@
 -- Lists that are gone through from place to place, and the first item that passes a test.
 use Rattle.std.proofs.Common.{◌≡◌, ℕ, zero, suc, ◌+◌, ◌<◌, ◌≤◌, ◌||◌, Bool, true, false, cond, List, [], ◌∷◌, ◌++◌}
 use Rattle.std.proofs.Common.{length, take, drop, get_or, Option, Some, None, option_map, find, slice_get, refl, sym}
-use Rattle.std.proofs.Common.{ap, ◌∙◌, add-one, arith}
+use Rattle.std.proofs.Common.{ap, ◌∙◌, add-one, arith, ◌==◌, is_none, is_some, All}
+use Rattle.std.proofs.lemmas.Bool.{ne_eqb, or_from}
+use Rattle.std.proofs.lemmas.List.Elements.{All-nil, All-cons, All-head, All-tail}
 use Rattle.std.proofs.Math.Seq.{drop-cons}
 use Rattle.std.proofs.lemmas.List.{drop_all, take_more}
 use Rattle.std.specs.List.{list_any}
@@ -23,6 +25,28 @@ mapped_some f (Some x) y e = (x, refl, cc)
 pub mapped_none : {X Y : Type 0} (f : X → Y) (o : Option X) → option_map f o ≡ None → o ≡ None
 mapped_none f None e = refl
 mapped_none f (Some x) e = absurd cc
+
+-- what isn't missing is there
+pub some_there : {T : Type 0} (found : Option T) → is_none found ≡ false → is_some found ≡ true
+some_there None e = absurd cc
+some_there (Some x) e = refl
+
+-- a number isn't among greater ones
+pub not_greater : (n : ℕ) (ms : List ℕ) → All (λ (m : ℕ). n < m) ms → list_any (λ (m : ℕ). m == n) ms ≡ false
+not_greater n [] above = refl
+not_greater n (m ∷ more) above =
+    let first = All-head (λ (k : ℕ). n < k) m more above in
+    or_from (m == n) _ (ne_eqb m n (λ same. absurd (omega (arith, same, first))))
+    (not_greater n more (All-tail (λ (k : ℕ). n < k) m more above))
+
+-- what holds of all items of two lists in one holds of those of each
+pub all_front : {X : Type 0} (P : X → Type 0) (xs ys : List X) → All P (xs ++ ys) → All P xs
+all_front P [] ys h = All-nil P
+all_front P (x ∷ xs) ys h = All-cons P x xs (All-head P x (xs ++ ys) h) (all_front P xs ys (All-tail P x (xs ++ ys) h))
+
+pub all_back : {X : Type 0} (P : X → Type 0) (xs ys : List X) → All P (xs ++ ys) → All P ys
+all_back P [] ys h = h
+all_back P (x ∷ xs) ys h = all_back P xs ys (All-tail P x (xs ++ ys) h)
 
 -- the item at a place, by its value
 pub drop_by :

@@ -191,3 +191,11 @@ pub each_still :
     → ((k : ℕ) (x : T) → value_of k es ≡ Some x → AllHold (rules k x) → AllHold (later k x))
     → EachKeeps rules es → EachKeeps later es
 each_still rules later es others is = record { each = λ k x there. others k x there (is.each k x there) }
+
+-- ---- which of two things a comparison of numbers chooses
+
+pub chosen-same : {T : Type 0} (m n : ℕ) (same other : T) → m ≡ n → (if m == n then same else other) ≡ same
+chosen-same m n same other e = grind (arith, nat_tests)
+
+pub chosen-other : {T : Type 0} (m n : ℕ) (same other : T) → (m ≡ n → ⊥) → (if m == n then same else other) ≡ other
+chosen-other m n same other e = grind (arith, nat_tests)

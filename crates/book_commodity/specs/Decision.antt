@@ -13,12 +13,14 @@ pub record Decision (P : Type 0) : Type 0 where
   pub is : Bool
   pub decides : Decides is P
 
+-- A truth value for each of two facts gives one for both.
 pub both_decide : {P Q : Type 0} (p q : Bool) → Decides p P → Decides q Q → Decides (p && q) (P × Q)
 both_decide true true d e = (λ h. (d.0 h, e.0 h), λ h. refl)
 both_decide true false d e = (λ h. (d.0 refl, e.0 h), λ h. e.1 h.1)
 both_decide false true d e = (λ h. (d.0 h, e.0 refl), λ h. d.1 h.0)
 both_decide false false d e = (λ h. (d.0 h, e.0 h), λ h. d.1 h.0)
 
+-- The test of two numbers that may be absent says whether they are the same.
 pub options_decide : (m n : Option ℕ) → Decides (option_eq nat_eq m n) (m ≡ n)
 options_decide None None = (λ h. refl, λ h. refl)
 options_decide None (Some n) = (λ h. ap (λ (t : Bool). if t then Some n else None) h, λ h. ap is_some h)

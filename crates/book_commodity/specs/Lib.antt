@@ -6,3 +6,4 @@ pub mod Decision
 pub mod OneLine
 pub mod Rules
 pub mod Table
+pub mod formers

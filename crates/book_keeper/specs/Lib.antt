@@ -1,5 +1,9 @@
 pub mod Calls
 pub mod Faults
+pub mod KeeperInMemory
+pub mod Keeping
+pub mod OverStd
+pub mod Rows
 pub mod SinkInMemory
 pub mod SourceInMemory
 pub mod Stream

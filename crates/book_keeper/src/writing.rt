@@ -4,8 +4,8 @@ ghost use Rattle.book_keeper.specs.Stream.{Wrote, WrotePart};
 
 use crate::{Failed, Sink};
 
-/// Writes all the bytes, in as many calls as the sink wants; the sink's count of faults stays. Failed where a call failed:
-/// then a front part of the bytes was written and not all, and the count rose.
+/// Writes all the bytes, in as many calls as the sink wants; the sink's count of faults stays. Failed where a call
+/// failed: then a front part of the bytes was written and not all, and the count rose.
 pub fn write_all<O: Sink>(output: &mut O, bytes: &[u8]) -> Result<(), Failed>
     ensures ok { OnOk result (Wrote (O.written output.old) (O.written output.new) bytes.now) }
     ensures err { OnErr result (WrotePart (O.written output.old) (O.written output.new) bytes.now) }

@@ -1,3 +1,6 @@
+ghost use Rattle.std.specs.Prelude.{◌≡◌, [], IfOk};
+ghost use Rattle.book_lines.specs.Room.{seen};
+
 use crate::line::Line;
 use book_commodity::OutOfMemory;
 use std::alloc::Global;
@@ -13,8 +16,10 @@ pub struct LineRoom {
 }
 
 impl LineRoom {
-    /// Takes the memory once. OutOfMemory where there is not enough.
-    pub fn new(alloc: Global) -> Result<LineRoom, OutOfMemory> {
+    /// Takes the memory once; no line is begun in it. OutOfMemory where there is not enough.
+    pub fn new(alloc: Global) -> Result<LineRoom, OutOfMemory>
+        ensures empty { IfOk result (λ room. room.line ≡ seen []) }
+    {
         let line = Line::new(alloc)?;
         let piece = Box::new(alloc, [0u8; PIECE])?;
         Ok(LineRoom { line, piece })

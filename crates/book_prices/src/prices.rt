@@ -45,7 +45,8 @@ impl Prices {
 
     /// How many prices there are.
     pub fn len(&self) -> usize
-        ensures { result ≡ length self.now.entries }
+        ensures len { result ≡ length self.now.entries }
+        ensures rises { Rises self.now.entries }
     {
         self.table.len()
     }

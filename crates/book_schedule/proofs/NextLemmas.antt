@@ -186,14 +186,16 @@ earlier_next one other both after (Some x) (Some y) split left right h k =
       right y k.0,
       k.1,
       λ d is later.
-          elim (split d is) [ inl p ↦ (let low = h.2 d p later in omega (arith, signed_arith)) | inr q ↦ k.2 d q later ],
+          elim (split d is)
+          [ inl p ↦ (let low = h.2 d p later in omega (arith, signed_arith)) | inr q ↦ k.2 d q later ],
     ))
     (λ le. let e : int_min x y ≡ x = grind (arith, ints) in
     rw e (
       left x h.0,
       h.1,
       λ d is later.
-          elim (split d is) [ inl p ↦ h.2 d p later | inr q ↦ (let low = k.2 d q later in omega (arith, signed_arith)) ],
+          elim (split d is)
+          [ inl p ↦ h.2 d p later | inr q ↦ (let low = k.2 d q later in omega (arith, signed_arith)) ],
     ))
 
 some_of_push :

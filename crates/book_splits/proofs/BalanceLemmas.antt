@@ -1,9 +1,16 @@
 -- Laws of sums over splits.
 use Rattle.std.proofs.Common.{◌≡◌, ℕ, ℤ, pos, ◌+ℤ◌, ◌==◌, Bool, true, false, if◌then◌else◌, List, [], ◌∷◌, ◌++◌}
-use Rattle.std.proofs.Common.{map, refl, sym, ap, ◌∙◌, append_assoc, filter}
+use Rattle.std.proofs.Common.{◌≤◌, ◌<◌, nat_lt, not, arith, length, map, refl, sym, ap, subst}
+use Rattle.std.proofs.Common.{◌∙◌, append_assoc, filter}
+use Rattle.std.proofs.Math.ListN.{length-append}
+use Rattle.std.proofs.lemmas.Bool.{eqb-true}
+use Rattle.std.proofs.lemmas.Bool.Decides.{nat_tests}
 use Rattle.std.proofs.lemmas.List.{append-nil}
-use Rattle.std.proofs.Math.IntN.{+ℤ_assoc, +ℤ_idl, +ℤ_idr}
-use Rattle.book_splits.specs.Balance.{total, quantity_on, splits_of}
+use Rattle.std.proofs.lemmas.List.Elements.{filter-append}
+use Rattle.std.proofs.Math.IntN.{+ℤ_assoc, +ℤ_comm, +ℤ_idl, +ℤ_idr}
+use Rattle.book_commodity.specs.Table.{AllAbove, Rises, with_entry}
+use Rattle.book_commodity.proofs.TableLemmas.{above_less}
+use Rattle.book_splits.specs.Balance.{total, quantity_on, splits_beside, splits_of}
 use Rattle.book_splits.specs.declared.split.Split.{Split}
 use Rattle.book_splits.specs.declared.transaction.Txn.{Txn}
 
@@ -44,3 +51,81 @@ pub splits_of-added : (transactions : List (ℕ × Txn)) (entry : ℕ × Txn)
     → splits_of (transactions ++ entry ∷ []) ≡ splits_of transactions ++ entry.1.splits
 splits_of-added transactions entry = splits_of-append transactions (entry ∷ [])
     ∙ ap (λ splits. splits_of transactions ++ splits) (append-nil entry.1.splits)
+
+pub splits_beside-append : (n : ℕ) (xs ys : List (ℕ × Txn))
+    → splits_beside n (xs ++ ys) ≡ splits_beside n xs ++ splits_beside n ys
+splits_beside-append n xs ys = ap splits_of (filter-append (λ entry. not (n == entry.0)) xs ys)
+    ∙ splits_of-append (filter (λ entry. not (n == entry.0)) xs) (filter (λ entry. not (n == entry.0)) ys)
+
+-- Where all numbers are above one, none stands under it.
+splits_beside-above : (n : ℕ) (ts : List (ℕ × Txn)) → AllAbove n ts → splits_beside n ts ≡ splits_of ts
+splits_beside-above n [] above = refl
+splits_beside-above n (e ∷ es) above =
+    let more = splits_beside-above n es above.1 in
+    let P : Bool → Type 0 = λ t. (n == e.0) ≡ t
+    → splits_of (if not t then e ∷ filter (λ entry. not (n == entry.0)) es else filter
+    (λ entry. not (n == entry.0)) es)
+    ≡ e.1.splits ++ splits_of es in
+    elim (n == e.0) as P [
+      | true ↦ λ is. absurd (let same = eqb-true n e.0 is in omega (arith, same, above.0))
+      | false ↦ λ is. ap (λ splits. e.1.splits ++ splits) more
+    ] refl
+
+-- The sum does not depend on which come first.
+quantity_on-swap : (account : ℕ) (xs ys : List Split) → quantity_on account (xs ++ ys) ≡ quantity_on account (ys ++ xs)
+quantity_on-swap account xs ys = quantity_on-append account xs ys
+    ∙ +ℤ_comm (quantity_on account xs) (quantity_on account ys) ∙ sym (quantity_on-append account ys xs)
+
+-- With a transaction under a number, an account has what the other transactions and this one give to it.
+pub quantity_on-with :
+    (account n : ℕ) (transaction : Txn) (ts : List (ℕ × Txn)) → Rises ts
+    → quantity_on account (splits_beside n ts ++ transaction.splits)
+    ≡ quantity_on account (splits_of (with_entry n transaction ts))
+quantity_on-with account n transaction [] rises = ap (quantity_on account) (sym (append-nil transaction.splits))
+quantity_on-with account n transaction (e ∷ es) rises =
+    let beside : List Split = splits_beside n es in
+    let After : List (ℕ × Txn) → ℤ = λ ts. quantity_on account (splits_of ts) in
+    let Past : Bool → Type 0 = λ same. (n == e.0) ≡ same
+    → quantity_on account (splits_of (if not same then e ∷ filter (λ entry. not (n == entry.0)) es else filter
+    (λ entry. not (n == entry.0)) es) ++ transaction.splits)
+    ≡ After (if same then (n, transaction) ∷ es else e ∷ with_entry n transaction es) in
+    let Before : Bool → Type 0 = λ less. nat_lt n e.0 ≡ less
+    → quantity_on account (splits_beside n (e ∷ es) ++ transaction.splits)
+    ≡ After (if less then (n, transaction) ∷ e ∷ es else (if n == e.0 then (n, transaction) ∷ es else e
+    ∷ with_entry n transaction es)) in
+    elim (nat_lt n e.0) as Before [
+      | true ↦ λ is.
+          let below : n < e.0 = grind (arith, nat_tests, is) in
+          let above : AllAbove n (e ∷ es) = (below, above_less n e.0 es (omega (arith, below)) rises.0) in
+          ap (λ splits. quantity_on account (splits ++ transaction.splits)) (splits_beside-above n (e ∷ es) above)
+          ∙ quantity_on-swap account (splits_of (e ∷ es)) transaction.splits
+      | false ↦ λ is.
+          elim (n == e.0) as Past [
+            | true ↦ λ is.
+                let same : n ≡ e.0 = eqb-true n e.0 is in
+                let above : AllAbove n es = subst (λ (m : ℕ). AllAbove m es) (sym same) rises.0 in
+                ap (λ splits. quantity_on account (splits ++ transaction.splits)) (splits_beside-above n es above)
+                ∙ quantity_on-swap account (splits_of es) transaction.splits
+            | false ↦ λ is.
+                ap (quantity_on account) (append_assoc e.1.splits beside transaction.splits)
+                ∙ quantity_on-append account e.1.splits (beside ++ transaction.splits)
+                ∙ ap (λ sum. quantity_on account e.1.splits +ℤ sum)
+                (quantity_on-with account n transaction es rises.1)
+                ∙ sym (quantity_on-append account e.1.splits (splits_of (with_entry n transaction es)))
+          ] refl
+    ] refl
+
+-- There are at most as many splits beside a transaction as in all.
+pub length-splits_beside : (n : ℕ) (ts : List (ℕ × Txn)) → length (splits_beside n ts) ≤ length (splits_of ts)
+length-splits_beside n [] = omega arith
+length-splits_beside n (e ∷ es) =
+    let more = length-splits_beside n es in
+    let all = length-append e.1.splits (splits_of es) in
+    let P : Bool → Type 0 = λ t.
+    length (splits_of (if t then e ∷ filter (λ entry. not (n == entry.0)) es else filter
+    (λ entry. not (n == entry.0)) es))
+    ≤ length (e.1.splits ++ splits_of es) in
+    elim (not (n == e.0)) as P [
+      | true ↦ omega (arith, more, all, length-append e.1.splits (splits_beside n es))
+      | false ↦ omega (arith, more, all)
+    ]

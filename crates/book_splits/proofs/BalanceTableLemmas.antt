@@ -1,7 +1,7 @@
 -- Laws of a table of balances into which splits are counted one after another.
 use Rattle.std.proofs.Common.{◌≡◌, ℕ, ◌+◌, ◌≤◌, ℤ, pos, ◌+ℤ◌, ◌==◌, Bool, true, false, if◌then◌else◌, List, [], ◌∷◌}
 use Rattle.std.proofs.Common.{◌++◌, Option, None, Some, IfSome, IsSome, option_map, refl, sym, ap, subst, ◌∙◌}
-use Rattle.std.proofs.Common.{arith, w64, length, take, drop, map, get_or, ◌<◌, IsTrue, eqb}
+use Rattle.std.proofs.Common.{arith, w64, length, take, drop, map, get_or, ◌<◌, IsTrue, eqb, not, ◌≢◌}
 use mir.Val.{SFits}
 use Rattle.std.proofs.Common.{eq-eqb}
 use Rattle.std.proofs.lemmas.Bool.{eqb-true}
@@ -9,13 +9,14 @@ use Rattle.std.proofs.lemmas.List.{take-append-drop, map-append, append-nil}
 use Rattle.std.proofs.Math.ListN.{length-append}
 use Rattle.std.proofs.lemmas.Bool.Decides.{nat_tests}
 use Rattle.book_commodity.proofs.ListLemmas.{take-item}
-use Rattle.book_commodity.specs.Table.{value_of, with_entry}
+use Rattle.book_commodity.specs.Table.{Rises, value_of, with_entry}
 use Rattle.book_commodity.proofs.TableLemmas.{value_of_with}
 use Rattle.std.proofs.lemmas.Int.{ints}
 use Rattle.std.proofs.Math.IntN.{+ℤ_idr}
-use Rattle.book_splits.specs.Balance.{IsWithin, quantity_on, splits_of}
+use Rattle.book_splits.specs.Balance.{IsWithin, quantity_on, splits_beside, splits_of}
 use Rattle.book_splits.specs.Balances.{balance_at, Counts, IsSmall, Adds, Puts}
 use Rattle.book_splits.proofs.BalanceLemmas.{quantity_on-append, quantity_on-one, splits_of-append}
+use Rattle.book_splits.proofs.BalanceLemmas.{length-splits_beside, quantity_on-with, splits_beside-append}
 use Rattle.book_splits.specs.declared.transaction.Txn.{Txn}
 use Rattle.book_splits.specs.declared.balances.Balances.{Balances}
 use Rattle.book_splits.specs.declared.split.Split.{Split}
@@ -99,22 +100,57 @@ pub Counts-along : (balances : Balances) (before after : List Split) → before 
 Counts-along balances before after e counts = subst (λ (splits : List Split). Counts balances splits) e counts
 
 -- one transaction more, as a loop reads it
-pub splits_of-item :
-    (transactions : List (ℕ × Txn)) (i : ℕ) (entry : ℕ × Txn) → i < length transactions
+splits_beside-more :
+    (n : ℕ) (transactions : List (ℕ × Txn)) (i : ℕ) (entry : ℕ × Txn) → i < length transactions
     → entry ≡ get_or transactions i entry
-    → splits_of (take i transactions) ++ entry.1.splits ≡ splits_of (take (i + 1) transactions)
-splits_of-item transactions i entry below is =
-    ap (λ splits. splits_of (take i transactions) ++ splits) (sym (append-nil entry.1.splits))
-    ∙ sym (splits_of-append (take i transactions) (entry ∷ []))
-    ∙ ap splits_of (take-item transactions i entry below is)
+    → splits_beside n (take i transactions) ++ splits_beside n (entry ∷ [])
+    ≡ splits_beside n (take (i + 1) transactions)
+splits_beside-more n transactions i entry below is =
+    sym (splits_beside-append n (take i transactions) (entry ∷ []))
+    ∙ ap (splits_beside n) (take-item transactions i entry below is)
 
-pub length-splits_of-take : (transactions : List (ℕ × Txn)) (i : ℕ)
+-- one that stands under another number
+pub splits_beside-item :
+    (n : ℕ) (transactions : List (ℕ × Txn)) (i : ℕ) (entry : ℕ × Txn) → i < length transactions
+    → entry ≡ get_or transactions i entry → entry.0 ≢ n
+    → splits_beside n (take i transactions) ++ entry.1.splits ≡ splits_beside n (take (i + 1) transactions)
+splits_beside-item n transactions i entry below is other =
+    let P : Bool → Type 0 = λ t. (n == entry.0) ≡ t
+    → entry.1.splits ≡ splits_of (if not t then entry ∷ [] else []) in
+    let one : entry.1.splits ≡ splits_beside n (entry ∷ []) = elim (n == entry.0) as P [
+      | true ↦ λ same. absurd (other (sym (eqb-true n entry.0 same)))
+      | false ↦ λ same. sym (append-nil entry.1.splits)
+    ] refl in
+    ap (λ splits. splits_beside n (take i transactions) ++ splits) one
+    ∙ splits_beside-more n transactions i entry below is
+
+-- the one that stands under the number
+pub splits_beside-same :
+    (n : ℕ) (transactions : List (ℕ × Txn)) (i : ℕ) (entry : ℕ × Txn) → i < length transactions
+    → entry ≡ get_or transactions i entry → entry.0 ≡ n
+    → splits_beside n (take i transactions) ≡ splits_beside n (take (i + 1) transactions)
+splits_beside-same n transactions i entry below is same =
+    let P : Bool → Type 0 = λ t. IsTrue t → [] ≡ splits_of (if not t then entry ∷ [] else []) in
+    let none : [] ≡ splits_beside n (entry ∷ []) = elim (n == entry.0) as P [
+      | true ↦ λ h. refl
+      | false ↦ λ h. cc
+    ] (eq-eqb n entry.0 (sym same)) in
+    sym (append-nil (splits_beside n (take i transactions)))
+    ∙ ap (λ splits. splits_beside n (take i transactions) ++ splits) none
+    ∙ splits_beside-more n transactions i entry below is
+
+length-splits_of-take : (transactions : List (ℕ × Txn)) (i : ℕ)
     → length (splits_of (take i transactions)) ≤ length (splits_of transactions)
 length-splits_of-take transactions i =
     let e : splits_of (take i transactions) ++ splits_of (drop i transactions) ≡ splits_of transactions =
     sym (splits_of-append (take i transactions) (drop i transactions))
     ∙ ap splits_of (take-append-drop i transactions) in
     omega (arith, length-append (splits_of (take i transactions)) (splits_of (drop i transactions)), ap length e)
+
+pub length-splits_beside-take : (n : ℕ) (transactions : List (ℕ × Txn)) (i : ℕ)
+    → length (splits_beside n (take i transactions)) ≤ length (splits_of transactions)
+length-splits_beside-take n transactions i =
+    omega (arith, length-splits_beside n (take i transactions), length-splits_of-take transactions i)
 
 -- a balance that is put is there, and the others stay
 pub Puts-here : (old new : Balances) (account : ℕ) (balance : ℤ) → Puts old new account balance
@@ -167,6 +203,17 @@ balances-are balances counted counts (b ∷ given) (split ∷ splits) e =
     let there : given ≡ map (λ split. quantity_on split.account counted) splits = balances-are balances counted
     counts given splits tail in
     ap (λ z. z ∷ given) here ∙ ap (λ zs. quantity_on split.account counted ∷ zs) there
+
+-- where it counts the other transactions and these splits, they are those with the transaction under its number
+pub balances-with :
+    (balances : Balances) (n : ℕ) (transaction : Txn) (transactions : List (ℕ × Txn)) → Rises transactions
+    → Counts balances (splits_beside n transactions ++ transaction.splits)
+    → Counts balances (splits_of (with_entry n transaction transactions))
+balances-with balances n transaction transactions rises counts = record {
+  sums = λ account.
+      subst (λ (q : ℤ). IfSome (balance_at balances account) (λ sum. sum ≡ q))
+      (quantity_on-with account n transaction transactions rises) (counts.sums account);
+}
 
 pub balances-more :
     (f : Split → Option ℤ) (given : List ℤ) (balance : ℤ) (splits : List Split) (i : ℕ) (split : Split)

@@ -2,8 +2,7 @@
 use Rattle.std.proofs.Common.{◌≡◌, ◌≢◌, ℕ, ◌==◌, Bool, true, false, List, Some, refl, sym, ap, ◌∙◌, subst}
 use Rattle.std.proofs.lemmas.Bool.{eqb-true, eqb-false}
 use Rattle.book_commodity.specs.Table.{Rises, value_of, with_entry, without_entry}
-use Rattle.book_commodity.proofs.CommodityRuleLemmas.{Stays}
-use Rattle.book_commodity.proofs.DrawnLemmas.{value_beside, value_here, value_left}
+use Rattle.book_commodity.proofs.DrawnLemmas.{Stays, value_beside, value_here, value_left}
 use Rattle.book_accounts.specs.declared.account.Account.{Account}
 use Rattle.book_splits.specs.Balance.{has_splits}
 use Rattle.book_splits.specs.declared.transaction.Txn.{Txn}

@@ -1,18 +1,18 @@
 -- How the rules of transactions stay where a commodity is added, where accounts change, and where a transaction is
 -- added.
 use Rattle.std.proofs.Common.{◌≡◌, ℕ, ◌+◌, ◌<◌, ◌==◌, nat_lt, ◌&&◌, not, Bool, true, false, All, List, [], ◌∷◌}
-use Rattle.std.proofs.Common.{◌++◌, Option, Some, None, IsTrue, is_none, if◌then◌else◌, refl, sym, ap}
+use Rattle.std.proofs.Common.{Option, Some, None, IsTrue, is_none, if◌then◌else◌, refl, sym, ap}
 use Rattle.std.proofs.Common.{subst, ◌∙◌, eq-eqb, arith}
 use Rattle.std.specs.List.{list_all, list_any}
 use Rattle.std.specs.Ordering.{int_eq}
 use Rattle.std.proofs.lemmas.Bool.{and_right, ne_eqb, not-true, not_from_false, or_from, or_left, or_right}
-use Rattle.std.proofs.lemmas.List.Elements.{All-nil, All-cons, All-head, All-tail}
+use Rattle.std.proofs.lemmas.List.Elements.{All-head, All-tail}
 use Rattle.std.proofs.lemmas.List.Folds.{list_any-append}
 use Rattle.book_commodity.specs.Rules.{AllKept, EachKeeps, broken_where, first_broken, stands_before}
 use Rattle.book_commodity.specs.Table.{value_of, with_entry}
 use Rattle.book_commodity.specs.declared.commodity.Commodity.{Commodity}
-use Rattle.book_commodity.proofs.CommodityRuleLemmas.{Stays}
-use Rattle.book_commodity.proofs.DrawnLemmas.{drawn_below}
+use Rattle.book_commodity.proofs.DrawnLemmas.{Stays, drawn_below}
+use Rattle.book_commodity.proofs.ListLemmas.{all_back, all_front}
 use Rattle.book_commodity.proofs.RuleLemmas.{each_still, each_with, kept_back, kept_both, kept_front, none_before_with}
 use Rattle.book_commodity.proofs.RuleLemmas.{not-broken}
 use Rattle.book_accounts.specs.Group.{is_security}
@@ -143,14 +143,6 @@ transactions_on commodities old new ts suits =
     (ap is_none (none_of_parts commodities new t later), kept.1))
 
 -- ---- where a transaction is added under a drawn number
-
-all_front : {X : Type 0} (P : X → Type 0) (xs ys : List X) → All P (xs ++ ys) → All P xs
-all_front P [] ys h = All-nil P
-all_front P (x ∷ xs) ys h = All-cons P x xs (All-head P x (xs ++ ys) h) (all_front P xs ys (All-tail P x (xs ++ ys) h))
-
-all_back : {X : Type 0} (P : X → Type 0) (xs ys : List X) → All P (xs ++ ys) → All P ys
-all_back P [] ys h = h
-all_back P (x ∷ xs) ys h = all_back P xs ys (All-tail P x (xs ++ ys) h)
 
 -- a number is none of those of splits that are all smaller
 not_among :

@@ -1,5 +1,6 @@
 -- Sums over splits, computed afresh from the transactions (GnuCash Concepts Guide, account registers).
-use Rattle.std.specs.Prelude.{ℕ, ◌*◌, ◌^◌, ℤ, pos, ◌+ℤ◌, ◌-ℤ◌, ◌≤ℤ◌, ◌==◌, Bool, List, [], ◌∷◌, ◌++◌, map, filter}
+use Rattle.std.specs.Prelude.{ℕ, ◌*◌, ◌^◌, ℤ, pos, ◌+ℤ◌, ◌-ℤ◌, ◌≤ℤ◌, ◌==◌, Bool, not, List, [], ◌∷◌, ◌++◌, map}
+use Rattle.std.specs.Prelude.{filter}
 use Rattle.std.specs.List.{list_any}
 use Rattle.book_splits.specs.declared.split.Split.{Split}
 use Rattle.book_splits.specs.declared.transaction.Txn.{Txn}
@@ -17,6 +18,10 @@ sum_of_values splits = total (map (λ split. split.value) splits)
 abbrev pub splits_of : List (ℕ × Txn) → List Split
 splits_of [] = []
 splits_of (entry ∷ more) = entry.1.splits ++ splits_of more
+
+-- The same without those of the transaction under a number.
+abbrev pub splits_beside : ℕ → List (ℕ × Txn) → List Split
+splits_beside number transactions = splits_of (filter (λ entry. not (number == entry.0)) transactions)
 
 -- Whether an account has a split.
 abbrev pub has_splits : List (ℕ × Txn) → ℕ → Bool

@@ -1,6 +1,7 @@
 ghost use Rattle.std.specs.Prelude.{◌≡◌, ℕ, ◌+◌, ◌*◌, ◌≤◌, ◌^◌, ℤ, pos, ◌+ℤ◌, List, [], ◌∷◌, ◌++◌, ◌==◌};
 ghost use Rattle.std.specs.Prelude.{if◌then◌else◌, All, IfOk, OnOk, IfSome, IsSome, length, map, option_map};
-ghost use Rattle.book_splits.specs.Balance.{balances_in, splits_of};
+ghost use Rattle.book_commodity.specs.Table.{Rises, with_entry};
+ghost use Rattle.book_splits.specs.Balance.{balances_in, splits_beside, splits_of};
 
 use crate::{Split, Txn, Txns};
 use book_commodity::{Many, OutOfMemory, Table};
@@ -78,15 +79,18 @@ impl Balances {
         }
     }
 
-    /// Counts the splits of all the transactions.
-    fn count_all(&mut self, transactions: &[(u64, Txn)])
+    /// Counts the splits of all the transactions but the one under the number.
+    fn count_beside(&mut self, number: u64, transactions: &[(u64, Txn)])
         requires zero { IsSmall self.old 0 }
         requires few { length (splits_of transactions.now) ≤ 2 ^ 61 }
-        ensures counted { CountsMore self.old self.new (splits_of transactions.now) }
+        ensures counted { CountsMore self.old self.new (splits_beside number transactions.now) }
         ensures small { IsSmall self.new (length (splits_of transactions.now)) }
         ensures kept { (a : ℕ) → IsSome (balance_at self.old a) → IsSome (balance_at self.new a) }
     {
-        for (_, transaction) in transactions {
+        for (other, transaction) in transactions {
+            if *other == number {
+                continue;
+            }
             self.count(transaction.splits.as_slice());
         }
     }
@@ -107,18 +111,22 @@ impl Balances {
     }
 }
 
-/// For each of the splits, by place, the balance of its account over all days once they stand behind the
-/// transactions, in smallest units of the account's commodity.
+/// For each split of the transaction, by place, the balance of its account over all days once the transaction stands
+/// under the number, instead of the one that stands there, if one does. A balance is in smallest units of the
+/// account's commodity.
 pub fn balances_after(
     alloc: Global,
     transactions: &Txns,
-    splits: &[Split],
+    number: u64,
+    transaction: &Txn,
 ) -> Result<Many<i128>, OutOfMemory>
     requires few { length (splits_of transactions.now.entries) ≤ 2 ^ 61 }
-    ensures { IfOk result (λ sums. sums ≡ balances_in (splits_of transactions.now.entries ++ splits.now) splits.now) }
+    ensures { IfOk result (λ sums.
+        sums ≡ balances_in (splits_of (with_entry number transaction.now transactions.now.entries)) transaction.now.splits) }
 {
+    let splits = transaction.splits.as_slice();
     let mut balances = Balances::of_accounts(alloc, splits)?;
-    balances.count_all(transactions.as_slice());
+    balances.count_beside(number, transactions.as_slice());
     balances.count(splits);
     balances.of_each(alloc, splits)
 }

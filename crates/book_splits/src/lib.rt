@@ -8,6 +8,7 @@
 mod account_splits;
 mod balances;
 mod check;
+mod reconciliation;
 mod rule;
 mod split;
 #[cfg(test)]
@@ -18,6 +19,7 @@ mod transactions;
 pub use account_splits::has_splits;
 pub use balances::balances_after;
 pub use check::check_txn;
+pub use reconciliation::{MarkedSplit, Recon};
 pub use rule::TxnRule;
 pub use split::{Mark, Split};
 pub use transaction::Txn;

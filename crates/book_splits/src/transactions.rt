@@ -67,8 +67,10 @@ impl Txns {
 
     /// The entries, borrowed.
     pub fn as_slice(&self) -> &[(u64, Txn)]
-        ensures { result.now ≡ self.now.entries }
+        ensures entries { result.now ≡ self.now.entries }
+        ensures rises { Rises self.now.entries }
     {
+        let _ = self.transactions.len();
         self.transactions.as_slice()
     }
 

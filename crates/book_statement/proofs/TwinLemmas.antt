@@ -1,5 +1,6 @@
 -- Lines that were seen, as a map from what equal lines have in common to how many of them there were.
-use Rattle.std.proofs.Common.{◌≡◌, Ordering, ℕ, ℤ, ◌+◌, ◌<◌, Bool, true, false, cond, List, length, take, count_by, get_or, Bor, Some, unwrap_or, refl, sym, ap, ◌∙◌}
+use Rattle.std.proofs.Common.{◌≡◌, Ordering, ℕ, ℤ, ◌+◌, ◌<◌, Bool, true, false, cond, List, length, take, count_by}
+use Rattle.std.proofs.Common.{get_or, Bor, Some, unwrap_or, refl, sym, ap, ◌∙◌}
 use Rattle.std.specs.Prelude.{◌&&◌}
 use Rattle.std.proofs.lemmas.Bool.{and_parts}
 use Rattle.std.specs.BTreeMap.{BTreeMap, get}

@@ -1,6 +1,7 @@
 //! Bank statements: what a statement file says, what the book keeps of it, and by what its lines are known again.
-//! `as_text` makes a text of a file's bytes and `keys_of` gives the keys of a statement's lines. The parts that the
-//! readers of statement files share stand here too: lines, digits, amounts, dates, currencies and joined texts.
+//! `Held`, `Line` with its `LineState`, and `Binding` are what a book keeps; no command uses them yet. `as_text` makes
+//! a text of a file's bytes and `keys_of` gives the keys of a statement's lines. The parts that the readers of
+//! statement files share stand here too: lines, digits, amounts, dates, currencies and joined texts.
 #![tactic(auto)]
 
 mod bad;

@@ -1,6 +1,5 @@
 -- What an edit of an account comes to, from what a check of its rules reports.
-use Rattle.std.proofs.Common.{◌≡◌, ℕ, Bool, true, false, if◌then◌else◌, List, [], Option, Some, None, Result, sym}
-use Rattle.std.proofs.Common.{subst}
+use Rattle.std.proofs.Common.{◌≡◌, ℕ, true, false, [], Some, None, Result}
 use Rattle.book_commodity.specs.Rules.{first_broken}
 use Rattle.book_accounts.specs.declared.account.Account.{Account}
 use Rattle.book_undo.specs.declared.edit.Edit.TheVariants as edit
@@ -13,7 +12,7 @@ use Rattle.book_command.specs.declared.command.GivenAccount.{GivenAccount}
 use Rattle.book_command.specs.declared.refusal.Refusal.{Refusal}
 use Rattle.book_command.specs.declared.rule.Rule.{Rule}
 use Rattle.book_step.specs.declared.step.Step.{Step}
-use Rattle.book_step.proofs.OutcomeLemmas.{broken-changing, broken-leaving, past-changing, past-leaving}
+use Rattle.book_step.proofs.OutcomeLemmas.{either-broken, either-changed, either-left}
 
 -- a broken rule is what an edit comes to, whether or not the account stays as it is
 pub edit-broken :
@@ -21,29 +20,8 @@ pub edit-broken :
     → first_broken (edit_rules state.book number given.parent old (with_given old given)) ≡ Some rule
     → account_edit_of state number given old ≡ Broken rule
 edit-broken state number given old rule e =
-    let rules : List (Option Rule) = edit_rules state.book number given.parent old (with_given old given) in
-    let put = edit.Put number (thing.Account (with_given old given)) in
-    let P : Bool → Type 0 = λ same.
-    (if same then leaving state rules answer.AccountEdit else changing state rules put 0 answer.AccountEdit)
-    ≡ Broken rule in
-    elim (stays old given).is as P [
-      | true ↦ broken-leaving state rules answer.AccountEdit rule e
-      | false ↦ broken-changing state rules put 0 answer.AccountEdit rule e
-    ]
-
-edit-chosen :
-    (state : State) (number : ℕ) (given : GivenAccount) (old : Account) (result : Result Step Refusal) (same : Bool)
-    → (stays old given).is ≡ same
-    → (let rules = edit_rules state.book number given.parent old (with_given old given) in
-    StepsTo state (if same then leaving state rules answer.AccountEdit else changing state rules
-    (edit.Put number (thing.Account (with_given old given))) 0 answer.AccountEdit) result)
-    → StepsTo state (account_edit_of state number given old) result
-edit-chosen state number given old result same e h =
-    let rules : List (Option Rule) = edit_rules state.book number given.parent old (with_given old given) in
-    let put = edit.Put number (thing.Account (with_given old given)) in
-    subst (λ (t : Bool). StepsTo state
-    (if t then leaving state rules answer.AccountEdit else changing state rules put 0 answer.AccountEdit)
-    result) (sym e) h
+    either-broken state (stays old given).is (edit_rules state.book number given.parent old (with_given old given))
+    (edit.Put number (thing.Account (with_given old given))) 0 answer.AccountEdit answer.AccountEdit rule e
 
 -- an account that keeps its rules and stays as it is leaves the book
 pub edit-left :
@@ -53,9 +31,9 @@ pub edit-left :
     → StepsTo state (leaving state [] answer.AccountEdit) result
     → StepsTo state (account_edit_of state number given old) result
 edit-left state number given old result unbroken same h =
-    edit-chosen state number given old result true same
-    (past-leaving state (edit_rules state.book number given.parent old (with_given old given)) answer.AccountEdit
-    result unbroken h)
+    either-left state (stays old given).is (edit_rules state.book number given.parent old (with_given old given))
+    (edit.Put number (thing.Account (with_given old given))) 0 answer.AccountEdit answer.AccountEdit result unbroken
+    same h
 
 -- one that becomes another account changes it
 pub edit-changed :
@@ -66,6 +44,6 @@ pub edit-changed :
     (edit.Put number (thing.Account (with_given old given))) 0 answer.AccountEdit) result
     → StepsTo state (account_edit_of state number given old) result
 edit-changed state number given old result unbroken other h =
-    edit-chosen state number given old result false other
-    (past-changing state (edit_rules state.book number given.parent old (with_given old given))
-    (edit.Put number (thing.Account (with_given old given))) 0 answer.AccountEdit result unbroken h)
+    either-changed state (stays old given).is (edit_rules state.book number given.parent old (with_given old given))
+    (edit.Put number (thing.Account (with_given old given))) 0 answer.AccountEdit answer.AccountEdit result unbroken
+    other h

@@ -1,27 +1,31 @@
 -- The answer to a command is what a step answers, with the balances of the book that the step leads to.
-use Rattle.std.proofs.Common.{◌≡◌, ℕ, ◌+◌, ◌<◌, ◌==◌, ℤ, All, Bool, true, false, if◌then◌else◌, inl, inr, List, []}
+use Rattle.std.proofs.Common.{◌≡◌, ℕ, ◌+◌, ◌==◌, ℤ, Bool, true, false, if◌then◌else◌, List, []}
 use Rattle.std.proofs.Common.{◌∷◌, ◌++◌, length, Option, Some, None, refl, sym, ap, subst, ◌∙◌}
 use Rattle.std.specs.Prelude.{⊤}
 use Rattle.book_commodity.specs.Rules.{first_broken}
 use Rattle.book_commodity.specs.Table.{Rises, value_of, with_entry}
-use Rattle.book_commodity.proofs.DrawnLemmas.{drawn_free, value_here, value_with, value_without}
+use Rattle.book_commodity.proofs.DrawnLemmas.{value_here}
 use Rattle.book_accounts.specs.declared.account.Account.{Account}
 use Rattle.book_splits.specs.declared.transaction.Txn.{Txn}
 use Rattle.book_undo.specs.Book.{Book}
 use Rattle.book_undo.specs.Edit.{edited}
-use Rattle.book_undo.specs.declared.edit.Edit.{Edit}
+use Rattle.book_undo.specs.declared.edit.Edit as edits
 use Rattle.book_undo.specs.declared.edit.Edit.TheVariants as edit
 use Rattle.book_undo.specs.declared.thing.Thing.TheVariants as thing
 use Rattle.book_undo.specs.declared.thing.ThingKind.TheVariants as kind
 use Rattle.book_step.specs.Accounts.{account_drop_of, account_edit_at, add_rules, edit_rules, not_empty, root_stays}
 use Rattle.book_step.specs.Accounts.{stays, with_given}
-use Rattle.book_step.specs.AnswerBalances.{PostsAnswered, balances_at, balances_of, with_balances}
+use Rattle.book_step.specs.AnswerBalances.{PutsAnswered, PutsUnder, balances_at, balances_of, with_balances}
 use Rattle.book_step.specs.AnswerBalances.{without_balances}
 use Rattle.book_step.specs.Commodities as commodities
 use Rattle.book_step.specs.Outcome.{Outcome, Broken, Done, but_balances, changing, leaving, numbers, state_after}
 use Rattle.book_step.specs.Outcome.{unless_broken}
 use Rattle.book_step.specs.Posting.{new_transaction, post_answer, post_rules}
+use Rattle.book_step.specs.Editing as editing
+use Rattle.book_step.specs.Editing.{drop_at, drawn_by, edit_answer, edit_at, edited_transaction, reconciled}
+use Rattle.book_step.specs.SameTransaction.{same_transaction}
 use Rattle.book_step.specs.Soundness.{IsSound}
+use Rattle.book_splits.proofs.ReplacedLemmas.{with_there}
 use Rattle.book_step.specs.State.{State}
 use Rattle.book_step.specs.Step.{outcome, stale, step}
 use Rattle.book_command.specs.declared.answer.Answer.{Answer}
@@ -30,15 +34,22 @@ use Rattle.book_command.specs.declared.command.Command.{Command}
 use Rattle.book_command.specs.declared.command.GivenAccount.{GivenAccount}
 use Rattle.book_command.specs.declared.command.What.{What}
 use Rattle.book_command.specs.declared.command.What.TheVariants.{BookCurrency, CommodityAdd, AccountAdd}
-use Rattle.book_command.specs.declared.command.What.TheVariants.{AccountEdit, AccountDrop, Post}
+use Rattle.book_command.specs.declared.command.What.TheVariants.{AccountEdit, AccountDrop, Drop, Edit, Post}
+use Rattle.book_command.specs.declared.command.GivenTxn.{GivenTxn}
 use Rattle.book_command.specs.declared.rule.Rule.{Rule}
 
--- What a post's answer says of the states before and after it: its transaction got the next number, and the balances
--- are those after it. No other answer has balances.
-abbrev pub HasBalances : State → State → Answer → Type 0
-HasBalances old new (answer.Post n splits balances) =
-    (n ≡ old.next) × ((transaction : Txn) × (new.book ≡ edited (edit.Put n (thing.Txn transaction)) old.book))
+-- What an answer with balances says of the states before and after it: a transaction was put under its number, and the
+-- balances are those after it.
+abbrev pub HasPut : State → State → ℕ → List ℤ → Type 0
+HasPut old new n balances =
+    (Rises old.book.transactions
+    → (transaction : Txn) × (new.book.transactions ≡ with_entry n transaction old.book.transactions))
     × (balances ≡ balances_of new.book n)
+
+-- The answers to a post and to an edit have balances, and no other.
+abbrev pub HasBalances : State → State → Answer → Type 0
+HasBalances old new (answer.Post n splits balances) = HasPut old new n balances
+HasBalances old new (answer.Edit n splits balances) = HasPut old new n balances
 HasBalances old new _ = ⊤
 
 -- ---- what a command is answered that breaks no rule
@@ -50,7 +61,7 @@ unless_answered None state new given answer e = (cc, cc)
 unless_answered (Some rule) state new given answer e = absurd cc
 
 changing_answered :
-    (state : State) (rules : List (Option Rule)) (edit : Edit) (drawn : ℕ) (given : Answer) (new : State)
+    (state : State) (rules : List (Option Rule)) (edit : edits.Edit) (drawn : ℕ) (given : Answer) (new : State)
     (answer : Answer)
     → HasBalances state (state_after state edit (state.next + drawn)) given
     → changing state rules edit drawn given ≡ Done new answer → HasBalances state new answer
@@ -69,7 +80,7 @@ leaving_answered state rules given new answer has e =
     (subst (λ (s : State). HasBalances state s given) both.0 has)
 
 either_answered :
-    (stay : Bool) (state : State) (rules : List (Option Rule)) (edit : Edit) (given : Answer) (new : State)
+    (stay : Bool) (state : State) (rules : List (Option Rule)) (edit : edits.Edit) (given : Answer) (new : State)
     (answer : Answer)
     → ((s : State) → HasBalances state s given)
     → (if stay then leaving state rules given else changing state rules edit 0 given) ≡ Done new answer
@@ -93,6 +104,43 @@ drop_answered state n (Some old) new reply e =
     changing_answered state (root_stays old ∷ not_empty state.book n ∷ [])
     (edit.Gone kind.Account n) 0 answer.AccountDrop new reply tt e
 
+given_answered :
+    (state : State) (n : ℕ) (force : Bool) (day : ℤ) (given : GivenTxn) (found : Option Txn) (new : State)
+    (reply : Answer)
+    → value_of n state.book.transactions ≡ found → edit_at state n force day given found ≡ Done new reply
+    → HasBalances state new reply
+given_answered state n force day given None new reply there e = absurd cc
+given_answered state n force day given (Some old) new reply there e =
+    let ts = state.book.transactions in
+    let transaction = edited_transaction old state.next day given in
+    let put = edit.Put n (thing.Txn transaction) in
+    let drawn = drawn_by old.splits given.splits in
+    let rules = editing.edit_rules state.book n force given old transaction in
+    let left = edit_answer state.book n transaction in
+    let made = edit_answer (edited put state.book) n transaction in
+    let entries = with_entry n transaction ts in
+    let same = same_transaction transaction old in
+    let Chosen : Bool → Type 0 = λ t. same.is ≡ t
+    → (if t then leaving state rules left else changing state rules put drawn made) ≡ Done new reply
+    → HasBalances state new reply in
+    elim same.is as Chosen [
+      | true ↦ λ stays done.
+          let one : transaction ≡ old = same.decides.0 stays in
+          let still = there ∙ ap (λ (t : Txn). Some t) (sym one) in
+          leaving_answered state rules left new reply
+          ((λ r. (transaction, sym (with_there n transaction ts r still))), ap (balances_at ts) (sym still)) done
+      | false ↦ λ other done.
+          changing_answered state rules put drawn made new reply
+          ((λ r. (transaction, refl)), ap (balances_at entries) (sym (value_here n n transaction ts refl))) done
+    ] refl e
+
+taken_answered :
+    (state : State) (n : ℕ) (force : Bool) (found : Option Txn) (new : State) (reply : Answer)
+    → drop_at state n force found ≡ Done new reply → HasBalances state new reply
+taken_answered state n force None new reply e = absurd cc
+taken_answered state n force (Some old) new reply e =
+    changing_answered state (reconciled force old.splits [] ∷ []) (edit.Gone kind.Txn n) 0 answer.Drop new reply tt e
+
 answered : (state : State) (what : What) (new : State) (reply : Answer) → outcome state what ≡ Done new reply
     → HasBalances state new reply
 answered state (BookCurrency commodity) new reply e =
@@ -115,7 +163,11 @@ answered state (Post day given) new reply e =
     let here = value_here state.next state.next transaction state.book.transactions refl in
     changing_answered state (post_rules state.book transaction) put (1 + length transaction.splits)
     (post_answer (edited put state.book) state.next transaction) new reply
-    (refl, (transaction, refl), ap (balances_at entries) (sym here)) e
+    ((λ r. (transaction, refl)), ap (balances_at entries) (sym here)) e
+answered state (Edit n force day given) new reply e =
+    given_answered state n force day given (value_of n state.book.transactions) new reply refl e
+answered state (Drop n force) new reply e =
+    taken_answered state n force (value_of n state.book.transactions) new reply e
 
 -- ---- answers with and without balances
 filled : (old new : State) (whole : Answer) → HasBalances old new whole → with_balances new.book whole ≡ whole
@@ -124,7 +176,9 @@ filled old new (answer.CommodityAdd n) has = refl
 filled old new (answer.AccountAdd n) has = refl
 filled old new answer.AccountEdit has = refl
 filled old new answer.AccountDrop has = refl
-filled old new (answer.Post n splits balances) has = ap (λ (bs : List ℤ). answer.Post n splits bs) (sym has.2)
+filled old new (answer.Post n splits balances) has = ap (λ (bs : List ℤ). answer.Post n splits bs) (sym has.1)
+filled old new (answer.Edit n splits balances) has = ap (λ (bs : List ℤ). answer.Edit n splits bs) (sym has.1)
+filled old new answer.Drop has = refl
 
 filled_again : (book : Book) (whole : Answer) → with_balances book (without_balances whole) ≡ with_balances book whole
 filled_again book answer.BookCurrency = refl
@@ -133,6 +187,8 @@ filled_again book (answer.AccountAdd n) = refl
 filled_again book answer.AccountEdit = refl
 filled_again book answer.AccountDrop = refl
 filled_again book (answer.Post n splits balances) = refl
+filled_again book (answer.Edit n splits balances) = refl
+filled_again book answer.Drop = refl
 
 -- An outcome but for its balances is one with balances.
 pub whole_of : (given : Outcome) (new : State) (short : Answer) → but_balances given ≡ Done new short
@@ -164,54 +220,33 @@ whole_step state command new short e =
     ∙ filled_again new.book w.0 ∙ filled state new w.0 (step_answered state command new w.0 w.1) in
     w.1 ∙ ap (λ (a : Answer). Done new a) (sym same)
 
--- ---- the edit of a post
--- An edit that leads to the book with a transaction under a new number puts that transaction there.
-only_put :
-    (book : Book) (change : Edit) (n : ℕ) (transaction : Txn) → Rises book.transactions
-    → value_of n book.transactions ≡ None
-    → value_of n (edited change book).transactions ≡ Some transaction → change ≡ edit.Put n (thing.Txn transaction)
-only_put book edit.Unchanged n transaction r free there = absurd cc
-only_put book (edit.Currency currency) n transaction r free there = absurd cc
-only_put book (edit.Put m (thing.Commodity commodity)) n transaction r free there = absurd cc
-only_put book (edit.Put m (thing.Account account)) n transaction r free there = absurd cc
-only_put book (edit.Put m (thing.Txn other)) n transaction r free there = elim
-    (value_with n m other transaction book.transactions there) [
-      | inl here ↦ ap (λ (k : ℕ). edit.Put k (thing.Txn other)) (sym here.0)
-          ∙ ap (λ (t : Txn). edit.Put n (thing.Txn t)) here.1
-      | inr old ↦ absurd (let none = old.1 in cc)
-    ]
-only_put book (edit.Gone kind.Commodity m) n transaction r free there = absurd cc
-only_put book (edit.Gone kind.Account m) n transaction r free there = absurd cc
-only_put book (edit.Gone kind.Txn m) n transaction r free there = let old = value_without n m transaction
-    book.transactions r there in absurd cc
+-- ---- what an edit puts
+puts :
+    (state new : State) (change : edits.Edit) (n : ℕ) (balances : List ℤ) → IsSound state
+    → new.book ≡ edited change state.book → HasPut state new n balances → PutsUnder state.book change n
+puts state new change n balances is book has =
+    let put = has.0 is.book.transactions.rise in
+    (put.0, ap (λ (b : Book). b.transactions) (sym book) ∙ put.1)
 
-posts_whole :
-    (state new : State) (change : Edit) (whole : Answer) → IsSound state → new.book ≡ edited change state.book
+puts_whole :
+    (state new : State) (change : edits.Edit) (whole : Answer) → IsSound state → new.book ≡ edited change state.book
     → HasBalances state new whole
-    → PostsAnswered state.book change (without_balances whole)
-posts_whole state new change answer.BookCurrency is book has = tt
-posts_whole state new change (answer.CommodityAdd n) is book has = tt
-posts_whole state new change (answer.AccountAdd n) is book has = tt
-posts_whole state new change answer.AccountEdit is book has = tt
-posts_whole state new change answer.AccountDrop is book has = tt
-posts_whole state new change (answer.Post n splits balances) is book has =
-    let transaction = has.1.0 in
-    let entries = state.book.transactions in
-    let above = subst (λ (k : ℕ). All (λ (entry : ℕ × Txn). entry.0 < k) entries) (sym has.0) is.drawn.transactions in
-    let there : value_of n (edited change state.book).transactions ≡ Some transaction =
-    ap (λ (b : Book). value_of n b.transactions) (sym book ∙ has.1.1) ∙ value_here n n transaction entries refl in
-    record {
-      transaction = transaction;
-      puts = only_put state.book change n transaction is.book.transactions.rise (drawn_free n entries above) there;
-      above = above;
-    }
+    → PutsAnswered state.book change (without_balances whole)
+puts_whole state new change answer.BookCurrency is book has = tt
+puts_whole state new change (answer.CommodityAdd n) is book has = tt
+puts_whole state new change (answer.AccountAdd n) is book has = tt
+puts_whole state new change answer.AccountEdit is book has = tt
+puts_whole state new change answer.AccountDrop is book has = tt
+puts_whole state new change (answer.Post n splits balances) is book has = puts state new change n balances is book has
+puts_whole state new change (answer.Edit n splits balances) is book has = puts state new change n balances is book has
+puts_whole state new change answer.Drop is book has = tt
 
--- Where a step answers a post, its edit puts the transaction.
-pub posts_answered :
-    (state : State) (command : Command) (new : State) (change : Edit) (short : Answer) → IsSound state
+-- Where a step answers with balances, its edit puts the answer's transaction.
+pub puts_answered :
+    (state : State) (command : Command) (new : State) (change : edits.Edit) (short : Answer) → IsSound state
     → new.book ≡ edited change state.book
-    → but_balances (step state command) ≡ Done new short → PostsAnswered state.book change short
-posts_answered state command new change short is book e =
+    → but_balances (step state command) ≡ Done new short → PutsAnswered state.book change short
+puts_answered state command new change short is book e =
     let w = whole_of (step state command) new short e in
-    subst (λ (a : Answer). PostsAnswered state.book change a) w.2
-    (posts_whole state new change w.0 is book (step_answered state command new w.0 w.1))
+    subst (λ (a : Answer). PutsAnswered state.book change a) w.2
+    (puts_whole state new change w.0 is book (step_answered state command new w.0 w.1))

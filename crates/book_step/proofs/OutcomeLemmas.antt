@@ -1,7 +1,6 @@
 -- What a step comes to, from what a check of its rules reports.
-use Rattle.std.proofs.Common.{◌≡◌, ℕ, ◌+◌, ◌==◌, if◌then◌else◌, List, [], ◌∷◌, Option, Some, None}
-use Rattle.std.proofs.Common.{Result, Ok, Err, sym, ap, subst, ◌∙◌, arith}
-use Rattle.std.proofs.lemmas.Bool.Decides.{nat_tests}
+use Rattle.std.proofs.Common.{◌≡◌, ℕ, ◌+◌, Bool, true, false, if◌then◌else◌, List, [], ◌∷◌, Option, Some, None}
+use Rattle.std.proofs.Common.{Result, Ok, Err, sym, ap, subst, ◌∙◌}
 use Rattle.std.specs.Result.{IsErrAnd}
 use Rattle.book_commodity.specs.Rules.{first_broken}
 use Rattle.book_commodity.proofs.RuleLemmas.{first-here, first-past}
@@ -88,6 +87,38 @@ past-leaving state rules answer result e h =
     ≡ leaving state [] answer = ap (λ (broken : Option Rule). unless_broken broken (Done state answer)) e in
     subst (λ (outcome : Outcome). StepsTo state outcome result) (sym same) h
 
+-- a command that leaves the book or changes it comes to the rule that is broken, whichever it does
+pub either-broken :
+    (state : State) (stays : Bool) (rules : List (Option Rule)) (edit : Edit) (drawn : ℕ) (left changed : Answer)
+    (rule : Rule)
+    → first_broken rules ≡ Some rule
+    → (if stays then leaving state rules left else changing state rules edit drawn changed) ≡ Broken rule
+either-broken state true rules edit drawn left changed rule e = broken-leaving state rules left rule e
+either-broken state false rules edit drawn left changed rule e = broken-changing state rules edit drawn changed rule e
+
+-- where no rule is broken it leaves the book
+pub either-left :
+    (state : State) (stays : Bool) (rules : List (Option Rule)) (edit : Edit) (drawn : ℕ) (left changed : Answer)
+    (result : Result Step Refusal)
+    → first_broken rules ≡ None
+    → stays ≡ true
+    → StepsTo state (leaving state [] left) result
+    → StepsTo state (if stays then leaving state rules left else changing state rules edit drawn changed) result
+either-left state true rules edit drawn left changed result e same h = past-leaving state rules left result e h
+either-left state false rules edit drawn left changed result e same h = absurd cc
+
+-- or changes it
+pub either-changed :
+    (state : State) (stays : Bool) (rules : List (Option Rule)) (edit : Edit) (drawn : ℕ) (left changed : Answer)
+    (result : Result Step Refusal)
+    → first_broken rules ≡ None
+    → stays ≡ false
+    → StepsTo state (changing state [] edit drawn changed) result
+    → StepsTo state (if stays then leaving state rules left else changing state rules edit drawn changed) result
+either-changed state true rules edit drawn left changed result e other h = absurd cc
+either-changed state false rules edit drawn left changed result e other h =
+    past-changing state rules edit drawn changed result e h
+
 -- the limit of numbers is the last rule of a change
 pub broken-numbers :
     (state : State) (edit : Edit) (drawn : ℕ) (answer : Answer) (rule : Rule)
@@ -95,10 +126,3 @@ pub broken-numbers :
     → changing state [] edit drawn answer ≡ Broken rule
 broken-numbers state edit drawn answer rule e = ap
     (λ (broken : Option Rule). unless_broken broken (Done (state_after state edit (state.next + drawn)) answer)) e
-
--- which of two outcomes a comparison of numbers chooses
-pub chosen-same : (m n : ℕ) (same other : Outcome) → m ≡ n → (if m == n then same else other) ≡ same
-chosen-same m n same other e = grind (arith, nat_tests)
-
-pub chosen-other : (m n : ℕ) (same other : Outcome) → (m ≡ n → ⊥) → (if m == n then same else other) ≡ other
-chosen-other m n same other e = grind (arith, nat_tests)

@@ -10,27 +10,28 @@
 -- So a new commodity asks nothing of the others, since what was there stays; another account in the place of one asks
 -- that the kinds stay, and that it takes splits as that did; and a new transaction asks that its splits have numbers
 -- of their own.
-use Rattle.std.proofs.Common.{◌≡◌, ℕ, ◌+◌, ◌<◌, ◌≤◌, All, List, [], ◌∷◌, ◌++◌, length, Some, None, IsTrue, true, false}
-use Rattle.std.proofs.Common.{is_some, find, refl, sym, ap, ◌∙◌, append_assoc, append-nil, arith}
+use Rattle.std.proofs.Common.{◌≡◌, ℕ, ◌+◌, ◌<◌, ◌≤◌, All, List, [], ◌++◌, length, Some, None, IsTrue, true, false}
+use Rattle.std.proofs.Common.{is_some, find, ap, ◌∙◌, arith}
 use Rattle.std.proofs.Math.ListN.{length-append}
 use Rattle.std.proofs.lemmas.List.Elements.{All-append, All-same, All-weaker}
 use Rattle.book_commodity.specs.CommodityRules.{has_fraction, has_same_pair}
 use Rattle.book_commodity.specs.Currency.{is_currency_of}
 use Rattle.book_commodity.specs.Table.{value_of, with_entry, without_entry}
 use Rattle.book_commodity.specs.declared.commodity.Commodity.{Commodity}
-use Rattle.book_commodity.proofs.CommodityRuleLemmas.{commodities_with, currency_stays, stays_with}
+use Rattle.book_commodity.proofs.CommodityRuleLemmas.{commodities_with, currency_stays}
 use Rattle.book_commodity.proofs.DrawnLemmas.{all_with, all_without, drawn_before, drawn_free, length_drawn}
-use Rattle.book_commodity.proofs.DrawnLemmas.{length_left, with_last}
+use Rattle.book_commodity.proofs.DrawnLemmas.{length_left, stays_with, with_last}
 use Rattle.book_commodity.proofs.TableLemmas.{rises_with, rises_without}
 use Rattle.book_accounts.specs.AccountRules.{is_root}
 use Rattle.book_accounts.specs.Tree.{children_of}
 use Rattle.book_accounts.specs.declared.account.Account.{Account}
 use Rattle.book_accounts.proofs.AccountRuleLemmas as accounts
 use Rattle.book_accounts.proofs.AccountRuleLemmas.{accounts_beside}
-use Rattle.book_accounts.proofs.TreeLaws.{rooted_without}
+use Rattle.book_accounts.proofs.RootLemmas.{rooted_of}
 use Rattle.book_splits.specs.Balance.{has_splits, splits_of}
 use Rattle.book_splits.specs.declared.split.Split.{Split}
 use Rattle.book_splits.specs.declared.transaction.Txn.{Txn}
+use Rattle.book_splits.proofs.BalanceLemmas.{splits_of-added}
 use Rattle.book_splits.proofs.SuitsLemmas.{suits_left}
 use Rattle.book_splits.proofs.TransactionRuleLemmas as transaction
 use Rattle.book_splits.proofs.TransactionRuleLemmas.{Suits, transactions_beside, transactions_on, transactions_with}
@@ -58,7 +59,6 @@ currency_set book n new is = record {
   transactions = is.transactions;
   few_splits = is.few_splits;
   root = is.root;
-  rooted = is.rooted;
   currency = new;
 }
 
@@ -101,7 +101,6 @@ commodity_put book n new are free fraction few is =
       };
       few_splits = is.few_splits;
       root = is.root;
-      rooted = is.rooted;
       currency = currency_stays (value_of book.currency book.commodities) (value_of book.currency later)
           (stays.each book.currency) is.currency;
     }
@@ -141,7 +140,6 @@ account_put book n new fit suits few is =
       };
       few_splits = is.few_splits;
       root = ap is_some root ∙ is.root;
-      rooted = fit.rooted;
       currency = is.currency;
     }
 
@@ -169,7 +167,8 @@ account_taken book n old there other none unused is =
       commodities = is.commodities;
       accounts = record {
         rise = rises_without n book.accounts r;
-        keep = accounts.accounts_without book.commodities book.accounts n r is.rooted root none is.accounts.keep;
+        keep = accounts.accounts_without book.commodities book.accounts n r
+            (rooted_of book.commodities book.accounts r is.accounts.keep) root none is.accounts.keep;
         few = omega (arith, is.accounts.few, length_left n book.accounts);
       };
       transactions = record {
@@ -180,7 +179,6 @@ account_taken book n old there other none unused is =
       };
       few_splits = is.few_splits;
       root = ap is_some root ∙ is.root;
-      rooted = rooted_without book.accounts n r none is.rooted;
       currency = is.currency;
     }
 
@@ -196,20 +194,11 @@ account_left_drawn book n next are = record {
 
 -- ---- a transaction under a drawn number
 
-splits-append : (xs ys : List (ℕ × Txn)) → splits_of (xs ++ ys) ≡ splits_of xs ++ splits_of ys
-splits-append [] ys = refl
-splits-append (x ∷ xs) ys =
-    ap (λ (l : List Split). x.1.splits ++ l) (splits-append xs ys)
-    ∙ sym (append_assoc x.1.splits (splits_of xs) (splits_of ys))
-
 -- its splits stand behind all others
 splits_last :
     (n : ℕ) (new : Txn) (ts : List (ℕ × Txn)) → All (λ (e : ℕ × Txn). e.0 < n) ts
     → splits_of (with_entry n new ts) ≡ splits_of ts ++ new.splits
-splits_last n new ts below =
-    ap splits_of (with_last n new ts below)
-    ∙ splits-append ts ((n, new) ∷ [])
-    ∙ ap (λ (l : List Split). splits_of ts ++ l) (append-nil new.splits)
+splits_last n new ts below = ap splits_of (with_last n new ts below) ∙ splits_of-added ts (n, new)
 
 pub transaction_put :
     (book : Book) (n : ℕ) (new : Txn) → AreDrawn book n → transaction.IsFit book.commodities book.accounts n new
@@ -230,7 +219,6 @@ transaction_put book n new are fit few splits is =
       };
       few_splits = omega (arith, splits, last, length-append (splits_of book.transactions) new.splits);
       root = is.root;
-      rooted = is.rooted;
       currency = is.currency;
     }
 

@@ -6,31 +6,38 @@ use Rattle.book_commodity.specs.Rules.{AllHold, IsSoundTable}
 use Rattle.book_commodity.specs.Table.{value_of}
 use Rattle.book_commodity.proofs.DrawnLemmas.{value_with}
 use Rattle.book_accounts.specs.AccountRules.{account_rules}
-use Rattle.book_accounts.proofs.TreeLaws.{rooted_empty, rooted_top}
 use Rattle.book_splits.specs.declared.split.Split.{Split}
 use Rattle.book_splits.specs.declared.transaction.Txn.{Txn}
 use Rattle.book_command.specs.declared.answer.Answer.{Answer}
 use Rattle.book_command.specs.declared.command.Command.{Command}
 use Rattle.book_command.specs.declared.command.What.{What}
 use Rattle.book_command.specs.declared.command.What.TheVariants.{BookCurrency, CommodityAdd, AccountAdd, AccountEdit}
-use Rattle.book_command.specs.declared.command.What.TheVariants.{AccountDrop, Post}
+use Rattle.book_command.specs.declared.command.What.TheVariants.{AccountDrop, Drop, Edit, Post}
 use Rattle.book_step.specs.Outcome.{Done}
 use Rattle.book_step.specs.Soundness.{IsSound}
 use Rattle.book_step.specs.State.{State, fresh_state, fresh_book, euro, root}
 use Rattle.book_step.specs.Step.{outcome, stale, step}
-use Rattle.book_step.proofs.SoundCommands.{account_add-sound, account_drop-sound, account_edit-sound}
-use Rattle.book_step.proofs.SoundCommands.{book_currency-sound, commodity_add-sound, post-sound}
+use Rattle.book_step.proofs.SoundAccounts.{account_add-sound, account_drop-sound, account_edit-sound}
+use Rattle.book_step.proofs.SoundCommodities.{book_currency-sound, commodity_add-sound}
+use Rattle.book_step.proofs.SoundEditing.{drop_transaction-sound, edit_transaction-sound}
 use Rattle.book_step.proofs.SoundOutcome.{unless_done}
+use Rattle.book_step.proofs.SoundPosting.{post-sound}
 
 outcome-sound :
-    (state : State) (what : What) (new : State) (answered : Answer) → IsSound state → outcome state what ≡ Done new answered
+    (state : State) (what : What) (new : State) (answered : Answer) → IsSound state
+    → outcome state what ≡ Done new answered
     → IsSound new
 outcome-sound state (BookCurrency commodity) new answered is e = book_currency-sound state commodity new answered is e
 outcome-sound state (CommodityAdd commodity) new answered is e = commodity_add-sound state commodity new answered is e
 outcome-sound state (AccountAdd account) new answered is e = account_add-sound state account new answered is e
-outcome-sound state (AccountEdit account given) new answered is e = account_edit-sound state account given new answered is e
+outcome-sound state (AccountEdit account given) new answered is e =
+    account_edit-sound state account given new answered is e
 outcome-sound state (AccountDrop account) new answered is e = account_drop-sound state account new answered is e
 outcome-sound state (Post day given) new answered is e = post-sound state day given new answered is e
+outcome-sound state (Edit transaction force day given) new answered is e =
+    edit_transaction-sound state transaction force day given new answered is e
+outcome-sound state (Drop transaction force) new answered is e =
+    drop_transaction-sound state transaction force new answered is e
 
 -- A step that is done leads from a sound state to a sound one.
 pub step-sound :
@@ -70,7 +77,6 @@ fresh-sound = record {
     transactions = record { rise = tt; keep = record { each = λ k x there. absurd cc }; few = omega arith };
     few_splits = omega arith;
     root = refl;
-    rooted = rooted_top [] 2 root rooted_empty refl refl;
     currency = refl;
   };
   drawn = record {

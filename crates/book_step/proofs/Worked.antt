@@ -1,9 +1,14 @@
 -- The step on command lines whose answers are known, from the fresh state on.
-use Rattle.std.proofs.Common.{◌≡◌, ℕ, ℤ, pos, negsuc, List, [], ◌∷◌, Option, Some, None, false, codes, refl}
+use Rattle.std.proofs.Common.{◌≡◌, ℕ, ℤ, pos, negsuc, List, [], ◌∷◌, Option, Some, None, true, false, codes, refl}
 use Rattle.book_commodity.specs.declared.counted.Counted.TheVariants.{Amount}
+use Rattle.book_commodity.specs.declared.kind.Kind.TheVariants as kind
 use Rattle.book_accounts.specs.Tree.{nearest_parents}
 use Rattle.book_accounts.specs.declared.kind.AccountKind.{AccountKind}
 use Rattle.book_accounts.specs.declared.kind.AccountKind.TheVariants.{Bank, Income, Stock}
+use Rattle.book_splits.specs.declared.split.Mark.{Mark}
+use Rattle.book_splits.specs.declared.split.Mark.TheVariants.{New, Reconciled}
+use Rattle.book_splits.specs.declared.split.Split.{Split}
+use Rattle.book_step.specs.Editing.{reconciled}
 use Rattle.book_step.specs.Outcome.{Outcome, Broken, Done}
 use Rattle.book_step.specs.State.{State, fresh_state}
 use Rattle.book_step.specs.Step.{step}
@@ -14,10 +19,11 @@ use Rattle.book_command.specs.declared.command.GivenAccount.{GivenAccount}
 use Rattle.book_command.specs.declared.command.GivenSplit.{GivenSplit}
 use Rattle.book_command.specs.declared.command.What.{What}
 use Rattle.book_command.specs.declared.command.What.TheVariants.{BookCurrency, CommodityAdd, AccountAdd}
-use Rattle.book_command.specs.declared.command.What.TheVariants.{AccountEdit, AccountDrop, Post}
+use Rattle.book_command.specs.declared.command.What.TheVariants.{AccountEdit, AccountDrop, Post, Edit, Drop}
 use Rattle.book_command.specs.declared.rule.Rule.{Rule}
 use Rattle.book_command.specs.declared.rule.Rule.TheVariants.{Stale, NameTaken, Root, Cycle, SplitCount, Unbalanced}
-use Rattle.book_command.specs.declared.rule.Rule.TheVariants.{Limit}
+use Rattle.book_command.specs.declared.rule.Rule.TheVariants.{Limit, Unknown}
+use Rattle.book_command.specs.declared.rule.Rule.TheVariants as rule
 
 abbrev now : What → Command
 now what = record { at = None; what = what }
@@ -141,6 +147,77 @@ name_taken = refl
 earlier_version : reply (step (run fresh_state two_accounts) (record { at = Some 1; what = AccountDrop 9 }))
     ≡ Refused (Stale 2)
 earlier_version = refl
+
+-- the book after the salary, with transaction 5 and its splits 6 and 7
+abbrev paid_book : List What
+paid_book = account (codes "Bank") Bank None ∷ account (codes "Salary") Income None
+    ∷ paid (pos 250000) (negsuc 249999) ∷ []
+
+abbrev given_with : Option ℕ → ℕ → ℤ → GivenSplit
+given_with number account value = record
+    { account = account; value = value; quantity = value; memo = []; action = []; id = number }
+
+abbrev given_anew : List GivenSplit → What
+given_anew splits = Edit 5 false (pos 19728)
+    (record { currency = 1; num = []; description = []; splits = splits })
+
+abbrev corrected : What
+corrected = given_anew (given_with (Some 6) 3 (pos 100) ∷ given_with None 4 (negsuc 99) ∷ [])
+
+-- one split stays and one comes
+edited : last paid_book corrected ≡ Answered (answer.Edit 5 (6 ∷ 8 ∷ []) (pos 100 ∷ negsuc 99 ∷ [])) 4
+edited = refl
+
+-- a number that stands a second time
+number_twice :
+    last paid_book (given_anew (given_with (Some 6) 3 (pos 100) ∷ given_with (Some 6) 4 (negsuc 99) ∷ []))
+    ≡ Refused (Unknown kind.Split 6)
+number_twice = refl
+
+-- a number of no split, before the values are summed
+other_number : last paid_book (given_anew (given_with (Some 5) 3 (pos 100) ∷ [])) ≡ Refused (Unknown kind.Split 5)
+other_number = refl
+
+-- given as it is, it stays, and so does the version
+given_again :
+    last paid_book (Edit 5 false (pos 19727) (record {
+      currency = 1;
+      num = [];
+      description = codes "Pay";
+      splits = given_with (Some 6) 3 (pos 250000) ∷ given_with (Some 7) 4 (negsuc 249999) ∷ [];
+    }))
+    ≡ Answered (answer.Edit 5 (6 ∷ 7 ∷ []) (pos 250000 ∷ negsuc 249999 ∷ [])) 3
+given_again = refl
+
+abbrev edited_book : List What
+edited_book = account (codes "Bank") Bank None ∷ account (codes "Salary") Income None
+    ∷ paid (pos 250000) (negsuc 249999) ∷ corrected ∷ []
+
+transaction_dropped : last edited_book (Drop 5 false) ≡ Answered answer.Drop 5
+transaction_dropped = refl
+
+no_transaction : last two_accounts (Drop 5 false) ≡ Refused (Unknown kind.Transaction 5)
+no_transaction = refl
+
+-- a reconciled split that is lost is reported, the first by place
+abbrev marked : ℕ → Mark → Split
+marked number mark = record {
+  id = number;
+  account = 3;
+  memo = [];
+  action = [];
+  mark = mark;
+  recon = None;
+  value = pos 1;
+  quantity = pos 1;
+}
+
+lost : reconciled false (marked 6 New ∷ marked 7 Reconciled ∷ marked 8 Reconciled ∷ []) (marked 8 Reconciled ∷ [])
+    ≡ Some (rule.Reconciled 7)
+lost = refl
+
+lost_with_force : reconciled true (marked 7 Reconciled ∷ []) [] ≡ None
+lost_with_force = refl
 
 dropped : last two_accounts (AccountDrop 3) ≡ Answered answer.AccountDrop 3
 dropped = refl

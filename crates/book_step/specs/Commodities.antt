@@ -1,7 +1,6 @@
 -- The commands on commodities.
-use Rattle.std.specs.Prelude.{ℕ, ◌+◌, ◌^◌, ◌==◌, nat_eq, nat_lt, not, Bool, false, ◌&&◌, ◌||◌, if◌then◌else◌, List}
-use Rattle.std.specs.Prelude.{[], ◌∷◌, length, Option, Some, None, is_none, option_map, find}
-use lib.Pointwise.{pointwise}
+use Rattle.std.specs.Prelude.{ℕ, ◌+◌, ◌==◌, nat_lt, not, Bool, if◌then◌else◌, List}
+use Rattle.std.specs.Prelude.{[], ◌∷◌, length, Option, is_none, option_map, find}
 use Rattle.book_commodity.specs.CommodityRules.{has_fraction, has_same_pair}
 pub use Rattle.book_commodity.specs.Currency.{is_currency_of}
 use Rattle.book_commodity.specs.Rules.{broken_where}

@@ -1,8 +1,10 @@
 pub mod Accounts
 pub mod AnswerBalances
 pub mod Commodities
+pub mod Editing
 pub mod Outcome
 pub mod Posting
+pub mod SameTransaction
 pub mod Soundness
 pub mod State
 pub mod Step

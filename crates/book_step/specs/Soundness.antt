@@ -6,7 +6,6 @@ use Rattle.book_commodity.specs.Currency.{is_currency_of}
 use Rattle.book_commodity.specs.Rules.{IsSoundTable}
 use Rattle.book_commodity.specs.Table.{value_of}
 use Rattle.book_accounts.specs.AccountRules.{account_rules, root_of}
-use Rattle.book_accounts.specs.Tree.{IsRooted}
 use Rattle.book_splits.specs.Balance.{splits_of}
 use Rattle.book_splits.specs.TransactionRules.{transaction_rules}
 use Rattle.book_undo.specs.Book.{Book}
@@ -14,7 +13,7 @@ use Rattle.book_step.specs.State.{State}
 
 -- A book is sound: its commodities, its accounts and its transactions keep the rules of their kinds; there are at most
 -- 10,000 commodities, 10,000 accounts, and 200,000 transactions with 1,000,000 splits (limits of this project); there
--- is a root, and each account has a way up, as follows from its rules; and the book's currency is one of its
+-- is a root; and the book's currency is one of its
 -- commodities, and a currency (GnuCash Manual, book currency).
 pub record IsSoundBook (book : Book) : Type 0 where
   pub commodities : IsSoundTable (commodity_rules book.commodities) 10000 book.commodities
@@ -23,7 +22,6 @@ pub record IsSoundBook (book : Book) : Type 0 where
       IsSoundTable (transaction_rules book.commodities book.accounts book.transactions) 200000 book.transactions
   pub few_splits : length (splits_of book.transactions) ≤ 1000000
   pub root : IsTrue (is_some (root_of book.accounts))
-  pub rooted : IsRooted book.accounts
   pub currency : IsTrue (is_currency_of (value_of book.currency book.commodities))
 
 -- Every thing and every split has a number below the next, which therefore is of none.

@@ -3,13 +3,14 @@ use Rattle.std.specs.Prelude.{ℕ, ◌==◌, not, Option, Some, None}
 use Rattle.book_commodity.specs.Rules.{broken_where}
 use Rattle.book_step.specs.Accounts.{account_add, account_edit, account_drop}
 use Rattle.book_step.specs.Commodities.{book_currency, commodity_add}
+use Rattle.book_step.specs.Editing.{drop_transaction, edit_transaction}
 use Rattle.book_step.specs.Outcome.{Outcome, unless_broken}
 use Rattle.book_step.specs.Posting.{post}
 use Rattle.book_step.specs.State.{State}
 use Rattle.book_command.specs.declared.command.Command.{Command}
 use Rattle.book_command.specs.declared.command.What.{What}
 use Rattle.book_command.specs.declared.command.What.TheVariants.{BookCurrency, CommodityAdd, AccountAdd}
-use Rattle.book_command.specs.declared.command.What.TheVariants.{AccountEdit, AccountDrop, Post}
+use Rattle.book_command.specs.declared.command.What.TheVariants.{AccountEdit, AccountDrop, Post, Edit, Drop}
 use Rattle.book_command.specs.declared.rule.Rule.{Rule}
 use Rattle.book_command.specs.declared.rule.Rule.TheVariants.{Stale}
 
@@ -26,6 +27,8 @@ outcome state (AccountAdd account) = account_add state account
 outcome state (AccountEdit account given) = account_edit state account given
 outcome state (AccountDrop account) = account_drop state account
 outcome state (Post day given) = post state day given
+outcome state (Edit number force day given) = edit_transaction state number force day given
+outcome state (Drop number force) = drop_transaction state number force
 
 -- The step: the version is asked first.
 abbrev pub step : State → Command → Outcome

@@ -1,6 +1,5 @@
 ghost use Rattle.std.specs.Prelude.{◌≡◌, [], ◌∷◌, IfOk, unwrap_or};
 ghost use Rattle.book_commodity.specs.Rules.{ReportsFirst};
-ghost use Rattle.book_accounts.specs.Tree.{IsRooted};
 ghost use Rattle.book_step.specs.Accounts.{account_edit, account_edit_of, becomes_placeholder, edit_rules};
 ghost use Rattle.book_step.specs.Accounts.{moved_rule, same_fields, with_given};
 ghost use Rattle.book_step.specs.Outcome.{StepsTo};
@@ -8,9 +7,9 @@ ghost use Rattle.book_step.specs.Outcome.{StepsTo};
 use crate::accounts::{check_given, check_not_root, known};
 use crate::present::Present;
 use crate::{Answer, GivenAccount, Refusal, Rule, Step};
-use book_accounts::{Account, Tree};
+use book_accounts::Account;
 use book_commodity::{OutOfMemory, Text};
-use book_splits::{Txns, has_splits};
+use book_splits::has_splits;
 use book_undo::{Edit, Thing};
 
 /// The account of this number gets what is given.
@@ -95,32 +94,34 @@ fn check_edit(
 {
     check_given(present, parent)?;
     check_not_root(old)?;
-    check_moved(&present.plain.accounts, number, new)?;
-    check_placeholder(&present.plain.transactions, number, old, new)
+    check_moved(present, number, new)?;
+    check_placeholder(present, number, old, new)
 }
 
 /// The account may stand in the tree with its new name under its new parent.
-fn check_moved(accounts: &Tree, number: u64, new: &Account) -> Result<(), Rule>
-    requires { IsRooted accounts.now.entries }
-    ensures { ReportsFirst (moved_rule accounts.now.entries number new.now new.now.parent ∷ []) result }
+fn check_moved(present: &Present, number: u64, new: &Account) -> Result<(), Rule>
+    ensures { ReportsFirst (moved_rule present.now.book.accounts number new.now new.now.parent ∷ []) result }
 {
     let Some(parent) = new.parent else {
         return Err(Rule::ParentKind);
     };
-    accounts.check_move(number, &new.name, parent)?;
+    present
+        .plain
+        .accounts
+        .check_move(number, &new.name, parent)?;
     Ok(())
 }
 
 /// The account becomes a placeholder only where it has no split.
 fn check_placeholder(
-    transactions: &Txns,
+    present: &Present,
     number: u64,
     old: &Account,
     new: &Account,
 ) -> Result<(), Rule>
-    ensures { ReportsFirst (becomes_placeholder transactions.now.entries number old.now new.now ∷ []) result }
+    ensures { ReportsFirst (becomes_placeholder present.now.book.transactions number old.now new.now ∷ []) result }
 {
-    if !old.placeholder && new.placeholder && has_splits(transactions, number) {
+    if !old.placeholder && new.placeholder && has_splits(&present.plain.transactions, number) {
         return Err(Rule::NotEmpty { account: number });
     }
     Ok(())

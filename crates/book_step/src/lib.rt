@@ -6,8 +6,11 @@
 mod account_edit;
 mod accounts;
 mod commodities;
+mod edited_splits;
+mod editing;
 mod posting;
 mod present;
+mod same_transaction;
 mod step;
 #[cfg(test)]
 mod tests;

@@ -14,7 +14,7 @@ use std::alloc::Global;
 
 const MAX_TRANSACTIONS: usize = 200_000;
 
-const MAX_SPLITS: u64 = 1_000_000;
+pub(crate) const MAX_SPLITS: u64 = 1_000_000;
 
 /// A new transaction stands in the book, under the next number, its splits under those that follow. The answer's
 /// balances are left empty.
@@ -71,7 +71,7 @@ fn new_splits(
 }
 
 /// A split as it stands in the book after a post.
-fn new_split(number: u64, given: GivenSplit) -> Split
+pub(crate) fn new_split(number: u64, given: GivenSplit) -> Split
     ensures { result ≡ new_split number given }
 {
     Split {
@@ -97,7 +97,7 @@ fn check_post(present: &Present, transaction: &Txn) -> Result<(), Rule>
 }
 
 /// The transaction breaks no rule of transactions among the commodities and the accounts of the book.
-fn check_transaction(plain: &Plain, transaction: &Txn) -> Result<(), Rule>
+pub(crate) fn check_transaction(plain: &Plain, transaction: &Txn) -> Result<(), Rule>
     ensures rules { ReportsFirst (broken_by (book_of plain.now) transaction.now ∷ []) result }
     ensures few { OnOk result (length transaction.now.splits ≤ 500) }
 {

@@ -9,6 +9,7 @@ ghost use Rattle.book_step.specs.Step.{outcome, stale, step};
 use crate::account_edit::account_edit;
 use crate::accounts::{account_add, account_drop};
 use crate::commodities::{book_currency, commodity_add};
+use crate::editing::{drop, edit};
 use crate::posting::post;
 use crate::present::Present;
 use crate::{Answer, Command, Refusal, Rule, What};
@@ -105,6 +106,13 @@ fn step_of_what(alloc: Global, present: &Present, what: What) -> Result<Step, Re
         What::AccountEdit { account, given } => account_edit(present, account, given),
         What::AccountDrop { account } => account_drop(present, account),
         What::Post { day, given } => post(alloc, present, day, given),
+        What::Edit {
+            transaction,
+            force,
+            day,
+            given,
+        } => edit(alloc, present, transaction, force, day, given),
+        What::Drop { transaction, force } => drop(present, transaction, force),
     }
 }
 

@@ -130,8 +130,9 @@ fn nothing_moved(alloc: Global, account: u64) -> Result<GivenTxn, OutOfMemory> {
     })
 }
 
+// Edits and deletions of transactions are run by `examples/household.jsonl`.
 #[test]
-fn each_command_is_taken(rt: HostRuntime) -> Result<(), Fail> {
+fn commands_are_taken(rt: HostRuntime) -> Result<(), Fail> {
     let alloc = rt.alloc();
     let day = Day::of_number(19_732).ok_or("a day of the range")?;
     let mut machine = fresh(alloc)?;

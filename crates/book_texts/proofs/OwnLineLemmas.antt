@@ -6,11 +6,11 @@ use Rattle.serde_json.specs.Data.{object, string}
 use Rattle.book_commodity.specs.OneLine.{is_one_line}
 use Rattle.book_command.specs.declared.answer.Answer.{Answer}
 use Rattle.book_command.specs.declared.answer.Answer.TheVariants.{AccountAdd, AccountDrop, AccountEdit}
-use Rattle.book_command.specs.declared.answer.Answer.TheVariants.{BookCurrency, CommodityAdd, Post}
+use Rattle.book_command.specs.declared.answer.Answer.TheVariants.{BookCurrency, CommodityAdd, Post, Edit, Drop}
 use Rattle.book_command.specs.declared.rule.Rule.{Rule}
 use Rattle.book_command.specs.declared.rule.Rule.TheVariants.{Basis, BasisShape, Cycle, FractionShape, Limit}
 use Rattle.book_command.specs.declared.rule.Rule.TheVariants.{NameTaken, NotEmpty, ParentKind, Placeholder, Root}
-use Rattle.book_command.specs.declared.rule.Rule.TheVariants.{SplitCount, Stale, Unbalanced, Unknown}
+use Rattle.book_command.specs.declared.rule.Rule.TheVariants.{Reconciled, SplitCount, Stale, Unbalanced, Unknown}
 use Rattle.book_command.specs.declared.rule.Rule.TheVariants.{ValueNotQuantity, WrongCurrency}
 use Rattle.book_command.specs.declared.wire_error.WireError.{WireError}
 use Rattle.book_command.specs.declared.wire_error.WireError.TheVariants.{NotJson, NotCommand, NotBuilt, OutOfMemory}
@@ -60,6 +60,8 @@ answer-letter (AccountAdd account) version = refl
 answer-letter AccountEdit version = refl
 answer-letter AccountDrop version = refl
 answer-letter (Post transaction splits balances) version = refl
+answer-letter (Edit transaction splits balances) version = refl
+answer-letter Drop version = refl
 
 rule-letter : (rule : Rule) (version : ℕ) → (get_or (rule_bytes rule version) 2 0 == 114) ≡ false
 unfolding serde_json_on_literals
@@ -78,6 +80,7 @@ rule-letter (WrongCurrency commodity) version = refl
 rule-letter (Basis account) version = refl
 rule-letter (ValueNotQuantity place) version = refl
 rule-letter (Unbalanced sum) version = refl
+rule-letter (Reconciled split) version = refl
 rule-letter (Limit which at) version = refl
 
 pub answer-own_line : (answer : Answer) (version : ℕ) → IsOwnLine (answer_bytes answer version)

@@ -1,11 +1,13 @@
 -- Lines at values written by hand.
-use Rattle.std.proofs.Common.{◌≡◌, [], ◌∷◌, Some, codes, refl}
+use Rattle.std.proofs.Common.{◌≡◌, [], ◌∷◌, Some, codes, refl, pos, negsuc}
 use Rattle.std.specs.Fmt.{digits}
 use Rattle.serde_json.proofs.OnLiterals.{serde_json_on_literals}
-use Rattle.book_command.specs.declared.rule.Rule.TheVariants.{Unknown}
+use Rattle.book_command.specs.declared.answer.Answer.TheVariants.{Edit}
+use Rattle.book_command.specs.declared.rule.Rule.TheVariants.{Reconciled, Unknown}
 use Rattle.book_command.specs.declared.wire_error.WireError.TheVariants.{NotCommand}
 use Rattle.book_commodity.specs.declared.counted.Counted.TheVariants.{Numbers}
 use Rattle.book_commodity.specs.declared.kind.Kind.TheVariants.{Reconciliation}
+use Rattle.book_texts.specs.AnswerText.{answer_bytes}
 use Rattle.book_texts.specs.RefusedText.{fault_bytes, too_long_bytes}
 use Rattle.book_texts.specs.RuleText.{rule_bytes}
 use Rattle.book_texts.specs.Words.{kind_word, limit_word}
@@ -29,3 +31,12 @@ not_command_bytes = refl
 long_bytes : too_long_bytes 9000000 ≡ codes "{\"length\":9000000,\"refused\":\"too long\"}"
 unfolding digits too_long_bytes serde_json_on_literals
 long_bytes = refl
+
+edit_bytes : answer_bytes (Edit 5 (6 ∷ 9 ∷ []) (pos 3 ∷ negsuc 2 ∷ [])) 4
+    ≡ codes "{\"balances\":[\"3\",\"-3\"],\"ok\":\"edit\",\"splits\":[6,9],\"version\":4}"
+unfolding digits serde_json_on_literals
+edit_bytes = refl
+
+reconciled_bytes : rule_bytes (Reconciled 6) 5 ≡ codes "{\"broken\":\"Reconciled\",\"split\":6,\"version\":5}"
+unfolding digits serde_json_on_literals
+reconciled_bytes = refl

@@ -3,11 +3,11 @@ use Rattle.std.specs.Prelude.{ℕ, List}
 use Rattle.serde_json.specs.Data.{Members}
 use Rattle.book_command.specs.declared.answer.Answer.{Answer}
 use Rattle.book_command.specs.declared.answer.Answer.TheVariants.{BookCurrency, CommodityAdd, AccountAdd}
-use Rattle.book_command.specs.declared.answer.Answer.TheVariants.{AccountEdit, AccountDrop, Post}
+use Rattle.book_command.specs.declared.answer.Answer.TheVariants.{AccountEdit, AccountDrop, Post, Edit, Drop}
 use Rattle.book_texts.specs.Accounts.{account_add, account_edit, account_drop}
 use Rattle.book_texts.specs.Commodities.{book_currency, commodity_add}
 use Rattle.book_texts.specs.Fields.{line_of}
-use Rattle.book_texts.specs.Posting.{post}
+use Rattle.book_texts.specs.Posting.{post, edit, drop}
 
 -- The answer of each command, with the version after it.
 abbrev pub answer_members : Answer → ℕ → Members
@@ -17,6 +17,8 @@ answer_members (AccountAdd account) = account_add account
 answer_members AccountEdit = account_edit
 answer_members AccountDrop = account_drop
 answer_members (Post transaction splits balances) = post transaction splits balances
+answer_members (Edit transaction splits balances) = edit splits balances
+answer_members Drop = drop
 
 -- Its line.
 abbrev pub answer_bytes : Answer → ℕ → List ℕ

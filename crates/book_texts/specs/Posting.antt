@@ -12,3 +12,13 @@ post transaction splits balances =
     ∷ (codes "splits", list_data number_data splits)
     ∷ (codes "transaction", number_data transaction)
     ∷ [])
+
+-- `edit`: the numbers of the transaction's splits, and the balances of their accounts.
+abbrev pub edit : List ℕ → List ℤ → ℕ → Members
+edit splits balances =
+    answered (codes "edit")
+    ((codes "balances", list_data sum_data balances) ∷ (codes "splits", list_data number_data splits) ∷ [])
+
+-- `drop` has no field of its own.
+abbrev pub drop : ℕ → Members
+drop = answered (codes "drop") []

@@ -5,7 +5,7 @@ use Rattle.book_command.specs.declared.rule.Rule.{Rule}
 use Rattle.book_command.specs.declared.rule.Rule.TheVariants.{Stale, Unknown, NameTaken, Cycle, ParentKind, Root}
 use Rattle.book_command.specs.declared.rule.Rule.TheVariants.{Placeholder, NotEmpty, FractionShape, BasisShape}
 use Rattle.book_command.specs.declared.rule.Rule.TheVariants.{SplitCount, WrongCurrency, Basis, ValueNotQuantity}
-use Rattle.book_command.specs.declared.rule.Rule.TheVariants.{Unbalanced, Limit}
+use Rattle.book_command.specs.declared.rule.Rule.TheVariants.{Unbalanced, Reconciled, Limit}
 use Rattle.book_texts.specs.Fields.{broken, line_of}
 use Rattle.book_texts.specs.Shown.{number_data, sum_data}
 use Rattle.book_texts.specs.Words.{kind_data, limit_data}
@@ -29,6 +29,7 @@ rule_members (WrongCurrency commodity) = broken (codes "WrongCurrency")
 rule_members (Basis account) = broken (codes "Basis") ((codes "account", number_data account) ∷ [])
 rule_members (ValueNotQuantity place) = broken (codes "ValueNotQuantity") ((codes "place", number_data place) ∷ [])
 rule_members (Unbalanced sum) = broken (codes "Unbalanced") ((codes "sum", sum_data sum) ∷ [])
+rule_members (Reconciled split) = broken (codes "Reconciled") ((codes "split", number_data split) ∷ [])
 rule_members (Limit which at) = broken (codes "Limit")
     ((codes "which", limit_data which) ∷ (codes "at", number_data at) ∷ [])
 

@@ -5,7 +5,7 @@ ghost use Rattle.book_texts.specs.Fields.{members_of};
 use crate::accounts::account_add;
 use crate::commodities::commodity_add;
 use crate::fields::Fields;
-use crate::posting::post;
+use crate::posting::{edit, post};
 use book_command::Answer;
 use book_commodity::{Bytes, OutOfMemory};
 use std::alloc::{AllocError, Global};
@@ -32,5 +32,11 @@ fn answer_fields(alloc: Global, answer: &Answer, version: u64) -> Result<Fields,
             splits,
             balances,
         } => post(alloc, *transaction, splits, balances, version),
+        Answer::Edit {
+            transaction: _,
+            splits,
+            balances,
+        } => edit(alloc, splits, balances, version),
+        Answer::Drop => Fields::answered(alloc, "drop", version),
     }
 }

@@ -1,6 +1,6 @@
 ghost use Rattle.std.specs.Prelude.{◌≡◌, IfOk};
 ghost use Rattle.book_texts.specs.Fields.{members_of};
-ghost use Rattle.book_texts.specs.Posting.{post};
+ghost use Rattle.book_texts.specs.Posting.{edit, post};
 
 use crate::fields::Fields;
 use book_commodity::Many;
@@ -20,4 +20,18 @@ pub(crate) fn post(
     let fields = fields.with("balances", balances)?;
     let fields = fields.with("splits", splits)?;
     Ok(fields.with("transaction", &transaction)?)
+}
+
+/// The answer of `edit`.
+pub(crate) fn edit(
+    alloc: Global,
+    splits: &Many<u64>,
+    balances: &Many<i128>,
+    version: u64,
+) -> Result<Fields, AllocError>
+    ensures { IfOk result (λ fields. members_of fields ≡ edit splits.now balances.now version) }
+{
+    let edited = Fields::answered(alloc, "edit", version)?;
+    let edited = edited.with("balances", balances)?;
+    Ok(edited.with("splits", splits)?)
 }

@@ -47,6 +47,7 @@ fn rule_fields(alloc: Global, rule: Rule, version: u64) -> Result<Fields, AllocE
             version,
         ),
         Rule::Unbalanced { sum } => one(alloc, "Unbalanced", "sum", &sum, version),
+        Rule::Reconciled { split } => one(alloc, "Reconciled", "split", &split, version),
         Rule::Limit { which, at } => limit(alloc, which, at, version),
     }
 }

@@ -7,7 +7,7 @@ use std::alloc::Global;
 /// A rule, the version that stands with it, and the line.
 type Row = (Rule, u64, &'static str);
 
-static RULES: [Row; 16] = [
+static RULES: [Row; 17] = [
     (
         Rule::Stale { now: 42 },
         42,
@@ -79,6 +79,11 @@ static RULES: [Row; 16] = [
         r#"{"broken":"Unbalanced","sum":"-1","version":68}"#,
     ),
     (
+        Rule::Reconciled { split: 6 },
+        5,
+        r#"{"broken":"Reconciled","split":6,"version":5}"#,
+    ),
+    (
         Rule::Limit {
             which: Counted::Amount,
             at: 1_000_000_000_000,
@@ -130,6 +135,14 @@ fn writes_answers(rt: HostRuntime) -> Result<(), OutOfMemory> {
     assert!(rt; answered(alloc, &Answer::AccountEdit, 21, edit)?);
     assert!(rt; answered(alloc, &Answer::AccountDrop, 22, gone)?);
     assert!(rt; answered(alloc, &posted, 3, post)?);
+    let edited = Answer::Edit {
+        transaction: 5,
+        splits: Many::of(vec![in alloc; 6, 9]?),
+        balances: Many::of(vec![in alloc; 3, -3]?),
+    };
+    let edit = r#"{"balances":["3","-3"],"ok":"edit","splits":[6,9],"version":4}"#;
+    assert!(rt; answered(alloc, &edited, 4, edit)?);
+    assert!(rt; answered(alloc, &Answer::Drop, 5, r#"{"ok":"drop","version":5}"#)?);
     Ok(())
 }
 

@@ -1,10 +1,12 @@
 -- What lines ask at values written by hand.
-use Rattle.std.proofs.Common.{◌≡◌, [], codes, refl}
-use Rattle.serde_json.specs.Data.{null, string, array, object, no_items, no_members, member}
-use Rattle.book_wire.specs.Asked.{NotCommand, NotBuilt, asked_of_data}
+use Rattle.std.proofs.Common.{◌≡◌, [], Some, None, Ok, Err, codes, false, refl, pos}
+use Rattle.serde_json.specs.Data.{Members, null, number, string, array, object, no_items, no_members, member, unsigned}
+use Rattle.book_command.specs.declared.command.What.TheVariants as what
+use Rattle.book_wire.specs.Asked.{Asks, NotCommand, NotBuilt, asked_of_data}
 use Rattle.book_wire.specs.Commands.{command_form}
-use Rattle.book_json.specs.Members.{needed, optional}
-use Rattle.book_json.specs.Forms.{whole}
+use Rattle.book_wire.specs.Posting.{split, kept_split}
+use Rattle.book_json.specs.Members.{complete, ends, flag, needed, optional, text}
+use Rattle.book_json.specs.Forms.{whole, whole_signed}
 
 no_object : asked_of_data (array no_items) ≡ NotCommand []
 no_object = refl
@@ -25,3 +27,26 @@ version_first : asked_of_data
     ≡ NotCommand (codes "at")
 unfolding needed optional command_form whole
 version_first = refl
+
+-- where nothing is said of force, nothing is forced
+unforced : asked_of_data
+    (object
+    (member (codes "do") (string (codes "drop")) (member (codes "transaction") (number (unsigned 5)) no_members)))
+    ≡ Asks (record { at = None; what = what.Drop 5 false })
+unfolding needed optional flag ends command_form whole
+unforced = refl
+
+abbrev numbered : Members
+numbered =
+    member (codes "account") (number (unsigned 3))
+    (member (codes "value") (number (unsigned 1)) (member (codes "id") (number (unsigned 2)) no_members))
+
+-- the number of a split is read in an edit, and in a post it is a member too many
+number_in_a_post : complete split numbered ≡ Err (codes "id")
+unfolding needed optional text ends split whole whole_signed
+number_in_a_post = refl
+
+number_in_an_edit : complete kept_split numbered
+    ≡ Ok (record { account = 3; value = pos 1; quantity = pos 1; memo = []; action = []; id = Some 2 })
+unfolding needed optional text ends split kept_split whole whole_signed
+number_in_an_edit = refl

@@ -11,7 +11,7 @@ use Rattle.book_wire.specs.declared.accounts.AccountCommand.TheVariants.{Account
 use Rattle.book_wire.specs.declared.commands.Built.{Built}
 use Rattle.book_wire.specs.declared.commands.Built.TheVariants.{Commodities, Accounts, Posting}
 use Rattle.book_wire.specs.declared.commodities.CommodityCommand.TheVariants.{BookCurrency, CommodityAdd}
-use Rattle.book_wire.specs.declared.posting.PostingCommand.TheVariants.{Post}
+use Rattle.book_wire.specs.declared.posting.PostingCommand.TheVariants.{Post, Edit, Drop}
 
 -- The commands: the word of each with what reads its members, none where it is not built yet.
 abbrev pub commands : List (List ℕ × Option Built)
@@ -22,8 +22,8 @@ commands =
     ∷ (codes "account_edit", Some (Accounts AccountEdit))
     ∷ (codes "account_drop", Some (Accounts AccountDrop))
     ∷ (codes "post", Some (Posting Post))
-    ∷ (codes "edit", None)
-    ∷ (codes "drop", None)
+    ∷ (codes "edit", Some (Posting Edit))
+    ∷ (codes "drop", Some (Posting Drop))
     ∷ (codes "mark", None)
     ∷ (codes "price_set", None)
     ∷ (codes "price_drop", None)

@@ -1,15 +1,15 @@
 -- The members of the commands on transactions, in the order in which they are read.
 use Rattle.std.specs.Prelude.{None, codes, unwrap_or}
-use Rattle.book_json.specs.Members.{Reader, needed, optional, text, gives, ◌>>=◌}
+use Rattle.book_json.specs.Members.{Reader, needed, optional, text, flag, gives, ◌>>=◌}
 use Rattle.book_json.specs.Forms.{whole, whole_signed, day_form, list, inner}
 use Rattle.book_command.specs.declared.command.GivenSplit.{GivenSplit}
 use Rattle.book_command.specs.declared.command.GivenTxn.{GivenTxn}
 use Rattle.book_command.specs.declared.command.What.{What}
 use Rattle.book_command.specs.declared.command.What.TheVariants as what
 use Rattle.book_wire.specs.declared.posting.PostingCommand.{PostingCommand}
-use Rattle.book_wire.specs.declared.posting.PostingCommand.TheVariants.{Post}
+use Rattle.book_wire.specs.declared.posting.PostingCommand.TheVariants.{Post, Edit, Drop}
 
--- A split; where it gives no quantity, its quantity is its value.
+-- A split without a number; where it gives no quantity, its quantity is its value.
 unfoldable pub split : Reader GivenSplit
 split = do
   account ← needed whole (codes "account")
@@ -26,18 +26,36 @@ split = do
     id = None;
   })
 
--- A transaction, but for its day.
-unfoldable pub transaction : Reader GivenTxn
-transaction = do
+-- A split of a transaction that is edited: it has the number of a split that is kept, where it gives one.
+unfoldable pub kept_split : Reader GivenSplit
+kept_split = do
+  given ← split
+  id ← optional whole (codes "id")
+  gives (record given { id = id })
+
+-- A transaction, but for its day, with its splits read so.
+unfoldable pub transaction : Reader GivenSplit → Reader GivenTxn
+transaction split = do
   currency ← needed whole (codes "currency")
   num ← text (codes "num")
   description ← text (codes "description")
   splits ← needed (list (inner split)) (codes "splits")
   gives (record { currency = currency; num = num; description = description; splits = splits })
 
--- A new transaction on a day.
+-- A new transaction on a day; a transaction with what it is to be from now on, on a day; the transaction that is
+-- deleted. Only an edit gives numbers of splits. An absent `force` is false.
 abbrev pub posting_members : PostingCommand → Reader What
 posting_members Post = do
   day ← needed day_form (codes "day")
-  given ← transaction
+  given ← transaction split
   gives (what.Post day given)
+posting_members Edit = do
+  number ← needed whole (codes "transaction")
+  force ← flag (codes "force")
+  day ← needed day_form (codes "day")
+  given ← transaction kept_split
+  gives (what.Edit number force day given)
+posting_members Drop = do
+  number ← needed whole (codes "transaction")
+  force ← flag (codes "force")
+  gives (what.Drop number force)

@@ -5,7 +5,7 @@ ghost use Rattle.book_wire.specs.Commands.{command, command_form, what_of};
 
 use crate::accounts::AccountCommand::{self, AccountAdd, AccountDrop, AccountEdit};
 use crate::commodities::CommodityCommand::{self, BookCurrency, CommodityAdd};
-use crate::posting::PostingCommand::{self, Post};
+use crate::posting::PostingCommand::{self, Drop, Edit, Post};
 use Built::{Accounts, Commodities, Posting};
 use book_command::{Command, What};
 use book_json::{Fault, Reading};
@@ -26,8 +26,8 @@ const COMMANDS: [(&str, Option<Built>); 37] = [
     ("account_edit", Some(Accounts(AccountEdit))),
     ("account_drop", Some(Accounts(AccountDrop))),
     ("post", Some(Posting(Post))),
-    ("edit", None),
-    ("drop", None),
+    ("edit", Some(Posting(Edit))),
+    ("drop", Some(Posting(Drop))),
     ("mark", None),
     ("price_set", None),
     ("price_drop", None),

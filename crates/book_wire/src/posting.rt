@@ -1,5 +1,7 @@
+ghost use Rattle.std.specs.Prelude.{codes};
+ghost use Rattle.book_json.specs.Members.{flag};
 ghost use Rattle.book_json.specs.Reads.{rest, Gives};
-ghost use Rattle.book_wire.specs.Posting.{posting_members, split, transaction};
+ghost use Rattle.book_wire.specs.Posting.{kept_split, posting_members, split, transaction};
 
 use book_command::{GivenSplit, GivenTxn, What};
 use book_json::{Fault, Object, Reading};
@@ -8,6 +10,8 @@ use book_json::{Fault, Object, Reading};
 #[derive(Clone, Copy)]
 pub(crate) enum PostingCommand {
     Post,
+    Edit,
+    Drop,
 }
 
 impl PostingCommand {
@@ -17,6 +21,8 @@ impl PostingCommand {
     {
         match self {
             PostingCommand::Post => post(members),
+            PostingCommand::Edit => edit(members),
+            PostingCommand::Drop => drop_transaction(members),
         }
     }
 }
@@ -25,19 +31,49 @@ fn post(members: &mut Reading) -> Result<What, Fault>
     ensures { Gives (posting_members PostingCommand.Post (rest members.old)) result (rest members.new) }
 {
     let day = members.needed("day")?;
-    let given = transaction(members)?;
+    let given = transaction_of::<NewSplit>(members)?;
     Ok(What::Post { day, given })
 }
 
-/// A transaction, but for its day.
+fn edit(members: &mut Reading) -> Result<What, Fault>
+    ensures { Gives (posting_members PostingCommand.Edit (rest members.old)) result (rest members.new) }
+{
+    let transaction = members.needed("transaction")?;
+    let force = forced(members)?;
+    let day = members.needed("day")?;
+    let given = transaction_of::<KeptSplit>(members)?;
+    Ok(What::Edit {
+        transaction,
+        force,
+        day,
+        given,
+    })
+}
+
+fn drop_transaction(members: &mut Reading) -> Result<What, Fault>
+    ensures { Gives (posting_members PostingCommand.Drop (rest members.old)) result (rest members.new) }
+{
+    let transaction = members.needed("transaction")?;
+    let force = forced(members)?;
+    Ok(What::Drop { transaction, force })
+}
+
+/// Whether reconciled splits may change or go; where nothing is said they may not.
+fn forced(members: &mut Reading) -> Result<bool, Fault>
+    ensures { Gives (flag (codes "force") (rest members.old)) result (rest members.new) }
+{
+    members.flag("force")
+}
+
+/// A transaction, but for its day, with its splits read so.
 #[tactic(auto, unfolding(crate::specs::Posting::transaction))]
-fn transaction(members: &mut Reading) -> Result<GivenTxn, Fault>
-    ensures { Gives (transaction (rest members.old)) result (rest members.new) }
+fn transaction_of<S: Object<Value = GivenSplit>>(members: &mut Reading) -> Result<GivenTxn, Fault>
+    ensures { Gives (transaction S.reader (rest members.old)) result (rest members.new) }
 {
     let currency = members.needed("currency")?;
     let num = members.text("num")?;
     let description = members.text("description")?;
-    let splits = members.objects::<Split>("splits")?;
+    let splits = members.objects::<S>("splits")?;
     Ok(GivenTxn {
         currency,
         num,
@@ -46,28 +82,51 @@ fn transaction(members: &mut Reading) -> Result<GivenTxn, Fault>
     })
 }
 
-/// The members of a split.
-struct Split;
+/// A split without a number.
+#[tactic(auto, unfolding(crate::specs::Posting::split))]
+fn split(members: &mut Reading) -> Result<GivenSplit, Fault>
+    ensures { Gives (split (rest members.old)) result (rest members.new) }
+{
+    let account = members.needed("account")?;
+    let value = members.needed("value")?;
+    let quantity = members.optional("quantity")?;
+    let memo = members.text("memo")?;
+    let action = members.text("action")?;
+    Ok(GivenSplit {
+        account,
+        value,
+        quantity: quantity.unwrap_or(value),
+        memo,
+        action,
+        id: None,
+    })
+}
 
-impl Object for Split {
+/// The members of a split of a new transaction.
+struct NewSplit;
+
+impl Object for NewSplit {
     type Value = GivenSplit;
 
     ghost reader = { split };
 
-    #[tactic(auto, unfolding(crate::specs::Posting::split))]
     fn read(members: &mut Reading) -> Result<GivenSplit, Fault> {
-        let account = members.needed("account")?;
-        let value = members.needed("value")?;
-        let quantity = members.optional("quantity")?;
-        let memo = members.text("memo")?;
-        let action = members.text("action")?;
-        Ok(GivenSplit {
-            account,
-            value,
-            quantity: quantity.unwrap_or(value),
-            memo,
-            action,
-            id: None,
-        })
+        split(members)
+    }
+}
+
+/// The members of a split of a transaction that is edited, which may keep its number.
+struct KeptSplit;
+
+impl Object for KeptSplit {
+    type Value = GivenSplit;
+
+    ghost reader = { kept_split };
+
+    #[tactic(auto, unfolding(crate::specs::Posting::kept_split))]
+    fn read(members: &mut Reading) -> Result<GivenSplit, Fault> {
+        let mut split = split(members)?;
+        split.id = members.optional("id")?;
+        Ok(split)
     }
 }

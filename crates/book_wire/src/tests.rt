@@ -8,7 +8,7 @@ use std::alloc::Global;
 /// A line, and the member that fails in it, or in brackets what else comes of it.
 type Row = (&'static str, &'static str);
 
-static ROWS: [Row; 47] = [
+static ROWS: [Row; 56] = [
     (r#"{"do":"account_drop","account":3}"#, "(read)"),
     (r#" { "account" : 3 , "do" : "account_drop" } "#, "(read)"),
     (
@@ -119,10 +119,34 @@ static ROWS: [Row; 47] = [
         r#"{"do":"post","day":"2024-02-29","currency":1,"splits":[{"account":3,"value":9223372036854775808}]}"#,
         "splits",
     ),
+    (
+        r#"{"do":"edit","transaction":5,"force":"yes","splits":0}"#,
+        "force",
+    ),
+    (
+        r#"{"do":"edit","force":true,"day":"2024-02-29","currency":1,"splits":[]}"#,
+        "transaction",
+    ),
+    (
+        r#"{"do":"edit","transaction":5,"day":"2024-02-29","currency":1,"splits":[{"account":3,"value":1,"id":2}]}"#,
+        "(read)",
+    ),
+    (
+        r#"{"do":"edit","transaction":5,"day":"2024-02-29","currency":1,"splits":[{"account":3,"value":1,"id":null}]}"#,
+        "splits",
+    ),
+    (
+        r#"{"do":"edit","transaction":5,"day":"2024-02-29","currency":1,"splits":[{"account":3,"value":1,"y":"y"}]}"#,
+        "splits",
+    ),
+    (r#"{"do":"drop","transaction":5}"#, "(read)"),
+    (r#"{"do":"drop","force":false}"#, "transaction"),
+    (r#"{"do":"drop","transaction":5,"force":null}"#, "force"),
+    (r#"{"do":"drop","transaction":5,"day":"2024-02-29"}"#, "day"),
 ];
 
 const LATER: &str =
-    "edit drop mark price_set price_drop schedule_add schedule_drop schedule_run bind import line_match line_add \
+    "mark price_set price_drop schedule_add schedule_drop schedule_run bind import line_match line_add \
      line_dismiss line_reopen match_auto reconcile reconcile_statement undo redo register trial sheet income lots \
      gains lines statements recons due price status";
 
@@ -293,6 +317,41 @@ fn a_post_is_read(alloc: Global) -> bool {
         && (second.memo.as_str(), second.action.as_str()) == ("m", "Buy")
 }
 
+fn an_edit_is_read(alloc: Global) -> bool {
+    let Some(what) = asked(
+        alloc,
+        r#"{"do":"edit","at":6,"transaction":5,"day":"1970-01-02","currency":1,
+            "splits":[{"account":3,"value":-5,"id":7},{"account":4,"value":5}]}"#,
+    ) else {
+        return false;
+    };
+    let What::Edit {
+        transaction,
+        force,
+        day,
+        given,
+    } = what
+    else {
+        return false;
+    };
+    let [first, second] = given.splits.as_slice() else {
+        return false;
+    };
+    (transaction, force, day.number()) == (5, false, 1)
+        && (first.account, first.value, first.id) == (3, -5, Some(7))
+        && (second.account, second.value, second.id) == (4, 5, None)
+}
+
+fn a_drop_is_read(alloc: Global) -> bool {
+    let Some(What::Drop { transaction, force }) = asked(
+        alloc,
+        r#"{"do":"drop","at":6,"transaction":5,"force":true}"#,
+    ) else {
+        return false;
+    };
+    (transaction, force) == (5, true)
+}
+
 #[test]
 fn lines_are_read_as_commands(rt: HostRuntime) -> Result<(), OutOfMemory> {
     let alloc = rt.alloc();
@@ -305,6 +364,7 @@ fn lines_are_read_as_commands(rt: HostRuntime) -> Result<(), OutOfMemory> {
     assert_eq!(rt; misread_word(alloc, KINDS, before, "\"}", "(read)")?, None);
     assert!(rt; commodities_are_read(alloc) && an_account_is_read(alloc));
     assert!(rt; what_is_given_of_an_account_is_read(alloc) && a_post_is_read(alloc));
+    assert!(rt; an_edit_is_read(alloc) && a_drop_is_read(alloc));
     assert_eq!(rt;
         nested(alloc, 126)?.as_slice(),
         r#"{"field":"do","refused":"not command"}"#.as_bytes()

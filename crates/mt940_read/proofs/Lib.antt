@@ -3,6 +3,7 @@ pub mod AnswerLemmas
 pub mod CheckedLemmas
 pub mod EntryLemmas
 pub mod FormLemmas
+pub mod KeptReading
 pub mod PageLemmas
 pub mod RunLemmas
 pub mod SlashLemmas

@@ -25,15 +25,11 @@ use Rattle.book_statement.specs.declared.statement_line.StatementLine.{Statement
 use Rattle.book_statement.proofs.ListLemmas.{Grows, grouped-push, grouped-some}
 use Rattle.mt940_read.specs.Pages.{
   page_of,
-  last_lines,
   last_page,
-  statement_alone,
-  with_page,
   with_last_page,
-  joins,
-  statements_of,
   with_message,
 }
+use Rattle.mt940_read.specs.Statements.{alone, joins, last_lines, onto, statements_of}
 use Rattle.mt940_read.specs.Tree.{MessageLines}
 use Rattle.mt940_read.specs.Values.{values}
 use Rattle.mt940_read.proofs.EntryLemmas.{IsEmpty, HasLast, snoc}
@@ -45,13 +41,12 @@ last_page-push known (n ∷ []) m = refl
 last_page-push known (n ∷ o ∷ ms) m = last_page-push known (o ∷ ms) m
 
 -- a page behind a statement, and a page in front of it
-pages_grow : (known : List (ℕ × Commodity)) → Grows (λ (m : MessageLines). statement_alone (values known m.fields))
-    (λ (m : MessageLines) (s : Statement). with_page (values known m.fields) s)
+pages_grow : (known : List (ℕ × Commodity)) → Grows (alone known) (onto known)
     (λ (s : Statement) (m : MessageLines). with_last_page s (values known m.fields))
 pages_grow known = record {
   first = λ x y. refl;
   more = λ x y group. ap (λ l. with_lines l
-      (with_page (values known x.fields) (with_last_page group (values known y.fields))))
+      (onto known x (with_last_page group (values known y.fields))))
       (append_assoc (values known x.fields).lines group.lines (values known y.fields).lines);
 }
   where
@@ -69,10 +64,9 @@ statements-push known ms m = elim (snoc ms) [
   | HasLast init last e ↦
       ap (λ l. statements_of known (l ++ m ∷ [])) e
       ∙ ap (statements_of known) (append_assoc init (last ∷ []) (m ∷ []))
-      ∙ grouped-push (λ (n : MessageLines). statement_alone (values known n.fields))
-      (λ (n : MessageLines) (s : Statement). with_page (values known n.fields) s)
+      ∙ grouped-push (alone known) (onto known)
       (λ (s : Statement) (n : MessageLines). with_last_page s (values known n.fields)) (pages_grow known)
-      (joins known) init last m
+      joins init last m
       ∙ ap (λ p. with_message p (values known m.fields) (statements_of known (init ++ last ∷ [])))
       (sym (last_page-push known init last))
       ∙ sym (ap (λ l. with_message (last_page known l) (values known m.fields) (statements_of known l)) e)
@@ -91,5 +85,4 @@ last_lines-at (a ∷ b ∷ bs) s h =
 pub statements-some : (known : List (ℕ × Commodity)) (m : MessageLines) (ms : List MessageLines)
     → (s : Statement) × (more : List Statement) × (statements_of known (m ∷ ms) ≡ s ∷ more)
 statements-some known m ms =
-    grouped-some (joins known) (λ (n : MessageLines). statement_alone (values known n.fields))
-    (λ (n : MessageLines) (s : Statement). with_page (values known n.fields) s) m ms
+    grouped-some joins (alone known) (onto known) m ms

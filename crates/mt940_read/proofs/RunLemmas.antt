@@ -28,10 +28,11 @@ use Rattle.book_statement.specs.Checks.{Gives, first_bad, fault_at}
 use Rattle.book_statement.specs.Texts.{lines_of}
 use Rattle.mt940_read.specs.declared.reader.Reader.{Reader}
 use Rattle.mt940_read.specs.Kinds.{kind_of}
-use Rattle.mt940_read.specs.Reading.{reading, result_of}
+use Rattle.mt940_read.specs.Reading.{reading}
 use Rattle.mt940_read.specs.Steps.{Steps, finished, line_checks_of, line_of_fault, next}
 use Rattle.mt940_read.specs.Tree.{messages_of, part_after}
 use Rattle.mt940_read.specs.Values.{values}
+use Rattle.mt940_read.proofs.KeptReading.{result_of, result_same}
 use Rattle.mt940_read.proofs.TookLemmas.{Knows, kept_ok, kept_bad, finished_is}
 use Rattle.mt940_read.proofs.TreeLemmas.{Begun, Between, fill, add, fill-add}
 
@@ -89,7 +90,8 @@ pub fault : (known : List (ℕ × Commodity)) (text : List ℕ) (k : Reader) (co
     → reading known text ≡ Err bad
 unfolding reading
 fault known text k count rest line behind bad s split e =
-    ap (result_of known) (moved known text k count rest line behind s split)
+    result_same known (messages_of (lines_of text))
+    ∙ ap (result_of known) (moved known text k count rest line behind s split)
     ∙ kept_bad known count line (kind_of line) k s.tree bad s.knows e (part_after (count + 1) (lines_of behind))
 
 pub end : (known : List (ℕ × Commodity)) (text : List ℕ) (k : Reader) (count : ℕ) (rest : List ℕ)
@@ -97,7 +99,8 @@ pub end : (known : List (ℕ × Commodity)) (text : List ℕ) (k : Reader) (coun
     → reading known text ≡ finished known count k
 unfolding reading
 end known text k count rest s e =
-    ap (result_of known) (s.whole ∙ ap (λ r. fill s.tree (part_after count (lines_of r))) e)
+    result_same known (messages_of (lines_of text))
+    ∙ ap (result_of known) (s.whole ∙ ap (λ r. fill s.tree (part_after count (lines_of r))) e)
     ∙ finished_is known count k s.tree s.knows
 
 pub fault_gives : (known : List (ℕ × Commodity)) (text : List ℕ) (k new : Reader) (count : ℕ)

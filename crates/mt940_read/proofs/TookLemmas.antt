@@ -46,8 +46,8 @@ use Rattle.mt940_read.specs.declared.tag.Kind.TheVariants.{Begins, Field, Passed
 use Rattle.mt940_read.specs.Entries.{last_tag}
 use Rattle.mt940_read.specs.FieldChecks.{field_checks}
 use Rattle.mt940_read.specs.Kinds.{field_text}
-use Rattle.mt940_read.specs.Pages.{Past, last_lines, last_page, past_of, page_of, statements_of, with_message}
-use Rattle.mt940_read.specs.Reading.{field_place, field_places, end_place, message_places, file_places, result_of}
+use Rattle.mt940_read.specs.Pages.{Past, last_page, past_of, page_of, with_message}
+use Rattle.mt940_read.specs.Statements.{last_lines, statements_of}
 use Rattle.mt940_read.specs.Order.{is_line, is_text}
 use Rattle.mt940_read.specs.Steps.{
   past_kept,
@@ -64,6 +64,14 @@ use Rattle.mt940_read.specs.Steps.{
 use Rattle.mt940_read.specs.Tree.{FieldLines, MessageLines, Part}
 use Rattle.mt940_read.specs.Values.{values, after, after_more, ends_in_line}
 use Rattle.mt940_read.proofs.EntryLemmas.{last_tag-push}
+use Rattle.mt940_read.proofs.KeptReading.{
+  field_place,
+  field_places,
+  end_place,
+  message_places,
+  file_places,
+  result_of,
+}
 use Rattle.mt940_read.proofs.PageLemmas.{last_page-push, statements-push, statements-some}
 use Rattle.mt940_read.proofs.TreeLemmas.{
   Last,

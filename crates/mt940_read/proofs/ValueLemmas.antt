@@ -46,7 +46,7 @@ use Rattle.mt940_read.specs.Entries.{last_given, last_tag, fraction_given, fract
 use Rattle.mt940_read.specs.LineField.{line, add_text}
 use Rattle.mt940_read.specs.Order.{is_line, is_text}
 use Rattle.mt940_read.specs.Tree.{FieldLines}
-use Rattle.mt940_read.specs.Values.{
+use Rattle.mt940_read.specs.Messages.{
   account_given,
   number_given,
   currency_given,
@@ -55,6 +55,8 @@ use Rattle.mt940_read.specs.Values.{
   closing_given,
   closes_given,
   day_given,
+}
+use Rattle.mt940_read.specs.Values.{
   values,
   after,
   after_more,

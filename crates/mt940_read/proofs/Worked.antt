@@ -20,18 +20,6 @@ use Rattle.mt940_read.specs.Balances.{
   balance_day,
 }
 use Rattle.mt940_read.specs.EntryDate.{entry_day, entry_date}
-use Rattle.mt940_read.specs.FieldChecks.{
-  page_checks,
-  opening_currency_checks,
-  opening_checks,
-  later_currency_checks,
-  later_checks,
-  reckoned_checks,
-  closing_checks,
-  room_checks,
-  line_amount_checks,
-  line_checks,
-}
 use Rattle.mt940_read.specs.Kinds.{field_text, tag_of, kind_of}
 use Rattle.mt940_read.specs.LineField.{
   entry_place,
@@ -49,7 +37,7 @@ use Rattle.mt940_read.specs.LineField.{
 }
 use Rattle.mt940_read.specs.Reading.{result_of}
 use Rattle.mt940_read.specs.Tree.{messages_of}
-use Rattle.mt940_read.specs.Values.{number_part}
+use Rattle.mt940_read.specs.Messages.{number_part}
 
 abbrev known_here : List (ℕ × Commodity)
 known_here = (1, record { space = codes "CURRENCY"; name = codes "EUR"; full_name = []; fraction = 100 }) ∷ []
@@ -104,9 +92,7 @@ worked_file : result_of known_here (messages_of (
     ∷ codes ":62F:C240131EUR850,00" ∷ [])) ≡ Ok (statement ∷ [])
 unfolding days_from_civil day_count days_of_years days_of_months fraction_of date short_date number_onto units
     unit_checks is_amount amount amount_checks balance_mark balance_date balance_currency balance_amount is_debit
-    balance_form balance balance_day entry_day entry_date page_checks opening_currency_checks opening_checks
-    later_currency_checks later_checks reckoned_checks closing_checks room_checks line_amount_checks line_checks
-    field_text tag_of kind_of entry_place mark_place funds_place amount_place kind_place value_day line_day line_days
+    balance_form balance balance_day entry_day entry_date field_text tag_of kind_of entry_place mark_place funds_place amount_place kind_place value_day line_day line_days
     line_form is_taken line_amount line number_part
 worked_file = refl
 
@@ -117,9 +103,7 @@ closing_off : result_of known_here (messages_of (
     ∷ codes ":62F:C240131EUR950,00" ∷ [])) ≡ Err (record { line = 8; bad = BalanceMismatch (pos 95000) (pos 85000) })
 unfolding days_from_civil day_count days_of_years days_of_months fraction_of date short_date number_onto units
     unit_checks is_amount amount amount_checks balance_mark balance_date balance_currency balance_amount is_debit
-    balance_form balance balance_day entry_day entry_date page_checks opening_currency_checks opening_checks
-    later_currency_checks later_checks reckoned_checks closing_checks room_checks line_amount_checks line_checks
-    field_text tag_of kind_of entry_place mark_place funds_place amount_place kind_place value_day line_day line_days
+    balance_form balance balance_day entry_day entry_date field_text tag_of kind_of entry_place mark_place funds_place amount_place kind_place value_day line_day line_days
     line_form is_taken line_amount line number_part
 closing_off = refl
 
@@ -130,9 +114,7 @@ without_closing : result_of known_here (messages_of (
     ∷ [])) ≡ Err (record { line = 7; bad = CutOff })
 unfolding days_from_civil day_count days_of_years days_of_months fraction_of date short_date number_onto units
     unit_checks is_amount amount amount_checks balance_mark balance_date balance_currency balance_amount is_debit
-    balance_form balance balance_day entry_day entry_date page_checks opening_currency_checks opening_checks
-    later_currency_checks later_checks reckoned_checks closing_checks room_checks line_amount_checks line_checks
-    field_text tag_of kind_of entry_place mark_place funds_place amount_place kind_place value_day line_day line_days
+    balance_form balance balance_day entry_day entry_date field_text tag_of kind_of entry_place mark_place funds_place amount_place kind_place value_day line_day line_days
     line_form is_taken line_amount line number_part
 without_closing = refl
 
@@ -144,9 +126,7 @@ pages : result_of known_here (messages_of (
     ":60M:C240131EUR850,00" ∷ codes ":62F:C240131EUR850,00" ∷ [])) ≡ Ok (statement ∷ [])
 unfolding days_from_civil day_count days_of_years days_of_months fraction_of date short_date number_onto units
     unit_checks is_amount amount amount_checks balance_mark balance_date balance_currency balance_amount is_debit
-    balance_form balance balance_day entry_day entry_date page_checks opening_currency_checks opening_checks
-    later_currency_checks later_checks reckoned_checks closing_checks room_checks line_amount_checks line_checks
-    field_text tag_of kind_of entry_place mark_place funds_place amount_place kind_place value_day line_day line_days
+    balance_form balance balance_day entry_day entry_date field_text tag_of kind_of entry_place mark_place funds_place amount_place kind_place value_day line_day line_days
     line_form is_taken line_amount line number_part
 pages = refl
 
@@ -158,9 +138,7 @@ page_off : result_of known_here (messages_of (
     ":60M:C240131EUR851,00" ∷ codes ":62F:C240131EUR850,00" ∷ [])) ≡ Err (record { line = 12; bad = PageOrder })
 unfolding days_from_civil day_count days_of_years days_of_months fraction_of date short_date number_onto units
     unit_checks is_amount amount amount_checks balance_mark balance_date balance_currency balance_amount is_debit
-    balance_form balance balance_day entry_day entry_date page_checks opening_currency_checks opening_checks
-    later_currency_checks later_checks reckoned_checks closing_checks room_checks line_amount_checks line_checks
-    field_text tag_of kind_of entry_place mark_place funds_place amount_place kind_place value_day line_day line_days
+    balance_form balance balance_day entry_day entry_date field_text tag_of kind_of entry_place mark_place funds_place amount_place kind_place value_day line_day line_days
     line_form is_taken line_amount line number_part
 page_off = refl
 
@@ -169,9 +147,7 @@ no_lines : result_of known_here (messages_of (
     [])) ≡ Err (record { line = 0; bad = NoStatement })
 unfolding days_from_civil day_count days_of_years days_of_months fraction_of date short_date number_onto units
     unit_checks is_amount amount amount_checks balance_mark balance_date balance_currency balance_amount is_debit
-    balance_form balance balance_day entry_day entry_date page_checks opening_currency_checks opening_checks
-    later_currency_checks later_checks reckoned_checks closing_checks room_checks line_amount_checks line_checks
-    field_text tag_of kind_of entry_place mark_place funds_place amount_place kind_place value_day line_day line_days
+    balance_form balance balance_day entry_day entry_date field_text tag_of kind_of entry_place mark_place funds_place amount_place kind_place value_day line_day line_days
     line_form is_taken line_amount line number_part
 no_lines = refl
 
@@ -180,8 +156,6 @@ reference_alone : result_of known_here (messages_of (
     codes ":20:X" ∷ [])) ≡ Err (record { line = 1; bad = CutOff })
 unfolding days_from_civil day_count days_of_years days_of_months fraction_of date short_date number_onto units
     unit_checks is_amount amount amount_checks balance_mark balance_date balance_currency balance_amount is_debit
-    balance_form balance balance_day entry_day entry_date page_checks opening_currency_checks opening_checks
-    later_currency_checks later_checks reckoned_checks closing_checks room_checks line_amount_checks line_checks
-    field_text tag_of kind_of entry_place mark_place funds_place amount_place kind_place value_day line_day line_days
+    balance_form balance balance_day entry_day entry_date field_text tag_of kind_of entry_place mark_place funds_place amount_place kind_place value_day line_day line_days
     line_form is_taken line_amount line number_part
 reference_alone = refl

@@ -1,4 +1,5 @@
--- The checks of a field, in the order in which they are asked.
+-- The reader's own: the checks of a field by what the reader keeps of the fields and the messages before. No public
+-- clause rests on this; the checks of a file stand in FileChecks.
 use Rattle.std.specs.Prelude.{
   ℕ,
   ◌≡◌,

@@ -3,11 +3,14 @@ pub mod Balances
 pub mod Entries
 pub mod EntryDate
 pub mod FieldChecks
+pub mod FileChecks
 pub mod Kinds
 pub mod LineField
+pub mod Messages
 pub mod Order
 pub mod Pages
 pub mod Reading
+pub mod Statements
 pub mod Steps
 pub mod Totals
 pub mod Tree

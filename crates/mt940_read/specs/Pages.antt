@@ -1,4 +1,5 @@
--- Pages: messages that follow each other in the file and are one statement (SWIFT, MT940: 60M and 62M).
+-- The reader's own: what it keeps of the messages that it has read, and how one message more changes that. No public
+-- clause rests on this; the statements of a file stand in Statements.
 use Rattle.std.specs.Prelude.{
   ℕ,
   Bool,
@@ -24,9 +25,10 @@ use Rattle.book_commodity.specs.declared.commodity.Commodity.{Commodity}
 use Rattle.book_statement.specs.declared.statement.Statement.{Statement}
 use Rattle.book_statement.specs.declared.statement_line.StatementLine.{StatementLine}
 use Rattle.book_statement.specs.Keys.{same_text}
-use Rattle.book_statement.specs.Lists.{grouped, on_last}
+use Rattle.book_statement.specs.Lists.{on_last}
 use Rattle.mt940_read.specs.declared.message.Message.{Message}
 use Rattle.mt940_read.specs.declared.page.Page.{Page}
+use Rattle.mt940_read.specs.Statements.{last_lines, statements_of}
 use Rattle.mt940_read.specs.Tree.{MessageLines}
 use Rattle.mt940_read.specs.Values.{values}
 
@@ -71,17 +73,6 @@ statement_alone m = record {
   lines = m.lines;
 }
 
--- a page in front of a statement: the number and the opening balance are the first page's, the closing balance and the
--- day the last one's
-abbrev pub with_page : Message → Statement → Statement
-with_page m statement = record statement {
-  account_text = m.account;
-  number = m.number;
-  currency = m.currency;
-  opening = m.opening;
-  lines = m.lines ++ statement.lines;
-}
-
 -- a statement with another closing balance and day, and more lines
 abbrev pub with_end : Option ℤ → ℤ → List StatementLine → Statement → Statement
 with_end closing day lines statement = record statement
@@ -90,22 +81,6 @@ with_end closing day lines statement = record statement
 -- a page behind a statement
 abbrev pub with_last_page : Statement → Message → Statement
 with_last_page statement m = with_end m.closing m.day m.lines statement
-
-abbrev pub joins : List (ℕ × Commodity) → MessageLines → MessageLines → Bool
-joins known m n = joins_page (Some (page_of (values known m.fields))) (values known n.fields).account
-    (values known n.fields).opens_page
-
--- the statements of a file: messages that belong together are one
-abbrev pub statements_of : List (ℕ × Commodity) → List MessageLines → List Statement
-statements_of known messages =
-    grouped (joins known) (λ m. statement_alone (values known m.fields)) (λ m s. with_page (values known m.fields) s)
-    messages
-
--- how many lines the last statement has
-abbrev pub last_lines : List Statement → ℕ
-last_lines [] = 0
-last_lines (s ∷ []) = length s.lines
-last_lines (s ∷ t ∷ ts) = last_lines (t ∷ ts)
 
 -- what the messages before a message are to it
 pub record Past : Type 0 where

@@ -7,24 +7,22 @@ use Rattle.book_statement.specs.declared.statement.Statement.{Statement}
 use Rattle.book_statement.specs.Checks.{Place, place, check, first_fault, unless_fault}
 use Rattle.book_statement.specs.Lists.{each_after}
 use Rattle.book_statement.specs.Texts.{lines_of}
-use Rattle.mt940_read.specs.FieldChecks.{field_checks}
-use Rattle.mt940_read.specs.Pages.{Past, past_of, statements_of}
+use Rattle.mt940_read.specs.FileChecks.{checks_of}
+use Rattle.mt940_read.specs.Messages.{closing_of}
+use Rattle.mt940_read.specs.Statements.{statements_of}
 use Rattle.mt940_read.specs.Tree.{FieldLines, MessageLines, messages_of}
-use Rattle.mt940_read.specs.Values.{values}
 
--- a field is checked with the fields and the messages before it
-abbrev pub field_place : List (ℕ × Commodity) → Past → List FieldLines → FieldLines → List Place
-field_place known past before f = place f.line (field_checks known past (values known before) f.tag f.first) ∷ []
-
-abbrev pub field_places : List (ℕ × Commodity) → Past → List FieldLines → List Place
-field_places known past fields = each_after (field_place known past) [] fields
+-- the place of a field, with the messages and the fields before it
+abbrev pub field_place : List (ℕ × Commodity) → List MessageLines → List FieldLines → FieldLines → List Place
+field_place known messages before f = place f.line (checks_of known messages before f) ∷ []
 
 -- at the end of a message: its closing balance has to be there
 abbrev pub end_place : List (ℕ × Commodity) → MessageLines → Place
-end_place known m = place m.last (check (is_some (values known m.fields).closing) CutOff ∷ [])
+end_place known m = place m.last (check (is_some (closing_of known m.fields)) CutOff ∷ [])
 
 abbrev pub message_places : List (ℕ × Commodity) → List MessageLines → MessageLines → List Place
-message_places known before m = field_places known (past_of known before) m.fields ++ end_place known m ∷ []
+message_places known before m =
+    each_after (field_place known before) [] m.fields ++ end_place known m ∷ []
 
 abbrev pub file_places : List (ℕ × Commodity) → List MessageLines → List Place
 file_places known messages = each_after (message_places known) [] messages

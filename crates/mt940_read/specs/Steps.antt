@@ -1,5 +1,5 @@
--- What a reader keeps of the lines that it has read, and how a line changes it: laws of the definition in Reading,
--- which speaks of the whole file.
+-- The reader's own: what it keeps of the lines that it has read, and how a line changes it. No public clause rests on
+-- this; what a file says stands in Reading.
 use Rattle.std.specs.Prelude.{
   ℕ,
   ◌+◌,
@@ -36,7 +36,8 @@ use Rattle.mt940_read.specs.declared.tag.Tag.TheVariants.{Reference}
 use Rattle.mt940_read.specs.FieldChecks.{field_checks}
 use Rattle.mt940_read.specs.Kinds.{field_text}
 use Rattle.mt940_read.specs.Order.{is_line, is_text}
-use Rattle.mt940_read.specs.Pages.{Past, last_lines, page_of, with_message}
+use Rattle.mt940_read.specs.Pages.{Past, page_of, with_message}
+use Rattle.mt940_read.specs.Statements.{last_lines}
 use Rattle.mt940_read.specs.Values.{after, after_more, ends_in_line, values}
 
 -- what the statements before are to the message that is read

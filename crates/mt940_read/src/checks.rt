@@ -316,8 +316,9 @@ fn check_room(
 fn has_room_for_line(page: &Option<Page>, last_lines: u64, message: &Message) -> bool
     ensures { result ≡ nat_lt (lines_before page.now last_lines message.now) 10000 }
 {
-    let before = if message.joins(page) { last_lines } else { 0 };
-    before < MAX_LINES && (message.lines.len() as u64) < MAX_LINES - before
+    // The account texts are compared only where the answer depends on them.
+    let own = message.lines.len() as u64;
+    own < MAX_LINES && (last_lines < MAX_LINES - own || !message.joins(page))
 }
 
 /// Whether a message of this account belongs to the statement of the message before it.
@@ -326,7 +327,7 @@ pub fn joins_page(page: &Option<Page>, account: &[u8], opens_page: bool) -> bool
 {
     match page {
         Some(page) => {
-            page.account.as_str().as_bytes() == account && (page.closes_page || opens_page)
+            (page.closes_page || opens_page) && page.account.as_str().as_bytes() == account
         }
         None => false,
     }

@@ -32,7 +32,9 @@ use crate::fraction::Fraction;
 use crate::slashes::{before_slashes, behind_slashes};
 use crate::texts::{ascii_text, text_of};
 use book_commodity::{Day, Many, OutOfMemory, Text};
-use book_statement::{Bad, StatementLine, after_chars, has_digits, short_date, text_behind};
+use book_statement::{
+    Bad, StatementLine, after_chars, first_chars, has_digits, short_date, text_behind,
+};
 use std::alloc::Global;
 
 /// Where the parts of a line begin: the entry date, the mark, the funds code, the amount and the type.
@@ -117,10 +119,11 @@ fn amount_len(text: &[u8]) -> usize
 }
 
 /// The value date, six characters.
+#[tactic(auto, unfolding(crate::specs::LineField::entry_place))]
 fn value_part(text: &[u8]) -> &[u8]
     ensures { result.now ≡ value_part text.now }
 {
-    &text[..places_of(text).entry]
+    first_chars(text, 6)
 }
 
 fn entry_part(text: &[u8]) -> &[u8]
@@ -173,12 +176,13 @@ fn are_kind_bytes(text: &[u8]) -> bool
 fn days(text: &[u8]) -> Option<(Day, Day)>
     ensures { result ≡ line_days text.now }
 {
-    let value = short_date(value_part(text))?;
+    let date = value_part(text);
+    let value = short_date(date)?;
     let entry = entry_part(text);
     if entry.is_empty() {
         return Some((value, value));
     }
-    let day = entry_date(value_part(text), value, entry)?;
+    let day = entry_date(date, value, entry)?;
     Some((day, value))
 }
 
@@ -204,7 +208,8 @@ pub fn check_line_form(text: &[u8]) -> Result<(), Bad>
 fn is_taken(text: &[u8]) -> bool
     ensures { result ≡ is_taken text.now }
 {
-    mark_part(text) == b"D".as_slice() || mark_part(text) == b"RC".as_slice()
+    let mark = mark_part(text);
+    mark == b"D".as_slice() || mark == b"RC".as_slice()
 }
 
 /// The amount of a line in smallest units, negative where it takes from the account.

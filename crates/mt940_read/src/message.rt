@@ -6,7 +6,8 @@ ghost use Rattle.mt940_read.specs.Balances.{balance_currency, balance_day, balan
 ghost use Rattle.mt940_read.specs.Entries.{fraction_in};
 ghost use Rattle.mt940_read.specs.FieldChecks.{Fits, amount_in};
 ghost use Rattle.mt940_read.specs.Pages.{joins_page};
-ghost use Rattle.mt940_read.specs.Values.{after, ends_in_line, number_part, values};
+ghost use Rattle.mt940_read.specs.Messages.{number_part};
+ghost use Rattle.mt940_read.specs.Values.{after, ends_in_line, values};
 
 use crate::balance::{balance_currency, balance_day};
 use crate::checks::{fraction_in, joins_page};
@@ -151,7 +152,7 @@ pub fn ends_in_line(last: Option<Tag>) -> bool
 }
 
 /// The number of a statement: what stands before the first slash.
-#[tactic(auto, unfolding(crate::specs::Values::number_part))]
+#[tactic(auto, unfolding(crate::specs::Messages::number_part))]
 fn number_part(text: &str) -> &str
     ensures { result.now ≡ number_part text.now }
 {

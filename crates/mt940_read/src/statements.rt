@@ -1,6 +1,7 @@
 ghost use Rattle.std.specs.Prelude.{◌≡◌, ◌++◌, ◌∷◌, ◌<◌, ◌≤◌, ◌^◌, [], IfOk, OnOk, IsTrue, ◌↔◌, if◌then◌else◌, length};
 ghost use Rattle.book_statement.specs.Lists.{on_last};
-ghost use Rattle.mt940_read.specs.Pages.{last_lines, statement_alone, with_end};
+ghost use Rattle.mt940_read.specs.Pages.{statement_alone, with_end};
+ghost use Rattle.mt940_read.specs.Statements.{last_lines};
 
 use crate::kept::statement_of;
 use crate::message::Message;

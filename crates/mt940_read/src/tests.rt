@@ -1,12 +1,14 @@
 ghost use Rattle.std.specs.Prelude.{◌≡◌, IfOk};
 ghost use Rattle.book_statement.specs.Currencies.{HaveFractions, IsFraction};
 
+mod cases;
 mod files;
 
 use crate::read_mt940;
 use book_commodity::{Commodities, Commodity, Many, OutOfMemory, Text};
-use book_statement::{Bad, ReadError, Statement, StatementFault, as_text};
+use book_statement::{Bad, ReadError, Statement, StatementFault, StatementLine, as_text};
 use std::alloc::Global;
+use std::fmt::Write;
 use std::test::Fail;
 
 const WORKED: &str = ":20:STMT1
@@ -156,24 +158,61 @@ fn pages(rt: HostRuntime) -> Result<(), Fail> {
     Ok(())
 }
 
+/// A statement of a case, its parts with bars between them.
+fn statement_row(alloc: Global, statement: &Statement) -> Result<String, Fail> {
+    let (account, number) = (statement.account_text.as_str(), statement.number.as_str());
+    let (opening, closing) = (
+        statement.opening.unwrap_or(0),
+        statement.closing.unwrap_or(0),
+    );
+    let day = statement.day.text();
+    let day = str::from_utf8(&day)?;
+    Ok(format!(in alloc; "{account}|{number}|{opening}|{closing}|{day}")?)
+}
+
+/// The lines of a case, one behind the other.
+fn line_rows(alloc: Global, lines: &[StatementLine]) -> Result<String, Fail> {
+    let mut rows = String::new(alloc);
+    for line in lines {
+        let (day, value_day) = (line.day.text(), line.value_day.text());
+        let (day, value_day) = (str::from_utf8(&day)?, str::from_utf8(&value_day)?);
+        let (amount, kind) = (line.amount, line.kind.as_str());
+        let (own, bank) = (line.ref_own.as_str(), line.ref_bank.as_str());
+        let text = line.text.as_str();
+        writeln!(
+            rows,
+            "{day} {value_day} {amount} {kind}|{own}|{bank}|{text}"
+        )?;
+    }
+    Ok(rows)
+}
+
 #[test]
 fn drawn_files(rt: HostRuntime) -> Result<(), Fail> {
-    for (file, lines) in [
-        (files::THREE_PAGES, 19),
-        (files::NINE_DECIMALS, 7),
-        (files::NO_DECIMALS, 7),
-        (files::DEBIT_PAGES, 10),
-        (files::WINDOW_OF_YEARS, 8),
-        (files::TURN_OF_THE_YEAR, 17),
-        (files::LINE_OUTSIDE, 17),
-        (files::NO_FIELD, 1),
-        (files::EQUAL_LINES, 2),
-        (files::CARRIAGE_RETURNS, 20),
-        (files::EXAMPLE, 6),
-    ] {
+    for (file, count, statement, lines) in cases::CASES {
         let statements = read(rt.alloc(), file, "")?;
         assert_eq!(rt; statements.len(), 1);
-        assert_eq!(rt; statements.as_slice()[0].lines.len(), lines);
+        let found = &statements.as_slice()[0];
+        assert_eq!(rt; found.lines.len(), count);
+        assert_eq!(rt; found.ties, Some(true));
+        let row = statement_row(rt.alloc(), found)?;
+        assert!(rt; statement.is_empty() || row.as_str() == statement, "{row}");
+        let rows = line_rows(rt.alloc(), found.lines.as_slice())?;
+        assert!(rt; lines.is_empty() || rows.as_str() == lines, "{rows}");
     }
+    Ok(())
+}
+
+#[test]
+fn example(rt: HostRuntime) -> Result<(), Fail> {
+    let statements = read(rt.alloc(), files::EXAMPLE, "")?;
+    assert_eq!(rt; statements.len(), 1);
+    let found = &statements.as_slice()[0];
+    let row = statement_row(rt.alloc(), found)?;
+    assert_eq!(rt;
+        row.as_str(),
+        "NL91ABNA0417164300|00013|235078|457868|2024-01-31"
+    );
+    assert_eq!(rt; found.lines.len(), 6);
     Ok(())
 }

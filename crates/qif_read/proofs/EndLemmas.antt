@@ -13,9 +13,8 @@ use Rattle.book_statement.proofs.CheckLemmas.{first_fault-append}
 use Rattle.book_statement.proofs.ListLemmas.{each_after-push}
 use Rattle.qif_read.specs.Tree.{Line, Entry, Listing}
 use Rattle.qif_read.specs.Entries.{said}
-use Rattle.qif_read.specs.Registers.{no_entries, section_of, statements_in}
-use Rattle.qif_read.specs.Qif.{end_checks, name_of, name_given, name_behind, section_in, statements_behind, statements}
-use Rattle.qif_read.specs.Qif.{entry_places, account_places, entries_places, listing_places, places}
+use Rattle.qif_read.specs.Sections.{no_entries, section_of, statements_in}
+use Rattle.qif_read.specs.Qif.{end_checks, name_of, name_given, name_behind, account_places}
 use Rattle.qif_read.specs.Steps.{nothing, entry_fault, account_fault, end_fault, with_end, name_for, with_list}
 use Rattle.qif_read.specs.declared.form.Form.{Form}
 use Rattle.qif_read.specs.declared.kind.Topic.{Topic}
@@ -25,6 +24,8 @@ use Rattle.qif_read.specs.declared.reader.Reader.{Reader}
 use Rattle.qif_read.specs.declared.said.Said.{Said}
 use Rattle.qif_read.specs.declared.section.Section.{Section}
 use Rattle.qif_read.proofs.Growing.{Begun, begun, closed, turned}
+use Rattle.qif_read.proofs.KeptReading.{entry_places, entries_places, listing_places, places}
+use Rattle.qif_read.proofs.KeptReading.{section_in, statements_behind, statements}
 use Rattle.qif_read.proofs.PushLemmas.{last_or-push, section_of-push}
 use Rattle.qif_read.proofs.KeptLemmas.{is_empty, empty-push, started_in, said_in, fields_places, so_far, kept_of}
 use Rattle.qif_read.proofs.KeptLemmas.{has_entry_in, has_entry, Knows, and_nothing}

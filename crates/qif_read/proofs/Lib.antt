@@ -1,5 +1,6 @@
 pub mod Growing
 pub mod PushLemmas
+pub mod KeptReading
 pub mod KeptLemmas
 pub mod AmountLemmas
 pub mod EndLemmas

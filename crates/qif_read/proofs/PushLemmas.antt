@@ -13,8 +13,8 @@ use Rattle.qif_read.specs.QifAmount.{amount}
 use Rattle.qif_read.specs.Tree.{Line, Entry}
 use Rattle.qif_read.specs.Entries.{place_of, first_of, SplitsRest, split_in_front, splits_rest, splits_of, said}
 use Rattle.qif_read.specs.Entries.{amount_said, day_said, statement_line}
-use Rattle.qif_read.specs.Registers.{account_said, is_opening, no_entries, opened_by, begun_by, after_first, with_later}
-use Rattle.qif_read.specs.Registers.{section_of}
+use Rattle.qif_read.specs.Registers.{account_said, is_opening}
+use Rattle.qif_read.specs.Sections.{no_entries, opened_by, begun_by, after_first, with_later, section_of}
 use Rattle.qif_read.specs.Qif.{last_or}
 use Rattle.qif_read.specs.Steps.{with_memo, with_amount, after_line, after_account_line, nothing, later, with_opening}
 use Rattle.qif_read.specs.Steps.{with_line, with_entry}

@@ -14,9 +14,9 @@ use Rattle.book_statement.proofs.CheckLemmas.{first_fault-here}
 use Rattle.book_statement.proofs.ListLemmas.{each_after-append}
 use Rattle.qif_read.specs.Kinds.{kind_of, behind_code}
 use Rattle.qif_read.specs.Tree.{Line, Entry, Listing, Rest, entry_of, in_front, rest_after, listings_of}
-use Rattle.qif_read.specs.Registers.{section_of, statements_in}
-use Rattle.qif_read.specs.Qif.{line_places, entry_places, account_places, entries_places, listing_places, places}
-use Rattle.qif_read.specs.Qif.{statements_behind, statements, name_behind, answer_of, result_of}
+use Rattle.qif_read.specs.Sections.{section_of, statements_in}
+use Rattle.qif_read.specs.Qif as file
+use Rattle.qif_read.specs.Qif.{line_places, account_places, name_behind, answer_of}
 use Rattle.qif_read.specs.Steps.{Takes, end_fault, with_end, with_list, fault_or, answer_after, fault_of, after, fresh}
 use Rattle.qif_read.specs.declared.form.Form.{Form}
 use Rattle.qif_read.specs.declared.kind.LineKind.{LineKind}
@@ -25,6 +25,8 @@ use Rattle.qif_read.specs.declared.kind.Topic.{Topic}
 use Rattle.qif_read.specs.declared.kind.Topic.TheVariants.{Register, Accounts, Passed}
 use Rattle.qif_read.specs.declared.reader.Reader.{Reader}
 use Rattle.qif_read.proofs.Growing.{Begun, begun, closed, turned, fill, grown, fill-grown, fill-closed, fill-end}
+use Rattle.qif_read.proofs.KeptReading.{entry_places, entries_places, listing_places, places}
+use Rattle.qif_read.proofs.KeptReading.{statements_behind, statements, result_of, result_same}
 use Rattle.qif_read.proofs.PushLemmas.{nothing-cons}
 use Rattle.qif_read.proofs.KeptLemmas.{is_empty, ended_places, fields_places, so_far, kept_of, has_entry, Knows}
 use Rattle.qif_read.proofs.KeptLemmas.{line_kept, line_bad}
@@ -297,17 +299,19 @@ pub so_far_bad : (form : Form) (text rest line behind : List ℕ) (reader : Read
     (fault : StatementFault) (known : SoFar form text rest reader count)
     → lines_of rest ≡ line ∷ lines_of behind
     → fault_of form count line (kind_of line) reader ≡ Some fault
-    → result_of form (listings_of (lines_of text)) ≡ Err fault
+    → file.result_of form (listings_of (lines_of text)) ≡ Err fault
 so_far_bad form text rest line behind reader count fault known lines found =
-    ap (result_of form) (line_moves form text rest line behind reader count known lines)
+    result_same form (listings_of (lines_of text))
+    ∙ ap (result_of form) (line_moves form text rest line behind reader count known lines)
     ∙ step_bad form count line (kind_of line) reader known.tree
     (rest_after (count + 1) (lines_of behind)) fault known.knows found
 
 pub so_far_end : (form : Form) (text rest : List ℕ) (reader : Reader) (count : ℕ)
     (known : SoFar form text rest reader count)
-    → rest ≡ [] → result_of form (listings_of (lines_of text)) ≡ answer_after form count reader
+    → rest ≡ [] → file.result_of form (listings_of (lines_of text)) ≡ answer_after form count reader
 so_far_end form text rest reader count known e =
-    ap (result_of form) (known.whole ∙ ap (λ r. fill known.tree (rest_after count (lines_of r))) e)
+    result_same form (listings_of (lines_of text))
+    ∙ ap (result_of form) (known.whole ∙ ap (λ r. fill known.tree (rest_after count (lines_of r))) e)
     ∙ end_answer form count reader known.tree known.knows
 
 -- what is answered at a fault, or out of memory

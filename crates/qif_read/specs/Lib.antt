@@ -4,5 +4,6 @@ pub mod Qif
 pub mod QifAmount
 pub mod QifDate
 pub mod Registers
+pub mod Sections
 pub mod Tree
 pub mod Steps

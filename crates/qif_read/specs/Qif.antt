@@ -15,7 +15,7 @@ use Rattle.qif_read.specs.QifDate.{day_named}
 use Rattle.qif_read.specs.QifAmount.{amount_checks}
 use Rattle.qif_read.specs.Tree.{Line, Entry, Listing, listings_of}
 use Rattle.qif_read.specs.Entries.{first_of, splits_of, said, total_said, amount_said, sum_of_splits, text_or_empty}
-use Rattle.qif_read.specs.Registers.{no_entries, section_of, statements_in}
+use Rattle.qif_read.specs.Registers.{all_said, lines_in, statement_in}
 use Rattle.qif_read.specs.declared.form.Form.{Form}
 use Rattle.qif_read.specs.declared.kind.Code.{Code}
 use Rattle.qif_read.specs.declared.kind.Code.TheVariants.{Date, Total, OtherTotal, Number, SplitMemo, SplitAmount}
@@ -23,7 +23,6 @@ use Rattle.qif_read.specs.declared.kind.Topic.{Topic}
 use Rattle.qif_read.specs.declared.kind.Topic.TheVariants.{Register, Accounts, Passed}
 use Rattle.qif_read.specs.declared.order.DateOrder.{DateOrder}
 use Rattle.qif_read.specs.declared.said.Said.{Said}
-use Rattle.qif_read.specs.declared.section.Section.{Section}
 
 -- What is asked of a line of an entry, before which a part has begun or not: the memo and the amount of a part stand
 -- behind its S, and dates and amounts have their form whether the line counts or not.
@@ -73,16 +72,16 @@ name_given Passed entries = []
 abbrev pub name_behind : List Listing → List ℕ
 name_behind before = last_or [] (map (λ listing. name_given listing.topic listing.entries) before)
 
--- What the entries of a list give: only those of a register give something.
-abbrev pub section_in : Form → Topic → List ℕ → List Entry → Section
-section_in form Register name entries = section_of form name entries
-section_in form Accounts name entries = no_entries []
-section_in form Passed name entries = no_entries []
+-- The statement of a list: only a register gives one.
+abbrev pub statements_of : Form → Topic → List ℕ → List Entry → List Statement
+statements_of form Register name entries = statement_in form name (all_said form entries)
+statements_of form Accounts name entries = []
+statements_of form Passed name entries = []
 
 -- The statement of a list behind others, if it gives one.
 abbrev pub statements_behind : Form → List Listing → Listing → List Statement
 statements_behind form before listing =
-    statements_in form (section_in form listing.topic (name_behind before) listing.entries)
+    statements_of form listing.topic (name_behind before) listing.entries
 
 -- The statements of a file.
 abbrev pub statements : Form → List Listing → List Statement
@@ -91,7 +90,7 @@ statements form listings = each_after (statements_behind form) [] listings
 -- The checks of an entry of a register behind others: of its lines, and of its end.
 abbrev pub entry_places : Form → List ℕ → ℕ → List Entry → Entry → List Place
 entry_places form name count before entry =
-    let lines = (section_of form name before).lines in
+    let lines = lines_in name (all_said form before) in
     each_after (line_places form) [] entry.fields
     ++ place entry.last (end_checks entry.whole (length lines) count (said form entry.fields)) ∷ []
 

@@ -1,15 +1,15 @@
 -- The statement that a register gives: an account with the entries of its transactions.
-use Rattle.std.specs.Prelude.{ℕ, ◌-◌, ◌==◌, nat_le, Bool, ◌&&◌, ◌||◌, List, [], ◌∷◌, ◌++◌, length, map, fold, take}
-use Rattle.std.specs.Prelude.{drop, slice_index, codes, Option, Some, None, unwrap_or, if◌then◌else◌, ℤ, pos}
+use Rattle.std.specs.Prelude.{ℕ, ◌-◌, ◌==◌, nat_le, Bool, ◌&&◌, ◌||◌, List, [], ◌∷◌, length, map, fold, take, drop}
+use Rattle.std.specs.Prelude.{slice_index, codes, Option, Some, None, if◌then◌else◌, ℤ}
 use Rattle.std.specs.Int.{int_max}
 use Rattle.book_statement.specs.Keys.{same_text}
 use Rattle.book_statement.specs.Texts.{is_nothing}
 use Rattle.book_statement.specs.declared.statement.Statement.{Statement}
+use Rattle.book_statement.specs.declared.statement_line.StatementLine.{StatementLine}
 use Rattle.qif_read.specs.Entries.{said, text_or_empty, amount_said, day_said, statement_line}
 use Rattle.qif_read.specs.Tree.{Entry}
 use Rattle.qif_read.specs.declared.form.Form.{Form}
 use Rattle.qif_read.specs.declared.said.Said.{Said}
-use Rattle.qif_read.specs.declared.section.Section.{Section}
 
 -- An account in brackets stands in the place of a category.
 unfoldable pub is_in_brackets : List ℕ → Bool
@@ -30,63 +30,40 @@ is_opening name said =
     same_text (text_or_empty said.payee) (codes "Opening Balance") && (is_in_brackets (text_or_empty said.category)
     && (is_nothing name || same_text name (account_said said)))
 
--- A register without an entry, of an account with this name.
-abbrev pub no_entries : List ℕ → Section
-no_entries name = record { account = name; opening = None; day = None; lines = [] }
-
--- A register whose first entry gives its opening balance and, where it had none, its name; it gives no line.
-abbrev pub opened_by : Said → Section
-opened_by said = record {
-  account = account_said said;
-  opening = Some (amount_said said);
-  day = Some (day_said said);
-  lines = [];
-}
-
--- A register whose first entry is one like the others.
-abbrev pub begun_by : List ℕ → Said → Section
-begun_by name said = record {
-  account = name;
-  opening = None;
-  day = Some (day_said said);
-  lines = statement_line said ∷ [];
-}
-
--- A register with its first entry.
-abbrev pub after_first : List ℕ → Said → Section
-after_first name said = if is_opening name said then opened_by said else begun_by name said
-
 -- The latest of some days.
 abbrev pub latest : ℤ → List ℤ → ℤ
 latest day days = fold int_max day days
 
--- A register with the later entries: their lines follow, and its day is the latest of all.
-abbrev pub with_later : Section → List Said → Section
-with_later section later = record section {
-  day = Some (latest (unwrap_or section.day (pos 0)) (map day_said later));
-  lines = section.lines ++ map statement_line later;
-}
+-- What each entry of a register says.
+abbrev pub all_said : Form → List Entry → List Said
+all_said form entries = map (λ entry. said form entry.fields) entries
 
--- What the entries of a register with this name give.
-abbrev pub section_of : Form → List ℕ → List Entry → Section
-section_of form name [] = no_entries name
-section_of form name (e ∷ es) =
-    with_later (after_first name (said form e.fields)) (map (λ entry. said form entry.fields) es)
+-- The account: that of a first entry which gives the opening balance, else the one with the register's name.
+abbrev pub account_in : List ℕ → List Said → List ℕ
+account_in name [] = name
+account_in name (first ∷ later) = if is_opening name first then account_said first else name
 
--- The statement of a register whose entries have a latest day; QIF has no number and no closing balance.
-abbrev pub statement_on : Form → Section → Option ℤ → List Statement
-statement_on form section None = []
-statement_on form section (Some day) = record {
-  account_text = section.account;
+-- The opening balance, which only a first entry gives.
+abbrev pub opening_in : List ℕ → List Said → Option ℤ
+opening_in name [] = None
+opening_in name (first ∷ later) = if is_opening name first then Some (amount_said first) else None
+
+-- The lines: one for each entry, but for a first one that gives the opening balance.
+abbrev pub lines_in : List ℕ → List Said → List StatementLine
+lines_in name [] = []
+lines_in name (first ∷ later) =
+    if is_opening name first then map statement_line later else statement_line first ∷ map statement_line later
+
+-- A register with an entry is a statement, on the latest of its days; QIF has no number and no closing balance.
+abbrev pub statement_in : Form → List ℕ → List Said → List Statement
+statement_in form name [] = []
+statement_in form name (first ∷ later) = record {
+  account_text = account_in name (first ∷ later);
   number = [];
   currency = form.currency;
-  opening = section.opening;
+  opening = opening_in name (first ∷ later);
   closing = None;
-  day = day;
+  day = latest (day_said first) (map day_said later);
   ties = None;
-  lines = section.lines;
+  lines = lines_in name (first ∷ later);
 } ∷ []
-
--- A register with an entry is a statement.
-abbrev pub statements_in : Form → Section → List Statement
-statements_in form section = statement_on form section section.day

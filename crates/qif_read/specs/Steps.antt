@@ -1,4 +1,5 @@
--- What the reader keeps, and how a line changes it.
+-- The reader's own: what it keeps of the lines that it has read, and how a line changes it. No public clause rests on
+-- this; what a file says stands in Qif.
 use Rattle.std.specs.Prelude.{ℕ, ◌≡◌, ◌+◌, Bool, true, false, ◌&&◌, not, List, [], ◌∷◌, ◌++◌, length, Option, Some}
 use Rattle.std.specs.Prelude.{None, is_none, Result, Ok, Err, if◌then◌else◌, ℤ, ⊤}
 use Rattle.std.specs.Int.{int_max}
@@ -14,7 +15,8 @@ use Rattle.qif_read.specs.Kinds.{behind_code}
 use Rattle.qif_read.specs.QifDate.{day_read}
 use Rattle.qif_read.specs.QifAmount.{amount}
 use Rattle.qif_read.specs.Entries.{text_or_empty, amount_said, day_said, statement_line}
-use Rattle.qif_read.specs.Registers.{account_said, is_opening, no_entries, statements_in}
+use Rattle.qif_read.specs.Registers.{account_said, is_opening}
+use Rattle.qif_read.specs.Sections.{no_entries, statements_in}
 use Rattle.book_statement.specs.declared.statement.Statement.{Statement}
 use Rattle.book_statement.specs.declared.statement_line.StatementLine.{StatementLine}
 use Rattle.qif_read.specs.Qif.{line_checks, end_checks, answer_of}

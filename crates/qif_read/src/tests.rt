@@ -170,6 +170,13 @@ fn files_and_their_statements(rt: HostRuntime) -> Result<(), Fail> {
                 !Type:Invst\nD1\n!Type:Oth L\nD12/31/79\nU5\nT.25\nU6\nMa\n^^\nD1/1'9\nT+0,012\n^\n",
             " 100 1980-01-02\n None 2079-12-31\n2079-12-31 25 |a|\n2009-01-01 1200 ||\n",
         ),
+        // Of several lines with one code the first counts, in an entry and in a part, and T counts before U.
+        (
+            DateOrder::MonthDay,
+            "!Type:Bank\nU9\nD1/2/24\nD1/3/24\nT3\nT4\nU8\nNfirst\nNsecond\nPone\nPtwo\nMa\nMb\n\
+                LFood\nLHome\nSA\nEc\nEd\n$1\n$7\nSB\n$2\n$6\nEe\nEf\n^\n",
+            " None 2024-01-02\n2024-01-02 300 first|one a|Food|A c 100|B e 200\n",
+        ),
     ] {
         let statements = read(rt.alloc(), order, 100, text)??;
         let found = shown(rt.alloc(), &statements)?;
@@ -209,6 +216,19 @@ fn faults_and_their_lines(rt: HostRuntime) -> Result<(), Fail> {
             DateOrder::DayMonth,
             "!Type:Bank\nD1/13/24\nT1\n^\n",
             2,
+            Bad::DateForm,
+        ),
+        // A line is checked though an earlier one counts.
+        (
+            DateOrder::MonthDay,
+            "!Type:Bank\nD1/2/24\nT1\nUx\n^\n",
+            4,
+            Bad::AmountForm,
+        ),
+        (
+            DateOrder::MonthDay,
+            "!Type:Bank\nD1/2/24\nD13/2/24\nT1\n^\n",
+            3,
             Bad::DateForm,
         ),
         (

@@ -1,11 +1,13 @@
 use Rattle.std.proofs.Common.{◌≡◌, ◌+◌, ℕ, List, [], length, refl, sym, subst, ap, ◌∙◌, arith}
-use Rattle.std.proofs.Common.{Result, rules}
+use Rattle.std.proofs.Common.{Result, Err, rules}
 use Rattle.std.proofs.lemmas.Bool.{eqb-true}
 use Rattle.std.proofs.lemmas.List.{nil_from_length}
 use Rattle.std.proofs.lemmas.Result.{err_from_is_err_and}
 use Rattle.book_statement.specs.Checks.{Gives}
 use Rattle.book_statement.specs.declared.fault.StatementFault.{StatementFault}
 use Rattle.book_statement.specs.declared.statement.Statement.{Statement}
+use Rattle.bai2_read.specs.Reading.{reading}
+use Rattle.bai2_read.proofs.FileLemmas.{has_tree, reads_tree}
 use Rattle.bai2_read.proofs.ReadingLemmas.{SoFar, end_so_far, error_so_far, first_so_far, next_so_far}
 use Rattle.bai2_read.proofs.reading.read_bai2.Goals as goal
 
@@ -37,18 +39,32 @@ loop-rest-preserved c =
 
 pub returns-in_err-take : goal.returns-in_err-take
 returns-in_err-take c =
+    let known = c.args.known.now.entries in
+    let text = c.args.text.now in
     let p = err_from_is_err_and c.from_residual.result c.from_residual.ensures.1 in
-    rw (p.1, p.2)
-    (error_so_far c.args.known.now.entries c.loop-rest.reader c.take.new.self c.loop-rest.lines (c.loop-rest.lines + 1)
-    c.loop-rest.rest.now c.args.text.now c.next_line.result.0.now c.next_line.result.1.now c.in_err-take.field-0.0
-    c.loop-rest.invariant.so_far c.next_line.ensures.lines refl c.in_err-take.ensures)
+    let exact : Gives {X = List Statement} (reading known text) (Err c.in_err-take.field-0.0) =
+    error_so_far known c.loop-rest.reader c.take.new.self c.loop-rest.lines (c.loop-rest.lines + 1)
+    c.loop-rest.rest.now text c.next_line.result.0.now c.next_line.result.1.now c.in_err-take.field-0.0
+    c.loop-rest.invariant.so_far c.next_line.ensures.lines refl c.in_err-take.ensures in
+    rw (p.1, p.2) (record {
+      exact = exact;
+      tree = has_tree known text (Err c.in_err-take.field-0.0) exact;
+      every_tree = reads_tree known text (Err c.in_err-take.field-0.0) exact;
+    })
 
 pub returns : goal.returns
 returns c =
+    let known = c.args.known.now.entries in
+    let text = c.args.text.now in
     let none : c.loop-rest.rest.now ≡ [] =
     nil_from_length c.loop-rest.rest.now
     (eqb-true (length c.loop-rest.rest.now) 0 (sym c.is_empty.ensures ∙ c.loop-rest-test.false)) in
+    let exact : Gives (reading known text) c.end.result =
     subst (λ (said : Result (List Statement) StatementFault). Gives said c.end.result)
-    (end_so_far c.args.known.now.entries c.loop-rest.reader c.loop-rest.lines c.loop-rest.rest.now c.args.text.now
-    c.loop-rest.invariant.so_far none)
-    c.end.ensures
+    (end_so_far known c.loop-rest.reader c.loop-rest.lines c.loop-rest.rest.now text c.loop-rest.invariant.so_far none)
+    c.end.ensures in
+    record {
+      exact = exact;
+      tree = has_tree known text c.end.result exact;
+      every_tree = reads_tree known text c.end.result exact;
+    }

@@ -6,7 +6,7 @@ use Rattle.book_splits.proofs.account_splits.has_splits.Goals as goal
 
 pub loop-transaction-init : goal.loop-transaction-init
 loop-transaction-init c = ap (λ ts. list_any (λ split. split.account == c.args.account) (splits_of ts))
-    (sym c.as_slice-transaction-items.ensures)
+    (sym c.as_slice-transaction-items.ensures.entries)
 
 pub returns-then-stand_on : goal.returns-then-stand_on
 returns-then-stand_on c =

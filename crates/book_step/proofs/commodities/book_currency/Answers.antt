@@ -1,10 +1,11 @@
 use Rattle.std.proofs.Common.{Ok, subst, sym, refl, ap, ◌∙◌}
+use Rattle.book_commodity.proofs.RuleLemmas.{chosen-same, chosen-other}
 use Rattle.book_undo.specs.declared.edit.Edit.TheVariants as edit
 use Rattle.book_step.specs.Commodities.{currency_rules}
 use Rattle.book_step.specs.Outcome.{Outcome, StepsTo, changing, leaving}
 use Rattle.book_step.specs.State.{State}
 use Rattle.book_command.specs.declared.answer.Answer.TheVariants as answer
-use Rattle.book_step.proofs.OutcomeLemmas.{chosen-same, chosen-other, past-changing, past-leaving}
+use Rattle.book_step.proofs.OutcomeLemmas.{past-changing, past-leaving}
 use Rattle.book_step.proofs.commodities.book_currency.Goals as goal
 
 pub returns-then-commodity-present : goal.returns-then-commodity-present

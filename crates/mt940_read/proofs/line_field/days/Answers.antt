@@ -8,8 +8,8 @@ use Rattle.mt940_read.proofs.line_field.days.Goals as goal
 
 pub entry_date-requires-clause-value : goal.entry_date-requires-clause-value
 entry_date-requires-clause-value c =
-    ap (has_digits 6 6) c.value_part-2.ensures
-    ∙ short_digits (value_part c.args.text.now) c.in_ok-value.value (ap short_date (sym c.value_part.ensures)
+    ap (has_digits 6 6) c.value_part-date.ensures
+    ∙ short_digits (value_part c.args.text.now) c.in_ok-value.value (ap short_date (sym c.value_part-date.ensures)
     ∙ sym c.short_date.ensures ∙ c.in_ok-value.was)
 
 pub entry_date-requires-clause-entry : goal.entry_date-requires-clause-entry

@@ -4,17 +4,20 @@ use Rattle.book_step.specs.Outcome.{Done, after as state_after_step, version_aft
 use Rattle.book_step.specs.State.{state_of}
 use Rattle.book_step.specs.Step.{step}
 use Rattle.book_step.specs.declared.step.Step.{Step}
-use Rattle.book_step.proofs.AnswerLemmas.{posts_answered, whole_step}
+use Rattle.book_step.proofs.AnswerLemmas.{puts_answered, whole_step}
 use Rattle.book_engine.specs.Kept.{Kept}
 use Rattle.book_engine.specs.Planned.{Planned, after}
 use Rattle.book_engine.proofs.engine.Engine.prepare.Goals as goal
 
-pub with_balances-requires-clause-posts : goal.with_balances-requires-clause-posts
-with_balances-requires-clause-posts c =
+pub with_balances-requires : goal.with_balances-requires
+with_balances-requires c =
     let state = state_of c.self.inside.state.plain c.self.inside.state.next c.self.inside.state.version in
-    posts_answered state c.args.command
-    (state_after_step state c.in_ok-step.step) c.in_ok-step.step.edit c.in_ok-step.step.answer
-    c.self.invariant refl c.in_ok-step.ensures
+    record {
+      few = c.self.invariant.book.few_splits;
+      rise = c.self.invariant.book.transactions.rise;
+      puts = puts_answered state c.args.command (state_after_step state c.in_ok-step.step) c.in_ok-step.step.edit
+          c.in_ok-step.step.answer c.self.invariant refl c.in_ok-step.ensures;
+    }
 
 pub returns-clause-planned : goal.returns-clause-planned
 returns-clause-planned c =

@@ -1,6 +1,6 @@
 use Rattle.std.proofs.Common.{sym, ap, ◌∙◌, length}
 use Rattle.book_statement.proofs.TextLemmas.{has_length}
-use Rattle.mt940_read.specs.Pages.{last_lines}
+use Rattle.mt940_read.specs.Statements.{last_lines}
 use Rattle.mt940_read.proofs.PageLemmas.{last_lines-at}
 use Rattle.mt940_read.proofs.statements.Statements.last_lines.Goals as goal
 

@@ -58,7 +58,9 @@ module _ {M : Type 1} {𝓤 : Ura M} (𝓛 : Logic 𝓤) (𝓜 : Model 𝓤 𝓛
     At vss = ((z.0.0, z.0.1, z.0.2, z.0.3, vss), z.1)
 
     abbrev Goes : Vss → Type 1
-    Goes vss = ent 𝓤 ((walk_of 𝓛 ended stayed held).pre (At vss)) (WpFn 𝓤 H 𝓣.C 𝓣.Λ function ((walk_of 𝓛 ended stayed held).args (At vss)) ((walk_of 𝓛 ended stayed held).post (At vss)))
+    Goes vss = ent 𝓤 ((walk_of 𝓛 ended stayed held).pre (At vss))
+        (WpFn 𝓤 H 𝓣.C 𝓣.Λ function ((walk_of 𝓛 ended stayed held).args (At vss))
+        ((walk_of 𝓛 ended stayed held).post (At vss)))
 
     abbrev passed : Vss
     passed = (token ∷ [], tt)
@@ -71,18 +73,30 @@ module _ {M : Type 1} {𝓤 : Ura M} (𝓛 : Logic 𝓤) (𝓜 : Model 𝓤 𝓛
 
     walks : Goes passed
     walks =
-        qed 𝓛 ((‵ ftrue ⊛ ‵ args) ∷ raw asked ∷ []) ∵ keep ! [] $ enter ! 𝓣.C 𝓣.Λ function (token ∷ []) _ $ alloc_all ! (λ l. pass_all ! refl ((tt, tt), tt) $
+        qed 𝓛 ((‵ ftrue ⊛ ‵ args) ∷ raw asked ∷ []) ∵ keep ! [] $ enter ! 𝓣.C 𝓣.Λ function (token ∷ []) _ $
+        alloc_all ! (λ l. pass_all ! refl ((tt, tt), tt) $
         sets ! (agg ! (no_more !)) refl (tt, tt) $ returns ! (look_at ! 0 refl) $ free_all ! refl $
-        suffices ! (sep 𝓤 (on_exit 𝓛 ended stayed z.0.0 z.0.1 passed token record { count = z.0.3.0.count + 1 } z.0.3 (tt, tt)) (fact 𝓤 (z.0.3.0.count + 1 ≡ z.0.3.0.count + 1))) (ends_at 𝓛 ended stayed held (At passed) token record { count = z.0.3.0.count + 1 } (tt, tt) (tt, tt)) $ says ! refl $
-        use0 𝓛 (‵ (Bare.own_val tt (token ∷ []))) (made 𝓛) $ nothing ! $ move ! (1 ∷ 0 ∷ []) $ fjoin ! $ nothing ! $ nothing ! $ fjoin ! $ nothing ! $ done !)
+        suffices ! (sep 𝓤
+        (on_exit 𝓛 ended stayed z.0.0 z.0.1 passed token record { count = z.0.3.0.count + 1 } z.0.3 (tt, tt))
+        (fact 𝓤 (z.0.3.0.count + 1 ≡ z.0.3.0.count + 1)))
+        (ends_at 𝓛 ended stayed held (At passed) token record { count = z.0.3.0.count + 1 } (tt, tt) (tt, tt)) $
+        says ! refl $
+        use0 𝓛 (‵ (Bare.own_val tt (token ∷ []))) (made 𝓛) $ nothing ! $ move ! (1 ∷ 0 ∷ []) $ fjoin ! $
+        nothing ! $ nothing ! $ fjoin ! $ nothing ! $ done !)
 
   meets : Meets 𝓛 ended.signature (WpFn 𝓤 H 𝓣.C 𝓣.Λ function) (closing 𝓛 ended held)
   unfolding tables_of contract.CodeStep.c_Tables
   meets =
       walk_Meets 𝓛 ended stayed (Goes-dropped 𝓛 0 (plain (λ _. count.the_row)) yes (λ κs x f. refl), tt) held
       (WpFn 𝓤 H 𝓣.C 𝓣.Λ function) (WpFn-mono 𝓤 H 𝓛.laws (tables_of 𝓤 H 𝓜 𝓣) function)
-      (λ z. let a = z.0.3 in let vss = z.0.4 in let Rs : List RattleType = types_at ended.signature.params z.0.0 in let On : SProp 𝓤 = on_entry 𝓛 ended.signature z.0.0 z.0.1 a vss in
-      fact_use 𝓤 (Are Rs (Ises Rs) a vss) (via 𝓤 (sem 𝓛 (owns Rs a vss)) (via 𝓤 On (fst∗ 𝓤 On (asked z)) (snd∗ 𝓤 (alive 𝓛 ended.signature z.0.0 z.0.1) (sem 𝓛 (owns Rs a vss)))) (owns_show 𝓛 Rs (Ises Rs) (showss 𝓛 Rs) a vss)) (λ are.
+      (λ z. let a = z.0.3 in
+      let vss = z.0.4 in
+      let Rs : List RattleType = types_at ended.signature.params z.0.0 in
+      let On : SProp 𝓤 = on_entry 𝓛 ended.signature z.0.0 z.0.1 a vss in
+      fact_use 𝓤 (Are Rs (Ises Rs) a vss)
+      (via 𝓤 (sem 𝓛 (owns Rs a vss))
+      (via 𝓤 On (fst∗ 𝓤 On (asked z)) (snd∗ 𝓤 (alive 𝓛 ended.signature z.0.0 z.0.1) (sem 𝓛 (owns Rs a vss))))
+      (owns_show 𝓛 Rs (Ises Rs) (showss 𝓛 Rs) a vss)) (λ are.
       let told : vss.0 ≡ token ∷ [] = are.0.0.1.0 in subst (Goes z) (λ i. (sym told i, tt)) (walks z)))
 
 pub next_spec : {M : Type 1} → stated.statement M

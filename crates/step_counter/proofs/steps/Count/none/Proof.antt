@@ -35,11 +35,14 @@ module _ {M : Type 1} {𝓤 : Ura M} (𝓛 : Logic 𝓤) (mem : Memory → SProp
 
   exits : ent 𝓤 (emp 𝓤) ((walk_of 𝓛 none.ended tt c).post y token)
   exits =
-      qed 𝓛 [] ∵ suffices ! (sep 𝓤 (on_exit 𝓛 none.ended tt tt tt tt token record { count = 0 } tt tt) (fact 𝓤 (0 ≡ 0))) (ends_at 𝓛 none.ended tt c y token record { count = 0 } tt tt) $ says ! refl $
-      use0 𝓛 (‵ (Bare.own_val tt (token ∷ []))) (made 𝓛) $ nothing ! $ move ! (1 ∷ 0 ∷ []) $ fjoin ! $ nothing ! $ nothing ! $ done !
+      qed 𝓛 [] ∵ suffices ! (sep 𝓤 (on_exit 𝓛 none.ended tt tt tt tt token record { count = 0 } tt tt) (fact 𝓤 (0 ≡ 0)))
+      (ends_at 𝓛 none.ended tt c y token record { count = 0 } tt tt) $ says ! refl $
+      use0 𝓛 (‵ (Bare.own_val tt (token ∷ []))) (made 𝓛) $ nothing ! $ move ! (1 ∷ 0 ∷ []) $ fjoin ! $
+      nothing ! $ nothing ! $ done !
 
   walks : (C : Calls 𝓤 H) (Λ : Loops 𝓤 H) → Walks 𝓛 none.ended tt (WpFn 𝓤 H C Λ code.function) c
-  walks C Λ = walked 𝓛 none.ended tt c (WpFn 𝓤 H C Λ code.function) (λ κs. tt) (λ κs. tt) (λ κs qs bounds a g are. via 𝓤 (on_entry 𝓛 none.signature tt tt tt tt) (fst∗ 𝓤 _ (emp 𝓤)) (
+  walks C Λ = walked 𝓛 none.ended tt c (WpFn 𝓤 H C Λ code.function) (λ κs. tt) (λ κs. tt)
+      (λ κs qs bounds a g are. via 𝓤 (on_entry 𝓛 none.signature tt tt tt tt) (fst∗ 𝓤 _ (emp 𝓤)) (
       qed 𝓛 (raw (on_entry 𝓛 none.signature tt tt tt tt) ∷ []) ∵ enter ! C Λ code.function [] _ $
       alloc_all ! (λ l. pass_all ! refl tt $
       sets ! (agg ! (no_more !)) refl (tt, tt) $
@@ -47,7 +50,8 @@ module _ {M : Type 1} {𝓤 : Ura M} (𝓛 : Logic 𝓤) (mem : Memory → SProp
 
 pub none_spec : {M : Type 1} → stated.statement M
 none_spec 𝓤 𝓛 𝓜 𝓡 wired =
-    walk_Meets 𝓛 none.ended tt tt (none.clauses 𝓛 𝓜.mem 𝓡.returns) (𝓡.run (𝓡.env #none)) (λ vs. fm→mono 𝓤 (𝓡.run (𝓡.env #none) vs) (run_framed 𝓤 𝓛.H 𝓜 𝓡 (𝓡.env #none) vs))
+    walk_Meets 𝓛 none.ended tt tt (none.clauses 𝓛 𝓜.mem 𝓡.returns) (𝓡.run (𝓡.env #none))
+    (λ vs. fm→mono 𝓤 (𝓡.run (𝓡.env #none) vs) (run_framed 𝓤 𝓛.H 𝓜 𝓡 (𝓡.env #none) vs))
     (entered 𝓤 𝓛.H (walk_of 𝓛 none.ended tt (none.clauses 𝓛 𝓜.mem 𝓡.returns))
     (tables 𝓤 𝓛.H 𝓜 𝓡 𝓡.env).C (tables 𝓤 𝓛.H 𝓜 𝓡 𝓡.env).Λ #none code.function (code.unfolded 𝓤 𝓛.H 𝓜 𝓡 wired)
     (walks 𝓛 𝓜.mem 𝓡.returns (tables 𝓤 𝓛.H 𝓜 𝓡 𝓡.env).C (tables 𝓤 𝓛.H 𝓜 𝓡 𝓡.env).Λ))

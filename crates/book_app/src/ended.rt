@@ -1,0 +1,89 @@
+ghost use Rattle.std.specs.Prelude.{◌≡◌, ◌≢◌, ◌↔◌, false};
+ghost use Rattle.std.specs.IoError.{error_kind};
+ghost use Rattle.std.specs.Process.{exit_status};
+ghost use Rattle.book_keeper.specs.Faults.{Rose};
+ghost use Rattle.book_keeper.specs.OverStd.{left_of, sink_over, source_faults, sink_faults};
+ghost use Rattle.book_keeper.specs.Written.{may_hold};
+ghost use Rattle.book_step.specs.State.{fresh_state};
+ghost use Rattle.book_app.specs.Numbers.{number_of};
+ghost use Rattle.book_app.specs.StatusClause.{IsBookRun};
+ghost use Rattle.book_app.specs.Words.{is_run};
+
+use crate::main_call::book_main;
+use crate::status::Status;
+use book_commodity::Text;
+use book_keeper::{FileSource, StreamSink};
+use std::alloc::Global;
+use std::io;
+use std::io::{ErrorKind, Read, Write};
+use std::process::{ExitCode, Termination};
+
+/// How the program ended. The calls below alone make it, each from the status that it comes to, so a `main` that
+/// answers it can't end by another number. It also writes the status's line on standard error, which no contract can
+/// see and a test shows.
+#[derive(Debug, Drop)]
+pub struct Ended {
+    status: Status,
+}
+
+/// What a run over a reader and a writer leaves: how it ended, the source over the reader and the sink over the writer.
+#[derive(Drop)]
+pub struct Ran<I, O> {
+    pub ended: Ended,
+    pub input: FileSource<I>,
+    pub output: StreamSink<O>,
+}
+
+/// Does what the words ask over any reader and writer of std, as `book_main` does over the source and the sink that
+/// join them: the answers of the lines that the reader has left are added to what the writer holds.
+pub fn run_over<I: Read, O: Write>(alloc: Global, words: &[Text], reader: I, writer: O) -> Ran<I, O>
+    ensures run { IsBookRun fresh_state (I.remaining reader) (left_of I.remaining result.input)
+        (may_hold O.contents (sink_over writer)) (may_hold O.contents result.output) result.ended.status }
+    ensures usage { (result.ended.status ≡ Status.Usage) ↔ (is_run words.now ≡ false) }
+    ensures input_fault { result.ended.status ≡ Status.InputFault → Rose 0 (source_faults result.input) }
+    ensures no_input_fault { result.ended.status ≢ Status.InputFault → source_faults result.input ≡ 0 }
+    ensures output_fault { result.ended.status ≡ Status.OutputFault → Rose 0 (sink_faults result.output) }
+    ensures no_output_fault { result.ended.status ≢ Status.OutputFault → sink_faults result.output ≡ 0 }
+{
+    let mut input = FileSource::new(reader);
+    let mut output = StreamSink::new(writer);
+    let status = book_main(alloc, words, &mut input, &mut output);
+    Ran {
+        ended: Ended { status },
+        input,
+        output,
+    }
+}
+
+/// How the program ends where its words could not be read: by Usage where one of them is not UTF-8, else by Memory.
+pub(crate) fn ended_without_words(error: &io::Error) -> Ended
+    ensures usage { (result.status ≡ Status.Usage) ↔ (error_kind error.now ≡ ErrorKind.InvalidData) }
+    ensures memory { result.status ≢ Status.Usage → result.status ≡ Status.Memory }
+{
+    let status = if error.kind() == ErrorKind::InvalidData {
+        Status::Usage
+    } else {
+        Status::Memory
+    };
+    Ended { status }
+}
+
+impl Termination for Ended {
+    fn report<R: Eprint>(self, rt: &R) -> ExitCode
+        ensures number { exit_status result ≡ number_of self.status }
+    {
+        self.status.report(rt)
+    }
+}
+
+impl Termination for Status {
+    /// Prints the message of a status other than Done on standard error, and ends with the status's number.
+    fn report<R: Eprint>(self, rt: &R) -> ExitCode
+        ensures number { exit_status result ≡ number_of self }
+    {
+        if self != Status::Done {
+            let _ = rt.eprintln(self.message());
+        }
+        ExitCode::from(self.number())
+    }
+}

@@ -1,0 +1,6 @@
+pub mod Book
+pub mod Edit
+pub mod EditRules
+pub mod Inverse
+pub mod Room
+pub mod Thing

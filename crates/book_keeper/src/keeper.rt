@@ -1,0 +1,58 @@
+ghost use Rattle.std.specs.Prelude.{◌≡◌, ℕ, ◌<◌, Bool, List, IfOk, IfSome, OnOk, OnErr, IsTrue};
+ghost use Rattle.book_keeper.specs.Rows.{Rises, AreRising, rank, after_changes, first_after};
+ghost use Rattle.book_keeper.specs.Keeping.{HasKeepCause};
+
+use crate::{Change, KeepError, Row, RowKey};
+
+/// Where the rows of a book are kept: a list of rows in rising order of their keys.
+pub trait Keeper {
+    ghost use Rattle.book_keeper.specs.declared.row.Row.{Row};
+
+    /// The bytes of the path that the last `open` which answered Ok was given, none before the first.
+    ghost path_given: { Self → List ℕ };
+
+    /// Whether the keeper still knows what it holds. Once it does not, it never does again.
+    ghost sure: { Self → Bool };
+
+    /// The keeper holds exactly these rows.
+    ghost holds: { Self → List Row → Type 0 };
+
+    /// The count of its faults.
+    ghost faults: { Self → ℕ };
+
+    /// Opens the store that the path names. The rows stay.
+    /// Failed: the count of faults rose. A call that succeeds leaves the count.
+    fn open(&mut self, path: &str) -> Result<(), KeepError>
+        ensures path { OnOk result (path_given self.new ≡ path.now) }
+        ensures path_kept { OnErr result (path_given self.new ≡ path_given self.old) }
+        ensures sure { IsTrue (sure self.new) → IsTrue (sure self.old) }
+        ensures rows { IsTrue (sure self.new) → (rows : List Row) → holds self.old rows → holds self.new rows }
+        ensures cause { HasKeepCause (faults self.old) (faults self.new) result };
+
+    /// Makes all the changes or, at an error, none.
+    /// Failed: the count of faults rose. A call that succeeds leaves the count.
+    fn commit(&mut self, changes: &[Change]) -> Result<(), KeepError>
+        requires { AreRising changes.now }
+        ensures path { path_given self.new ≡ path_given self.old }
+        ensures sure { IsTrue (sure self.new) → IsTrue (sure self.old) }
+        ensures made { OnOk result (IsTrue (sure self.new) → (rows : List Row) → holds self.old rows
+            → holds self.new (after_changes changes.now rows)) }
+        ensures unchanged { OnErr result (IsTrue (sure self.new) → (rows : List Row) → holds self.old rows
+            → holds self.new rows) }
+        ensures cause { HasKeepCause (faults self.old) (faults self.new) result };
+
+    /// The first row behind the key, or the first of all rows; None exactly where there is no such row. The rows
+    /// stay. Whether the keeper knows its rows or not, the row's key is above the key given.
+    /// Failed: the count of faults rose. A call that succeeds leaves the count.
+    fn next_row(&mut self, after: Option<RowKey>) -> Result<Option<Row>, KeepError>
+        ensures path { path_given self.new ≡ path_given self.old }
+        ensures sure { IsTrue (sure self.new) → IsTrue (sure self.old) }
+        ensures rows { IsTrue (sure self.new) → (rows : List Row) → holds self.old rows → holds self.new rows }
+        ensures found { IfOk result (λ found. IsTrue (sure self.new) → (rows : List Row) → holds self.old rows
+            → found ≡ first_after after rows) }
+        ensures above { IfOk result (λ found. IfSome found (λ row. IfSome after (λ key. rank key < rank row.key))) }
+        ensures cause { HasKeepCause (faults self.old) (faults self.new) result };
+
+    /// The rows that a keeper holds are in rising order of their keys.
+    ghost rising: { (keeper : Self) (rows : List Row) → holds keeper rows → Rises rows };
+}

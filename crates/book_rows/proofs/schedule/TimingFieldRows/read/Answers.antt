@@ -1,0 +1,13 @@
+-- The fields that the bytes spell are those of the value.
+use Rattle.book_rows.proofs.MadeLemmas.{same_made}
+use Rattle.book_rows.specs.ScheduleBytes.{timing_made}
+use Rattle.book_rows.proofs.schedule.TimingFieldRows.read.Goals as goal
+
+pub returns-in-Err-clause-again : goal.returns-in-Err-clause-again
+returns-in-Err-clause-again c it rest fit told =
+    c.in-Err.ensures.again (it.recurrences, (it.end, (it.advance, (it.last, it.made)))) rest fit told
+
+pub returns-clause-again : goal.returns-clause-again
+returns-clause-again c it rest fit told =
+    rw c.timing_of.ensures (same_made timing_made _ _ _ _
+    (c.in-Ok.ensures.again (it.recurrences, (it.end, (it.advance, (it.last, it.made)))) rest fit told))

@@ -1,0 +1,13 @@
+-- The fields that the bytes spell are those of the value.
+use Rattle.book_rows.proofs.MadeLemmas.{same_made}
+use Rattle.book_rows.specs.StatementBytes.{part_made}
+use Rattle.book_rows.proofs.statement.PartFieldRows.read.Goals as goal
+
+pub returns-in-Err-clause-again : goal.returns-in-Err-clause-again
+returns-in-Err-clause-again c it rest fit told =
+    c.in-Err.ensures.again (it.category, (it.memo, it.amount)) rest fit told
+
+pub returns-clause-again : goal.returns-clause-again
+returns-clause-again c it rest fit told =
+    rw c.part_of.ensures (same_made part_made _ _ _ _
+    (c.in-Ok.ensures.again (it.category, (it.memo, it.amount)) rest fit told))

@@ -1,0 +1,10 @@
+pub mod AccountBytes
+pub mod CommodityBytes
+pub mod HeadBytes
+pub mod PriceBytes
+pub mod ReconciliationBytes
+pub mod Row
+pub mod ScheduleBytes
+pub mod StatementBytes
+pub mod TransactionBytes
+pub mod Values

@@ -1,0 +1,98 @@
+-- Rows: which body stands for which record.
+use Rattle.std.specs.Prelude.{ℕ, ◌≡◌, ◌^◌, ◌<◌, List, ◌∷◌, Result, Ok, Err, ⊤}
+use Rattle.book_rows.specs.declared.record.Record.{Record}
+use Rattle.book_rows.specs.declared.record.Record.TheVariants as record_of
+use Rattle.book_rows.specs.declared.record.RowError.{RowError}
+use Rattle.book_rows.specs.declared.record.RowError.TheVariants as row_error
+use Rattle.book_rows.specs.declared.head.Head.{Head}
+use Rattle.book_codec.specs.declared.error.DecodeError.{DecodeError}
+use Rattle.book_codec.specs.declared.error.DecodeError.TheVariants as decode_error
+use Rattle.book_keeper.specs.declared.row.RowKey.{RowKey}
+use Rattle.book_rows.specs.CommodityBytes.{commodity_bytes, IsCommodity}
+use Rattle.book_rows.specs.AccountBytes.{account_bytes, IsAccount}
+use Rattle.book_rows.specs.TransactionBytes.{txn_bytes, IsTxn}
+use Rattle.book_rows.specs.PriceBytes.{price_bytes, IsPrice}
+use Rattle.book_rows.specs.ScheduleBytes.{schedule_bytes, IsSchedule}
+use Rattle.book_rows.specs.StatementBytes.{held_bytes, IsHeld, line_bytes, IsLine, binding_bytes, IsBinding}
+use Rattle.book_rows.specs.ReconciliationBytes.{recon_bytes, IsRecon}
+use Rattle.book_rows.specs.HeadBytes.{head_bytes, IsHead}
+
+-- The kind of a record's row.
+abbrev pub kind_of : Record → ℕ
+kind_of (record_of.Head it) = 1
+kind_of (record_of.Commodity it) = 2
+kind_of (record_of.Account it) = 3
+kind_of (record_of.Txn it) = 4
+kind_of (record_of.Price it) = 5
+kind_of (record_of.Schedule it) = 6
+kind_of (record_of.Held it) = 7
+kind_of (record_of.Line it) = 8
+kind_of (record_of.Binding it) = 9
+kind_of (record_of.Recon it) = 10
+
+-- The fields of a record as bytes.
+abbrev pub fields_of : Record → List ℕ
+fields_of (record_of.Head it) = head_bytes it
+fields_of (record_of.Commodity it) = commodity_bytes it
+fields_of (record_of.Account it) = account_bytes it
+fields_of (record_of.Txn it) = txn_bytes it
+fields_of (record_of.Price it) = price_bytes it
+fields_of (record_of.Schedule it) = schedule_bytes it
+fields_of (record_of.Held it) = held_bytes it
+fields_of (record_of.Line it) = line_bytes it
+fields_of (record_of.Binding it) = binding_bytes it
+fields_of (record_of.Recon it) = recon_bytes it
+
+-- The body of a record: the format byte 1 and then its fields.
+abbrev pub body_of : Record → List ℕ
+body_of it = 1 ∷ fields_of it
+
+-- The numbers of a head that a row can hold.
+abbrev pub IsWithin : Head → Type 0
+IsWithin head = (head.next < 2 ^ 62) × ((head.version < 2 ^ 62) × (head.position < 2 ^ 62))
+
+-- Only a head is held to these bounds.
+abbrev pub IsHeadWithin : Record → Type 0
+IsHeadWithin (record_of.Head head) = IsWithin head
+IsHeadWithin _ = ⊤
+
+-- A record that has a spelling.
+abbrev pub IsRecord : Record → Type 0
+IsRecord (record_of.Head it) = IsHead it × IsWithin it
+IsRecord (record_of.Commodity it) = IsCommodity it
+IsRecord (record_of.Account it) = IsAccount it
+IsRecord (record_of.Txn it) = IsTxn it
+IsRecord (record_of.Price it) = IsPrice it
+IsRecord (record_of.Schedule it) = IsSchedule it
+IsRecord (record_of.Held it) = IsHeld it
+IsRecord (record_of.Line it) = IsLine it
+IsRecord (record_of.Binding it) = IsBinding it
+IsRecord (record_of.Recon it) = IsRecon it
+
+-- A key under which a record may stand: ids are below 2 ^ 62, and the head stands at 0.
+abbrev pub IsKeyOf : RowKey → Record → Type 0
+IsKeyOf key it = (kind_of it ≡ key.kind) × (key.id < 2 ^ 62) × (key.kind ≡ 1 → key.id ≡ 0)
+
+-- The row with this key and this body stands for the record.
+abbrev pub StandsFor : RowKey → List ℕ → Record → Type 0
+StandsFor key body it = IsKeyOf key it × IsRecord it × (body ≡ body_of it)
+
+-- The key and the body are those of the record.
+abbrev pub IsSpelledBy : RowKey → List ℕ → Record → Type 0
+IsSpelledBy key body it = IsKeyOf key it × IsHeadWithin it × (body ≡ body_of it)
+
+-- The row is read as this record unless the program is out of memory. In no case is it bad.
+abbrev pub IsReadAs : Result Record RowError → Record → Type 0
+IsReadAs (Ok it) wanted = it ≡ wanted
+IsReadAs (Err (row_error.Bad kind id)) wanted = ⊥
+IsReadAs (Err row_error.OutOfMemory) wanted = ⊤
+
+-- The error of a row whose body is not read.
+abbrev pub error_at : RowKey → DecodeError → RowError
+error_at key decode_error.Bad = row_error.Bad key.kind key.id
+error_at key decode_error.OutOfMemory = row_error.OutOfMemory
+
+-- An error names its row, or says that the program is out of memory.
+abbrev pub IsErrorAt : RowKey → RowError → Type 0
+IsErrorAt key (row_error.Bad kind id) = (kind ≡ key.kind) × (id ≡ key.id)
+IsErrorAt key row_error.OutOfMemory = ⊤

@@ -1,0 +1,2 @@
+/// The marker of the spellings that the rows of a book have.
+pub struct Rows;

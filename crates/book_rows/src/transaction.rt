@@ -1,0 +1,154 @@
+ghost use Rattle.std.specs.Prelude.{◌≡◌, ◌++◌, Some, OnOk, IfSome, IfNone};
+ghost use Rattle.book_rows.specs.TransactionBytes.{IsMark, mark_bytes, IsSplit, split_bytes, IsTxn, txn_bytes};
+ghost use Rattle.book_rows.specs.TransactionBytes.{split_made, txn_made, place_of_mark};
+ghost use Rattle.book_rows.specs.TransactionBytes.{split_rest, IsSplitRest};
+
+use crate::Rows;
+use book_codec::{DecodeError, Field};
+use book_commodity::{Day, Many, OutOfMemory, Text};
+use book_splits::{Mark, Split, Txn};
+use std::alloc::Global;
+
+/// A mark as one byte: its place in the list of them, from 1.
+impl Field<Rows> for Mark {
+    ghost fits = { IsMark };
+
+    ghost spelling = { mark_bytes };
+
+    fn spell(&self, out: &mut Vec<u8>) -> Result<(), OutOfMemory> {
+        out.push(place_of_mark(*self))?;
+        Ok(())
+    }
+
+    fn read(_alloc: Global, bytes: &[u8]) -> Result<(Mark, &[u8]), DecodeError> {
+        let [place, rest @ ..] = bytes else {
+            return Err(DecodeError::Bad);
+        };
+        match mark_at(*place) {
+            Some(variant) => Ok((variant, rest)),
+            None => Err(DecodeError::Bad),
+        }
+    }
+}
+
+/// The place of a mark in the list of them, from 1.
+fn place_of_mark(variant: Mark) -> u8
+    ensures { result ≡ place_of_mark variant }
+{
+    match variant {
+        Mark::New => 1,
+        Mark::Cleared => 2,
+        Mark::Reconciled => 3,
+    }
+}
+
+/// The mark at a place of the list of them, from 1; None where there is no such place.
+fn mark_at(place: u8) -> Option<Mark>
+    ensures found { IfSome result (λ variant. place ≡ place_of_mark variant) }
+    ensures none { IfNone result ((variant : Mark) → place ≡ place_of_mark variant → ⊥) }
+    ensures again { (variant : Mark) → place ≡ place_of_mark variant → result ≡ Some variant }
+{
+    match place {
+        1 => Some(Mark::New),
+        2 => Some(Mark::Cleared),
+        3 => Some(Mark::Reconciled),
+        _ => None,
+    }
+}
+
+/// The fields of a split, in the order of their bytes.
+type SplitFields = (
+    u64,
+    (u64, (Text, (Text, (Mark, (Option<u64>, (i64, i64)))))),
+);
+
+/// A split: its number, its account, its memo, its action, its mark, its reconciliation, its value and its quantity.
+impl Field<Rows> for Split {
+    ghost fits = { IsSplit };
+
+    ghost spelling = { split_bytes };
+
+    fn spell(&self, out: &mut Vec<u8>) -> Result<(), OutOfMemory> {
+        Field::<Rows>::spell(&self.id, out)?;
+        Field::<Rows>::spell(&self.account, out)?;
+        Field::<Rows>::spell(&self.memo, out)?;
+        Field::<Rows>::spell(&self.action, out)?;
+        spell_split_rest(self, out)
+    }
+
+    fn read(alloc: Global, bytes: &[u8]) -> Result<(Split, &[u8]), DecodeError> {
+        let (fields, rest) = match <SplitFields as Field<Rows>>::read(alloc, bytes) {
+            Ok(found) => found,
+            Err(error) => return Err(error),
+        };
+        Ok((split_of(fields), rest))
+    }
+}
+
+/// Writes the bytes of the fields from `mark` on.
+fn spell_split_rest(it: &Split, out: &mut Vec<u8>) -> Result<(), OutOfMemory>
+    ensures spelled { OnOk result (out.new.items ≡ out.old.items ++ split_rest it.now) }
+    ensures fits { OnOk result (IsSplitRest it.now) }
+{
+    Field::<Rows>::spell(&it.mark, out)?;
+    Field::<Rows>::spell(&it.recon, out)?;
+    Field::<Rows>::spell(&it.value, out)?;
+    Field::<Rows>::spell(&it.quantity, out)
+}
+
+/// The split whose fields these are.
+fn split_of(fields: SplitFields) -> Split
+    ensures { result ≡ split_made fields }
+{
+    let (id, (account, (memo, (action, (mark, (recon, (value, quantity))))))) = fields;
+    Split {
+        id,
+        account,
+        memo,
+        action,
+        mark,
+        recon,
+        value,
+        quantity,
+    }
+}
+
+/// The fields of a transaction, in the order of their bytes.
+type TxnFields = (u64, (Day, (Text, (Text, Many<Split>))));
+
+/// A transaction: its currency, its day, its number text, its description and its splits.
+impl Field<Rows> for Txn {
+    ghost fits = { IsTxn };
+
+    ghost spelling = { txn_bytes };
+
+    fn spell(&self, out: &mut Vec<u8>) -> Result<(), OutOfMemory> {
+        Field::<Rows>::spell(&self.currency, out)?;
+        Field::<Rows>::spell(&self.day, out)?;
+        Field::<Rows>::spell(&self.num, out)?;
+        Field::<Rows>::spell(&self.description, out)?;
+        Field::<Rows>::spell(&self.splits, out)
+    }
+
+    fn read(alloc: Global, bytes: &[u8]) -> Result<(Txn, &[u8]), DecodeError> {
+        let (fields, rest) = match <TxnFields as Field<Rows>>::read(alloc, bytes) {
+            Ok(found) => found,
+            Err(error) => return Err(error),
+        };
+        Ok((txn_of(fields), rest))
+    }
+}
+
+/// The transaction whose fields these are.
+fn txn_of(fields: TxnFields) -> Txn
+    ensures { result ≡ txn_made fields }
+{
+    let (currency, (day, (num, (description, splits)))) = fields;
+    Txn {
+        currency,
+        day,
+        num,
+        description,
+        splits,
+    }
+}
