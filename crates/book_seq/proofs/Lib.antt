@@ -1,0 +1,5 @@
+pub mod ChangeLemmas
+pub mod ChunkLemmas
+pub mod ListLemmas
+pub mod SumLemmas
+pub mod WorkedRows
