@@ -1,22 +1,28 @@
--- What a changed chunk, two chunks in the place of one, or one in the place of two, do to the list and to what holds of it.
+-- What a changed chunk, two chunks in the place of one, or one in the place of two, do to the list and to what holds
+-- of it.
 use Rattle.std.proofs.Common.{◌≡◌, ℕ, ◌+◌, ◌-◌, ◌*◌, ◌^◌, ◌<◌, ◌≤◌, nat_le, min, max, Bool, true, false}
-use Rattle.std.proofs.Common.{List, [], ◌∷◌, ◌++◌, length, get_or, set, slice_get, Some, refl, sym, ap, ◌∙◌, subst, arith}
+use Rattle.std.proofs.Common.{List, [], ◌∷◌, ◌++◌, length, get_or, set, slice_get, Some, refl, sym, ap, ◌∙◌, subst}
+use Rattle.std.proofs.Common.{arith}
 use Rattle.std.proofs.Common.{append_assoc}
 use Rattle.std.proofs.Math.ListN.{length-append}
 use Rattle.std.proofs.lemmas.Bool.Decides.{nat_tests}
 use Rattle.std.proofs.lemmas.List.{append-nil, length-set, length_push, get_or_at}
 use Rattle.std.proofs.lemmas.List.Edits.{length-insert, length-remove}
 use Rattle.std.specs.List.{insert, remove}
-use Rattle.book_seq.specs.Chunks.{AreEmpty, AreFull, ArePacked, AreRoomy, AreSound, IsAt, IsShort, Piece, first_room, list_of}
+use Rattle.book_seq.specs.Chunks.{AreEmpty, AreFull, ArePacked, AreRoomy, AreSound, IsAt, IsShort, Piece, first_room}
+use Rattle.book_seq.specs.Chunks.{list_of}
 use Rattle.book_seq.specs.Chunks.{spare_of}
 use Rattle.book_seq.specs.declared.spot.Spot.{Spot}
-use Rattle.book_seq.proofs.ListLemmas.{get_here, get_middle, insert_middle, insert_next, remove_middle, remove_next, set_here}
+use Rattle.book_seq.proofs.ListLemmas.{get_here, get_middle, insert_middle, insert_next, remove_middle, remove_next}
+use Rattle.book_seq.proofs.ListLemmas.{set_here}
 use Rattle.book_seq.proofs.ChunkLemmas.{empty-back, empty-front, full_length, length-parts, list-parts}
 use Rattle.book_seq.proofs.ChunkLemmas.{packed-back, packed-front, packed-head, packed-join, packed-least, packed-most}
-use Rattle.book_seq.proofs.ChunkLemmas.{packed-set, packed-tail, packed-two, roomy-back, roomy-front, roomy-here, roomy-join}
+use Rattle.book_seq.proofs.ChunkLemmas.{packed-set, packed-tail, packed-two, roomy-back, roomy-front, roomy-here}
+use Rattle.book_seq.proofs.ChunkLemmas.{roomy-join}
 use Rattle.book_seq.proofs.ChunkLemmas.{roomy-set}
 
-pub get_next : {X : Type 0} (xs ys : List X) (x y d : X) (k : ℕ) → k ≡ length xs → get_or (xs ++ x ∷ y ∷ ys) (k + 1) d ≡ y
+pub get_next : {X : Type 0} (xs ys : List X) (x y d : X) (k : ℕ) → k ≡ length xs
+    → get_or (xs ++ x ∷ y ∷ ys) (k + 1) d ≡ y
 get_next xs ys x y d k is =
     ap (λ l. get_or l (k + 1) d) (sym (append_assoc xs (x ∷ []) (y ∷ ys)))
     ∙ get_or_at (xs ++ x ∷ []) y ys d (k + 1) (length_push xs x ∙ ap (λ n. n + 1) (sym is))
@@ -57,7 +63,8 @@ wide_enough used free room len extra wide one less =
     let alone : min 512 room - len < extra = grind (arith, nat_tests, less, one) in omega (arith, wide, alone)
 
 module _ {E : Type 0} where
-  pub placed : (items slice : List (Piece E)) (place : ℕ) (spot : Spot) (h : Piece E) → slice ≡ items → IsAt slice place spot
+  pub placed : (items slice : List (Piece E)) (place : ℕ) (spot : Spot) (h : Piece E) → slice ≡ items
+      → IsAt slice place spot
       → h ≡ get_or items spot.chunk h → Placed items place spot h
   placed items slice place spot h same at read =
       let parts : items ≡ at.before ++ at.here ∷ at.after = sym same ∙ at.parts in
@@ -90,7 +97,8 @@ module _ {E : Type 0} where
       ap list_of (set_is items place spot h other p) ∙ list-parts p.before p.after other
 
   pub got : (items : List (Piece E)) (place : ℕ) (spot : Spot) (h : Piece E) (x : E) → Placed items place spot h
-      → place < length (list_of items) → slice_get h.entries spot.offset ≡ Some x → slice_get (list_of items) place ≡ Some x
+      → place < length (list_of items) → slice_get h.entries spot.offset ≡ Some x
+      → slice_get (list_of items) place ≡ Some x
   got items place spot h x p lt is =
       ap (λ l. slice_get l place) (list_is items place spot h p)
       ∙ ap (slice_get (list_of p.before ++ (h.entries ++ list_of p.after))) p.place_is
@@ -121,7 +129,8 @@ module _ {E : Type 0} where
       ∙ ap (remove (list_of p.before ++ (h.entries ++ list_of p.after))) (sym p.place_is)
       ∙ ap (λ l. remove l place) (sym (list_is items place spot h p))
 
-  count_parts : (before after : List (Piece E)) (h : Piece E) → length (before ++ h ∷ after) ≡ length before + (length after + 1)
+  count_parts : (before after : List (Piece E)) (h : Piece E)
+      → length (before ++ h ∷ after) ≡ length before + (length after + 1)
   count_parts before after h = omega (arith, length-append before (h ∷ after))
 
   -- another chunk in the place of one: what holds then
@@ -134,7 +143,8 @@ module _ {E : Type 0} where
       count_parts before after other ∙ sym (count_parts before after h) in
       record {
         packed = packed-set before h other after sound.packed most least;
-        roomy = λ two. (let r = sound.roomy (omega (arith, same, two)) in (roomy-set before h other after r.0 room, r.1));
+        roomy = λ two. (let r = sound.roomy (omega (arith, same, two)) in
+            (roomy-set before h other after r.0 room, r.1));
         empty = sound.empty;
         first = λ none. absurd (omega (arith, count_parts before after other, none));
         few = omega (arith, same, sound.few);
@@ -153,7 +163,8 @@ module _ {E : Type 0} where
       → count + length h.entries ≡ len + length other.entries → AreSound (set items spot.chunk other) free count
   changed_sound items free place spot h other len count p sound most least room counted =
       subst (λ l. AreSound l free count) (sym (set_is items place spot h other p))
-      (changed p.before p.after free h other len count (subst (λ l. AreSound l free len) p.parts sound) most least room counted)
+      (changed p.before p.after free h other len count (subst
+      (λ l. AreSound l free len) p.parts sound) most least room counted)
 
   pub here_most : (items free : List (Piece E)) (place : ℕ) (spot : Spot) (h : Piece E) (len : ℕ)
       → Placed items place spot h → AreSound items free len → length h.entries ≤ 512
@@ -173,7 +184,8 @@ module _ {E : Type 0} where
   -- an entry put into a chunk that isn't full
   pub inserted_sound : (items free : List (Piece E)) (place : ℕ) (spot : Spot) (h other : Piece E) (x : E) (len : ℕ)
       → Placed items place spot h → AreSound items free len → length h.entries < 512
-      → other.entries ≡ insert h.entries spot.offset x → h.room ≤ other.room → AreSound (set items spot.chunk other) free (len + 1)
+      → other.entries ≡ insert h.entries spot.offset x → h.room ≤ other.room
+      → AreSound (set items spot.chunk other) free (len + 1)
   inserted_sound items free place spot h other x len p sound few is room =
       let longer : length other.entries ≡ length h.entries + 1 =
       ap length is ∙ length-insert h.entries spot.offset x p.within in
@@ -257,7 +269,8 @@ module _ {E : Type 0} where
       ap list_of (two_is items place spot h one two p) ∙ two_list p.before p.after one two
       ∙ ap (λ l. list_of p.before ++ (l ++ list_of p.after)) both ∙ sym (put_in items place spot h x p)
 
-  pub split_sound : (items free : List (Piece E)) (place : ℕ) (spot : Spot) (h one two fresh : Piece E) (x : E) (len : ℕ)
+  pub split_sound : (items free : List (Piece E)) (place : ℕ) (spot : Spot) (h one two fresh : Piece E) (x : E)
+      (len : ℕ)
       → (p : Placed items place spot h) → AreSound items (free ++ fresh ∷ []) len
       → one.entries ++ two.entries ≡ insert h.entries spot.offset x
       → 256 ≤ length one.entries → length one.entries ≤ 512 → (1 ≤ length p.after → 256 ≤ length two.entries)
@@ -349,7 +362,11 @@ module _ {E : Type 0} where
       let r : AreRoomy (t.before ++ h ∷ n ∷ t.after) = subst AreRoomy t.parts roomy in
       let back : AreRoomy (h ∷ n ∷ t.after) = roomy-back t.before (h ∷ n ∷ t.after) r in
       subst AreRoomy (sym (one_is items rest k n h one t))
-      (roomy-join t.before (one ∷ t.after) (roomy-front t.before (h ∷ n ∷ t.after) r) (omega (arith, back.0, room), back.1.1))
+      (roomy-join t.before (one ∷ t.after) (roomy-front t.before (h ∷ n ∷ t.after) r) (
+        omega
+            (arith, back.0, room),
+        back.1.1,
+      ))
 
   pub taken_rooms : (items rest : List (Piece E)) (k : ℕ) (n h : Piece E) → Taken items rest k n h → AreRoomy items
       → (512 ≤ h.room) × (512 ≤ n.room)
@@ -375,7 +392,8 @@ module _ {E : Type 0} where
       → new ≡ insert (set rest k one) (k + 1) two → 256 ≤ length one.entries → length one.entries ≤ 512
       → 256 ≤ length two.entries → length two.entries ≤ length n.entries → ArePacked new
   again_packed items rest new k n h one two t is least most two_least two_most =
-      subst ArePacked (sym (again_is items rest new k n h one two t is)) (packed-join t.before (one ∷ two ∷ t.after) t.full (
+      subst ArePacked (sym (again_is items rest new k n h one two t is)) (packed-join t.before
+      (one ∷ two ∷ t.after) t.full (
         least,
         (
           most,
@@ -385,15 +403,24 @@ module _ {E : Type 0} where
       ))
 
   pub again_roomy : (items rest new : List (Piece E)) (k : ℕ) (n h one two : Piece E) → Taken items rest k n h
-      → new ≡ insert (set rest k one) (k + 1) two → AreRoomy items → h.room ≤ one.room → n.room ≤ two.room → AreRoomy new
+      → new ≡ insert (set rest k one) (k + 1) two → AreRoomy items → h.room ≤ one.room → n.room ≤ two.room
+      → AreRoomy new
   again_roomy items rest new k n h one two t is roomy room two_room =
       let r : AreRoomy (t.before ++ h ∷ n ∷ t.after) = subst AreRoomy t.parts roomy in
       let back : AreRoomy (h ∷ n ∷ t.after) = roomy-back t.before (h ∷ n ∷ t.after) r in
       subst AreRoomy (sym (again_is items rest new k n h one two t is)) (roomy-join t.before (one ∷ two ∷ t.after)
-      (roomy-front t.before (h ∷ n ∷ t.after) r) (omega (arith, back.0, room), (omega (arith, back.1.0, two_room), back.1.1)))
+      (roomy-front t.before (h ∷ n ∷ t.after) r) (
+        omega (arith, back.0, room),
+        (
+          omega
+              (arith, back.1.0, two_room),
+          back.1.1,
+        ),
+      ))
 
   -- ---- what a place tells of two reads of its chunk
-  pub same_here : (items slice : List (Piece E)) (place : ℕ) (spot : Spot) (h j : Piece E) → slice ≡ items → IsAt slice place spot
+  pub same_here : (items slice : List (Piece E)) (place : ℕ) (spot : Spot) (h j : Piece E) → slice ≡ items
+      → IsAt slice place spot
       → h ≡ get_or items spot.chunk h → j ≡ get_or items spot.chunk j → h ≡ j
   same_here items slice place spot h j same at read other =
       let parts : items ≡ at.before ++ at.here ∷ at.after = sym same ∙ at.parts in
@@ -401,7 +428,8 @@ module _ {E : Type 0} where
       ∙ sym (other ∙ ap (λ l. get_or l spot.chunk j) parts ∙ get_here at.before at.after at.here j spot.chunk at.chunk)
 
   -- ---- more free chunks
-  alone_roomy : (items : List (Piece E)) → length items ≤ 1 → (1 ≤ length items → 512 ≤ first_room items) → AreRoomy items
+  alone_roomy : (items : List (Piece E)) → length items ≤ 1 → (1 ≤ length items → 512 ≤ first_room items)
+      → AreRoomy items
   alone_roomy [] one room = tt
   alone_roomy (h ∷ []) one room = (room (omega arith), tt)
   alone_roomy (h ∷ j ∷ more) one room = absurd (omega (arith, one))
@@ -495,10 +523,10 @@ module _ {E : Type 0} where
       → other.entries ≡ remove h.entries spot.offset → list_of used ≡ list_of (set items spot.chunk other)
       → ArePacked used → AreRoomy used → AreRoomy more → AreEmpty more → 1 ≤ length used
       → length used + length more ≡ length (set items spot.chunk other) + length free → AreSound used more (len - 1)
-  refilled_sound items free used more place spot h other len p sound lt is list packed roomy more_roomy empty some total =
+  refilled_sound items free used more place spot h other len p sound lt is list packed roomy rest empty some total =
       record {
         packed = packed;
-        roomy = λ _. (roomy, more_roomy);
+        roomy = λ _. (roomy, rest);
         empty = empty;
         first = λ none. absurd (omega (arith, none, some));
         few = omega (arith, total, length-set items spot.chunk other, sound.few);

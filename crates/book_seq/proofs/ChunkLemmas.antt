@@ -1,8 +1,10 @@
--- Lists in chunks: what one chunk changed, split, filled or taken away does to the list, to the sizes and to the memory.
+-- Lists in chunks: what one chunk changed, split, filled or taken away does to the list, to the sizes and to the
+-- memory.
 use Rattle.std.proofs.Common.{◌≡◌, ℕ, ◌+◌, ◌-◌, ◌*◌, ◌/◌, ◌<◌, ◌≤◌, List, [], ◌∷◌, ◌++◌, length, take, drop}
 use Rattle.std.proofs.Common.{get_or, sym, ap, ◌∙◌, arith}
 use Rattle.std.proofs.Math.ListN.{length-append}
-use Rattle.std.proofs.lemmas.List.{append-nil, drop_more, get_or_default, length-take-le, take_all, take_more, take-append-drop}
+use Rattle.std.proofs.lemmas.List.{append-nil, drop_more, get_or_default, length-take-le, take_all, take_more}
+use Rattle.std.proofs.lemmas.List.{take-append-drop}
 use Rattle.std.proofs.lemmas.List.Concat.{flat_map-append}
 use Rattle.book_seq.specs.Chunks.{AreEmpty, AreFull, ArePacked, AreRoomy, IsAt, Piece, list_of}
 
@@ -134,7 +136,8 @@ module _ {E : Type 0} where
   roomy-back [] ys a = a
   roomy-back (x ∷ xs) ys a = roomy-back xs ys a.1
 
-  pub roomy-here : (before after : List (Piece E)) (here : Piece E) → AreRoomy (before ++ here ∷ after) → 512 ≤ here.room
+  pub roomy-here : (before after : List (Piece E)) (here : Piece E) → AreRoomy (before ++ here ∷ after)
+      → 512 ≤ here.room
   roomy-here before after here a = (roomy-back before (here ∷ after) a).0
 
   pub roomy-set : (before : List (Piece E)) (here other : Piece E) (after : List (Piece E))
@@ -158,7 +161,8 @@ module _ {E : Type 0} where
   -- ---- places
   pub spot_here : (pieces : List (Piece E)) (place k o : ℕ) (here : Piece E) → k < length pieces
       → here ≡ get_or pieces k here → place ≡ length (list_of (take k pieces)) + o → o ≤ length here.entries
-      → (place < length (list_of pieces) → o < length here.entries) → IsAt pieces place (record { chunk = k; offset = o })
+      → (place < length (list_of pieces) → o < length here.entries)
+      → IsAt pieces place (record { chunk = k; offset = o })
   spot_here pieces place k o here lt read is within below = record {
     before = take k pieces;
     here = here;
@@ -183,7 +187,8 @@ module _ {E : Type 0} where
   length_more pieces k here lt read =
       ap length (list_more pieces k here lt read) ∙ length-append (list_of (take k pieces)) here.entries
 
-  last_here : (pieces : List (Piece E)) (place o : ℕ) (d : Piece E) → 1 ≤ length pieces → place ≤ length (list_of pieces)
+  last_here : (pieces : List (Piece E)) (place o : ℕ) (d : Piece E) → 1 ≤ length pieces
+      → place ≤ length (list_of pieces)
       → place ≡ length (list_of (take (length pieces - 1) pieces)) + o
       → IsAt pieces place (record { chunk = length pieces - 1; offset = o })
   last_here pieces place o d some within is =
@@ -194,7 +199,8 @@ module _ {E : Type 0} where
       let all : take (k + 1) pieces ≡ pieces = take_all (k + 1) pieces (omega (arith, some)) in
       let longer : length (list_of pieces) ≡ length (list_of (take k pieces)) + length here.entries =
       ap (λ l. length (list_of l)) (sym all) ∙ length_more pieces k here lt read in
-      spot_here pieces place k o here lt read is (omega (arith, longer, is, within)) (λ less. omega (arith, longer, is, less))
+      spot_here pieces place k o here lt read is (omega (arith, longer, is, within)) (λ less. omega
+      (arith, longer, is, less))
 
   pub spot_last : (pieces : List (Piece E)) (place o : ℕ) → 1 ≤ length pieces → place ≤ length (list_of pieces)
       → place ≡ length (list_of (take (length pieces - 1) pieces)) + o

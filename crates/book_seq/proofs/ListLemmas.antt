@@ -1,8 +1,10 @@
 -- Entries of one list between two others: read, put in, taken out, and those before one of them.
-use Rattle.std.proofs.Common.{◌≡◌, ℕ, zero, suc, ◌+◌, ◌-◌, ◌<◌, ◌≤◌, List, [], ◌∷◌, ◌++◌, length, take, drop, get_or, set}
+use Rattle.std.proofs.Common.{◌≡◌, ℕ, zero, suc, ◌+◌, ◌-◌, ◌<◌, ◌≤◌, List, [], ◌∷◌, ◌++◌, length, take, drop, get_or}
+use Rattle.std.proofs.Common.{set}
 use Rattle.std.proofs.Common.{Some, slice_get, refl, sym, ap, ◌∙◌, arith}
 use Rattle.std.proofs.lemmas.List.{length-drop, length-take-le, take-append-drop, take-append-le, get_or_at, set_at}
-use Rattle.std.proofs.lemmas.List.Edits.{insert-append_left, insert-append_right, remove-append_left, remove-append_right}
+use Rattle.std.proofs.lemmas.List.Edits.{insert-append_left, insert-append_right, remove-append_left}
+use Rattle.std.proofs.lemmas.List.Edits.{remove-append_right}
 use Rattle.std.specs.List.{insert, remove}
 
 skipped : (n o : ℕ) → (n + o) - n ≡ o
@@ -69,7 +71,8 @@ pub get_here : {X : Type 0} (xs ys : List X) (x d : X) (k : ℕ) → k ≡ lengt
 get_here xs ys x d k is = get_or_at xs x ys d k (sym is)
 
 -- ---- an entry that was read
-pub slice_get_read : {X : Type 0} (xs : List X) (i : ℕ) (x : X) → i < length xs → x ≡ get_or xs i x → slice_get xs i ≡ Some x
+pub slice_get_read : {X : Type 0} (xs : List X) (i : ℕ) (x : X) → i < length xs → x ≡ get_or xs i x
+    → slice_get xs i ≡ Some x
 slice_get_read [] i x below is = absurd (omega arith)
 slice_get_read (y ∷ xs) zero x below is = ap (λ z. Some z) (sym is)
 slice_get_read (y ∷ xs) (suc i) x below is = slice_get_read xs i x (omega arith) is
@@ -81,7 +84,8 @@ insert_again [] i x below is = absurd (omega arith)
 insert_again (y ∷ xs) zero x below is = ap (λ z. z ∷ xs) is
 insert_again (y ∷ xs) (suc i) x below is = ap (λ l. y ∷ l) (insert_again xs i x (omega arith) is)
 
-pub slice_get_or : {X : Type 0} (xs : List X) (i : ℕ) (x : X) → slice_get xs i ≡ Some x → (i < length xs) × (x ≡ get_or xs i x)
+pub slice_get_or : {X : Type 0} (xs : List X) (i : ℕ) (x : X) → slice_get xs i ≡ Some x
+    → (i < length xs) × (x ≡ get_or xs i x)
 slice_get_or [] i x e = absurd cc
 slice_get_or (y ∷ xs) zero x e = (omega arith, cc)
 slice_get_or (y ∷ xs) (suc i) x e = let more = slice_get_or xs i x e in (omega (arith, more.0), more.1)
@@ -100,7 +104,8 @@ put_lower xs a b c n o x lower upper within is =
     ap (λ l. l ++ b) is ∙ sym (insert-append_left a b o x within)
     ∙ ap (λ l. insert l o x) (ap (λ l. l ++ b) lower ∙ ap (λ l. take n xs ++ l) upper ∙ take-append-drop n xs)
 
-pub put_upper : {X : Type 0} (xs a b c : List X) (n o : ℕ) (x : X) → a ≡ take n xs → b ≡ drop n xs → length a ≡ n → n ≤ o
+pub put_upper : {X : Type 0} (xs a b c : List X) (n o : ℕ) (x : X) → a ≡ take n xs → b ≡ drop n xs → length a ≡ n
+    → n ≤ o
     → c ≡ insert b (o - n) x → a ++ c ≡ insert xs o x
 put_upper xs a b c n o x lower upper size past is =
     ap (λ l. a ++ l) is ∙ sym (insert-append_right a b n o x size past)

@@ -56,14 +56,16 @@ module _ {E : Type 0} (weights : E → Sums) where
       ∙ sums_of-append (take i xs) (x ∷ []) ∙ ap (sum (sums_of weights (take i xs))) (sums_of-one x)
 
   -- an entry put in adds its weights
-  pub sums_of-insert : (xs : List E) (i : ℕ) (x : E) → sums_of weights (insert xs i x) ≡ sum (sums_of weights xs) (weights x)
+  pub sums_of-insert : (xs : List E) (i : ℕ) (x : E)
+      → sums_of weights (insert xs i x) ≡ sum (sums_of weights xs) (weights x)
   sums_of-insert xs i x =
       let front : Sums = sums_of weights (take i xs) in
       let back : Sums = sums_of weights (drop i xs) in
       sums_of-append (take i xs) (x ∷ drop i xs)
       ∙ ap (sum front) (sum_comm (weights x) back)
       ∙ sym (sum_assoc front back (weights x))
-      ∙ ap (λ s. sum s (weights x)) (sym (sums_of-append (take i xs) (drop i xs)) ∙ ap (sums_of weights) (take-append-drop i xs))
+      ∙ ap (λ s. sum s (weights x)) (sym (sums_of-append (take i xs) (drop i xs))
+      ∙ ap (sums_of weights) (take-append-drop i xs))
 
   bounded-append : (xs ys : List E) → AreBounded weights xs → AreBounded weights ys → AreBounded weights (xs ++ ys)
   bounded-append [] ys a b = b
@@ -78,10 +80,12 @@ module _ {E : Type 0} (weights : E → Sums) where
   bounded-back (x ∷ xs) ys a = bounded-back xs ys a.1
 
   bounded-take : (i : ℕ) (xs : List E) → AreBounded weights xs → AreBounded weights (take i xs)
-  bounded-take i xs a = bounded-front (take i xs) (drop i xs) (subst (AreBounded weights) (sym (take-append-drop i xs)) a)
+  bounded-take i xs a = bounded-front (take i xs) (drop i xs) (subst (AreBounded weights) (sym
+      (take-append-drop i xs)) a)
 
   bounded-drop : (i : ℕ) (xs : List E) → AreBounded weights xs → AreBounded weights (drop i xs)
-  bounded-drop i xs a = bounded-back (take i xs) (drop i xs) (subst (AreBounded weights) (sym (take-append-drop i xs)) a)
+  bounded-drop i xs a = bounded-back (take i xs) (drop i xs) (subst (AreBounded weights) (sym
+      (take-append-drop i xs)) a)
 
 within-more : (n : ℕ) (a b : ℤ) → IsWithin 1 a → IsWithin n b → IsWithin (suc n) (a +ℤ b)
 within-more n a b one more = (omega (arith, ints), omega (arith, ints))
@@ -108,7 +112,13 @@ are_within-le m n s le a = (
 -- the sums of entries are as large as their count allows
 pub within_sums : {E : Type 0} (weights : E → Sums) (xs : List E) → AreBounded weights xs
     → AreWithin (length xs) (sums_of weights xs)
-within_sums weights [] b = ((omega (arith, ints), omega (arith, ints)), ((omega (arith, ints), omega (arith, ints)), (omega (arith, ints), omega (arith, ints))))
+within_sums weights [] b = (
+  (omega (arith, ints), omega (arith, ints)),
+  (
+    (omega (arith, ints), omega (arith, ints)),
+    (omega (arith, ints), omega (arith, ints)),
+  ),
+)
 within_sums weights (x ∷ xs) b =
     let more : AreWithin (length xs) (sums_of weights xs) = within_sums weights xs b.1 in
     let one : AreWithin 1 (weights x) = b.0 in (
@@ -120,11 +130,13 @@ within_sums weights (x ∷ xs) b =
     )
 
 -- ---- kept sums
-pub kept_within : {E : Type 0} (weights : E → Sums) (xs : List E) (s : Sums) → AreKept weights xs s → AreWithin (length xs) s
+pub kept_within : {E : Type 0} (weights : E → Sums) (xs : List E) (s : Sums) → AreKept weights xs s
+    → AreWithin (length xs) s
 kept_within weights xs s kept =
     subst (λ (t : Sums). AreWithin (length xs) t) (sym kept.sums) (within_sums weights xs kept.bounded)
 
-pub kept_plus : {E : Type 0} (weights : E → Sums) (xs : List E) (m : ℕ) (s t : Sums) → AreKept weights xs s → AreWithin m t
+pub kept_plus : {E : Type 0} (weights : E → Sums) (xs : List E) (m : ℕ) (s t : Sums) → AreKept weights xs s
+    → AreWithin m t
     → length xs + m ≤ 2 ^ 64 - 1 → AreWithin (2 ^ 64 - 1) (sum s t)
 kept_plus weights xs m s t kept more le =
     are_within-le (length xs + m) (2 ^ 64 - 1) (sum s t) le
@@ -153,7 +165,8 @@ kept_remove weights xs i x s t kept below is same = record {
       (bounded-drop weights (suc i) xs kept.bounded);
 }
 
-pub kept_append : {E : Type 0} (weights : E → Sums) (xs ys : List E) (s t : Sums) → AreKept weights xs s → AreKept weights ys t
+pub kept_append : {E : Type 0} (weights : E → Sums) (xs ys : List E) (s t : Sums) → AreKept weights xs s
+    → AreKept weights ys t
     → AreKept weights (xs ++ ys) (sum s t)
 kept_append weights xs ys s t a b = record {
   sums = ap (λ (u : Sums). sum u t) a.sums ∙ ap (sum (sums_of weights xs)) b.sums ∙ sym (sums_of-append weights xs ys);

@@ -75,7 +75,8 @@ impl<E: Weigh> Seq<E> {
         self.chunks[spot.chunk].entry(spot.offset, steps)
     }
 
-    /// The sums of the weights of so many first entries: the sums of the chunks before the place, and the weights of the
+    /// The sums of the weights of so many first entries: the sums of the chunks before the place, and the weights of
+    /// the
     /// entries before it in its own chunk.
     pub fn sum_before<L>(&self, place: usize, steps: &mut Steps<L>) -> [i128; 3]
         requires { place ≤ length self.now.list }

@@ -47,7 +47,8 @@ loop-entries-preserved g c =
           ∙ ap (sum (g.E.Weigh.weights entry)) c.loop-entries.invariant.sums
           ∙ ap (sums_of g.E.Weigh.weights) (sym turned);
       within = subst (AreWithin (vec_len c.push.new.self)) (sym c.plus-sums.ensures)
-          (are_within-le (1 + vec_len c.loop-entries.upper) (vec_len c.push.new.self) (sum c.of.result c.loop-entries.sums)
+          (are_within-le (1 + vec_len c.loop-entries.upper) (vec_len c.push.new.self)
+          (sum c.of.result c.loop-entries.sums)
           (omega (arith, longer)) (are_within-sum 1 (vec_len c.loop-entries.upper) c.of.result c.loop-entries.sums
           c.of.ensures.within c.loop-entries.invariant.within));
       count = omega (arith, longer, shorter, c.loop-entries.invariant.count);

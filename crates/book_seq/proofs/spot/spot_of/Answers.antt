@@ -14,7 +14,8 @@ returns-then-offset-len g c =
 pub loop-chunk-preserved : goal.loop-chunk-preserved
 loop-chunk-preserved g c =
     let below : c.loop-chunk.chunk < length c.args.chunks.now = omega (arith, c.loop-chunk-test.true) in
-    let more = length_more c.args.chunks.now c.loop-chunk.chunk c.index-chunks-chunk.result below c.index-chunks-chunk.is in
+    let more = length_more c.args.chunks.now c.loop-chunk.chunk c.index-chunks-chunk.result below
+    c.index-chunks-chunk.is in
     let place : c.args.place
     ≡ length (list_of (take c.loop-chunk.chunk c.args.chunks.now)) + c.loop-chunk.offset = c.loop-chunk.invariant in
     omega (arith, more, place, c.if-offset-len.false, c.len-len.ensures)

@@ -22,7 +22,8 @@ refill-requires-clause-short g c =
     let lt : c.args.place < length (list_of c.self.inside.chunks.items) =
     subst (λ (v : Listed g.row.E.Denot). c.args.place < length v.list) (sym c.self.view_is) c.requires in
     let count = count_after c.self.inside.chunks.items c.args.place c.spot_of-spot.result c.index_mut.result.now p in
-    let read = ap (λ (q : Piece g.row.E.Denot). length q.entries) (read_set c.self.inside.chunks.items c.args.place c.spot_of-spot.result
+    let read = ap (λ (q : Piece g.row.E.Denot). length q.entries)
+    (read_set c.self.inside.chunks.items c.args.place c.spot_of-spot.result
     c.index_mut.result.now c.remove-entry.new.self c.index.result.now p c.index.ensures) in
     removed_short c.self.inside.chunks.items c.self.inside.free.items c.args.place c.spot_of-spot.result
     c.index_mut.result.now c.remove-entry.new.self c.self.inside.len p c.self.invariant.0 lt
@@ -64,7 +65,8 @@ invariant_of-self-else-len-lt256 g c =
     let lt : c.args.place < length (list_of c.self.inside.chunks.items) =
     subst (λ (v : Listed g.row.E.Denot). c.args.place < length v.list) (sym c.self.view_is) c.requires in
     let size = length-set c.self.inside.chunks.items c.spot_of-spot.result.chunk c.remove-entry.new.self in
-    let read = ap (λ (q : Piece g.row.E.Denot). length q.entries) (read_set c.self.inside.chunks.items c.args.place c.spot_of-spot.result
+    let read = ap (λ (q : Piece g.row.E.Denot). length q.entries)
+    (read_set c.self.inside.chunks.items c.args.place c.spot_of-spot.result
     c.index_mut.result.now c.remove-entry.new.self c.index.result.now p c.index.ensures) in (
       removed_sound c.self.inside.chunks.items c.self.inside.free.items c.args.place c.spot_of-spot.result
           c.index_mut.result.now c.remove-entry.new.self c.self.inside.len p c.self.invariant.0 lt
@@ -111,7 +113,8 @@ returns-then-len-lt256-clause-list g c =
     c.index_mut.result.now c.as_slice.ensures.value c.spot_of-spot.ensures c.index_mut.ensures.value in
     let lt : c.args.place < length (list_of c.self.inside.chunks.items) =
     subst (λ (v : Listed g.row.E.Denot). c.args.place < length v.list) (sym c.self.view_is) c.requires in
-    c.refill.ensures.list ∙ removed_list c.self.inside.chunks.items c.args.place c.spot_of-spot.result c.index_mut.result.now
+    c.refill.ensures.list
+    ∙ removed_list c.self.inside.chunks.items c.args.place c.spot_of-spot.result c.index_mut.result.now
     c.remove-entry.new.self p lt c.remove-entry.ensures.entries
     ∙ ap (λ (v : Listed g.row.E.Denot). remove v.list c.args.place) c.self.view_is
 

@@ -42,7 +42,8 @@ loop-chunk-preserved g c =
     let below : i < length c.args.chunks.now = c.loop-chunk-test.true in
     let more = length_more c.args.chunks.now i here below c.chunk-item.is in
     let rest = drop_here c.args.chunks.now i here below c.chunk-item.is in
-    let left = ap (λ l. length (list_of l)) rest ∙ length-append here.entries (list_of (drop (i + 1) c.args.chunks.now)) in
+    let left = ap (λ l. length (list_of l)) rest
+    ∙ length-append here.entries (list_of (drop (i + 1) c.args.chunks.now)) in
     record {
       place_is = omega (arith, more, inv.place_is);
       left = omega (arith, left, inv.left);

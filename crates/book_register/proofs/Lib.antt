@@ -1,0 +1,4 @@
+pub mod BalanceLemmas
+pub mod KeyLemmas
+pub mod RowLemmas
+pub mod WorkedRows
