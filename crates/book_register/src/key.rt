@@ -1,4 +1,4 @@
-ghost use Rattle.std.specs.Prelude.{◌≡◌, ◌+◌, ◌≤◌, ◌+ℤ◌, length, pos, position};
+ghost use Rattle.std.specs.Prelude.{◌≡◌, ◌+◌, ◌≤◌, ◌+ℤ◌, length, pos, position, true};
 ghost use Rattle.book_register.specs.Register.{IsBound, IsSorted, has_key as is_at, key_at as spelled_key};
 ghost use Rattle.book_register.specs.Register.{key_of as entry_key, precedes as comes_before};
 
@@ -63,12 +63,28 @@ fn has_key(entry: &Entry, key: Key) -> bool
     entry.day.number() == key.day && entry.txn == key.txn && entry.place == key.place
 }
 
-/// How many rows stand before a key, by binary search: at most 64 steps.
+/// Whether there are rows and all stand before a key, as where a row of the newest day is put in: at most one step.
+fn are_all_before<L>(rows: &Seq<Entry>, key: Key, steps: &mut Steps<L>) -> bool
+    requires { IsSorted rows.now.list }
+    ensures bound { (result ≡ true) → IsBound key rows.now.list (length rows.now.list) }
+    ensures steps { steps.new ≤ steps.old + 1 }
+{
+    let len = rows.len();
+    if len == 0 {
+        return false;
+    }
+    precedes(key_of(rows.get(len - 1, steps)), key)
+}
+
+/// How many rows stand before a key, by binary search: at most 65 steps.
 pub(crate) fn count_before<L>(rows: &Seq<Entry>, key: Key, steps: &mut Steps<L>) -> usize
     requires { IsSorted rows.now.list }
     ensures bound { IsBound key rows.now.list result }
-    ensures steps { steps.new ≤ steps.old + 64 }
+    ensures steps { steps.new ≤ steps.old + 65 }
 {
+    if are_all_before(rows, key, steps) {
+        return rows.len();
+    }
     let mut low = 0;
     let mut high = rows.len();
     for _round in 0..64usize {
@@ -85,11 +101,11 @@ pub(crate) fn count_before<L>(rows: &Seq<Entry>, key: Key, steps: &mut Steps<L>)
     low
 }
 
-/// The place of the row at a key; `None` exactly where no row stands there. At most 65 steps.
+/// The place of the row at a key; `None` exactly where no row stands there. At most 66 steps.
 pub(crate) fn place_of<L>(rows: &Seq<Entry>, key: Key, steps: &mut Steps<L>) -> Option<usize>
     requires { IsSorted rows.now.list }
     ensures place { result ≡ position (is_at key) rows.now.list }
-    ensures steps { steps.new ≤ steps.old + 65 }
+    ensures steps { steps.new ≤ steps.old + 66 }
 {
     let place = count_before(rows, key, steps);
     let len = rows.len();

@@ -15,8 +15,7 @@ use std::alloc::Global;
 use std::marker::Model;
 
 /// The register of an account, which contracts see as its rows in the order of their keys, its room and the number of
-/// its changes. A step is what it is in `Seq`: reading, putting in or taking out one entry, or reading the sums of a
-/// chunk.
+/// its changes. A step is what it is in `Seq`: to read one row, or the sums of one chunk.
 #[derive(Drop)]
 pub struct Register {
     rows: Seq<Entry>,

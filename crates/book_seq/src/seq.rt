@@ -17,8 +17,9 @@ use std::marker::Model;
 
 /// A list in chunks of at most 512 entries, with the sums of the weights kept for each chunk. Contracts see the list,
 /// the number of chunks, which is at most a 256th of the entries and one more, and how many entries may be put in
-/// before memory is asked for again. A step is to read, put in, take out or move to another chunk one entry, or to read
-/// the sums of one chunk. To pass over a chunk by its length isn't counted, nor that a chunk's entries close up.
+/// before memory is asked for again. A step is to read one entry or the sums of one chunk. An entry that is put in or
+/// taken out is read for its weights, and so is each entry that a split moves. To pass over a chunk by its length is no
+/// step, nor that entries move in memory as a block.
 #[derive(Drop)]
 pub struct Seq<E: Weigh> {
     chunks: Vec<Chunk<E>>,

@@ -1,10 +1,15 @@
 use Rattle.std.proofs.Common.{ℕ, ◌+◌, ◌-◌, ◌/◌, ◌^◌, ◌<◌, ap, sym, ◌∙◌, subst, arith}
 use Rattle.book_seq.proofs.ListLemmas.{slice_get_or}
-use Rattle.book_register.specs.Register.{precedes}
+use Rattle.book_register.specs.Register.{IsBound, precedes}
 use Rattle.book_register.specs.declared.key.Key.{Key}
 use Rattle.book_register.proofs.RowLemmas.{before_more, narrow_high, narrow_low, narrow_none, others_more}
 use Rattle.book_register.proofs.key.count_before.Goals.{then-precedes, else-precedes}
 use Rattle.book_register.proofs.key.count_before.Goals as goal
+
+pub returns-then-are_all_before-clause-bound : goal.returns-then-are_all_before-clause-bound
+returns-then-are_all_before-clause-bound g c =
+    subst (λ (n : ℕ). IsBound c.args.key c.args.rows.now.list n) (sym c.len.ensures.len)
+    (c.are_all_before.ensures.bound c.if-are_all_before.true)
 
 pub loop-round-init : goal.loop-round-init
 loop-round-init g c = record {
@@ -13,7 +18,7 @@ loop-round-init g c = record {
   before = λ k d lt. absurd (omega (arith, lt));
   others = λ k d ge lt. absurd (omega (arith, ge, lt, c.len-high.ensures.len));
   narrow = omega (arith, c.len-high.type_inv);
-  steps = omega arith;
+  steps = omega (arith, c.are_all_before.ensures.steps);
 }
 
 pub returns-then-low-high-clause-bound : goal.returns-then-low-high-clause-bound

@@ -11,5 +11,5 @@ invariant-loop-round g l = record {
   others : (k : ℕ) (d : Entry) → l.high ≤ k → k < length l.rows.list
       → precedes (key_of (get_or l.rows.list k d)) l.key ≡ false;
   narrow : l.high - l.low < 2 ^ (64 - l._round);
-  steps : l.steps ≤ l.fn.steps + l._round;
+  steps : l.steps ≤ l.fn.steps + (1 + l._round);
 }
