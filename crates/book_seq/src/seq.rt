@@ -77,8 +77,7 @@ impl<E: Weigh> Seq<E> {
     }
 
     /// The sums of the weights of so many first entries: the sums of the chunks before the place, and the weights of
-    /// the
-    /// entries before it in its own chunk.
+    /// the entries before it in its own chunk.
     pub fn sum_before<L>(&self, place: usize, steps: &mut Steps<L>) -> [i128; 3]
         requires { place ≤ length self.now.list }
         ensures sums { result ≡ listed (sums_of E.weights (take place self.now.list)) }

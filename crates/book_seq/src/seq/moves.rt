@@ -6,8 +6,8 @@ use crate::chunk::Chunk;
 use book_commodity::Steps;
 
 /// Puts an entry into a full chunk with the help of a free one, which then follows it. Behind the last entry of the
-/// last
-/// chunk the free one takes the entry alone; else each of the two takes one half of the entries. It takes no memory.
+/// last chunk the free one takes the entry alone; else each of the two takes one half of the entries. It takes no
+/// memory.
 pub(super) fn put<E: Weigh + Drop, L>(
     chunk: &mut Chunk<E>,
     fresh: &mut Chunk<E>,
