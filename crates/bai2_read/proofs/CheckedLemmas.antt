@@ -5,11 +5,11 @@ use Rattle.std.specs.Prelude.{⊤, if◌then◌else◌}
 use Rattle.std.proofs.lemmas.Bool.{cases_Bool, cond-true}
 use Rattle.book_statement.specs.Checks.{Check, fault_at, first_bad, first_fault}
 use Rattle.book_statement.specs.declared.bad.Bad.{Bad}
-use Rattle.bai2_read.specs.Context.{context}
+use Rattle.bai2_read.specs.Said.{said_by}
 use Rattle.bai2_read.specs.Kinds.{is_blank, is_file_header, may_follow}
 use Rattle.bai2_read.specs.Reading.{Known, checks, own_checks, record_place}
 use Rattle.bai2_read.specs.Records.{Record}
-use Rattle.bai2_read.specs.declared.context.Context.{Context}
+use Rattle.bai2_read.specs.Said.{Said}
 use Rattle.bai2_read.specs.declared.kind.Kind.{Kind}
 use Rattle.bai2_read.specs.declared.kind.Kind.TheVariants.{FileHeader}
 
@@ -32,18 +32,18 @@ none_bad [] h = refl
 none_bad (c ∷ cs) h = cond-true c.holds (first_bad cs) (Some c.bad) h.0 ∙ none_bad cs h.1
 
 -- what is known of a record without a fault, behind what the records before it say
-pub record Checked (known : Known) (c : Context) (r : Record) : Type 0 where
-  pub order : may_follow c.place r.kind ≡ true
+pub record Checked (known : Known) (c : Said) (r : Record) : Type 0 where
+  pub order : may_follow c.last r.kind ≡ true
   pub own : AllHold (own_checks known c r.kind r.lines r.body)
 
 no_bad : (line : ℕ) (found : Option Bad) → fault_at line found None ≡ None → found ≡ None
 no_bad line None e = refl
 no_bad line (Some bad) e = absurd cc
 
-abbrev pub starts_wrong : Context → Record → Bool
-starts_wrong c r = is_blank c.place && not (is_file_header r.kind)
+abbrev pub starts_wrong : Said → Record → Bool
+starts_wrong c r = is_blank c.last && not (is_file_header r.kind)
 
-pub checked : (known : Known) (c : Context) (r : Record) → starts_wrong c r ≡ false
+pub checked : (known : Known) (c : Said) (r : Record) → starts_wrong c r ≡ false
     → first_fault (record_place known c r ∷ []) ≡ None → Checked known c r
 unfolding record_place checks
 checked known c r goes none =
@@ -51,7 +51,7 @@ checked known c r goes none =
     let h = all_hold (checks known c r) found in
     record { order = h.0; own = h.1 }
 
-pub passes : (known : Known) (c : Context) (r : Record) → starts_wrong c r ≡ false → Checked known c r
+pub passes : (known : Known) (c : Said) (r : Record) → starts_wrong c r ≡ false → Checked known c r
     → first_fault (record_place known c r ∷ []) ≡ None
 unfolding record_place checks
 passes known c r goes h =
@@ -62,7 +62,7 @@ header_kind : (kind : Kind) → is_file_header kind ≡ true → kind ≡ FileHe
 header_kind FileHeader e = refl
 header_kind _ e = absurd cc
 
-pub first_is_header : (known : Known) (r : Record) → first_fault (record_place known (context []) r ∷ []) ≡ None
+pub first_is_header : (known : Known) (r : Record) → first_fault (record_place known (said_by []) r ∷ []) ≡ None
     → r.kind ≡ FileHeader
 unfolding record_place
 first_is_header known r none =

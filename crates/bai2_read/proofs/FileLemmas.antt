@@ -13,16 +13,16 @@ use Rattle.book_statement.specs.declared.read_error.ReadError.{ReadError}
 use Rattle.book_statement.specs.declared.read_error.ReadError.TheVariants.{Fault, OutOfMemory}
 use Rattle.book_statement.specs.declared.statement.Statement.{Statement}
 use Rattle.book_statement.proofs.CheckLemmas.{first_fault-append, first_fault-past}
-use Rattle.bai2_read.specs.Context.{context}
+use Rattle.bai2_read.specs.Said.{said_by}
 use Rattle.bai2_read.specs.Lines.{records_of}
 use Rattle.bai2_read.specs.Reading.{Known, end_place, places, reading, record_place, result_of}
 use Rattle.bai2_read.specs.Records.{Record}
 use Rattle.bai2_read.specs.Tree.{FileTree, records_of_file, statements_of_file}
 use Rattle.bai2_read.specs.TreeRules.{FileRules, HasTree, Reads}
-use Rattle.bai2_read.specs.declared.context.Context.{Context}
+use Rattle.bai2_read.specs.Said.{Said}
 use Rattle.bai2_read.specs.declared.kind.Kind.{Kind}
 use Rattle.bai2_read.specs.declared.kind.Kind.TheVariants.{FileTrailer}
-use Rattle.bai2_read.proofs.ContextLemmas.{context_push}
+use Rattle.bai2_read.proofs.SaidLemmas.{said_push}
 use Rattle.bai2_read.proofs.ParseLemmas.{parse_file}
 use Rattle.bai2_read.proofs.StepLemmas.{AtEnd}
 use Rattle.bai2_read.proofs.WalkLemmas.{Reaches, reach_more, walk_file}
@@ -38,34 +38,34 @@ or_split None later e = (refl, e)
 or_split (Some fault) later e = absurd cc
 
 abbrev placed : Known → List Record → Record → List Place
-placed known before r = record_place known (context before) r ∷ []
+placed known before r = record_place known (said_by before) r ∷ []
 
 -- records among which no check fails are read without a fault
 flat_walk : (known : Known) (rs done : List Record) → first_fault (each_after (placed known) done rs) ≡ None
-    → Reaches known (context done) rs (λ c. c ≡ context (done ++ rs))
-flat_walk known [] done none = ap (λ (l : List Record). context l) (sym (append-nil done))
+    → Reaches known (said_by done) rs (λ c. c ≡ said_by (done ++ rs))
+flat_walk known [] done none = ap (λ (l : List Record). said_by l) (sym (append-nil done))
 flat_walk known (r ∷ rs) done none =
-    let p = record_place known (context done) r in
+    let p = record_place known (said_by done) r in
     let later = each_after (placed known) (done ++ r ∷ []) rs in
     let both = none_split p.line (first_bad p.checks) (first_fault later) none in
     let rest = flat_walk known rs (done ++ r ∷ []) both.1 in (
       both.0,
-      subst (λ (d : Context). Reaches known d rs (λ c. c ≡ context (done ++ r ∷ rs))) (context_push done r)
-          (subst (λ (l : List Record). Reaches known (context (done ++ r ∷ [])) rs (λ c. c ≡ context l))
+      subst (λ (d : Said). Reaches known d rs (λ c. c ≡ said_by (done ++ r ∷ rs))) (said_push done r)
+          (subst (λ (l : List Record). Reaches known (said_by (done ++ r ∷ [])) rs (λ c. c ≡ said_by l))
           (append_assoc done (r ∷ []) rs) rest),
     )
 
 -- and the other way round
-walk_flat : (known : Known) (rs done : List Record) (P : Context → Type 0) → Reaches known (context done) rs P
-    → (first_fault (each_after (placed known) done rs) ≡ None) × P (context (done ++ rs))
-walk_flat known [] done P h = (refl, subst (λ (l : List Record). P (context l)) (sym (append-nil done)) h)
+walk_flat : (known : Known) (rs done : List Record) (P : Said → Type 0) → Reaches known (said_by done) rs P
+    → (first_fault (each_after (placed known) done rs) ≡ None) × P (said_by (done ++ rs))
+walk_flat known [] done P h = (refl, subst (λ (l : List Record). P (said_by l)) (sym (append-nil done)) h)
 walk_flat known (r ∷ rs) done P h =
-    let p = record_place known (context done) r in
+    let p = record_place known (said_by done) r in
     let later = each_after (placed known) (done ++ r ∷ []) rs in
     let rest = walk_flat known rs (done ++ r ∷ []) P
-    (subst (λ (d : Context). Reaches known d rs P) (sym (context_push done r)) h.1) in (
+    (subst (λ (d : Said). Reaches known d rs P) (sym (said_push done r)) h.1) in (
       first_fault-past (p ∷ []) later h.0 ∙ rest.0,
-      subst (λ (l : List Record). P (context l)) (append_assoc done (r ∷ []) rs) rest.1,
+      subst (λ (l : List Record). P (said_by l)) (append_assoc done (r ∷ []) rs) rest.1,
     )
 
 -- a file ends with its trailer
@@ -87,29 +87,29 @@ ok_split (Some fault) value given e = absurd cc
 pub tree_of_records : (known : Known) (lines : ℕ) (rs : List Record) (statements : List Statement)
     → result_of known lines rs ≡ Ok statements → HasTree known rs statements
 tree_of_records known lines rs statements read =
-    let end = end_place lines ((context rs).place) ∷ [] in
-    let ok = ok_split (first_fault (places known rs ++ end)) (context rs).statements statements read in
+    let end = end_place lines ((said_by rs).last) ∷ [] in
+    let ok = ok_split (first_fault (places known rs ++ end)) (said_by rs).statements statements read in
     let both = or_split (first_fault (places known rs)) (first_fault end)
     (sym (first_fault-append (places known rs) end) ∙ ok.0) in
-    let place = ends_with lines (context rs).place both.1 in
+    let place = ends_with lines (said_by rs).last both.1 in
     parse_file known rs statements
-    (reach_more known rs (λ c. c ≡ context rs) (AtEnd statements) (context []) (flat_walk known rs [] both.0)
+    (reach_more known rs (λ c. c ≡ said_by rs) (AtEnd statements) (said_by []) (flat_walk known rs [] both.0)
     (λ c is. record {
-      place = ap (λ (d : Context). d.place) is ∙ place;
-      statements = ap (λ (d : Context). d.statements) is ∙ ok.1;
+      place = ap (λ (d : Said). d.last) is ∙ place;
+      statements = ap (λ (d : Said). d.statements) is ∙ ok.1;
     }))
 
 -- the records of a tree that keeps the rules are read
 pub records_of_tree : (known : Known) (lines : ℕ) (rs : List Record) (f : FileTree) → records_of_file f ≡ rs
     → FileRules known f → result_of known lines rs ≡ Ok (statements_of_file f)
 records_of_tree known lines rs f laid rules =
-    let P = λ (c : Context). AtEnd (statements_of_file f) c in
+    let P = λ (c : Said). AtEnd (statements_of_file f) c in
     let flat = walk_flat known rs [] P
-    (subst (λ (l : List Record). Reaches known (context []) l P) laid (walk_file known f rules)) in
-    let end = end_place lines ((context rs).place) ∷ [] in
+    (subst (λ (l : List Record). Reaches known (said_by []) l P) laid (walk_file known f rules)) in
+    let end = end_place lines ((said_by rs).last) ∷ [] in
     let found : first_fault (places known rs ++ end) ≡ None =
-    first_fault-past (places known rs) end flat.0 ∙ no_fault_at_end lines (context rs).place flat.1.place in
-    ap (λ (o : Option StatementFault). unless_fault o (context rs).statements) found
+    first_fault-past (places known rs) end flat.0 ∙ no_fault_at_end lines (said_by rs).last flat.1.place in
+    ap (λ (o : Option StatementFault). unless_fault o (said_by rs).statements) found
     ∙ ap Ok flat.1.statements
 
 -- what a reader answers that gives exactly what a text says

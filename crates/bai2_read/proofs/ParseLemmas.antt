@@ -4,8 +4,8 @@ use Rattle.std.proofs.Common.{sym, ap, subst, ◌∙◌, arith, append_assoc, �
 use Rattle.std.specs.List.{All, flat_map}
 use Rattle.book_statement.specs.Checks.{first_fault}
 use Rattle.book_statement.specs.declared.statement.Statement.{Statement}
-use Rattle.bai2_read.specs.After.{after}
-use Rattle.bai2_read.specs.Context.{context}
+use Rattle.bai2_read.proofs.After.{after}
+use Rattle.bai2_read.specs.Said.{said_by}
 use Rattle.bai2_read.specs.Kinds.{ends_account, is_blank, is_file_header, is_in_account}
 use Rattle.bai2_read.specs.Kinds.{may_follow}
 use Rattle.bai2_read.specs.Reading.{Known, record_place}
@@ -14,12 +14,12 @@ use Rattle.bai2_read.specs.Tree.{AccountTree, FileTree, GroupTree, records_of_ac
 use Rattle.bai2_read.specs.Tree.{records_of_group}
 use Rattle.bai2_read.specs.TreeRules.{FileHeaderRules, FileRules}
 use Rattle.bai2_read.specs.TreeRules.{GroupRules, HasTree}
-use Rattle.bai2_read.specs.declared.context.Context.{Context}
+use Rattle.bai2_read.specs.Said.{Said}
 use Rattle.bai2_read.specs.declared.kind.Kind.{Kind}
 use Rattle.bai2_read.specs.declared.kind.Kind.TheVariants.{Blank, GroupHeader, AccountHeader, Detail}
 use Rattle.bai2_read.specs.declared.kind.Kind.TheVariants.{AccountTrailer, GroupTrailer, FileTrailer, NoRecord}
 use Rattle.bai2_read.proofs.CheckedLemmas.{Checked, checked, first_is_header}
-use Rattle.bai2_read.proofs.ContextLemmas.{flat_push}
+use Rattle.bai2_read.proofs.SaidLemmas.{flat_push}
 use Rattle.bai2_read.proofs.RuleLemmas.{TwoCounts}
 use Rattle.bai2_read.proofs.RuleLemmas.{file_trailer_tells}
 use Rattle.bai2_read.proofs.StepLemmas.{AtEnd, InFile, account_with, group_with, place_behind}
@@ -76,18 +76,18 @@ inside_file [] = (refl, λ e. absurd cc)
 inside_file (g ∷ gs) = (refl, λ e. absurd cc)
 
 -- what is known of the next record
-checked_here : (known : Known) (c : Context) (r : Record) → is_blank c.place ≡ false
+checked_here : (known : Known) (c : Said) (r : Record) → is_blank c.last ≡ false
     → first_fault (record_place known c r ∷ []) ≡ None → Checked known c r
 checked_here known c r started none = checked known c r (rw started refl) none
 
-no_record : (known : Known) (c : Context) (r : Record) → Checked known c r → r.kind ≡ NoRecord → ⊥
+no_record : (known : Known) (c : Said) (r : Record) → Checked known c r → r.kind ≡ NoRecord → ⊥
 no_record known c r h is = let own = own_as known c r NoRecord h is in let e : false ≡ true = own.0 in absurd cc
 
 abbrev file_with : Record → List GroupTree → Record → FileTree
 file_with file gs trailer = record { header = file; groups = gs; trailer = trailer }
 
 -- a file that is whole
-whole_file : (known : Known) (file : Record) (gs : List GroupTree) (c : Context) (r : Record)
+whole_file : (known : Known) (file : Record) (gs : List GroupTree) (c : Said) (r : Record)
     → InFile file gs c → FileHeaderRules file → All (GroupRules known) gs → length c.statements ≤ 1000
     → 0 < length gs → r.kind ≡ FileTrailer → TwoCounts c.of_file r.lines r.body
     → FileRules known (file_with file gs r)
@@ -123,14 +123,14 @@ group_laid gs group accounts r rs =
     (append_assoc (flat_map records_of_account accounts) (r ∷ []) rs)
 
 -- nothing stands behind the trailer of a file
-none_behind : (known : Known) (c : Context) (rs : List Record) (statements : List Statement) → c.place ≡ FileTrailer
+none_behind : (known : Known) (c : Said) (rs : List Record) (statements : List Statement) → c.last ≡ FileTrailer
     → Reaches known c rs (AtEnd statements) → (rs ≡ []) × (c.statements ≡ statements)
 none_behind known c [] statements place reach = (refl, reach.statements)
 none_behind known c (r ∷ rs) statements place reach =
     let h = checked_here known c r (ap (λ (p : Kind). is_blank p) place) reach.0 in
     absurd (no_record known c r h (next_at_end r.kind (ap (λ (p : Kind). may_follow p r.kind) (sym place) ∙ h.order)))
 
-end_file : (known : Known) (file : Record) (gs : List GroupTree) (c : Context) (r : Record) (rs : List Record)
+end_file : (known : Known) (file : Record) (gs : List GroupTree) (c : Said) (r : Record) (rs : List Record)
     (statements : List Statement)
     → FileSoFar known file gs c → r.kind ≡ FileTrailer → 0 < length gs → Checked known c r
     → Reaches known (after c r) rs (AtEnd statements)
@@ -150,7 +150,7 @@ end_file known file gs c r rs statements so kind some h reach =
 -- the tree of the records from here on, with the parts read so far
 mutual
   in_file : (known : Known) (rs : List Record) (statements : List Statement) (file : Record) (gs : List GroupTree)
-      (c : Context) → FileSoFar known file gs c → Reaches known c rs (AtEnd statements)
+      (c : Said) → FileSoFar known file gs c → Reaches known c rs (AtEnd statements)
       → HasTree known (file ∷ (flat_map records_of_group gs ++ rs)) statements
   in_file known [] statements file gs c so reach =
       let inside = inside_file gs in absurd (inside.1 (sym so.at.place ∙ reach.place))
@@ -165,16 +165,16 @@ mutual
       ]
 
   in_group : (known : Known) (rs : List Record) (statements : List Statement) (file : Record) (gs : List GroupTree)
-      (group : Record) (accounts : List AccountTree) (c : Context) → GroupSoFar known file gs group accounts c
+      (group : Record) (accounts : List AccountTree) (c : Said) → GroupSoFar known file gs group accounts c
       → Reaches known c rs (AtEnd statements)
       → HasTree known
       (file ∷ (flat_map records_of_group gs ++ (group ∷ (flat_map records_of_account accounts ++ rs)))) statements
   in_group known [] statements file gs group accounts c so reach =
-      let inside = inside_group c.place so.at.place in absurd (inside.1 reach.place)
+      let inside = inside_group c.last so.at.place in absurd (inside.1 reach.place)
   in_group known (r ∷ rs) statements file gs group accounts c so reach =
-      let inside = inside_group c.place so.at.place in
+      let inside = inside_group c.last so.at.place in
       let h = checked_here known c r inside.0 reach.0 in
-      elim (next_in_group c.place r.kind so.at.place h.order) [
+      elim (next_in_group c.last r.kind so.at.place h.order) [
         | inl kind ↦ in_account known rs statements file gs group accounts r [] (after c r)
             (begin_account known file gs group accounts c r so kind h) reach.1
         | inr (inl kind) ↦
@@ -185,18 +185,18 @@ mutual
       ]
 
   in_account : (known : Known) (rs : List Record) (statements : List Statement) (file : Record) (gs : List GroupTree)
-      (group : Record) (accounts : List AccountTree) (header : Record) (ds : List Record) (c : Context)
+      (group : Record) (accounts : List AccountTree) (header : Record) (ds : List Record) (c : Said)
       → AccountSoFar known file gs group accounts header ds c → Reaches known c rs (AtEnd statements)
       → HasTree known
       (file ∷ (flat_map records_of_group gs
       ++ (group ∷ (flat_map records_of_account accounts ++ (header ∷ (ds ++ rs)))))) statements
   in_account known [] statements file gs group accounts header ds c so reach =
-      let inside = inside_account c.place so.at.place in absurd (inside.1 reach.place)
+      let inside = inside_account c.last so.at.place in absurd (inside.1 reach.place)
   in_account known (r ∷ rs) statements file gs group accounts header ds c so reach =
-      let inside = inside_account c.place so.at.place in
+      let inside = inside_account c.last so.at.place in
       let h = checked_here known c r inside.0 reach.0 in
       let front = flat_map records_of_group gs in
-      elim (next_in_account c.place r.kind so.at.place h.order) [
+      elim (next_in_account c.last r.kind so.at.place h.order) [
         | inl kind ↦
             subst (λ (l : List Record). HasTree known
             (file ∷ (front ++ (group ∷ (flat_map records_of_account accounts ++ (header ∷ l))))) statements)
@@ -213,9 +213,9 @@ mutual
 
 -- the tree of a file
 pub parse_file : (known : Known) (rs : List Record) (statements : List Statement)
-    → Reaches known (context []) rs (AtEnd statements) → HasTree known rs statements
+    → Reaches known (said_by []) rs (AtEnd statements) → HasTree known rs statements
 parse_file known [] statements reach = let place : Blank ≡ FileTrailer = reach.place in absurd cc
 parse_file known (r ∷ rs) statements reach =
     let kind = first_is_header known r reach.0 in
-    let h = checked known (context []) r (ap (λ (k : Kind). is_blank Blank && not (is_file_header k)) kind) reach.0 in
-    in_file known rs statements r [] (after (context []) r) (begin_file known r kind h) reach.1
+    let h = checked known (said_by []) r (ap (λ (k : Kind). is_blank Blank && not (is_file_header k)) kind) reach.0 in
+    in_file known rs statements r [] (after (said_by []) r) (begin_file known r kind h) reach.1

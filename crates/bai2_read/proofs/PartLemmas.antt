@@ -6,8 +6,9 @@ use Rattle.std.proofs.lemmas.List.{append-nil, length-append, length_push}
 use Rattle.std.proofs.lemmas.List.Elements.{All-nil, All-push}
 use Rattle.book_statement.specs.declared.statement.Statement.{Statement}
 use Rattle.book_statement.specs.declared.statement_line.StatementLine.{StatementLine}
-use Rattle.bai2_read.specs.After.{after}
-use Rattle.bai2_read.specs.Context.{context, day_in, statement_with}
+use Rattle.bai2_read.proofs.After.{after}
+use Rattle.bai2_read.specs.Said.{said_by}
+use Rattle.bai2_read.specs.Statements.{day_in, statement_with}
 use Rattle.bai2_read.specs.Details.{lines_of_detail}
 use Rattle.bai2_read.specs.Kinds.{is_account_trailer}
 use Rattle.bai2_read.specs.Reading.{Known, own_checks}
@@ -15,12 +16,12 @@ use Rattle.bai2_read.specs.Records.{Record}
 use Rattle.bai2_read.specs.Tree.{AccountTree, GroupTree}
 use Rattle.bai2_read.specs.TreeRules.{AccountHeaderRules, AccountRules, DetailRules, FileHeaderRules}
 use Rattle.bai2_read.specs.TreeRules.{GroupHeaderRules, GroupRules}
-use Rattle.bai2_read.specs.declared.context.Context.{Context}
+use Rattle.bai2_read.specs.Said.{Said}
 use Rattle.bai2_read.specs.declared.kind.Kind.{Kind}
 use Rattle.bai2_read.specs.declared.kind.Kind.TheVariants.{FileHeader, GroupHeader, AccountHeader, Detail}
 use Rattle.bai2_read.specs.declared.kind.Kind.TheVariants.{AccountTrailer, GroupTrailer}
 use Rattle.bai2_read.proofs.CheckedLemmas.{AllHold, Checked}
-use Rattle.bai2_read.proofs.ContextLemmas.{flat_push}
+use Rattle.bai2_read.proofs.SaidLemmas.{flat_push}
 use Rattle.bai2_read.proofs.RuleLemmas.{OneCount, TwoCounts, account_room, account_tells, account_trailer_tells}
 use Rattle.bai2_read.proofs.RuleLemmas.{detail_room, detail_tells, file_tells, group_tells}
 use Rattle.bai2_read.proofs.RuleLemmas.{group_trailer_tells}
@@ -30,13 +31,13 @@ use Rattle.bai2_read.proofs.StepLemmas.{step_group}
 use Rattle.bai2_read.proofs.StepLemmas.{step_group_end}
 
 -- what the checks of a record of this kind say
-pub own_as : (known : Known) (c : Context) (r : Record) (kind : Kind) → Checked known c r → r.kind ≡ kind
+pub own_as : (known : Known) (c : Said) (r : Record) (kind : Kind) → Checked known c r → r.kind ≡ kind
     → AllHold (own_checks known c kind r.lines r.body)
 own_as known c r kind h is = subst (λ (k : Kind). AllHold (own_checks known c k r.lines r.body)) is h.own
 
 -- an account that is whole
 whole_account : (known : Known) (file : Record) (gs : List GroupTree) (group : Record) (accounts : List AccountTree)
-    (header : Record) (ds : List Record) (c : Context) (r : Record)
+    (header : Record) (ds : List Record) (c : Said) (r : Record)
     → InAccount file gs group accounts header ds c → AccountHeaderRules known group header → All DetailRules ds
     → length c.lines ≤ 10_000 → r.kind ≡ AccountTrailer → OneCount c.of_account r.lines r.body
     → AccountRules known group (account_with header ds r)
@@ -51,7 +52,7 @@ whole_account known file gs group accounts header ds c r k head rules few kind s
 
 -- a group that is whole
 whole_group : (known : Known) (file : Record) (gs : List GroupTree) (group : Record) (accounts : List AccountTree)
-    (c : Context) (r : Record)
+    (c : Said) (r : Record)
     → InGroup file gs group accounts c → GroupHeaderRules group → All (AccountRules known group) accounts
     → r.kind ≡ GroupTrailer → TwoCounts c.of_group r.lines r.body
     → GroupRules known (group_with group accounts r)
@@ -65,14 +66,14 @@ whole_group known file gs group accounts c r k head rules kind says = record {
 }
 
 -- the parts read so far keep the rules
-pub record FileSoFar (known : Known) (file : Record) (gs : List GroupTree) (c : Context) : Type 0 where
+pub record FileSoFar (known : Known) (file : Record) (gs : List GroupTree) (c : Said) : Type 0 where
   pub at : InFile file gs c
   pub head : FileHeaderRules file
   pub groups : All (GroupRules known) gs
   pub few : length c.statements ≤ 1000
 
 pub record GroupSoFar (known : Known) (file : Record) (gs : List GroupTree) (group : Record)
-    (accounts : List AccountTree) (c : Context) : Type 0 where
+    (accounts : List AccountTree) (c : Said) : Type 0 where
   pub at : InGroup file gs group accounts c
   pub file_head : FileHeaderRules file
   pub groups : All (GroupRules known) gs
@@ -81,7 +82,7 @@ pub record GroupSoFar (known : Known) (file : Record) (gs : List GroupTree) (gro
   pub few : length c.statements ≤ 1000
 
 pub record AccountSoFar (known : Known) (file : Record) (gs : List GroupTree) (group : Record)
-    (accounts : List AccountTree) (header : Record) (ds : List Record) (c : Context) : Type 0 where
+    (accounts : List AccountTree) (header : Record) (ds : List Record) (c : Said) : Type 0 where
   pub at : InAccount file gs group accounts header ds c
   pub file_head : FileHeaderRules file
   pub groups : All (GroupRules known) gs
@@ -93,27 +94,27 @@ pub record AccountSoFar (known : Known) (file : Record) (gs : List GroupTree) (g
   pub few : length c.statements < 1000
 
 -- the statements stay with a record that ends no account
-pub same_count : (c : Context) (r : Record) (kind : Kind) → r.kind ≡ kind → is_account_trailer kind ≡ false
+pub same_count : (c : Said) (r : Record) (kind : Kind) → r.kind ≡ kind → is_account_trailer kind ≡ false
     → length (after c r).statements ≡ length c.statements
 same_count c r kind is other =
     let plain : is_account_trailer r.kind ≡ false = ap (λ (k : Kind). is_account_trailer k) is ∙ other in
     rw plain (ap (λ (l : List Statement). length l) (append-nil c.statements))
 
-pub one_count : (c : Context) (r : Record) → r.kind ≡ AccountTrailer
+pub one_count : (c : Said) (r : Record) → r.kind ≡ AccountTrailer
     → length (after c r).statements ≡ length c.statements + 1
 one_count c r is =
     rw is (length_push c.statements (statement_with c.number c.day c.currency c.account c.lines))
 
-pub begin_file : (known : Known) (r : Record) → r.kind ≡ FileHeader → Checked known (context []) r
-    → FileSoFar known r [] (after (context []) r)
+pub begin_file : (known : Known) (r : Record) → r.kind ≡ FileHeader → Checked known (said_by []) r
+    → FileSoFar known r [] (after (said_by []) r)
 begin_file known r kind h = record {
   at = step_file r kind;
-  head = file_tells r kind (own_as known (context []) r FileHeader h kind);
+  head = file_tells r kind (own_as known (said_by []) r FileHeader h kind);
   groups = All-nil (GroupRules known);
-  few = omega (arith, same_count (context []) r FileHeader kind refl);
+  few = omega (arith, same_count (said_by []) r FileHeader kind refl);
 }
 
-pub begin_group : (known : Known) (file : Record) (gs : List GroupTree) (c : Context) (r : Record)
+pub begin_group : (known : Known) (file : Record) (gs : List GroupTree) (c : Said) (r : Record)
     → FileSoFar known file gs c → r.kind ≡ GroupHeader → Checked known c r
     → GroupSoFar known file gs r [] (after c r)
 begin_group known file gs c r so kind h = record {
@@ -126,7 +127,7 @@ begin_group known file gs c r so kind h = record {
 }
 
 pub begin_account : (known : Known) (file : Record) (gs : List GroupTree) (group : Record) (accounts : List AccountTree)
-    (c : Context) (r : Record)
+    (c : Said) (r : Record)
     → GroupSoFar known file gs group accounts c → r.kind ≡ AccountHeader → Checked known c r
     → AccountSoFar known file gs group accounts r [] (after c r)
 begin_account known file gs group accounts c r so kind h =
@@ -146,7 +147,7 @@ begin_account known file gs group accounts c r so kind h =
     }
 
 pub with_detail : (known : Known) (file : Record) (gs : List GroupTree) (group : Record) (accounts : List AccountTree)
-    (header : Record) (ds : List Record) (c : Context) (r : Record)
+    (header : Record) (ds : List Record) (c : Said) (r : Record)
     → AccountSoFar known file gs group accounts header ds c → r.kind ≡ Detail → Checked known c r
     → AccountSoFar known file gs group accounts header (ds ++ r ∷ []) (after c r)
 with_detail known file gs group accounts header ds c r so kind h =
@@ -176,7 +177,7 @@ with_detail known file gs group accounts header ds c r so kind h =
     }
 
 pub end_account : (known : Known) (file : Record) (gs : List GroupTree) (group : Record) (accounts : List AccountTree)
-    (header : Record) (ds : List Record) (c : Context) (r : Record)
+    (header : Record) (ds : List Record) (c : Said) (r : Record)
     → AccountSoFar known file gs group accounts header ds c → r.kind ≡ AccountTrailer → Checked known c r
     → GroupSoFar known file gs group (accounts ++ account_with header ds r ∷ []) (after c r)
 end_account known file gs group accounts header ds c r so kind h =
@@ -193,7 +194,7 @@ end_account known file gs group accounts header ds c r so kind h =
     }
 
 pub end_group : (known : Known) (file : Record) (gs : List GroupTree) (group : Record) (accounts : List AccountTree)
-    (c : Context) (r : Record)
+    (c : Said) (r : Record)
     → GroupSoFar known file gs group accounts c → r.kind ≡ GroupTrailer → Checked known c r
     → FileSoFar known file (gs ++ group_with group accounts r ∷ []) (after c r)
 end_group known file gs group accounts c r so kind h =

@@ -5,7 +5,8 @@ use Rattle.std.proofs.lemmas.Bool.{cases_Bool}
 use Rattle.std.proofs.lemmas.List.{length_push, map_push}
 use Rattle.book_statement.specs.Texts.{add_piece, joined}
 use Rattle.book_statement.proofs.TextLemmas.{joined-push}
-use Rattle.bai2_read.specs.Records.{More, fields_with, is_full, piece_of, pieces_with, whole, with_more}
+use Rattle.bai2_read.specs.Kept.{with_more}
+use Rattle.bai2_read.specs.Records.{More, fields_with, is_full, piece_of, pieces_with, whole}
 use Rattle.bai2_read.specs.declared.kind.Kind.{Kind}
 
 fields_push : (kind : Kind) (body : List ℕ) (more : List More) (m : More)

@@ -11,7 +11,7 @@ use Rattle.std.proofs.lemmas.List.Sums.{AllPass-from_list_all, list_all-from_All
 use Rattle.book_statement.specs.Currencies.{fraction_of}
 use Rattle.book_statement.specs.declared.level.Level.TheVariants.{Account, Group, File}
 use Rattle.bai2_read.specs.Amounts.{total}
-use Rattle.bai2_read.specs.Context.{currency_in, currency_with}
+use Rattle.bai2_read.specs.Statements.{currency_in, currency_with}
 use Rattle.bai2_read.specs.Details.{detail_amount, funds_part, is_type, lines_of_detail, lines_with}
 use Rattle.bai2_read.specs.Fields.{count, field, funds_form, is_count}
 use Rattle.bai2_read.specs.Reading.{Known, account_checks, detail_checks, file_checks, group_checks, trailer_checks}
@@ -19,9 +19,9 @@ use Rattle.bai2_read.specs.Records.{Record}
 use Rattle.bai2_read.specs.Summaries.{has_amount, has_date, has_form, items}
 use Rattle.bai2_read.specs.TreeRules.{AccountHeaderRules, DetailRules, FileHeaderRules, GroupHeaderRules, SaysCount}
 use Rattle.bai2_read.specs.TreeRules.{SaysTotal}
-use Rattle.bai2_read.specs.declared.context.Context.{Context}
+use Rattle.bai2_read.specs.Said.{Said}
 use Rattle.bai2_read.specs.declared.kind.Kind.TheVariants.{FileHeader, GroupHeader, AccountHeader, Detail}
-use Rattle.bai2_read.specs.declared.tally.Tally.{Tally}
+use Rattle.bai2_read.specs.Said.{Sums}
 use Rattle.bai2_read.proofs.CheckedLemmas.{AllHold}
 
 -- a detail has room for its line, where it gives one
@@ -35,7 +35,7 @@ room_left : (given : Option ℤ) (n : ℕ) (day : ℤ) (body more : List ℕ)
 room_left None n day body more room few = omega arith
 room_left (Some z) n day body more room few = let below : n < 10_000 = ltb-true n 10_000 room in omega arith
 
-pub detail_holds : (c : Context) (d : Record) (day : ℤ) → DetailRules d
+pub detail_holds : (c : Said) (d : Record) (day : ℤ) → DetailRules d
     → length c.lines + length (lines_of_detail day d.body d.text) ≤ 10_000 → AllHold (detail_checks c d.body)
 unfolding detail_checks
 detail_holds c d day rules few = (
@@ -43,13 +43,13 @@ detail_holds c d day rules few = (
   (rules.value_date, (rules.amount, (room_for (detail_amount d.body) (length c.lines) day d.body d.text few, tt))),
 )
 
-pub detail_tells : (c : Context) (d : Record) → d.kind ≡ Detail → AllHold (detail_checks c d.body) → DetailRules d
+pub detail_tells : (c : Said) (d : Record) → d.kind ≡ Detail → AllHold (detail_checks c d.body) → DetailRules d
 unfolding detail_checks
 detail_tells c d kind h =
     let forms = and_parts (is_type (field 0 d.body)) (funds_form (funds_part d.body)) h.0 in
     record { kind = kind; type_form = forms.0; funds = forms.1; value_date = h.1.0; amount = h.1.1.0 }
 
-pub detail_room : (c : Context) (d : Record) (day : ℤ) → AllHold (detail_checks c d.body) → length c.lines ≤ 10_000
+pub detail_room : (c : Said) (d : Record) (day : ℤ) → AllHold (detail_checks c d.body) → length c.lines ≤ 10_000
     → length c.lines + length (lines_of_detail day d.body d.text) ≤ 10_000
 unfolding detail_checks
 detail_room c d day h few = room_left (detail_amount d.body) (length c.lines) day d.body d.text h.1.1.1.0 few
@@ -60,7 +60,7 @@ some_bytes text some = not_from_false (length text == 0) (ne_eqb (length text) 0
 bytes_some : (text : List ℕ) → not (length text == 0) ≡ true → 0 < length text
 bytes_some text some = let other = eqb-false (length text) 0 (not-true (length text == 0) some) in omega arith
 
-pub account_holds : (known : Known) (c : Context) (group h : Record) → AccountHeaderRules known group h
+pub account_holds : (known : Known) (c : Said) (group h : Record) → AccountHeaderRules known group h
     → c.currency ≡ currency_in group.body → length c.statements < 1000 → AllHold (account_checks known c h.body)
 unfolding account_checks
 account_holds known c group h rules currency few =
@@ -79,7 +79,7 @@ account_holds known c group h rules currency few =
       ),
     )
 
-pub account_tells : (known : Known) (c : Context) (group h : Record) → h.kind ≡ AccountHeader
+pub account_tells : (known : Known) (c : Said) (group h : Record) → h.kind ≡ AccountHeader
     → c.currency ≡ currency_in group.body → AllHold (account_checks known c h.body) → AccountHeaderRules known group h
 unfolding account_checks
 account_tells known c group h kind currency holds =
@@ -95,7 +95,7 @@ account_tells known c group h kind currency holds =
           ∙ holds.1.1.1.0;
     }
 
-pub account_room : (known : Known) (c : Context) (body : List ℕ) → AllHold (account_checks known c body)
+pub account_room : (known : Known) (c : Said) (body : List ℕ) → AllHold (account_checks known c body)
     → length c.statements < 1000
 unfolding account_checks
 account_room known c body h = ltb-true (length c.statements) 1000 h.1.1.1.1.0
@@ -117,12 +117,12 @@ unfolding file_checks
 file_tells h kind holds = record { kind = kind; version = holds.0 }
 
 -- what a trailer of an account says of its sums
-pub record OneCount (sums : Tally) (own : ℕ) (body : List ℕ) : Type 0 where
+pub record OneCount (sums : Sums) (own : ℕ) (body : List ℕ) : Type 0 where
   pub total : SaysTotal (field 0 body) sums.total
   pub records : SaysCount (field 1 body) (sums.records + own)
 
 -- and a trailer of a group or a file
-pub record TwoCounts (sums : Tally) (own : ℕ) (body : List ℕ) : Type 0 where
+pub record TwoCounts (sums : Sums) (own : ℕ) (body : List ℕ) : Type 0 where
   pub total : SaysTotal (field 0 body) sums.total
   pub parts : SaysCount (field 1 body) sums.parts
   pub records : SaysCount (field 2 body) (sums.records + own)
@@ -133,7 +133,7 @@ same_total a b e = let d = Decides-int_eq a b in d.1 e
 total_same : (a b : ℤ) → int_eq a b ≡ true → a ≡ b
 total_same a b e = let d = Decides-int_eq a b in d.0 e
 
-pub account_trailer_holds : (sums : Tally) (own : ℕ) (body : List ℕ) → OneCount sums own body
+pub account_trailer_holds : (sums : Sums) (own : ℕ) (body : List ℕ) → OneCount sums own body
     → AllHold (trailer_checks Account sums own body)
 unfolding trailer_checks
 account_trailer_holds sums own body says = (
@@ -147,7 +147,7 @@ account_trailer_holds sums own body says = (
   ),
 )
 
-pub account_trailer_tells : (sums : Tally) (own : ℕ) (body : List ℕ)
+pub account_trailer_tells : (sums : Sums) (own : ℕ) (body : List ℕ)
     → AllHold (trailer_checks Account sums own body) → OneCount sums own body
 unfolding trailer_checks
 account_trailer_tells sums own body h = record {
@@ -155,7 +155,7 @@ account_trailer_tells sums own body h = record {
   records = record { form = h.0; value = eqb-true (count (field 1 body)) (sums.records + own) h.1.1.1.0 };
 }
 
-pub group_trailer_holds : (sums : Tally) (own : ℕ) (body : List ℕ) → TwoCounts sums own body
+pub group_trailer_holds : (sums : Sums) (own : ℕ) (body : List ℕ) → TwoCounts sums own body
     → AllHold (trailer_checks Group sums own body)
 unfolding trailer_checks
 group_trailer_holds sums own body says = (
@@ -172,7 +172,7 @@ group_trailer_holds sums own body says = (
   ),
 )
 
-pub file_trailer_holds : (sums : Tally) (own : ℕ) (body : List ℕ) → TwoCounts sums own body
+pub file_trailer_holds : (sums : Sums) (own : ℕ) (body : List ℕ) → TwoCounts sums own body
     → AllHold (trailer_checks File sums own body)
 unfolding trailer_checks
 file_trailer_holds sums own body says = (
@@ -189,7 +189,7 @@ file_trailer_holds sums own body says = (
   ),
 )
 
-pub group_trailer_tells : (sums : Tally) (own : ℕ) (body : List ℕ)
+pub group_trailer_tells : (sums : Sums) (own : ℕ) (body : List ℕ)
     → AllHold (trailer_checks Group sums own body) → TwoCounts sums own body
 unfolding trailer_checks
 group_trailer_tells sums own body h =
@@ -200,7 +200,7 @@ group_trailer_tells sums own body h =
       records = record { form = forms.1; value = eqb-true (count (field 2 body)) (sums.records + own) h.1.1.1.1.0 };
     }
 
-pub file_trailer_tells : (sums : Tally) (own : ℕ) (body : List ℕ)
+pub file_trailer_tells : (sums : Sums) (own : ℕ) (body : List ℕ)
     → AllHold (trailer_checks File sums own body) → TwoCounts sums own body
 unfolding trailer_checks
 file_trailer_tells sums own body h =

@@ -1,10 +1,11 @@
 -- The items of an account's header, one item on.
 use Rattle.std.proofs.Common.{◌≡◌, ℕ, ◌-◌, ◌<◌, ◌≤◌, ◌==◌, true, false, List, [], ◌∷◌, length, refl, sym, ap, subst}
 use Rattle.std.proofs.Common.{◌∙◌, arith, inl, inr}
-use Rattle.std.specs.Prelude.{fold, ℤ, ◌+ℤ◌}
+use Rattle.std.specs.Prelude.{ℤ, ◌+ℤ◌}
+use Rattle.std.proofs.lemmas.Int.{ints}
 use Rattle.std.proofs.lemmas.Bool.{cases_Bool, eqb-true, eq-eqb, ne_eqb}
 use Rattle.bai2_read.specs.Fields.{after_fields}
-use Rattle.bai2_read.specs.Summaries.{BeginsField, item_amount, items, items_after, width}
+use Rattle.bai2_read.specs.Summaries.{BeginsField, item_amount, items, items_after, sum_of_items, width}
 
 -- the items behind some fields begin with what stands behind these fields
 pub items_after-rest : (n : ℕ) (body : List ℕ) → items_after n body ≡ items_after 0 (after_fields n body)
@@ -77,16 +78,15 @@ items_rest f body rest is = ap f (items_after-rest 2 body ∙ ap (items_after 0)
 pub begins_rest : (body rest : List ℕ) → rest ≡ after_fields 2 body → BeginsField rest
 begins_rest body rest is = subst (λ (l : List ℕ). BeginsField l) (sym is) (after_fields-begins 2 body)
 
--- a running sum with one item more
+-- what is left to add with one item more
 pub sum_more :
     (sum before here after : ℤ) (item rest : List ℕ)
-    → sum ≡ fold (λ s it. s +ℤ item_amount it) before (items_after 0 item)
+    → sum ≡ before +ℤ sum_of_items (items_after 0 item)
     → items_after 0 item ≡ item ∷ items_after 0 rest
     → here ≡ item_amount item
     → after ≡ before +ℤ here
-    → sum ≡ fold (λ s it. s +ℤ item_amount it) after (items_after 0 rest)
+    → sum ≡ after +ℤ sum_of_items (items_after 0 rest)
 sum_more sum before here after item rest whole next amount is =
-    whole
-    ∙ ap (λ (its : List (List ℕ)). fold (λ s it. s +ℤ item_amount it) before its) next
-    ∙ ap (λ (z : ℤ). fold (λ s it. s +ℤ item_amount it) z (items_after 0 rest))
-    (ap (λ (z : ℤ). before +ℤ z) (sym amount) ∙ sym is)
+    let left : sum_of_items (items_after 0 item) ≡ item_amount item +ℤ sum_of_items (items_after 0 rest) =
+    ap (λ (its : List (List ℕ)). sum_of_items its) next in
+    omega (arith, ints, whole, left, amount, is)

@@ -8,8 +8,9 @@ use Rattle.std.proofs.lemmas.List.Elements.{All-head, All-tail}
 use Rattle.book_statement.specs.Checks.{first_fault}
 use Rattle.book_statement.specs.declared.statement.Statement.{Statement}
 use Rattle.book_statement.specs.declared.statement_line.StatementLine.{StatementLine}
-use Rattle.bai2_read.specs.After.{after}
-use Rattle.bai2_read.specs.Context.{context, day_in}
+use Rattle.bai2_read.proofs.After.{after}
+use Rattle.bai2_read.specs.Said.{said_by}
+use Rattle.bai2_read.specs.Statements.{day_in}
 use Rattle.bai2_read.specs.Details.{lines_of_detail}
 use Rattle.bai2_read.specs.Kinds.{ends_account, is_blank, is_file_header, is_in_account, may_follow}
 use Rattle.bai2_read.specs.Reading.{Known, own_checks, record_place}
@@ -18,12 +19,12 @@ use Rattle.bai2_read.specs.Tree.{AccountTree, FileTree, GroupTree, lines_of_deta
 use Rattle.bai2_read.specs.Tree.{records_of_file}
 use Rattle.bai2_read.specs.Tree.{records_of_group, statement_of_account, statements_of_file, statements_of_group}
 use Rattle.bai2_read.specs.TreeRules.{AccountRules, DetailRules, FileRules, GroupRules}
-use Rattle.bai2_read.specs.declared.context.Context.{Context}
+use Rattle.bai2_read.specs.Said.{Said}
 use Rattle.bai2_read.specs.declared.kind.Kind.{Kind}
 use Rattle.bai2_read.specs.declared.kind.Kind.TheVariants.{GroupHeader, AccountHeader, Detail}
 use Rattle.bai2_read.specs.declared.kind.Kind.TheVariants.{AccountTrailer, GroupTrailer, FileTrailer}
 use Rattle.bai2_read.proofs.CheckedLemmas.{AllHold, passes}
-use Rattle.bai2_read.proofs.ContextLemmas.{flat_push}
+use Rattle.bai2_read.proofs.SaidLemmas.{flat_push}
 use Rattle.bai2_read.proofs.RuleLemmas.{account_holds, account_trailer_holds, detail_holds, file_holds}
 use Rattle.bai2_read.proofs.RuleLemmas.{file_trailer_holds}
 use Rattle.bai2_read.proofs.RuleLemmas.{group_holds, group_trailer_holds}
@@ -32,17 +33,17 @@ use Rattle.bai2_read.proofs.StepLemmas.{step_account_end, step_detail, step_file
 use Rattle.bai2_read.proofs.StepLemmas.{step_group_end}
 
 -- records are read without a fault, and what they say then is so
-abbrev pub Reaches : Known → Context → List Record → (Context → Type 0) → Type 0
+abbrev pub Reaches : Known → Said → List Record → (Said → Type 0) → Type 0
 Reaches known c [] P = P c
 Reaches known c (r ∷ rs) P = (first_fault (record_place known c r ∷ []) ≡ None) × Reaches known (after c r) rs P
 
-reach_append : (known : Known) (xs ys : List Record) (P : Context → Type 0) (c : Context)
+reach_append : (known : Known) (xs ys : List Record) (P : Said → Type 0) (c : Said)
     → Reaches known c xs (λ d. Reaches known d ys P) → Reaches known c (xs ++ ys) P
 reach_append known [] ys P c h = h
 reach_append known (x ∷ xs) ys P c h = (h.0, reach_append known xs ys P (after c x) h.1)
 
-pub reach_more : (known : Known) (xs : List Record) (P Q : Context → Type 0) (c : Context)
-    → Reaches known c xs P → ((d : Context) → P d → Q d) → Reaches known c xs Q
+pub reach_more : (known : Known) (xs : List Record) (P Q : Said → Type 0) (c : Said)
+    → Reaches known c xs P → ((d : Said) → P d → Q d) → Reaches known c xs Q
 reach_more known [] P Q c h then_ = then_ c h
 reach_more known (x ∷ xs) P Q c h then_ = (h.0, reach_more known xs P Q (after c x) h.1 then_)
 
@@ -69,17 +70,17 @@ ends_file [] some = absurd (omega arith)
 ends_file (g ∷ gs) some = refl
 
 -- a record of this kind whose own checks hold has no fault
-passes_as : (known : Known) (c : Context) (r : Record) (kind : Kind) → r.kind ≡ kind → is_blank c.place ≡ false
-    → may_follow c.place kind ≡ true → AllHold (own_checks known c kind r.lines r.body)
+passes_as : (known : Known) (c : Said) (r : Record) (kind : Kind) → r.kind ≡ kind → is_blank c.last ≡ false
+    → may_follow c.last kind ≡ true → AllHold (own_checks known c kind r.lines r.body)
     → first_fault (record_place known c r ∷ []) ≡ None
 passes_as known c r kind is started order own =
     passes known c r (rw started refl) (record {
-      order = ap (λ (k : Kind). may_follow c.place k) is ∙ order;
+      order = ap (λ (k : Kind). may_follow c.last k) is ∙ order;
       own = subst (λ (k : Kind). AllHold (own_checks known c k r.lines r.body)) (sym is) own;
     })
 
 walk_details : (known : Known) (file : Record) (gs : List GroupTree) (group : Record) (accounts : List AccountTree)
-    (header : Record) (ds rest : List Record) (c : Context)
+    (header : Record) (ds rest : List Record) (c : Said)
     → InAccount file gs group accounts header ds c → All DetailRules rest
     → length (lines_of_details (day_in group.body) ds) + length (lines_of_details (day_in group.body) rest) ≤ 10_000
     → Reaches known c rest (InAccount file gs group accounts header (ds ++ rest))
@@ -88,7 +89,7 @@ walk_details known file gs group accounts header ds [] c k rules few =
 walk_details known file gs group accounts header ds (d ∷ rest) c k rules few =
     let day = day_in group.body in
     let rule : DetailRules d = All-head DetailRules d rest rules in
-    let order = follows_in_account c.place k.place in
+    let order = follows_in_account c.last k.place in
     let lines = ap (λ (l : List StatementLine). length l) k.lines in
     let own = length-append (lines_of_detail day d.body d.text) (lines_of_details day rest) in
     let room : length c.lines + length (lines_of_detail day d.body d.text) ≤ 10_000 = omega (arith, lines, own, few) in
@@ -105,11 +106,11 @@ walk_details known file gs group accounts header ds (d ∷ rest) c k rules few =
     )
 
 account_end : (known : Known) (file : Record) (gs : List GroupTree) (group : Record) (accounts : List AccountTree)
-    (a : AccountTree) (c : Context)
+    (a : AccountTree) (c : Said)
     → InAccount file gs group accounts a.header a.details c → AccountRules known group a
     → Reaches known c (a.trailer ∷ []) (InGroup file gs group (accounts ++ a ∷ []))
 account_end known file gs group accounts a c k rules =
-    let order = follows_in_account c.place k.place in (
+    let order = follows_in_account c.last k.place in (
       passes_as known c a.trailer AccountTrailer rules.trailer order.0 order.2
           (account_trailer_holds c.of_account a.trailer.lines a.trailer.body (record {
             total = record { form = rules.total.form; value = rules.total.value ∙ sym k.of_account.total };
@@ -119,12 +120,12 @@ account_end known file gs group accounts a c k rules =
     )
 
 walk_account : (known : Known) (file : Record) (gs : List GroupTree) (group : Record) (accounts : List AccountTree)
-    (a : AccountTree) (c : Context)
+    (a : AccountTree) (c : Said)
     → InGroup file gs group accounts c → AccountRules known group a → length c.statements < 1000
     → Reaches known c (records_of_account a) (InGroup file gs group (accounts ++ a ∷ []))
 walk_account known file gs group accounts a c k rules few =
-    let order = follows_in_group c.place k.place in
-    let P = λ (d : Context). InGroup file gs group (accounts ++ a ∷ []) d in (
+    let order = follows_in_group c.last k.place in
+    let P = λ (d : Said). InGroup file gs group (accounts ++ a ∷ []) d in (
       passes_as known c a.header AccountHeader rules.header.kind order.0 order.1
           (account_holds known c group a.header rules.header k.currency few),
       reach_append known a.details (a.trailer ∷ []) P (after c a.header)
@@ -137,7 +138,7 @@ walk_account known file gs group accounts a c k rules few =
     )
 
 -- how many statements there are behind some groups and accounts
-said_so_far : (file : Record) (gs : List GroupTree) (group : Record) (accounts : List AccountTree) (c : Context)
+said_so_far : (file : Record) (gs : List GroupTree) (group : Record) (accounts : List AccountTree) (c : Said)
     → InGroup file gs group accounts c
     → length c.statements ≡ length (flat_map (statements_of_group file) gs) + length accounts
 said_so_far file gs group accounts c k =
@@ -147,7 +148,7 @@ said_so_far file gs group accounts c k =
     (length-map accounts (statement_of_account file group))
 
 walk_accounts : (known : Known) (file : Record) (gs : List GroupTree) (group : Record)
-    (accounts rest : List AccountTree) (c : Context)
+    (accounts rest : List AccountTree) (c : Said)
     → InGroup file gs group accounts c → All (AccountRules known group) rest
     → length (flat_map (statements_of_group file) gs) + length accounts + length rest ≤ 1000
     → Reaches known c (flat_map records_of_account rest) (InGroup file gs group (accounts ++ rest))
@@ -156,8 +157,8 @@ walk_accounts known file gs group accounts [] c k rules few =
 walk_accounts known file gs group accounts (a ∷ rest) c k rules few =
     let said = said_so_far file gs group accounts c k in
     let count = length_push accounts a in
-    let Q = λ (d : Context). InGroup file gs group (accounts ++ a ∷ rest) d in
-    let next : (d : Context) → InGroup file gs group (accounts ++ a ∷ []) d
+    let Q = λ (d : Said). InGroup file gs group (accounts ++ a ∷ rest) d in
+    let next : (d : Said) → InGroup file gs group (accounts ++ a ∷ []) d
     → Reaches known d (flat_map records_of_account rest) Q =
     λ d h. subst
     (λ (l : List AccountTree). Reaches known d (flat_map records_of_account rest) (InGroup file gs group l))
@@ -170,11 +171,11 @@ walk_accounts known file gs group accounts (a ∷ rest) c k rules few =
     (walk_account known file gs group accounts a c k (All-head (AccountRules known group) a rest rules) (omega arith))
     next)
 
-group_end : (known : Known) (file : Record) (gs : List GroupTree) (g : GroupTree) (c : Context)
+group_end : (known : Known) (file : Record) (gs : List GroupTree) (g : GroupTree) (c : Said)
     → InGroup file gs g.header g.accounts c → GroupRules known g
     → Reaches known c (g.trailer ∷ []) (InFile file (gs ++ g ∷ []))
 group_end known file gs g c k rules =
-    let order = follows_in_group c.place k.place in (
+    let order = follows_in_group c.last k.place in (
       passes_as known c g.trailer GroupTrailer rules.trailer order.0 order.2
           (group_trailer_holds c.of_group g.trailer.lines g.trailer.body (record {
             total = record { form = rules.total.form; value = rules.total.value ∙ sym k.of_group.total };
@@ -184,13 +185,13 @@ group_end known file gs g c k rules =
       step_group_end file gs g.header g.accounts c g.trailer k rules.trailer,
     )
 
-walk_group : (known : Known) (file : Record) (gs : List GroupTree) (g : GroupTree) (c : Context)
+walk_group : (known : Known) (file : Record) (gs : List GroupTree) (g : GroupTree) (c : Said)
     → InFile file gs c → GroupRules known g
     → length (flat_map (statements_of_group file) gs) + length g.accounts ≤ 1000
     → Reaches known c (records_of_group g) (InFile file (gs ++ g ∷ []))
 walk_group known file gs g c k rules few =
     let order = follows_in_file gs in
-    let P = λ (d : Context). InFile file (gs ++ g ∷ []) d in
+    let P = λ (d : Said). InFile file (gs ++ g ∷ []) d in
     let accounts = flat_map records_of_account g.accounts in (
       passes_as known c g.header GroupHeader rules.header.kind (ap (λ (p : Kind). is_blank p) k.place ∙ order.0)
           (ap (λ (p : Kind). may_follow p GroupHeader) k.place ∙ order.1) (group_holds g.header rules.header),
@@ -202,7 +203,7 @@ walk_group known file gs g c k rules few =
           (λ d h. group_end known file gs g d h rules)),
     )
 
-walk_groups : (known : Known) (file : Record) (gs rest : List GroupTree) (c : Context)
+walk_groups : (known : Known) (file : Record) (gs rest : List GroupTree) (c : Said)
     → InFile file gs c → All (GroupRules known) rest
     → length (flat_map (statements_of_group file) gs) + length (flat_map (statements_of_group file) rest) ≤ 1000
     → Reaches known c (flat_map records_of_group rest) (InFile file (gs ++ rest))
@@ -213,8 +214,8 @@ walk_groups known file gs (g ∷ rest) c k rules few =
     let of_group = length-map g.accounts (statement_of_account file g.header) in
     let pushed = ap (λ (l : List Statement). length l) (flat_push (statements_of_group file) gs g)
     ∙ length-append (flat_map (statements_of_group file) gs) (statements_of_group file g) in
-    let Q = λ (d : Context). InFile file (gs ++ g ∷ rest) d in
-    let next : (d : Context) → InFile file (gs ++ g ∷ []) d → Reaches known d (flat_map records_of_group rest) Q =
+    let Q = λ (d : Said). InFile file (gs ++ g ∷ rest) d in
+    let next : (d : Said) → InFile file (gs ++ g ∷ []) d → Reaches known d (flat_map records_of_group rest) Q =
     λ d h. subst (λ (l : List GroupTree). Reaches known d (flat_map records_of_group rest) (InFile file l))
     (append_assoc gs (g ∷ []) rest)
     (walk_groups known file (gs ++ g ∷ []) rest d h (All-tail (GroupRules known) g rest rules) (omega arith)) in
@@ -224,7 +225,7 @@ walk_groups known file gs (g ∷ rest) c k rules few =
     (walk_group known file gs g c k (All-head (GroupRules known) g rest rules) (omega arith))
     next)
 
-file_end : (known : Known) (f : FileTree) (c : Context) → InFile f.header f.groups c → FileRules known f
+file_end : (known : Known) (f : FileTree) (c : Said) → InFile f.header f.groups c → FileRules known f
     → Reaches known c (f.trailer ∷ []) (AtEnd (statements_of_file f))
 file_end known f c k rules =
     let order = follows_in_file f.groups in (
@@ -241,16 +242,16 @@ file_end known f c k rules =
 
 -- the whole file
 pub walk_file : (known : Known) (f : FileTree) → FileRules known f
-    → Reaches known (context []) (records_of_file f) (AtEnd (statements_of_file f))
+    → Reaches known (said_by []) (records_of_file f) (AtEnd (statements_of_file f))
 walk_file known f rules =
-    let P = λ (d : Context). AtEnd (statements_of_file f) d in
+    let P = λ (d : Said). AtEnd (statements_of_file f) d in
     let groups = flat_map records_of_group f.groups in
-    let c = after (context []) f.header in (
-      passes known (context []) f.header
-          (ap (λ (k : Kind). is_blank (context []).place && not (is_file_header k)) rules.header.kind)
+    let c = after (said_by []) f.header in (
+      passes known (said_by []) f.header
+          (ap (λ (k : Kind). is_blank (said_by []).last && not (is_file_header k)) rules.header.kind)
           (record {
-            order = ap (λ (k : Kind). may_follow (context []).place k) rules.header.kind;
-            own = subst (λ (k : Kind). AllHold (own_checks known (context []) k f.header.lines f.header.body))
+            order = ap (λ (k : Kind). may_follow (said_by []).last k) rules.header.kind;
+            own = subst (λ (k : Kind). AllHold (own_checks known (said_by []) k f.header.lines f.header.body))
                 (sym rules.header.kind) (file_holds f.header rules.header);
           }),
       reach_append known groups (f.trailer ∷ []) P c

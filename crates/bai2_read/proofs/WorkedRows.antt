@@ -6,13 +6,13 @@ use Rattle.jiff_core.specs.Calendar.{days_from_civil, day_count, days_of_years, 
 use Rattle.book_commodity.specs.declared.commodity.Commodity.{Commodity}
 use Rattle.book_statement.specs.Currencies.{fraction_of}
 use Rattle.book_statement.specs.Dates.{date, short_date}
-use Rattle.book_statement.specs.Numbers.{number_onto}
+use Rattle.book_statement.specs.Numbers.{number}
 use Rattle.book_statement.specs.Texts as texts
 use Rattle.book_statement.specs.declared.bad.Bad.TheVariants.{Count, CutOff}
 use Rattle.book_statement.specs.declared.count_of.CountOf.TheVariants.{GroupRecords}
 use Rattle.book_statement.specs.declared.statement.Statement.{Statement}
 use Rattle.bai2_read.specs.Amounts.{amount, line_amount, total}
-use Rattle.bai2_read.specs.Context.{statement_with}
+use Rattle.bai2_read.specs.Statements.{statement_with}
 use Rattle.bai2_read.specs.Details.{bank_reference, customer_reference, detail_amount, full_count, is_complete, line_of}
 use Rattle.bai2_read.specs.Details.{own_text}
 use Rattle.bai2_read.specs.Fields.{count, field, funds_date, funds_form, further, value_day}
@@ -82,7 +82,7 @@ one_account_said =
     } ∷ []
 
 one_account_is : reading dollar (one_account (codes "98,1040000,1,6/")) ≡ Ok one_account_said
-unfolding days_from_civil day_count days_of_years days_of_months fraction_of date short_date number_onto amount
+unfolding days_from_civil day_count days_of_years days_of_months fraction_of date short_date number amount
     line_amount total statement_with bank_reference customer_reference detail_amount full_count is_complete line_of
     own_text count field funds_date funds_form further value_day body_of kind_of account_checks checks detail_checks
     end_place file_checks group_checks record_place trailer_checks given_amount has_amount has_date has_form item_amount
@@ -93,7 +93,7 @@ one_account_is = refl
 one_record_short :
     reading dollar (one_account (codes "98,1040000,1,5/"))
     ≡ Err (record { line = 7; bad = Count GroupRecords (pos 5) (pos 6) })
-unfolding days_from_civil day_count days_of_years days_of_months fraction_of date short_date number_onto amount
+unfolding days_from_civil day_count days_of_years days_of_months fraction_of date short_date number amount
     line_amount total statement_with bank_reference customer_reference detail_amount full_count is_complete line_of
     own_text count field funds_date funds_form further value_day body_of kind_of account_checks checks detail_checks
     end_place file_checks group_checks record_place trailer_checks given_amount has_amount has_date has_form item_amount

@@ -8,12 +8,12 @@ use Rattle.std.proofs.lemmas.List.Sums.{AllPass-from_list_all}
 use Rattle.jiff_core.specs.Calendar.{days_from_civil, day_count, days_of_years, days_of_months}
 use Rattle.book_statement.specs.Currencies.{fraction_of}
 use Rattle.book_statement.specs.Dates.{date, short_date}
-use Rattle.book_statement.specs.Numbers.{number_onto}
+use Rattle.book_statement.specs.Numbers.{number}
 use Rattle.book_statement.specs.Texts as texts
 use Rattle.book_statement.specs.declared.statement.Statement.{Statement}
 use Rattle.book_statement.specs.declared.statement_line.StatementLine.{StatementLine}
 use Rattle.bai2_read.specs.Amounts.{amount, is_total, line_amount, total}
-use Rattle.bai2_read.specs.Context.{currency_in, currency_with, day_in, number_in, statement_with, ties_with}
+use Rattle.bai2_read.specs.Statements.{currency_in, currency_with, day_in, number_in, statement_with, ties_with}
 use Rattle.bai2_read.specs.Details.{bank_reference, customer_reference, detail_amount, full_count, is_complete, line_of}
 use Rattle.bai2_read.specs.Details.{own_text}
 use Rattle.bai2_read.specs.Fields.{after_fields, count, field, funds_date, funds_form, further, value_day}
@@ -23,7 +23,8 @@ use Rattle.bai2_read.specs.Records.{Record, whole}
 use Rattle.bai2_read.specs.Summaries.{BeginsField, balance, closing, given_amount, has_amount, has_date, has_form}
 use Rattle.bai2_read.specs.Summaries.{item_amount, items, items_after, opening, sum_of_items, width}
 use Rattle.bai2_read.specs.Tree.{AccountTree, FileTree, GroupTree, amount_said, lines_of_details, records_of_file}
-use Rattle.bai2_read.specs.Tree.{size_of_account, statements_of_file, total_of_account, total_over}
+use Rattle.bai2_read.specs.Tree.{size_of_account, statements_of_file, total_of_account}
+use Rattle.bai2_read.specs.Totals.{total_over}
 use Rattle.bai2_read.specs.TreeRules.{AccountHeaderRules, AccountRules, DetailRules, FileRules, GroupRules, IsTreeOf}
 use Rattle.bai2_read.specs.TreeRules.{SaysCount, SaysTotal}
 use Rattle.bai2_read.specs.declared.kind.Kind.{Kind}
@@ -77,7 +78,7 @@ whole_file = record {
 
 -- its records are those of the file
 laid : records_of_file whole_file ≡ records_of (texts.lines_of (one_account (codes "98,1040000,1,6/")))
-unfolding header_fields body_of kind_of full_count is_complete further field count number_onto
+unfolding header_fields body_of kind_of full_count is_complete further field count number
 laid = refl
 
 -- the items of the header
@@ -93,11 +94,11 @@ unfolding header_fields first_item
 behind_account = refl
 
 first_on : items_after 0 first_item ≡ first_item ∷ items_after 0 second_item
-unfolding first_item second_item count field further width number_onto
+unfolding first_item second_item count field further width number
 first_on = one_on first_item second_item (omega arith) (λ h. refl) refl refl
 
 second_on : items_after 0 second_item ≡ second_item ∷ []
-unfolding second_item count field further width number_onto
+unfolding second_item count field further width number
 second_on = one_on second_item [] (omega arith) (λ h. refl) refl refl
 
 items_are : items header_fields ≡ first_item ∷ second_item ∷ []
@@ -109,21 +110,21 @@ items_are =
 
 forms_here : list_all has_form (first_item ∷ second_item ∷ []) ≡ true
 unfolding header_fields first_item second_item days_from_civil day_count days_of_years days_of_months fraction_of date
-    short_date number_onto amount line_amount total statement_with bank_reference customer_reference detail_amount
+    short_date number amount line_amount total statement_with bank_reference customer_reference detail_amount
     full_count is_complete line_of own_text count field funds_date funds_form further value_day body_of kind_of
     given_amount has_amount has_date has_form item_amount width
 forms_here = refl
 
 dates_here : list_all has_date (first_item ∷ second_item ∷ []) ≡ true
 unfolding header_fields first_item second_item days_from_civil day_count days_of_years days_of_months fraction_of date
-    short_date number_onto amount line_amount total statement_with bank_reference customer_reference detail_amount
+    short_date number amount line_amount total statement_with bank_reference customer_reference detail_amount
     full_count is_complete line_of own_text count field funds_date funds_form further value_day body_of kind_of
     given_amount has_amount has_date has_form item_amount width
 dates_here = refl
 
 amounts_here : list_all has_amount (first_item ∷ second_item ∷ []) ≡ true
 unfolding header_fields first_item second_item days_from_civil day_count days_of_years days_of_months fraction_of date
-    short_date number_onto amount line_amount total statement_with bank_reference customer_reference detail_amount
+    short_date number amount line_amount total statement_with bank_reference customer_reference detail_amount
     full_count is_complete line_of own_text count field funds_date funds_form further value_day body_of kind_of
     given_amount has_amount has_date has_form item_amount width
 amounts_here = refl
@@ -131,28 +132,28 @@ amounts_here = refl
 -- the rules of each part
 deposit_rules : DetailRules deposit
 unfolding header_fields first_item second_item days_from_civil day_count days_of_years days_of_months fraction_of date
-    short_date number_onto amount line_amount total statement_with bank_reference customer_reference detail_amount
+    short_date number amount line_amount total statement_with bank_reference customer_reference detail_amount
     full_count is_complete line_of own_text count field funds_date funds_form further value_day body_of kind_of
     given_amount has_amount has_date has_form item_amount width
 deposit_rules = record { kind = refl; type_form = refl; funds = refl; value_date = refl; amount = refl }
 
 cheque_rules : DetailRules cheque
 unfolding header_fields first_item second_item days_from_civil day_count days_of_years days_of_months fraction_of date
-    short_date number_onto amount line_amount total statement_with bank_reference customer_reference detail_amount
+    short_date number amount line_amount total statement_with bank_reference customer_reference detail_amount
     full_count is_complete line_of own_text count field funds_date funds_form further value_day body_of kind_of
     given_amount has_amount has_date has_form item_amount width
 cheque_rules = record { kind = refl; type_form = refl; funds = refl; value_date = refl; amount = refl }
 
 some_account : 0 < length (field 0 header_fields)
 unfolding header_fields first_item second_item days_from_civil day_count days_of_years days_of_months fraction_of date
-    short_date number_onto amount line_amount total statement_with bank_reference customer_reference detail_amount
+    short_date number amount line_amount total statement_with bank_reference customer_reference detail_amount
     full_count is_complete line_of own_text count field funds_date funds_form further value_day body_of kind_of
     given_amount has_amount has_date has_form item_amount width
 some_account = omega arith
 
 known_currency : is_some (fraction_of (currency_with (currency_in group.header.body) header_fields) dollar) ≡ true
 unfolding header_fields first_item second_item days_from_civil day_count days_of_years days_of_months fraction_of date
-    short_date number_onto amount line_amount total statement_with bank_reference customer_reference detail_amount
+    short_date number amount line_amount total statement_with bank_reference customer_reference detail_amount
     full_count is_complete line_of own_text count field funds_date funds_form further value_day body_of kind_of
     given_amount has_amount has_date has_form item_amount width
 known_currency = refl
@@ -177,14 +178,14 @@ total_here :
     sum_of_items (first_item ∷ second_item ∷ []) +ℤ total_over amount_said (deposit ∷ cheque ∷ [])
     ≡ total (field 0 account.trailer.body)
 unfolding header_fields first_item second_item days_from_civil day_count days_of_years days_of_months fraction_of date
-    short_date number_onto amount line_amount total statement_with bank_reference customer_reference detail_amount
+    short_date number amount line_amount total statement_with bank_reference customer_reference detail_amount
     full_count is_complete line_of own_text count field funds_date funds_form further value_day body_of kind_of
     given_amount has_amount has_date has_form item_amount width
 total_here = refl
 
 total_form : is_total (field 0 account.trailer.body) ≡ true
 unfolding header_fields first_item second_item days_from_civil day_count days_of_years days_of_months fraction_of date
-    short_date number_onto amount line_amount total statement_with bank_reference customer_reference detail_amount
+    short_date number amount line_amount total statement_with bank_reference customer_reference detail_amount
     full_count is_complete line_of own_text count field funds_date funds_form further value_day body_of kind_of
     given_amount has_amount has_date has_form item_amount width
 total_form = refl
@@ -199,14 +200,14 @@ account_total = record {
 
 account_records : SaysCount (field 1 account.trailer.body) (size_of_account account)
 unfolding header_fields first_item second_item days_from_civil day_count days_of_years days_of_months fraction_of date
-    short_date number_onto amount line_amount total statement_with bank_reference customer_reference detail_amount
+    short_date number amount line_amount total statement_with bank_reference customer_reference detail_amount
     full_count is_complete line_of own_text count field funds_date funds_form further value_day body_of kind_of
     given_amount has_amount has_date has_form item_amount width
 account_records = record { form = refl; value = refl }
 
 few_lines : length (lines_of_details (day_in group.header.body) (deposit ∷ cheque ∷ [])) ≤ 10_000
 unfolding header_fields first_item second_item days_from_civil day_count days_of_years days_of_months fraction_of date
-    short_date number_onto amount line_amount total statement_with bank_reference customer_reference detail_amount
+    short_date number amount line_amount total statement_with bank_reference customer_reference detail_amount
     full_count is_complete line_of own_text count field funds_date funds_form further value_day body_of kind_of
     given_amount has_amount has_date has_form item_amount width
 few_lines = omega arith
@@ -225,7 +226,7 @@ account_rules = record {
 
 group_rules : GroupRules dollar group
 unfolding header_fields first_item second_item days_from_civil day_count days_of_years days_of_months fraction_of date
-    short_date number_onto amount line_amount total statement_with bank_reference customer_reference detail_amount
+    short_date number amount line_amount total statement_with bank_reference customer_reference detail_amount
     full_count is_complete line_of own_text count field funds_date funds_form further value_day body_of kind_of
     given_amount has_amount has_date has_form item_amount width
 group_rules = record {
@@ -240,7 +241,7 @@ group_rules = record {
 
 file_rules : FileRules dollar whole_file
 unfolding header_fields first_item second_item days_from_civil day_count days_of_years days_of_months fraction_of date
-    short_date number_onto amount line_amount total statement_with bank_reference customer_reference detail_amount
+    short_date number amount line_amount total statement_with bank_reference customer_reference detail_amount
     full_count is_complete line_of own_text count field funds_date funds_form further value_day body_of kind_of
     given_amount has_amount has_date has_form item_amount width
 file_rules = record {
@@ -257,14 +258,14 @@ file_rules = record {
 -- its statement
 opening_here : balance (48 ∷ 49 ∷ 48 ∷ []) (first_item ∷ second_item ∷ []) ≡ Some (pos 500000)
 unfolding header_fields first_item second_item days_from_civil day_count days_of_years days_of_months fraction_of date
-    short_date number_onto amount line_amount total statement_with bank_reference customer_reference detail_amount
+    short_date number amount line_amount total statement_with bank_reference customer_reference detail_amount
     full_count is_complete line_of own_text count field funds_date funds_form further value_day body_of kind_of
     given_amount has_amount has_date has_form item_amount width
 opening_here = refl
 
 closing_here : balance (48 ∷ 49 ∷ 53 ∷ []) (first_item ∷ second_item ∷ []) ≡ Some (pos 515000)
 unfolding header_fields first_item second_item days_from_civil day_count days_of_years days_of_months fraction_of date
-    short_date number_onto amount line_amount total statement_with bank_reference customer_reference detail_amount
+    short_date number amount line_amount total statement_with bank_reference customer_reference detail_amount
     full_count is_complete line_of own_text count field funds_date funds_form further value_day body_of kind_of
     given_amount has_amount has_date has_form item_amount width
 closing_here = refl
@@ -302,7 +303,7 @@ statement_here = record {
 
 said_here : statement_here ∷ [] ≡ one_account_said
 unfolding header_fields first_item second_item days_from_civil day_count days_of_years days_of_months fraction_of date
-    short_date number_onto amount line_amount total statement_with bank_reference customer_reference detail_amount
+    short_date number amount line_amount total statement_with bank_reference customer_reference detail_amount
     full_count is_complete line_of own_text count field funds_date funds_form further value_day body_of kind_of
     given_amount has_amount has_date has_form item_amount width
 said_here = refl

@@ -11,7 +11,7 @@ use Rattle.bai2_read.specs.Fields.{after_fields, field, field_count, further, va
 abbrev pub funds_part : List ℕ → List ℕ
 funds_part body = after_fields 2 body
 
--- How many fields a detail has up to its customer reference.
+-- How many fields a detail has up to its customer reference (BAI2, record 16).
 unfoldable pub full_count : List ℕ → ℕ
 full_count body = 5 + further (funds_part body)
 
@@ -49,6 +49,7 @@ line_of day body more given = record {
   parts = [];
 }
 
+-- The line that a detail gives where its type gives a line of this amount.
 abbrev pub lines_with : ℤ → List ℕ → List ℕ → Option ℤ → List StatementLine
 lines_with day body more None = []
 lines_with day body more (Some given) = line_of day body more given ∷ []

@@ -27,13 +27,14 @@ field n body = up_to_comma (drop 1 (after_fields n body))
 abbrev pub field_count : List ℕ → ℕ
 field_count body = count_by (λ b. b == 44) body
 
--- The funds type of an amount by its letter (BAI2, funds type codes): empty, 0, 1, 2 and Z have no further fields,
--- S has three amounts, V a date and a time, and D a count and so many pairs.
+-- The funds type of an amount by its letter (BAI2, funds type codes): 0, 1, 2 and Z have no further fields, S has three
+-- amounts, V a date and a time, and D a count and so many pairs.
 abbrev pub funds_of_letter : ℕ → Funds
 funds_of_letter c =
     if c == 48 || (c == 49 || (c == 50 || c == 90)) then Simple else
     (if c == 83 then Distributed else (if c == 86 then ValueDated else (if c == 68 then Spread else Strange)))
 
+-- The funds type of a field: empty, or one letter (BAI2, funds type codes); empty has no further fields.
 abbrev pub funds_of : List ℕ → Funds
 funds_of text =
     if length text == 0 then Simple else
@@ -47,7 +48,7 @@ is_count text = has_digits 1 9 text
 unfoldable pub count : List ℕ → ℕ
 count text = if is_count text then number text else 0
 
--- How many fields follow a funds type.
+-- How many fields follow a funds type (BAI2, funds type codes).
 abbrev pub fields_of_funds : Funds → List ℕ → ℕ
 fields_of_funds Simple from = 0
 fields_of_funds Distributed from = 3
@@ -67,6 +68,7 @@ has_funds_form ValueDated from = true
 has_funds_form Spread from = is_count (field 1 from) && nat_le (2 + 2 * count (field 1 from)) (field_count from)
 has_funds_form Strange from = false
 
+-- The first field here is a funds type with the fields that it has to have.
 unfoldable pub funds_form : List ℕ → Bool
 funds_form from = has_funds_form (funds_of (field 0 from)) from
 
@@ -78,9 +80,11 @@ value_date ValueDated from = field 1 from
 value_date Spread from = []
 value_date Strange from = []
 
+-- A date that is empty or a day.
 abbrev pub is_empty_or_day : List ℕ → Bool
 is_empty_or_day text = length text == 0 || is_some (short_date text)
 
+-- The value date of the funds type that is the first field here is empty or a day.
 unfoldable pub funds_date : List ℕ → Bool
 funds_date from = is_empty_or_day (value_date (funds_of (field 0 from)) from)
 

@@ -19,7 +19,7 @@ is_record content =
     nat_le 2 (length content) && (is_ascii_digit (slice_index content 0) && (is_ascii_digit (slice_index content 1)
     && (length content == 2 || slice_index content 2 == 44)))
 
--- The kind of a record by its code.
+-- The kind of a record by its code (BAI2, record codes).
 abbrev pub kind_of_code : ℕ → Kind
 kind_of_code code =
     if code == 1 then FileHeader else
@@ -47,33 +47,41 @@ kind_of line = if length line == 0 then Blank else kind_of_content (without_slas
 abbrev pub body_of_content : List ℕ → List ℕ
 body_of_content content = if is_record content then drop 2 content else []
 
+-- The fields of a line, each behind its comma.
 unfoldable pub body_of : List ℕ → List ℕ
 body_of line = body_of_content (without_slash line)
 
+-- An empty line, and what stands before the first record.
 abbrev pub is_blank : Kind → Bool
 is_blank Blank = true
 is_blank _ = false
 
+-- A detail, record 16.
 abbrev pub is_detail : Kind → Bool
 is_detail Detail = true
 is_detail _ = false
 
+-- The header of a file, record 01.
 abbrev pub is_file_header : Kind → Bool
 is_file_header FileHeader = true
 is_file_header _ = false
 
+-- The header of a group, record 02.
 abbrev pub is_group_header : Kind → Bool
 is_group_header GroupHeader = true
 is_group_header _ = false
 
+-- The header of an account, record 03.
 abbrev pub is_account_header : Kind → Bool
 is_account_header AccountHeader = true
 is_account_header _ = false
 
+-- The trailer of an account, record 49.
 abbrev pub is_account_trailer : Kind → Bool
 is_account_trailer AccountTrailer = true
 is_account_trailer _ = false
 
+-- The trailer of a file, record 99.
 abbrev pub is_file_trailer : Kind → Bool
 is_file_trailer FileTrailer = true
 is_file_trailer _ = false

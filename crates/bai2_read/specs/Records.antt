@@ -1,6 +1,6 @@
 -- Records with their continuations.
 use Rattle.std.specs.Prelude.{ℕ, ◌+◌, Bool, ◌&&◌, List, [], ◌∷◌, ◌++◌, length, drop, map, if◌then◌else◌}
-use Rattle.book_statement.specs.Texts.{add_piece, joined}
+use Rattle.book_statement.specs.Texts.{joined}
 use Rattle.bai2_read.specs.Details.{is_complete}
 use Rattle.bai2_read.specs.Fields.{after_fields}
 use Rattle.bai2_read.specs.Kinds.{is_detail}
@@ -47,14 +47,4 @@ whole line kind body more = record {
   lines = 1 + length more;
   body = fields_with kind body more;
   text = joined (pieces_with kind body more);
-}
-
--- A record with one continuation more: a line more, and its fields or its text.
-abbrev pub with_more : Record → List ℕ → Record
-with_more r body = record {
-  line = r.line;
-  kind = r.kind;
-  lines = r.lines + 1;
-  body = if is_full r.kind r.body then r.body else r.body ++ body;
-  text = if is_full r.kind r.body then add_piece r.text (piece_of body) else r.text;
 }

@@ -9,11 +9,11 @@ use Rattle.book_statement.specs.declared.read_error.ReadError.{ReadError}
 use Rattle.book_statement.specs.declared.read_error.ReadError.TheVariants.{Fault, OutOfMemory}
 use Rattle.book_statement.specs.declared.statement.Statement.{Statement}
 use Rattle.bai2_read.specs.Amounts.{is_amount, is_total, total}
-use Rattle.bai2_read.specs.Context.{currency_in, currency_with, day_in}
 use Rattle.bai2_read.specs.Details.{funds_part, is_type}
 use Rattle.bai2_read.specs.Fields.{count, field, funds_date, funds_form, is_count}
 use Rattle.bai2_read.specs.Reading.{Known}
 use Rattle.bai2_read.specs.Records.{Record}
+use Rattle.bai2_read.specs.Statements.{currency_in, currency_with, day_in}
 use Rattle.bai2_read.specs.Summaries.{has_amount, has_date, has_form, items}
 use Rattle.bai2_read.specs.Tree.{AccountTree, FileTree, GroupTree, lines_of_details, records_of_file, size_of_account}
 use Rattle.bai2_read.specs.Tree.{size_of_file, size_of_group, statements_of_file, total_of_account, total_of_file}

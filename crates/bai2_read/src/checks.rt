@@ -1,5 +1,6 @@
 ghost use Rattle.std.specs.Prelude.{◌≡◌, ◌<◌, ◌^◌, ◌∷◌, []};
 ghost use Rattle.book_statement.specs.Checks.{Tells, first_fault};
+ghost use Rattle.bai2_read.specs.Kept.{said_in, sums_in};
 ghost use Rattle.bai2_read.specs.Kinds.{may_follow};
 ghost use Rattle.bai2_read.specs.Reading.{account_checks, checks, count_check, count_checks, detail_checks};
 ghost use Rattle.bai2_read.specs.Reading.{end_place, file_checks, group_checks, has_counts, own_checks};
@@ -68,7 +69,7 @@ fn check_group(body: &[u8]) -> Result<(), Bad>
 /// before it.
 #[tactic(auto, unfolding(crate::specs::Reading::account_checks))]
 fn check_account(known: &Commodities, before: &Context, body: &str) -> Result<(), Bad>
-    ensures { Tells (account_checks known.now.entries before.now body.now) tt result }
+    ensures { Tells (account_checks known.now.entries (said_in before.now) body.now) tt result }
 {
     let bytes = body.as_bytes();
     if field(bytes, 0).is_empty() || !have_forms(bytes) {
@@ -93,7 +94,7 @@ fn check_account(known: &Commodities, before: &Context, body: &str) -> Result<()
 /// A detail has a type, a funds type and an amount of the right form, and fewer than 10,000 lines before its own.
 #[tactic(auto, unfolding(crate::specs::Reading::detail_checks))]
 fn check_detail(before: &Context, body: &[u8]) -> Result<(), Bad>
-    ensures { Tells (detail_checks before.now body.now) tt result }
+    ensures { Tells (detail_checks (said_in before.now) body.now) tt result }
 {
     let funds = funds_part(body);
     if !is_type(field(body, 0)) || !funds_form(funds) {
@@ -105,7 +106,7 @@ fn check_detail(before: &Context, body: &[u8]) -> Result<(), Bad>
     if !is_amount(field(body, 1)) {
         return Err(Bad::AmountForm);
     }
-    if detail_amount(body).is_some() && before.lines.len() as u64 >= MAX_LINES {
+    if before.lines.len() as u64 >= MAX_LINES && detail_amount(body).is_some() {
         return Err(Bad::TooMany);
     }
     Ok(())
@@ -139,7 +140,7 @@ fn check_count(what: CountOf, text: &[u8], reckoned: u128) -> Result<(), Bad>
 
 /// The counts of a trailer, of parts and then of records, say what was counted; the trailer has `own` lines.
 fn check_counts(level: Level, sums: Tally, own: u64, body: &[u8]) -> Result<(), Bad>
-    ensures { Tells (count_checks level sums own body.now) tt result }
+    ensures { Tells (count_checks level (sums_in sums) own body.now) tt result }
 {
     let records = sums.records as u128 + own as u128;
     let parts = sums.parts as u128;
@@ -159,7 +160,7 @@ fn check_counts(level: Level, sums: Tally, own: u64, body: &[u8]) -> Result<(), 
 /// A trailer has the right form, and its control total and counts are those of what it closes.
 #[tactic(auto, unfolding(crate::specs::Reading::trailer_checks))]
 fn check_trailer(level: Level, sums: Tally, own: u64, body: &[u8]) -> Result<(), Bad>
-    ensures { Tells (trailer_checks level sums own body.now) tt result }
+    ensures { Tells (trailer_checks level (sums_in sums) own body.now) tt result }
 {
     if !has_counts(level, body) {
         return Err(Bad::FieldForm);
@@ -181,7 +182,8 @@ fn check_trailer(level: Level, sums: Tally, own: u64, body: &[u8]) -> Result<(),
 
 /// What is checked of a record by itself and against the records before it.
 fn check_own(known: &Commodities, before: &Context, entry: &Pending) -> Result<(), Bad>
-    ensures { Tells (own_checks known.now.entries before.now entry.now.kind entry.now.lines entry.now.body) tt result }
+    ensures { Tells (own_checks known.now.entries (said_in before.now) entry.now.kind entry.now.lines entry.now.body) tt
+        result }
 {
     let body = entry.body().as_bytes();
     let own = entry.lines();
@@ -201,7 +203,7 @@ fn check_own(known: &Commodities, before: &Context, entry: &Pending) -> Result<(
 /// The first check that fails at a record: that it may stand there, and then its own.
 #[tactic(auto, unfolding(crate::specs::Reading::checks))]
 fn check(known: &Commodities, before: &Context, entry: &Pending) -> Result<(), Bad>
-    ensures { Tells (checks known.now.entries before.now entry.now) tt result }
+    ensures { Tells (checks known.now.entries (said_in before.now) entry.now) tt result }
 {
     if !may_follow(before.place, entry.kind()) {
         return Err(Bad::RecordOrder);
@@ -212,7 +214,7 @@ fn check(known: &Commodities, before: &Context, entry: &Pending) -> Result<(), B
 /// The fault at a record, where one of its checks fails.
 #[tactic(auto, unfolding(crate::specs::Reading::record_place))]
 pub fn fault_at(known: &Commodities, before: &Context, entry: &Pending) -> Option<StatementFault>
-    ensures { result ≡ first_fault (record_place known.now.entries before.now entry.now ∷ []) }
+    ensures { result ≡ first_fault (record_place known.now.entries (said_in before.now) entry.now ∷ []) }
 {
     if before.place == Kind::Blank && entry.kind() != Kind::FileHeader {
         return Some(StatementFault {

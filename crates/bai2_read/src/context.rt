@@ -33,14 +33,19 @@ pub struct Context {
 }
 
 impl Context {
-    ghost use Rattle.std.specs.Prelude.{◌≡◌, [], ◌∷◌, ◌++◌, IfOk};
-    ghost use Rattle.bai2_read.specs.After.{after, with_sums_of};
-    ghost use Rattle.bai2_read.specs.Context.{context, statement_with};
+    ghost use Rattle.std.specs.Prelude.{◌≡◌, List, [], ◌∷◌, ◌++◌, IfOk, if◌then◌else◌};
+    ghost use Rattle.book_statement.specs.declared.level.Level.TheVariants.{Account};
     ghost use Rattle.bai2_read.specs.Details.{lines_of_detail};
+    ghost use Rattle.bai2_read.specs.Kept.{said_in};
+    ghost use Rattle.bai2_read.specs.Kinds.{begins, is_account_header, is_account_trailer, is_file_header};
+    ghost use Rattle.bai2_read.specs.Kinds.{is_group_header};
+    ghost use Rattle.bai2_read.specs.Records.{Record};
+    ghost use Rattle.bai2_read.specs.Said.{lines_in, said_by};
+    ghost use Rattle.bai2_read.specs.Statements.{currency_in, day_in, number_in, statement_with};
 
     /// Before the first record.
     pub fn new(alloc: Global) -> Context
-        ensures { result ≡ context [] }
+        ensures { said_in result ≡ said_by [] }
     {
         Context {
             place: Kind::Blank,
@@ -58,7 +63,8 @@ impl Context {
 
     /// Adds what a record says behind the others.
     pub fn keep(&mut self, alloc: Global, entry: Pending) -> Result<(), OutOfMemory>
-        ensures { IfOk result (λ _. self.new ≡ after self.old entry) }
+        ensures { IfOk result (λ _. (before : List Record) → said_in self.old ≡ said_by before
+            → said_in self.new ≡ said_by (before ++ entry ∷ [])) }
     {
         let of_account = self.of_account.next(Level::Account, &entry)?;
         let of_group = self.of_group.next(Level::Group, &entry)?;
@@ -72,7 +78,20 @@ impl Context {
 
     /// Adds what a record says, its sums aside.
     fn keep_said(&mut self, alloc: Global, entry: Pending) -> Result<(), OutOfMemory>
-        ensures { IfOk result (λ _. self.new ≡ with_sums_of self.old (after self.old entry)) }
+        ensures { IfOk result (λ _. self.new ≡ record self.old {
+          place = entry.kind;
+          number = if is_file_header entry.kind then number_in entry.body else self.old.number;
+          day = if is_group_header entry.kind then day_in entry.body else self.old.day;
+          currency = if is_group_header entry.kind then currency_in entry.body else self.old.currency;
+          account = if is_account_header entry.kind then entry.body else self.old.account;
+          lines = if begins Account entry.kind
+              then []
+              else self.old.lines ++ lines_in self.old.day entry.kind entry.body entry.text;
+          statements = self.old.statements
+              ++ (if is_account_trailer entry.kind
+              then statement_with self.old.number self.old.day self.old.currency self.old.account self.old.lines ∷ []
+              else []);
+        }) }
     {
         self.place = entry.kind();
         match entry.kind() {

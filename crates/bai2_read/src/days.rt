@@ -1,5 +1,5 @@
 ghost use Rattle.std.specs.Prelude.{◌≡◌, pos};
-ghost use Rattle.bai2_read.specs.Context.{day_in};
+ghost use Rattle.bai2_read.specs.Statements.{day_in};
 
 use crate::fields::field;
 use book_commodity::Day;

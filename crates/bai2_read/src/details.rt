@@ -25,28 +25,31 @@ pub fn full_count(body: &[u8]) -> usize
     5 + further(funds_part(body))
 }
 
-/// The bank reference of a detail.
-#[tactic(auto, unfolding(crate::specs::Details::bank_reference))]
-fn bank_reference(body: &str) -> &str
+/// The bank reference of a detail with so many fields up to its customer reference.
+#[tactic(auto, unfolding(crate::specs::Details::bank_reference, crate::specs::Details::full_count))]
+fn bank_reference(body: &str, full: usize) -> &str
+    requires { full ≡ full_count body.now }
     ensures { result.now ≡ bank_reference body.now }
 {
-    field_text(body, 3 + further(funds_part(body.as_bytes())))
+    field_text(body, full - 2)
 }
 
-/// The customer reference of a detail.
-#[tactic(auto, unfolding(crate::specs::Details::customer_reference))]
-fn customer_reference(body: &str) -> &str
+/// The customer reference of a detail with so many fields up to it.
+#[tactic(auto, unfolding(crate::specs::Details::customer_reference, crate::specs::Details::full_count))]
+fn customer_reference(body: &str, full: usize) -> &str
+    requires { full ≡ full_count body.now }
     ensures { result.now ≡ customer_reference body.now }
 {
-    field_text(body, 4 + further(funds_part(body.as_bytes())))
+    field_text(body, full - 1)
 }
 
-/// The text of a detail behind its customer reference.
+/// The text of a detail behind its customer reference, up to which it has so many fields.
 #[tactic(auto, unfolding(crate::specs::Details::own_text))]
-fn own_text(body: &str) -> &str
+fn own_text(body: &str, full: usize) -> &str
+    requires { full ≡ full_count body.now }
     ensures { result.now ≡ own_text body.now }
 {
-    text_after(body, full_count(body.as_bytes()))
+    text_after(body, full)
 }
 
 /// Whether the text is a detail type: three digits.
@@ -79,15 +82,16 @@ pub fn line_of(
 ) -> Result<StatementLine, OutOfMemory>
     ensures { IfOk result (λ line. line ≡ line_of day body.now more.now given) }
 {
-    let mut text = copy_of(alloc, own_text(body))?;
+    let full = full_count(body.as_bytes());
+    let mut text = copy_of(alloc, own_text(body, full))?;
     add_piece(alloc, &mut text, more)?;
     Ok(StatementLine {
         day,
         value_day: value_day(day, funds_part(body.as_bytes())),
         amount: given,
         kind: copy_of(alloc, field_text(body, 0))?,
-        ref_own: copy_of(alloc, customer_reference(body))?,
-        ref_bank: copy_of(alloc, bank_reference(body))?,
+        ref_own: copy_of(alloc, customer_reference(body, full))?,
+        ref_bank: copy_of(alloc, bank_reference(body, full))?,
         text,
         category: Text::new(alloc),
         parts: Many::new(alloc),

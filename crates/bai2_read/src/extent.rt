@@ -1,5 +1,5 @@
 ghost use Rattle.std.specs.Prelude.{◌≡◌, ◌++◌, ℕ, List, IfOk};
-ghost use Rattle.bai2_read.specs.Extent.{HasExtent};
+ghost use Rattle.bai2_read.specs.Extent.{HasExtent, MayHaveExtent};
 ghost use Rattle.bai2_read.specs.Details.{is_complete};
 ghost use Rattle.bai2_read.specs.Records.{is_full};
 ghost use Rattle.bai2_read.specs.declared.kind.Kind.TheVariants.{Detail};
@@ -22,7 +22,7 @@ pub struct Extent {
 
 impl Extent {
     /// The extent of these fields; nothing is kept for other records.
-    pub fn of(kind: Kind, body: &[u8]) -> Extent
+    fn of(kind: Kind, body: &[u8]) -> Extent
         ensures { HasExtent kind body.now result.fields result.full }
     {
         if !matches!(kind, Kind::Detail) {
@@ -35,6 +35,17 @@ impl Extent {
             full_count(body) as u64
         };
         Extent { fields, full }
+    }
+
+    /// The extent that is kept, or else that of these fields.
+    pub fn kept(kept: Option<Extent>, kind: Kind, body: &[u8]) -> Extent
+        requires { MayHaveExtent kind body.now kept }
+        ensures { HasExtent kind body.now result.fields result.full }
+    {
+        match kept {
+            Some(extent) => extent,
+            None => Extent::of(kind, body),
+        }
     }
 
     /// The extent of fields that have these more at their end.

@@ -16,24 +16,26 @@ pub struct Pending {
     lines: u64,
     body: Text,
     text: Text,
-    extent: Extent,
+    /// How far its fields reach, from its first continuation on.
+    extent: Option<Extent>,
 }
 
 impl Model for Pending {
-    ghost use Rattle.bai2_read.specs.Extent.{HasExtent};
+    ghost use Rattle.bai2_read.specs.Extent.{MayHaveExtent};
     ghost use Rattle.bai2_read.specs.Records.{Record};
 
     ghost Value = { Record };
 
     ghost view = { λ p. record { line = p.line; kind = p.kind; lines = p.lines; body = p.body; text = p.text } };
 
-    ghost invariant = { λ p. HasExtent p.kind p.body p.extent.fields p.extent.full };
+    ghost invariant = { λ p. MayHaveExtent p.kind p.body p.extent };
 }
 
 impl Pending {
     ghost use Rattle.std.specs.Prelude.{◌≡◌, [], IfOk};
+    ghost use Rattle.bai2_read.specs.Kept.{with_more};
     ghost use Rattle.bai2_read.specs.Kinds.{continues};
-    ghost use Rattle.bai2_read.specs.Records.{whole, with_more};
+    ghost use Rattle.bai2_read.specs.Records.{whole};
     ghost use Rattle.bai2_read.specs.Summaries.{BeginsField};
 
     /// The record of a line without continuations.
@@ -46,7 +48,7 @@ impl Pending {
             lines: 1,
             body: copy_of(alloc, body)?,
             text: Text::new(alloc),
-            extent: Extent::of(kind, body.as_bytes()),
+            extent: None,
         })
     }
 
@@ -75,8 +77,9 @@ impl Pending {
             lines,
             mut body,
             mut text,
-            mut extent,
+            extent,
         } = self;
+        let mut extent = Extent::kept(extent, kind, body.as_str().as_bytes());
         if extent.is_full(kind) {
             add_piece(alloc, &mut text, text_after(more, 0))?;
         } else {
@@ -89,7 +92,7 @@ impl Pending {
             lines: count_on(lines, 1)?,
             body,
             text,
-            extent,
+            extent: Some(extent),
         })
     }
 

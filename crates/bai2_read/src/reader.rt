@@ -15,18 +15,18 @@ pub struct Reader {
 }
 
 impl Reader {
-    ghost use Rattle.std.specs.Prelude.{◌≡◌, [], None};
+    ghost use Rattle.std.specs.Prelude.{List, [], Option, Some, None};
     ghost use Rattle.book_statement.specs.Checks.{Gives};
-    ghost use Rattle.bai2_read.specs.Context.{context};
+    ghost use Rattle.bai2_read.specs.Kept.{Keeps, Leads, done_at, last_at, with_last};
     ghost use Rattle.bai2_read.specs.Kinds.{body_of, kind_of};
+    ghost use Rattle.bai2_read.specs.Reading.{Known, result_of};
+    ghost use Rattle.bai2_read.specs.Records.{Record, whole};
     ghost use Rattle.bai2_read.specs.Summaries.{BeginsField};
-    ghost use Rattle.bai2_read.specs.Steps.{Steps, begun, end_result, fault_of, faults_of_continuation};
-    ghost use Rattle.bai2_read.specs.Steps.{faults_of_line, next, settled, went_on};
+    ghost use Rattle.bai2_read.specs.declared.kind.Kind.TheVariants.{Continuation};
 
     /// Before the first line.
     pub fn new(alloc: Global) -> Reader
-        ensures context { result.context ≡ context [] }
-        ensures pending { result.pending ≡ None }
+        ensures { (entries : Known) → Keeps entries result [] None }
     {
         Reader {
             context: Context::new(alloc),
@@ -42,8 +42,9 @@ impl Reader {
         number: u64,
         line: &str,
     ) -> Result<(), ReadError>
-        ensures { Steps (faults_of_line known.now.entries (kind_of line.now) self.old)
-            (next number (kind_of line.now) (body_of line.now) self.old) result self.new }
+        ensures { (done : List Record) (last : Option Record) → Keeps known.now.entries self.old done last
+            → Leads known.now.entries (done_at (kind_of line.now) done last)
+            (last_at number (kind_of line.now) (body_of line.now) last) result self.new }
     {
         let (kind, body) = record_of(line);
         match kind {
@@ -62,8 +63,9 @@ impl Reader {
         body: &str,
     ) -> Result<(), ReadError>
         requires { BeginsField body.now }
-        ensures { Steps (faults_of_continuation known.now.entries self.old)
-            (went_on number body.now self.old) result self.new }
+        ensures { (done : List Record) (last : Option Record) → Keeps known.now.entries self.old done last
+            → Leads known.now.entries (done_at Continuation done last)
+            (last_at number Continuation body.now last) result self.new }
     {
         let goes_on = match &self.pending {
             Some(record) => record.may_go_on(),
@@ -91,7 +93,8 @@ impl Reader {
         kind: Kind,
         body: &str,
     ) -> Result<(), ReadError>
-        ensures { Steps (fault_of known.now.entries self.old) (begun number kind body.now self.old) result self.new }
+        ensures { (done : List Record) (last : Option Record) → Keeps known.now.entries self.old done last
+            → Leads known.now.entries (with_last done last) (Some (whole number kind body.now [])) result self.new }
     {
         self.settle(alloc, known)?;
         let Ok(record) = Pending::begin(alloc, number, kind, body) else {
@@ -103,7 +106,8 @@ impl Reader {
 
     /// Checks the last record and adds what it says.
     fn settle(&mut self, alloc: Global, known: &Commodities) -> Result<(), ReadError>
-        ensures { Steps (fault_of known.now.entries self.old) (settled self.old) result self.new }
+        ensures { (done : List Record) (last : Option Record) → Keeps known.now.entries self.old done last
+            → Leads known.now.entries (with_last done last) None result self.new }
     {
         if let Some(record) = self.pending.take() {
             if let Some(fault) = fault_at(known, &self.context, &record) {
@@ -123,7 +127,8 @@ impl Reader {
         known: &Commodities,
         lines: u64,
     ) -> Result<Many<Statement>, ReadError>
-        ensures { Gives (end_result known.now.entries lines self) result }
+        ensures { (done : List Record) (last : Option Record) → Keeps known.now.entries self done last
+            → Gives (result_of known.now.entries lines (with_last done last)) result }
     {
         self.settle(alloc, known)?;
         if let Some(fault) = fault_at_end(lines, self.context.place) {

@@ -12,7 +12,8 @@ use std::alloc::Global;
 
 /// The statements of a BAI2 file, one for each account. Amounts are in smallest units of the statement's currency.
 /// A file is read exactly where its records are those of a tree that keeps the rules of BAI2. `Fault` for any other
-/// file: the first line at which a check fails, and what is wrong there. `OutOfMemory` where memory runs out.
+/// file: the first line at which a check fails, and what is wrong there. `OutOfMemory` where memory runs out; also
+/// where a sum passes 128 bits or a count 64 bits, which takes a file of more than 2^60 bytes.
 pub fn read_bai2(
     alloc: Global,
     text: &Text,

@@ -1,6 +1,6 @@
 ghost use Rattle.std.specs.Prelude.{◌≡◌, ◌*◌, ◌^◌, ◌≤ℤ◌, ◌+ℤ◌, pos, neg_ℤ, IfOk, length};
 ghost use Rattle.std.specs.Ordering.{int_eq};
-ghost use Rattle.bai2_read.specs.Context.{currency_with, or_else, statement_with, sum_of_lines, ties_with};
+ghost use Rattle.bai2_read.specs.Statements.{currency_with, or_else, statement_with, sum_of_lines, ties_with};
 
 use crate::fields::field_text;
 use crate::summaries::{closing, opening};
@@ -59,7 +59,7 @@ fn ties_with(opens: Option<i64>, closes: Option<i64>, lines: &[StatementLine]) -
 }
 
 /// The statement of an account, by the fields of its header and its lines.
-#[tactic(auto, unfolding(crate::specs::Context::statement_with))]
+#[tactic(auto, unfolding(crate::specs::Statements::statement_with))]
 pub fn statement_with(
     alloc: Global,
     number: &Text,

@@ -1,7 +1,8 @@
-ghost use Rattle.std.specs.Prelude.{◌≡◌, ℤ, pos, IfOk};
-ghost use Rattle.bai2_read.specs.Context.{amount_in, part_in};
-ghost use Rattle.bai2_read.specs.After.{added, next_tally, no_tally};
+ghost use Rattle.std.specs.Prelude.{◌≡◌, ◌+◌, List, [], ◌∷◌, ◌++◌, pos, ◌+ℤ◌, IfOk, if◌then◌else◌};
+ghost use Rattle.bai2_read.specs.Kept.{sums_in};
 ghost use Rattle.bai2_read.specs.Kinds.{begins};
+ghost use Rattle.bai2_read.specs.Records.{Record};
+ghost use Rattle.bai2_read.specs.Said.{amount_in, part_in, sums_of};
 
 use crate::amounts::{amount, total};
 use crate::fields::field;
@@ -24,7 +25,7 @@ pub struct Tally {
 impl Tally {
     /// The sums of no records.
     pub fn none() -> Tally
-        ensures { result ≡ no_tally }
+        ensures { result ≡ record { total = pos 0; parts = 0; records = 0 } }
     {
         Tally {
             total: 0,
@@ -35,7 +36,11 @@ impl Tally {
 
     /// With one record more.
     fn with(self, total: i128, parts: u64, records: u64) -> Result<Tally, OutOfMemory>
-        ensures { IfOk result (λ sums. sums ≡ added self total parts records) }
+        ensures { IfOk result (λ sums. sums ≡ record {
+          total = self.total +ℤ total;
+          parts = self.parts + parts;
+          records = self.records + records;
+        }) }
     {
         Ok(Tally {
             total: plus(self.total, total)?,
@@ -46,16 +51,20 @@ impl Tally {
 
     /// The sums of a level with this record behind the others.
     pub fn next(self, level: Level, entry: &Pending) -> Result<Tally, OutOfMemory>
-        ensures { IfOk result (λ sums. sums ≡ next_tally level self entry.now) }
+        ensures { IfOk result (λ sums. (before : List Record) → sums_in self ≡ sums_of level before
+            → sums_in sums ≡ sums_of level (before ++ entry.now ∷ [])) }
     {
         let kind = entry.kind();
-        let start = if begins(level, kind) {
-            Tally::none()
-        } else {
-            self
-        };
         let total = amount_in(level, kind, entry.body().as_bytes());
+        let start = self.empty_if(begins(level, kind));
         start.with(total, part_in(level, kind), entry.lines())
+    }
+
+    /// Itself, or the sums of no records where something begins anew.
+    fn empty_if(self, anew: bool) -> Tally
+        ensures { result ≡ (if anew then record { total = pos 0; parts = 0; records = 0 } else self) }
+    {
+        if anew { Tally::none() } else { self }
     }
 }
 

@@ -232,12 +232,33 @@ fn most_lines(rt: HostRuntime) -> Result<(), Fail> {
     Ok(())
 }
 
+/// Continuations of the headers, a count of pairs in one, further text, and lines that are empty or of spaces.
+const CONTINUED: &str = "01,BANK,FIRM,240105,1200/\n\
+    88,7,80,1,2/\n\
+    \n\
+    02,FIRM,BANK,1/\n\
+    88,240105,,EUR/\n\
+    03,A,,010,1000,,,015,1300,,/\n\
+    16,165,300,D/\n\
+    88,2,0,100,1,200,B1/\n  \r\n\
+    88,C1,TEXT\n\
+    88,MORE, WORDS\n\
+    49,2600,6/\n\
+    98,2600,1,9/\n\
+    99,2600,1,12/\n";
+
+const CONTINUED_SHOWN: &str = "A 7 EUR Some(1000) Some(1300) 19727 Some(true)\n\
+    19727 19727 300 165 \"C1\" \"B1\" \"TEXT MORE, WORDS\"\n";
+
 #[test]
-fn broken_files(rt: HostRuntime) -> Result<(), Fail> {
-    let alloc = rt.alloc();
-    check_fault(
-        &rt,
-        alloc,
+fn continued_headers(rt: HostRuntime) -> Result<(), Fail> {
+    check_statements(&rt, rt.alloc(), CONTINUED, CONTINUED_SHOWN)
+}
+
+/// Broken files, each with its fault: a count and a total; files that end early or begin with no header; then
+/// continuations and empty lines where something is wrong.
+const BROKEN: [(&str, u64, Bad); 11] = [
+    (
         "01,BANK,FIRM,240105,1200,1,80,1,2/\n\
         02,FIRM,BANK,1,240105,1200,USD,2/\n\
         03,123456789,USD,010,500000,,,015,515000,,/\n\
@@ -252,10 +273,8 @@ fn broken_files(rt: HostRuntime) -> Result<(), Fail> {
             said: 5,
             reckoned: 6,
         },
-    )?;
-    check_fault(
-        &rt,
-        alloc,
+    ),
+    (
         "01,BANK,FIRM,240105,1200,1,80,1,2/\n\
         02,FIRM,BANK,1,240105,1200,USD,2/\n\
         03,123456789,USD,010,500000,,,015,515000,,/\n\
@@ -270,15 +289,53 @@ fn broken_files(rt: HostRuntime) -> Result<(), Fail> {
             said: 1_040_001,
             reckoned: 1_040_000,
         },
-    )?;
-    check_fault(
-        &rt,
-        alloc,
-        "01,BANK,FIRM,240105,1200,1,80,1,2/\n",
-        1,
+    ),
+    ("01,BANK,FIRM,240105,1200,1,80,1,2/\n", 1, Bad::CutOff),
+    ("1899-12-31", 0, Bad::NoStatement),
+    ("", 0, Bad::NoStatement),
+    (
+        "01,BANK,FIRM,240105,1200,1,80,1,2/\n\
+        02,FIRM,BANK,1,240105,,USD,2/\n\
+        03,A/\n\
+        49,0,2/\n\
+        88,MORE/\n\
+        98,0,1,5/\n",
+        5,
+        Bad::RecordOrder,
+    ),
+    (
+        "01,BANK,FIRM,240105,1200,1,80,1,2/\n\
+        02,FIRM,BANK,1,240105,,USD,2/\n\
+        03,A/\n\
+        16,165,1,D/\n\
+        \n\
+        88,TWO,0,1,1,0/\n\
+        49,1,4/\n",
+        4,
+        Bad::FieldForm,
+    ),
+    ("\n88,MORE/\n01,BANK,FIRM/\n", 0, Bad::NoStatement),
+    (
+        "\n01,BANK,FIRM,240105,1200/\n\n88,7,80,1,3/\n02,FIRM/\n",
+        2,
+        Bad::Version,
+    ),
+    (
+        "01,BANK,FIRM,240105,1200,1,80,1,2/\n88/\n\n",
+        3,
         Bad::CutOff,
-    )?;
-    check_fault(&rt, alloc, "1899-12-31", 0, Bad::NoStatement)?;
-    check_fault(&rt, alloc, "", 0, Bad::NoStatement)?;
+    ),
+    (
+        "01,BANK,FIRM,240105,1200,1,80,1,2/\n02,FIRM,BANK,1/\n88,240230/\n98,0,0,3/\n",
+        2,
+        Bad::DateForm,
+    ),
+];
+
+#[test]
+fn broken_files(rt: HostRuntime) -> Result<(), Fail> {
+    for (file, line, bad) in BROKEN {
+        check_fault(&rt, rt.alloc(), file, line, bad)?;
+    }
     Ok(())
 }

@@ -4,14 +4,14 @@ use book_commodity::{OutOfMemory, Text};
 use std::alloc::Global;
 use std::mem;
 
-/// A text of its own.
+/// An equal text.
 pub fn copy_of(alloc: Global, text: &str) -> Result<Text, OutOfMemory>
     ensures { IfOk result (λ copy. copy ≡ text.now) }
 {
     Ok(Text::of(String::from_str(alloc, text)?))
 }
 
-/// Adds a text at the end of another. Where memory runs out, the text is left empty.
+/// Adds a text at the end of another.
 pub fn append(alloc: Global, text: &mut Text, more: &str) -> Result<(), OutOfMemory>
     ensures { IfOk result (λ _. text.new ≡ text.old ++ more.now) }
 {

@@ -31,7 +31,7 @@ use Rattle.std.proofs.Common.{
   arith,
   add-one,
 }
-use Rattle.std.specs.Prelude.{nat_le, ◌&&◌, ◌==◌}
+use Rattle.std.specs.Prelude.{nat_le, ◌&&◌, ◌==◌, fold}
 use Rattle.std.proofs.lemmas.List.{at_drop_more}
 use Rattle.std.proofs.Math.Nat.{pow-suc, add-mul, pow-le-pow_right}
 use Rattle.std.proofs.lemmas.Bool.{and_parts, and_from, leb-true, ne_eqb, eq-eqb, lt-leb, le-leb}
@@ -45,21 +45,27 @@ use Rattle.book_statement.specs.Numbers.{
   fine_units,
   largest_amount,
   number,
-  number_onto,
   has_digits,
 }
 
-shifted : (n d p q r : ℕ) → q ≡ p * 10 → (n * 10 + d) * p + r ≡ n * q + ((0 * 10 + d) * p + r)
+-- the number of digits behind a number that others before them spelled, digit by digit
+unfoldable pub number_onto : ℕ → List ℕ → ℕ
+number_onto before digits = fold (λ number digit. number * 10 + (digit - 48)) before digits
+
+shifted : (n d p q r : ℕ) → q ≡ p * 10 → (n * 10 + d) * p + r ≡ n * q + (d * p + r)
 shifted n d p q r e = rw (e, add-mul) (omega arith)
 
 -- what stands before the digits is moved up by their count
 pub number_onto-split : (n : ℕ) (ds : List ℕ) → number_onto n ds ≡ n * 10 ^ length ds + number ds
-unfolding number_onto
+unfolding number_onto number
 number_onto-split n [] = omega arith
 number_onto-split n (d ∷ ds) =
     number_onto-split (n * 10 + (d - 48)) ds
     ∙ shifted n (d - 48) (10 ^ length ds) (10 ^ length (d ∷ ds)) (number ds) (pow-suc 10 (length ds))
-    ∙ ap (λ k. n * 10 ^ length (d ∷ ds) + k) (sym (number_onto-split (0 * 10 + (d - 48)) ds))
+
+-- the digits alone
+pub number_onto-none : (ds : List ℕ) → number_onto 0 ds ≡ number ds
+number_onto-none ds = number_onto-split 0 ds ∙ omega arith
 
 pub number_onto-append : (n : ℕ) (xs ys : List ℕ) → number_onto n (xs ++ ys) ≡ number_onto (number_onto n xs) ys
 unfolding number_onto
@@ -68,7 +74,11 @@ number_onto-append n (x ∷ xs) ys = number_onto-append (n * 10 + (x - 48)) xs y
 
 -- the number of two runs of digits, one behind the other
 pub number-append : (xs ys : List ℕ) → number (xs ++ ys) ≡ number xs * 10 ^ length ys + number ys
-number-append xs ys = number_onto-append 0 xs ys ∙ number_onto-split (number xs) ys
+number-append xs ys =
+    sym (number_onto-none (xs ++ ys))
+    ∙ number_onto-append 0 xs ys
+    ∙ number_onto-split (number_onto 0 xs) ys
+    ∙ ap (λ n. n * 10 ^ length ys + number ys) (number_onto-none xs)
 
 -- digits are from 48 to 57
 pub digit_range : (d : ℕ) → is_ascii_digit d ≡ true → (48 ≤ d) × (d ≤ 57)

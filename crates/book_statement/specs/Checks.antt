@@ -11,6 +11,7 @@ pub record Check : Type 0 where
   pub holds : Bool
   pub bad : Bad
 
+-- a check from its two parts
 abbrev pub check : Bool → Bad → Check
 check holds bad = record { holds = holds; bad = bad }
 
@@ -24,6 +25,7 @@ pub record Place : Type 0 where
   pub line : ℕ
   pub checks : List Check
 
+-- a place from its two parts
 abbrev pub place : ℕ → List Check → Place
 place line checks = record { line = line; checks = checks }
 

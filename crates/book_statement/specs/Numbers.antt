@@ -16,7 +16,6 @@ use Rattle.std.specs.Prelude.{
   ◌∷◌,
   ◌++◌,
   length,
-  fold,
 }
 use Rattle.std.specs.Char.{is_ascii_digit}
 use Rattle.std.specs.List.{list_all}
@@ -28,13 +27,10 @@ abbrev pub has_digits : ℕ → ℕ → List ℕ → Bool
 has_digits least most text =
     nat_le least (length text) && nat_le (length text) most && list_all is_ascii_digit text
 
--- the number that digits spell, behind a number that others before them spelled
-unfoldable pub number_onto : ℕ → List ℕ → ℕ
-number_onto before digits = fold (λ number digit. number * 10 + (digit - 48)) before digits
-
--- the number that digits spell
-abbrev pub number : List ℕ → ℕ
-number digits = number_onto 0 digits
+-- the number that digits spell: the sum of each digit times ten to the number of digits behind it
+unfoldable pub number : List ℕ → ℕ
+number [] = 0
+number (digit ∷ digits) = (digit - 48) * 10 ^ length digits + number digits
 
 -- the largest amount: 10^12 smallest units, a limit of this project
 abbrev pub largest_amount : ℕ

@@ -11,7 +11,7 @@ pub struct Binding {
 }
 
 impl Binding {
-    /// An equal binding with memory of its own.
+    /// An equal binding.
     pub fn copy(&self) -> Result<Binding, OutOfMemory>
         ensures { IfOk result (λ copy. copy ≡ self.now) }
     {

@@ -17,7 +17,7 @@ pub struct Held {
 }
 
 impl Held {
-    /// An equal statement with memory of its own.
+    /// An equal statement.
     pub fn copy(&self) -> Result<Held, OutOfMemory>
         ensures { IfOk result (λ copy. copy ≡ self.now) }
     {

@@ -16,7 +16,7 @@ pub struct Line {
 }
 
 impl Line {
-    /// An equal line with memory of its own.
+    /// An equal line.
     pub fn copy(&self) -> Result<Line, OutOfMemory>
         ensures { IfOk result (λ copy. copy ≡ self.now) }
     {

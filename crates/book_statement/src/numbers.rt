@@ -3,7 +3,7 @@ ghost use Rattle.std.specs.Char.{is_ascii_digit};
 ghost use Rattle.std.specs.List.{list_all};
 ghost use Rattle.book_statement.specs.Checks.{Tells};
 ghost use Rattle.book_statement.specs.Currencies.{IsFraction};
-ghost use Rattle.book_statement.specs.Numbers.{has_digits, number, number_onto, units, unit_checks};
+ghost use Rattle.book_statement.specs.Numbers.{has_digits, number, units, unit_checks};
 
 use crate::Bad;
 

@@ -11,7 +11,7 @@ pub struct Part {
 }
 
 impl Part {
-    /// An equal part with memory of its own.
+    /// An equal part.
     pub fn copy(&self) -> Result<Part, OutOfMemory>
         ensures { IfOk result (λ copy. copy ≡ self.now) }
     {

@@ -7,24 +7,29 @@ use book_commodity::{Day, Many, OutOfMemory, Text};
 /// into the account, negative for money that leaves it.
 #[derive(Drop)]
 pub struct StatementLine {
-    /// The entry date: the day on which the bank booked the line.
+    /// The day on which the bank booked the line: in MT940 the entry date, or else the value date; in BAI2 the as-of
+    /// date of the group; in QIF the date of the record.
     pub day: Day,
-    /// The value date: the day from which the bank reckons interest.
+    /// The day from which the bank reckons interest: in MT940 the value date; in BAI2 the date of funds type V; where
+    /// that is missing, and in QIF, the day.
     pub value_day: Day,
     pub amount: i64,
-    /// The type of the transaction, in the format's own code.
+    /// The type of the transaction, in the format's own code; empty in QIF.
     pub kind: Text,
-    /// The reference of the account's owner.
+    /// The reference of the account's owner: in BAI2 the customer reference, in QIF the number.
     pub ref_own: Text,
-    /// The reference of the bank.
+    /// The reference of the bank; empty in QIF.
     pub ref_bank: Text,
+    /// What the line is for, in words.
     pub text: Text,
+    /// The category of QIF; empty in other formats.
     pub category: Text,
+    /// The parts into which a QIF record divides its amount; none in other formats.
     pub parts: Many<Part>,
 }
 
 impl StatementLine {
-    /// An equal line with memory of its own.
+    /// An equal line.
     pub fn copy(&self) -> Result<StatementLine, OutOfMemory>
         ensures { IfOk result (λ copy. copy ≡ self.now) }
     {

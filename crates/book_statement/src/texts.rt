@@ -37,8 +37,7 @@ fn characters(alloc: Global, bytes: &[u8]) -> Result<String, OutOfMemory>
     Ok(text)
 }
 
-/// Joins a piece to the end of a text by one space, without the space where one of the two is empty. Where memory runs
-/// out, the text is left empty.
+/// Joins a piece to the end of a text by one space, without the space where one of the two is empty.
 pub fn add_piece(alloc: Global, text: &mut Text, piece: &str) -> Result<(), OutOfMemory>
     ensures { IfOk result (λ _. text.new ≡ add_piece text.old piece.now) }
 {

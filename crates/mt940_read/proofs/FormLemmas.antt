@@ -32,7 +32,8 @@ use Rattle.std.proofs.Common.{
   ◌∙◌,
   arith,
 }
-use Rattle.std.specs.Prelude.{◌&&◌, ◌||◌, ◌==◌, not, nat_le, slice_index}
+use lib.Pointwise.{pointwise}
+use Rattle.std.specs.Prelude.{nat_eq, codes, ◌&&◌, ◌||◌, ◌==◌, not, nat_le, slice_index}
 use Rattle.std.specs.Char.{is_ascii_digit, is_ascii_uppercase}
 use Rattle.std.specs.List.{list_all}
 use Rattle.std.specs.Str.{IsAscii}
@@ -56,6 +57,7 @@ use Rattle.mt940_read.specs.Balances.{
   balance_amount,
 }
 use Rattle.mt940_read.specs.LineField.{
+  is_taken,
   before_slashes,
   behind_slashes,
   has_entry_date,
@@ -253,3 +255,9 @@ line_is fraction text days amount kind own bank words category parts d a k o b w
       category = e i;
       parts = p i;
     }
+
+-- A mark says whether its line takes from the account.
+pub taken_by : (mark text : List ℕ) → mark ≡ mark_part text
+    → (pointwise nat_eq mark (codes "D") || pointwise nat_eq mark (codes "RC")) ≡ is_taken text
+unfolding is_taken
+taken_by mark text e = ap (λ m. pointwise nat_eq m (codes "D") || pointwise nat_eq m (codes "RC")) e

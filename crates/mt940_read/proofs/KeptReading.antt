@@ -66,11 +66,12 @@ use Rattle.mt940_read.specs.FileChecks.{checks_of, text_checks, is_page, goes_on
 use Rattle.mt940_read.specs.LineField.{line_form, amount_part}
 use Rattle.mt940_read.specs.Messages.{account_of, opens_page, closing_of, lines_in}
 use Rattle.mt940_read.specs.Order.{may_follow}
-use Rattle.mt940_read.specs.Pages.{Past, past_of, last_page, joins_page, agrees}
+use Rattle.mt940_read.specs.Pages.{Past, joins_page, agrees}
 use Rattle.mt940_read.specs.Reading as whole
 use Rattle.mt940_read.specs.Statements.{statements_of, last_lines}
 use Rattle.mt940_read.specs.Tree.{FieldLines, MessageLines}
 use Rattle.mt940_read.specs.Values.{values}
+use Rattle.mt940_read.proofs.PageLemmas.{past_of, last_page}
 
 -- a field is checked with the fields and the messages before it
 abbrev pub field_place : List (ℕ × Commodity) → Past → List FieldLines → FieldLines → List Place

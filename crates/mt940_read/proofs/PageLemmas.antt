@@ -12,7 +12,9 @@ use Rattle.std.proofs.Common.{
   [],
   ◌∷◌,
   ◌++◌,
+  Option,
   Some,
+  None,
   refl,
   sym,
   ap,
@@ -23,9 +25,10 @@ use Rattle.book_commodity.specs.declared.commodity.Commodity.{Commodity}
 use Rattle.book_statement.specs.declared.statement.Statement.{Statement}
 use Rattle.book_statement.specs.declared.statement_line.StatementLine.{StatementLine}
 use Rattle.book_statement.proofs.ListLemmas.{Grows, grouped-push, grouped-some}
+use Rattle.mt940_read.specs.declared.page.Page.{Page}
 use Rattle.mt940_read.specs.Pages.{
+  Past,
   page_of,
-  last_page,
   with_last_page,
   with_message,
 }
@@ -33,6 +36,20 @@ use Rattle.mt940_read.specs.Statements.{alone, joins, last_lines, onto, statemen
 use Rattle.mt940_read.specs.Tree.{MessageLines}
 use Rattle.mt940_read.specs.Values.{values}
 use Rattle.mt940_read.proofs.EntryLemmas.{IsEmpty, HasLast, snoc}
+
+-- the last message of some
+abbrev pub last_page : List (ℕ × Commodity) → List MessageLines → Option Page
+last_page known [] = None
+last_page known (m ∷ []) = Some (page_of (values known m.fields))
+last_page known (m ∷ n ∷ ms) = last_page known (n ∷ ms)
+
+-- what the messages before a message are to it
+abbrev pub past_of : List (ℕ × Commodity) → List MessageLines → Past
+past_of known before = record {
+  page = last_page known before;
+  statements = length (statements_of known before);
+  lines = last_lines (statements_of known before);
+}
 
 pub last_page-push : (known : List (ℕ × Commodity)) (ms : List MessageLines) (m : MessageLines)
     → last_page known (ms ++ m ∷ []) ≡ Some (page_of (values known m.fields))

@@ -46,7 +46,7 @@ use Rattle.mt940_read.specs.declared.tag.Kind.TheVariants.{Begins, Field, Passed
 use Rattle.mt940_read.specs.Entries.{last_tag}
 use Rattle.mt940_read.specs.FieldChecks.{field_checks}
 use Rattle.mt940_read.specs.Kinds.{field_text}
-use Rattle.mt940_read.specs.Pages.{Past, last_page, past_of, page_of, with_message}
+use Rattle.mt940_read.specs.Pages.{Past, page_of, with_message}
 use Rattle.mt940_read.specs.Statements.{last_lines, statements_of}
 use Rattle.mt940_read.specs.Order.{is_line, is_text}
 use Rattle.mt940_read.specs.Steps.{
@@ -72,7 +72,7 @@ use Rattle.mt940_read.proofs.KeptReading.{
   file_places,
   result_of,
 }
-use Rattle.mt940_read.proofs.PageLemmas.{last_page-push, statements-push, statements-some}
+use Rattle.mt940_read.proofs.PageLemmas.{last_page, past_of, last_page-push, statements-push, statements-some}
 use Rattle.mt940_read.proofs.TreeLemmas.{
   Last,
   Closed,

@@ -1,10 +1,15 @@
 -- The sum of the amounts of lines, and a list with its last item changed.
-use Rattle.std.proofs.Common.{◌≡◌, ℕ, ◌+◌, ◌<◌, List, [], ◌∷◌, ◌++◌, length, take, get_or, refl, sym, ap, ◌∙◌, ◌+ℤ◌}
+use Rattle.std.proofs.Common.{◌≡◌, ℕ, ◌+◌, ◌*◌, ◌^◌, ◌<◌, List, [], ◌∷◌, ◌++◌, length, take, get_or, refl, sym, ap}
+use Rattle.std.proofs.Common.{◌∙◌, ℤ, pos, ◌+ℤ◌, ◌-ℤ◌, ◌≤ℤ◌}
 use Rattle.std.proofs.Math.IntN.{+ℤ_assoc, +ℤ_idl, +ℤ_idr}
 use Rattle.std.proofs.lemmas.List.{take_more}
 use Rattle.book_statement.specs.declared.statement_line.StatementLine.{StatementLine}
 use Rattle.book_statement.specs.Lists.{on_last}
 use Rattle.mt940_read.specs.Totals.{total_of}
+
+-- the amount is small enough to be the sum of so many amounts of 64 bits
+abbrev pub IsWithin : ℕ → ℤ → Type 0
+IsWithin count sum = ((pos 0 -ℤ pos (2 ^ 63 * count)) ≤ℤ sum) × (sum ≤ℤ pos (2 ^ 63 * count))
 
 pub total_of-push : (lines : List StatementLine) (line : StatementLine)
     → total_of (lines ++ line ∷ []) ≡ total_of lines +ℤ line.amount

@@ -7,7 +7,7 @@ use Rattle.book_statement.specs.declared.statement.Statement.{Statement}
 use Rattle.book_statement.specs.declared.statement_line.StatementLine.{StatementLine}
 use Rattle.book_statement.specs.Currencies.{fraction_of}
 use Rattle.book_statement.specs.Dates.{date, short_date}
-use Rattle.book_statement.specs.Numbers.{number_onto, units, unit_checks}
+use Rattle.book_statement.specs.Numbers.{number, units, unit_checks}
 use Rattle.mt940_read.specs.Amounts.{is_amount, amount, amount_checks}
 use Rattle.mt940_read.specs.Balances.{
   balance_mark,
@@ -90,10 +90,10 @@ worked_file : result_of known_here (messages_of (
     codes ":20:STMT1" ∷ codes ":25:NL01BANK0123456789" ∷ codes ":28C:1/1" ∷ codes ":60F:C240101EUR1000,00"
     ∷ codes ":61:2401050105D200,00NTRFRENT//B77" ∷ codes ":86:January rent" ∷ codes ":61:240108RD50,00NTRFNONREF"
     ∷ codes ":62F:C240131EUR850,00" ∷ [])) ≡ Ok (statement ∷ [])
-unfolding days_from_civil day_count days_of_years days_of_months fraction_of date short_date number_onto units
+unfolding days_from_civil day_count days_of_years days_of_months fraction_of date short_date number units
     unit_checks is_amount amount amount_checks balance_mark balance_date balance_currency balance_amount is_debit
-    balance_form balance balance_day entry_day entry_date field_text tag_of kind_of entry_place mark_place funds_place amount_place kind_place value_day line_day line_days
-    line_form is_taken line_amount line number_part
+    balance_form balance balance_day entry_day entry_date field_text tag_of kind_of entry_place mark_place funds_place
+    amount_place kind_place value_day line_day line_days line_form is_taken line_amount line number_part
 worked_file = refl
 
 -- a closing balance that is 100 units too large
@@ -101,10 +101,10 @@ closing_off : result_of known_here (messages_of (
     codes ":20:STMT1" ∷ codes ":25:NL01BANK0123456789" ∷ codes ":28C:1/1" ∷ codes ":60F:C240101EUR1000,00"
     ∷ codes ":61:2401050105D200,00NTRFRENT//B77" ∷ codes ":86:January rent" ∷ codes ":61:240108RD50,00NTRFNONREF"
     ∷ codes ":62F:C240131EUR950,00" ∷ [])) ≡ Err (record { line = 8; bad = BalanceMismatch (pos 95000) (pos 85000) })
-unfolding days_from_civil day_count days_of_years days_of_months fraction_of date short_date number_onto units
+unfolding days_from_civil day_count days_of_years days_of_months fraction_of date short_date number units
     unit_checks is_amount amount amount_checks balance_mark balance_date balance_currency balance_amount is_debit
-    balance_form balance balance_day entry_day entry_date field_text tag_of kind_of entry_place mark_place funds_place amount_place kind_place value_day line_day line_days
-    line_form is_taken line_amount line number_part
+    balance_form balance balance_day entry_day entry_date field_text tag_of kind_of entry_place mark_place funds_place
+    amount_place kind_place value_day line_day line_days line_form is_taken line_amount line number_part
 closing_off = refl
 
 -- no closing balance
@@ -112,10 +112,10 @@ without_closing : result_of known_here (messages_of (
     codes ":20:STMT1" ∷ codes ":25:NL01BANK0123456789" ∷ codes ":28C:1/1" ∷ codes ":60F:C240101EUR1000,00"
     ∷ codes ":61:2401050105D200,00NTRFRENT//B77" ∷ codes ":86:January rent" ∷ codes ":61:240108RD50,00NTRFNONREF"
     ∷ [])) ≡ Err (record { line = 7; bad = CutOff })
-unfolding days_from_civil day_count days_of_years days_of_months fraction_of date short_date number_onto units
+unfolding days_from_civil day_count days_of_years days_of_months fraction_of date short_date number units
     unit_checks is_amount amount amount_checks balance_mark balance_date balance_currency balance_amount is_debit
-    balance_form balance balance_day entry_day entry_date field_text tag_of kind_of entry_place mark_place funds_place amount_place kind_place value_day line_day line_days
-    line_form is_taken line_amount line number_part
+    balance_form balance balance_day entry_day entry_date field_text tag_of kind_of entry_place mark_place funds_place
+    amount_place kind_place value_day line_day line_days line_form is_taken line_amount line number_part
 without_closing = refl
 
 -- two pages
@@ -124,10 +124,10 @@ pages : result_of known_here (messages_of (
     ∷ codes ":61:2401050105D200,00NTRFRENT//B77" ∷ codes ":86:January rent" ∷ codes ":61:240108RD50,00NTRFNONREF"
     ∷ codes ":62M:C240131EUR850,00" ∷ codes ":20:P2" ∷ codes ":25:NL01BANK0123456789" ∷ codes ":28C:1/2" ∷ codes
     ":60M:C240131EUR850,00" ∷ codes ":62F:C240131EUR850,00" ∷ [])) ≡ Ok (statement ∷ [])
-unfolding days_from_civil day_count days_of_years days_of_months fraction_of date short_date number_onto units
+unfolding days_from_civil day_count days_of_years days_of_months fraction_of date short_date number units
     unit_checks is_amount amount amount_checks balance_mark balance_date balance_currency balance_amount is_debit
-    balance_form balance balance_day entry_day entry_date field_text tag_of kind_of entry_place mark_place funds_place amount_place kind_place value_day line_day line_days
-    line_form is_taken line_amount line number_part
+    balance_form balance balance_day entry_day entry_date field_text tag_of kind_of entry_place mark_place funds_place
+    amount_place kind_place value_day line_day line_days line_form is_taken line_amount line number_part
 pages = refl
 
 -- a second page that opens with another balance
@@ -136,26 +136,26 @@ page_off : result_of known_here (messages_of (
     ∷ codes ":61:2401050105D200,00NTRFRENT//B77" ∷ codes ":86:January rent" ∷ codes ":61:240108RD50,00NTRFNONREF"
     ∷ codes ":62M:C240131EUR850,00" ∷ codes ":20:P2" ∷ codes ":25:NL01BANK0123456789" ∷ codes ":28C:1/2" ∷ codes
     ":60M:C240131EUR851,00" ∷ codes ":62F:C240131EUR850,00" ∷ [])) ≡ Err (record { line = 12; bad = PageOrder })
-unfolding days_from_civil day_count days_of_years days_of_months fraction_of date short_date number_onto units
+unfolding days_from_civil day_count days_of_years days_of_months fraction_of date short_date number units
     unit_checks is_amount amount amount_checks balance_mark balance_date balance_currency balance_amount is_debit
-    balance_form balance balance_day entry_day entry_date field_text tag_of kind_of entry_place mark_place funds_place amount_place kind_place value_day line_day line_days
-    line_form is_taken line_amount line number_part
+    balance_form balance balance_day entry_day entry_date field_text tag_of kind_of entry_place mark_place funds_place
+    amount_place kind_place value_day line_day line_days line_form is_taken line_amount line number_part
 page_off = refl
 
 -- no line
 no_lines : result_of known_here (messages_of (
     [])) ≡ Err (record { line = 0; bad = NoStatement })
-unfolding days_from_civil day_count days_of_years days_of_months fraction_of date short_date number_onto units
+unfolding days_from_civil day_count days_of_years days_of_months fraction_of date short_date number units
     unit_checks is_amount amount amount_checks balance_mark balance_date balance_currency balance_amount is_debit
-    balance_form balance balance_day entry_day entry_date field_text tag_of kind_of entry_place mark_place funds_place amount_place kind_place value_day line_day line_days
-    line_form is_taken line_amount line number_part
+    balance_form balance balance_day entry_day entry_date field_text tag_of kind_of entry_place mark_place funds_place
+    amount_place kind_place value_day line_day line_days line_form is_taken line_amount line number_part
 no_lines = refl
 
 -- a reference alone
 reference_alone : result_of known_here (messages_of (
     codes ":20:X" ∷ [])) ≡ Err (record { line = 1; bad = CutOff })
-unfolding days_from_civil day_count days_of_years days_of_months fraction_of date short_date number_onto units
+unfolding days_from_civil day_count days_of_years days_of_months fraction_of date short_date number units
     unit_checks is_amount amount amount_checks balance_mark balance_date balance_currency balance_amount is_debit
-    balance_form balance balance_day entry_day entry_date field_text tag_of kind_of entry_place mark_place funds_place amount_place kind_place value_day line_day line_days
-    line_form is_taken line_amount line number_part
+    balance_form balance balance_day entry_day entry_date field_text tag_of kind_of entry_place mark_place funds_place
+    amount_place kind_place value_day line_day line_days line_form is_taken line_amount line number_part
 reference_alone = refl

@@ -55,25 +55,26 @@ use Rattle.mt940_read.specs.Order.{may_follow}
 use Rattle.mt940_read.specs.Statements.{belongs, goes_on_from, statements_of, last_lines}
 use Rattle.mt940_read.specs.Tree.{FieldLines, MessageLines}
 
--- whether a message of this account belongs to the last of the messages before it
+-- Whether a message of this account belongs to the last of the messages before it.
 abbrev pub is_page : List MessageLines → List ℕ → Bool → Bool
 is_page [] account opens = false
 is_page (m ∷ []) account opens = belongs m account opens
 is_page (m ∷ n ∷ ms) account opens = is_page (n ∷ ms) account opens
 
--- whether it goes on from the last of them; the first message has none before it
+-- Whether it continues the last of them; the first message has none before it.
 abbrev pub goes_on : List (ℕ × Commodity) → List MessageLines → List ℕ → ℤ → Bool → Bool
 goes_on known [] currency opening opens = true
 goes_on known (m ∷ []) currency opening opens = goes_on_from known m currency opening opens
 goes_on known (m ∷ n ∷ ms) currency opening opens = goes_on known (n ∷ ms) currency opening opens
 
--- 60: where the message belongs to the one before it, it goes on from it; else it is not the 1,001st statement
+-- Field 60: where the message belongs to the one before it, it continues that one; else it is not the 1,001st
+-- statement.
 abbrev pub page_checks_of : List (ℕ × Commodity) → List MessageLines → List ℕ → Bool → List ℕ → ℤ → List Check
 page_checks_of known messages account opens currency opening =
     check (not (is_page messages account opens) || goes_on known messages currency opening opens) PageOrder
     ∷ check (is_page messages account opens || nat_lt (length (statements_of known messages)) 1_000) TooMany ∷ []
 
--- 60: a balance, in one of the book's currencies, which is a whole number of its smallest units
+-- Field 60: a balance, in one of the book's currencies, which is a whole number of its smallest units.
 abbrev pub opening_checks_of : List (ℕ × Commodity) → List MessageLines → List FieldLines → Bool → List ℕ → List Check
 opening_checks_of known messages before opens text =
     balance_form text
@@ -82,7 +83,7 @@ opening_checks_of known messages before opens text =
     ++ page_checks_of known messages (account_of before) opens (balance_currency text)
     (balance (fraction_in known (balance_currency text)) text))
 
--- 62, 64 and 65: a balance in the currency of the 60, or else at least in one of the book's
+-- Fields 62, 64 and 65: a balance in the currency of the 60, or else at least in one of the book's.
 abbrev pub later_checks_of : List (ℕ × Commodity) → List FieldLines → List ℕ → List Check
 later_checks_of known before text =
     balance_form text
@@ -91,31 +92,31 @@ later_checks_of known before text =
     ∷ check (same_text (balance_currency text) (currency_of before)) CurrencyDiffers
     ∷ amount_checks (fraction_behind known before) (balance_amount text)
 
--- 62: the closing balance is the opening balance with the lines of this message
+-- Field 62: the closing balance is the opening balance with the lines of this message.
 abbrev pub closing_checks_of : List (ℕ × Commodity) → List FieldLines → List ℕ → List Check
 closing_checks_of known before text =
     later_checks_of known before text
     ++ check (int_eq (balance (fraction_behind known before) text) (closing_due known before))
     (BalanceMismatch (balance (fraction_behind known before) text) (closing_due known before)) ∷ []
 
--- how many lines the statement has before a line: those of its pages before, and those of this message
+-- How many lines the statement has before a line: those of its pages before, and those of this message.
 abbrev pub lines_so_far : List (ℕ × Commodity) → List MessageLines → List FieldLines → ℕ
 lines_so_far known messages before =
     (if is_page messages (account_of before) (opens_page before) then last_lines (statements_of known messages) else 0)
     + length (lines_in known before)
 
--- 61: a line, with an amount in the currency of the 60, that is not the 10,001st of its statement
+-- Field 61: a line, with an amount in the currency of the 60, that is not the 10,001st of its statement.
 abbrev pub line_checks_at : List (ℕ × Commodity) → List MessageLines → List FieldLines → List ℕ → List Check
 line_checks_at known messages before text =
     line_form text
     ++ (amount_checks (fraction_behind known before) (amount_part text)
     ++ check (nat_lt (lines_so_far known messages before) 10_000) TooMany ∷ [])
 
--- 25 and 28 are not empty
+-- Fields 25 and 28 are not empty.
 abbrev pub not_empty : List ℕ → List Check
 not_empty text = check (not (is_nothing text)) FieldForm ∷ []
 
--- the checks of a field with this tag and text, but for its order
+-- The checks of a field with this tag and text, but for its order.
 abbrev pub text_checks : List (ℕ × Commodity) → List MessageLines → List FieldLines → Tag → List ℕ → List Check
 text_checks known messages before Reference text = []
 text_checks known messages before Related text = []
@@ -128,7 +129,7 @@ text_checks known messages before (Closing closes) text = closing_checks_of know
 text_checks known messages before Available text = later_checks_of known before text
 text_checks known messages before Forward text = later_checks_of known before text
 
--- the checks of a field behind the fields before it and the messages before those
+-- The checks of a field behind the fields before it and the messages before those: its order, then its text.
 abbrev pub checks_of : List (ℕ × Commodity) → List MessageLines → List FieldLines → FieldLines → List Check
 checks_of known messages before f =
     check (may_follow (last_tag before) (is_some (closing_of known before)) f.tag) FieldOrder

@@ -27,29 +27,29 @@ use Rattle.mt940_read.specs.declared.tag.Tag.TheVariants as tag
 use Rattle.mt940_read.specs.declared.tag.Kind.{Kind}
 use Rattle.mt940_read.specs.declared.tag.Kind.TheVariants as kind
 
--- a colon at a place of a line
+-- A colon at a place of a line.
 abbrev pub has_colon : List ℕ → ℕ → Bool
 has_colon line place = slice_index line place == 58
 
--- a line begins a field by a colon, two digits, perhaps a capital letter, and a colon
+-- A line begins a field by a colon, two digits, perhaps a capital letter, and a colon (SWIFT, the tags of fields).
 abbrev pub has_tag : List ℕ → Bool
 has_tag line =
     has_colon line 0 && is_ascii_digit (slice_index line 1) && is_ascii_digit (slice_index line 2)
     && (has_colon line 3 || (is_ascii_uppercase (slice_index line 3) && has_colon line 4))
 
--- how many bytes the tag takes with its colons
+-- How many bytes the tag takes with its colons.
 abbrev pub tag_width : List ℕ → ℕ
 tag_width line = if has_colon line 3 then 4 else 5
 
--- what stands behind the tag
+-- What stands behind the tag.
 unfoldable pub field_text : List ℕ → List ℕ
 field_text line = drop (tag_width line) line
 
--- a tag that is one of the names
+-- A tag that is one of the names.
 abbrev pub is_named : List ℕ → List ℕ → Bool
 is_named name text = pointwise nat_eq text name
 
--- the tags that say something; 20 is no name here, since it begins a message
+-- The tags that say something (SWIFT, MT940); 20 is no name here, since it begins a message.
 unfoldable pub tag_of : List ℕ → Option Tag
 tag_of name =
     if is_named (codes "21") name then Some tag.Related
@@ -65,13 +65,13 @@ tag_of name =
     else (if is_named (codes "65") name then Some tag.Forward
     else None))))))))))
 
--- the kind of a line with a tag of this name
+-- The kind of a line with a tag of this name.
 abbrev pub field_kind : Option Tag → Kind
 field_kind (Some t) = kind.Field t
 field_kind None = kind.Passed
 
--- the kind of a line: `:20:` begins a message; other tags begin fields; `-` alone or `-}` in front ends a message; any
--- other line goes on with the field before
+-- The kind of a line: `:20:` begins a message; other tags begin fields; `-` alone or `-}` in front ends a message; any
+-- other line continues the field before.
 unfoldable pub kind_of : List ℕ → Kind
 kind_of line =
     if starts_with nat_eq line (codes ":20:") then kind.Begins

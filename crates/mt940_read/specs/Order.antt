@@ -15,43 +15,52 @@ use Rattle.mt940_read.specs.declared.tag.Tag.TheVariants.{
   Forward,
 }
 
+-- Fields 25 and 25P.
 abbrev pub is_account : Tag → Bool
 is_account Account = true
 is_account _ = false
 
+-- Field 21.
 abbrev pub is_related : Tag → Bool
 is_related Related = true
 is_related _ = false
 
+-- Fields 28 and 28C.
 abbrev pub is_number : Tag → Bool
 is_number Number = true
 is_number _ = false
 
+-- Fields 60F and 60M.
 abbrev pub is_opening : Tag → Bool
 is_opening (Opening goes_on) = true
 is_opening _ = false
 
+-- Field 61.
 abbrev pub is_line : Tag → Bool
 is_line Line = true
 is_line _ = false
 
+-- Field 86.
 abbrev pub is_text : Tag → Bool
 is_text Text = true
 is_text _ = false
 
+-- Fields 62F and 62M.
 abbrev pub is_closing : Tag → Bool
 is_closing (Closing goes_on) = true
 is_closing _ = false
 
+-- Field 64.
 abbrev pub is_available : Tag → Bool
 is_available Available = true
 is_available _ = false
 
+-- Field 65.
 abbrev pub is_forward : Tag → Bool
 is_forward Forward = true
 is_forward _ = false
 
--- which field may stand behind the last one, in a message that has its closing balance or not
+-- Which field may stand behind the last one, in a message that has its closing balance or not.
 abbrev pub may_follow : Option Tag → Bool → Tag → Bool
 may_follow None closed tag = true
 may_follow (Some Reference) closed tag = is_related tag || is_account tag

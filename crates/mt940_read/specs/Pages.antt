@@ -11,7 +11,6 @@ use Rattle.std.specs.Prelude.{
   [],
   ◌∷◌,
   ◌++◌,
-  length,
   Option,
   Some,
   None,
@@ -21,18 +20,14 @@ use Rattle.std.specs.Prelude.{
   pos,
 }
 use Rattle.std.specs.Ordering.{int_eq}
-use Rattle.book_commodity.specs.declared.commodity.Commodity.{Commodity}
 use Rattle.book_statement.specs.declared.statement.Statement.{Statement}
 use Rattle.book_statement.specs.declared.statement_line.StatementLine.{StatementLine}
 use Rattle.book_statement.specs.Keys.{same_text}
 use Rattle.book_statement.specs.Lists.{on_last}
 use Rattle.mt940_read.specs.declared.message.Message.{Message}
 use Rattle.mt940_read.specs.declared.page.Page.{Page}
-use Rattle.mt940_read.specs.Statements.{last_lines, statements_of}
-use Rattle.mt940_read.specs.Tree.{MessageLines}
-use Rattle.mt940_read.specs.Values.{values}
 
--- what the next message has to know of one
+-- What the next message has to know of one.
 abbrev pub page_of : Message → Page
 page_of m = record {
   account = m.account;
@@ -42,25 +37,19 @@ page_of m = record {
       m.closes_page;
 }
 
--- a message belongs to the statement of the message before: they have one account, and the first closes or the second
--- opens a page in the middle of a statement
+-- A message belongs to the statement of the message before: they have one account, and the first closes or the second
+-- opens a page in the middle of a statement.
 abbrev pub joins_page : Option Page → List ℕ → Bool → Bool
 joins_page None account opens = false
 joins_page (Some page) account opens = same_text page.account account && (page.closes_page || opens)
 
--- a page goes on with the one before: both are in the middle of a statement, and the balances agree
+-- A page continues the one before: both are in the middle of a statement, and the balances agree.
 abbrev pub agrees : Option Page → List ℕ → ℤ → Bool → Bool
 agrees None currency opening opens = true
 agrees (Some page) currency opening opens =
     page.closes_page && opens && int_eq page.closing opening && same_text page.currency currency
 
--- the last message of some
-abbrev pub last_page : List (ℕ × Commodity) → List MessageLines → Option Page
-last_page known [] = None
-last_page known (m ∷ []) = Some (page_of (values known m.fields))
-last_page known (m ∷ n ∷ ms) = last_page known (n ∷ ms)
-
--- the statement of a message alone
+-- The statement of a message alone.
 abbrev pub statement_alone : Message → Statement
 statement_alone m = record {
   account_text = m.account;
@@ -73,29 +62,22 @@ statement_alone m = record {
   lines = m.lines;
 }
 
--- a statement with another closing balance and day, and more lines
+-- A statement with another closing balance and day, and more lines.
 abbrev pub with_end : Option ℤ → ℤ → List StatementLine → Statement → Statement
 with_end closing day lines statement = record statement
     { closing = closing; day = day; lines = statement.lines ++ lines }
 
--- a page behind a statement
+-- A page behind a statement.
 abbrev pub with_last_page : Statement → Message → Statement
 with_last_page statement m = with_end m.closing m.day m.lines statement
 
--- what the messages before a message are to it
+-- What the messages before a message are to it.
 pub record Past : Type 0 where
   pub page : Option Page
   pub statements : ℕ
   pub lines : ℕ
 
-abbrev pub past_of : List (ℕ × Commodity) → List MessageLines → Past
-past_of known before = record {
-  page = last_page known before;
-  statements = length (statements_of known before);
-  lines = last_lines (statements_of known before);
-}
-
--- the statements with one message more
+-- The statements with one message more.
 abbrev pub with_message : Option Page → Message → List Statement → List Statement
 with_message page m done =
     if joins_page page m.account m.opens_page then on_last (λ s. with_last_page s m) done else done ++

@@ -20,22 +20,22 @@ use Rattle.mt940_read.specs.Messages.{
 }
 use Rattle.mt940_read.specs.Tree.{MessageLines}
 
--- a message of this account belongs to the statement of the message before it: they have one account, and the first
--- closes or the second opens in the middle of a statement
+-- A message of this account belongs to the statement of the message before it: they have one account, and the first
+-- closes or the second opens in the middle of a statement.
 abbrev pub belongs : MessageLines → List ℕ → Bool → Bool
 belongs m account opens = same_text (account_of m.fields) account && (closes_page m.fields || opens)
 
--- two messages belong together
+-- Two messages belong together.
 abbrev pub joins : MessageLines → MessageLines → Bool
 joins m n = belongs m (account_of n.fields) (opens_page n.fields)
 
--- a page goes on with the message before it: both are in the middle of a statement, and the balances agree
+-- A page continues the message before it: both are in the middle of a statement, and the balances agree.
 abbrev pub goes_on_from : List (ℕ × Commodity) → MessageLines → List ℕ → ℤ → Bool → Bool
 goes_on_from known m currency opening opens =
     closes_page m.fields && opens && int_eq (unwrap_or (closing_of known m.fields) (pos 0)) opening
     && same_text (currency_of m.fields) currency
 
--- the statement of a message alone
+-- The statement of a message alone.
 abbrev pub alone : List (ℕ × Commodity) → MessageLines → Statement
 alone known m = record {
   account_text = account_of m.fields;
@@ -48,8 +48,8 @@ alone known m = record {
   lines = lines_in known m.fields;
 }
 
--- a page in front of a statement: the number and the opening balance are the first page's, the closing balance and the
--- day the last one's
+-- A page in front of a statement: the number and the opening balance are the first page's, the closing balance and the
+-- day the last one's.
 abbrev pub onto : List (ℕ × Commodity) → MessageLines → Statement → Statement
 onto known m statement = record statement {
   account_text = account_of m.fields;
@@ -59,11 +59,11 @@ onto known m statement = record statement {
   lines = lines_in known m.fields ++ statement.lines;
 }
 
--- the statements of a file: messages that belong together are one
+-- The statements of a file: neighbours that belong together are one.
 abbrev pub statements_of : List (ℕ × Commodity) → List MessageLines → List Statement
 statements_of known messages = grouped joins (alone known) (onto known) messages
 
--- how many lines the last statement has
+-- How many lines the last statement has.
 abbrev pub last_lines : List Statement → ℕ
 last_lines [] = 0
 last_lines (s ∷ []) = length s.lines

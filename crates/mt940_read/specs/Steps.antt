@@ -40,15 +40,15 @@ use Rattle.mt940_read.specs.Pages.{Past, page_of, with_message}
 use Rattle.mt940_read.specs.Statements.{last_lines}
 use Rattle.mt940_read.specs.Values.{after, after_more, ends_in_line, values}
 
--- what the statements before are to the message that is read
+-- What the statements before are to the message that is read.
 abbrev pub past_kept : Reader → Past
 past_kept k = record { page = k.page; statements = length k.done; lines = last_lines k.done }
 
--- whether a message has begun
+-- Whether a message has begun.
 abbrev pub is_within : Reader → Bool
 is_within k = is_some k.message.last
 
--- the message is whole: a page of the last statement, or a statement of its own
+-- The reader behind the end of a message: a page of the last statement, or a statement of its own.
 abbrev pub ended : List (ℕ × Commodity) → Reader → Reader
 ended known k =
     if is_within k then record {
@@ -58,10 +58,11 @@ ended known k =
       goes = false;
     } else k
 
+-- The reader behind the field 20 that begins a message.
 abbrev pub begun : Reader → Reader
 begun k = record k { message = record k.message { last = Some Reference } }
 
--- what is kept behind one line more
+-- The reader behind one line more.
 abbrev pub next : List (ℕ × Commodity) → Kind → List ℕ → Reader → Reader
 next known Begins line k = begun (ended known k)
 next known (Field tag) line k =
@@ -73,10 +74,11 @@ next known Passed line k = record k { goes = false }
 next known Ends line k = ended known k
 next known More line k = if k.goes then record k { message = after_more k.message line } else k
 
--- the checks that a line brings, and the line at which they fail
+-- The checks that the end of a message brings.
 abbrev pub end_checks : Reader → List Check
 end_checks k = if is_within k then check (is_some k.message.closing) CutOff ∷ [] else []
 
+-- The checks that a line brings.
 abbrev pub line_checks_of : List (ℕ × Commodity) → Kind → List ℕ → Reader → List Check
 line_checks_of known Begins line k = end_checks k
 line_checks_of known (Field tag) line k =
@@ -85,22 +87,23 @@ line_checks_of known Passed line k = []
 line_checks_of known Ends line k = end_checks k
 line_checks_of known More line k = []
 
+-- The line at which the checks of a line fail: its own for a field, the one before it for the end of a message.
 abbrev pub line_of_fault : Kind → ℕ → ℕ
 line_of_fault (Field tag) n = n + 1
 line_of_fault _ n = n
 
--- what a call answers that makes these checks for a line, and what it then keeps
+-- What a call answers that makes these checks for a line, and what it then keeps.
 abbrev pub Steps : {X : Type 0} → ℕ → List Check → Reader → Result X ReadError → Reader → Type 0
 Steps line checks after' (Ok _) new = (first_bad checks ≡ None) × (new ≡ after')
 Steps line checks after' (Err OutOfMemory) new = ⊤
 Steps line checks after' (Err (Fault fault)) new = fault_at line (first_bad checks) None ≡ Some fault
 
--- no statement in the whole file
+-- No statement in the whole file.
 abbrev pub no_statement : List Statement → Option StatementFault
 no_statement [] = Some (record { line = 0; bad = NoStatement })
 no_statement (s ∷ ss) = None
 
--- what is said at the end of the file, behind so many lines
+-- What is said at the end of the file, behind so many lines.
 abbrev pub finished : List (ℕ × Commodity) → ℕ → Reader → Result (List Statement) StatementFault
 finished known last k =
     unless_fault (fault_at last (first_bad (end_checks k)) (no_statement (ended known k).done)) (ended known k).done

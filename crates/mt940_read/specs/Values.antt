@@ -37,7 +37,7 @@ use Rattle.mt940_read.specs.Order.{is_line}
 use Rattle.mt940_read.specs.Totals.{total_of}
 use Rattle.mt940_read.specs.Tree.{FieldLines}
 
--- what is kept of a message with these fields
+-- What is kept of a message with these fields.
 abbrev pub values : List (ℕ × Commodity) → List FieldLines → Message
 values known fields = record {
   last = last_tag fields;
@@ -53,16 +53,16 @@ values known fields = record {
   lines = lines_in known fields;
 }
 
--- the closing balance that the opening balance and the lines kept give
+-- The closing balance that the opening balance and the lines kept give.
 abbrev pub reckoned : Message → ℤ
 reckoned message = unwrap_or message.opening (pos 0) +ℤ total_of message.lines
 
--- whether the last field is a 61
+-- Whether the last field is a 61.
 abbrev pub ends_in_line : Option Tag → Bool
 ends_in_line None = false
 ends_in_line (Some tag) = is_line tag
 
--- what is kept with one field more
+-- What is kept with one field more.
 abbrev pub after : List (ℕ × Commodity) → Message → Tag → List ℕ → Message
 after known m Reference text = record m { last = Some Reference }
 after known m Related text = record m { last = Some Related }
@@ -89,6 +89,6 @@ after known m (Closing goes_on) text = record m {
 after known m Available text = record m { last = Some Available }
 after known m Forward text = record m { last = Some Forward }
 
--- what is kept with one further line behind a field that is a 61 or its text
+-- What is kept with one further line behind a field that is a 61 or its text.
 abbrev pub after_more : Message → List ℕ → Message
 after_more m piece = record m { lines = on_last (add_text piece) m.lines }

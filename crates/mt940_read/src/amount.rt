@@ -45,7 +45,7 @@ pub fn amount(text: &[u8], fraction: Fraction, negative: bool) -> Result<i64, Ba
 }
 
 /// The size of an amount in smallest units.
-#[tactic(auto, unfolding(crate::specs::Amounts::is_amount, crate::specs::Amounts::amount, crate::specs::Amounts::amount_checks))]
+#[tactic(auto, unfolding(crate::specs::Amounts::amount, crate::specs::Amounts::amount_checks))]
 fn size(text: &[u8], fraction: Fraction) -> Result<i64, Bad>
     requires { IsTrue (is_amount text.now) }
     ensures { Tells (amount_checks fraction text.now) (pos (amount fraction text.now)) result }

@@ -53,6 +53,7 @@ fn balance_amount(text: &[u8]) -> &[u8]
     after_chars(after_chars(after_chars(text, 1), 6), 3)
 }
 
+/// Whether a balance is a debit, `D`.
 #[tactic(auto, unfolding(crate::specs::Balances::is_debit))]
 fn is_debit(text: &[u8]) -> bool
     ensures { result ≡ is_debit text.now }
@@ -60,6 +61,7 @@ fn is_debit(text: &[u8]) -> bool
     balance_mark(text) == b"D".as_slice()
 }
 
+/// Whether a balance is a credit, `C`.
 fn is_credit(text: &[u8]) -> bool
     ensures { result ≡ is_credit text.now }
 {
@@ -73,6 +75,7 @@ fn is_code(text: &[u8]) -> bool
     text.len() == 3 && are_capitals(text)
 }
 
+/// Whether a text has only capital letters.
 fn are_capitals(text: &[u8]) -> bool
     ensures { result ≡ list_all is_ascii_uppercase text.now }
 {

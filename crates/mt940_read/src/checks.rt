@@ -85,6 +85,7 @@ fn check_own(
     }
 }
 
+/// The check of a 25 and a 28: the text is not empty.
 fn check_some(text: &[u8]) -> Result<i64, Bad>
     ensures { Tells (some_checks text.now) (pos 0) result }
 {
@@ -159,7 +160,7 @@ fn check_page(
 ) -> Result<i64, Bad>
     ensures { Tells (page_checks page.now statements message.now goes_on currency.now opening) opening result }
 {
-    if !is_page(page, message, goes_on, currency, opening) {
+    if !fits_page(page, message, goes_on, currency, opening) {
         return Err(Bad::PageOrder);
     }
     if !has_room_for_statement(page, statements, message, goes_on) {
@@ -168,8 +169,8 @@ fn check_page(
     Ok(opening)
 }
 
-/// Whether a message that opens so goes on with the message before it, where the two belong together.
-fn is_page(
+/// Whether a message that opens so goes on with the message before it, or the two do not belong together.
+fn fits_page(
     page: &Option<Page>,
     message: &Message,
     goes_on: bool,
@@ -206,6 +207,7 @@ fn check_later(known: &Commodities, message: &Message, text: &[u8]) -> Result<i6
     }
 }
 
+/// The checks of a 62, 64 and 65 behind those of its form.
 fn check_later_currency(known: &Commodities, message: &Message, text: &[u8]) -> Result<i64, Bad>
     requires { first_bad (balance_form text.now) ≡ None }
     ensures { Tells (later_currency_checks known.now.entries message.now text.now)
@@ -260,6 +262,7 @@ fn check_reckoned(message: &Message, closing: i64) -> Result<i64, Bad>
     Ok(closing)
 }
 
+/// Whether two balances are one.
 fn is_equal(closing: i64, reckoned: i128) -> bool
     ensures { result ≡ int_eq closing reckoned }
 {
@@ -282,6 +285,7 @@ fn check_line(
     }
 }
 
+/// The checks of a 61 behind those of its form: its amount, and the room of the statement.
 fn check_line_amount(
     page: &Option<Page>,
     last_lines: u64,
@@ -313,6 +317,7 @@ fn check_room(
     Ok(amount)
 }
 
+/// Whether the statement has fewer than 10,000 lines, over all its pages.
 fn has_room_for_line(page: &Option<Page>, last_lines: u64, message: &Message) -> bool
     ensures { result ≡ nat_lt (lines_before page.now last_lines message.now) 10000 }
 {

@@ -19,6 +19,8 @@ pub fn entry_date(value_date: &[u8], value: Day, text: &[u8]) -> Option<Day>
     entry_day(year, value, month, day)
 }
 
+/// The day of a month and a day of the month, in the year or one of its two neighbours, that lies nearest to a day;
+/// the earlier one at a tie; `None` where none of the three years has it.
 #[tactic(auto, unfolding(crate::specs::EntryDate::entry_day))]
 fn entry_day(year: u16, value: Day, month: u32, day: u32) -> Option<Day>
     requires low { 1 ≤ year }

@@ -1,5 +1,6 @@
-//! Reads bank statements in the format MT940 (SWIFT, customer statement message): `read_mt940` gives the statements of
-//! a text, or the first place at which it breaks a rule of the format.
+//! Bank statements in the format MT940 (SWIFT, customer statement message). `read_mt940` gives the statements of a
+//! text, or the first line at which it breaks a rule of the format and what is wrong there. A text is a tree of
+//! messages, of fields, of lines (`specs/Tree.antt`), and the rules are conditions on that tree (`specs/Reading.antt`).
 #![tactic(auto)]
 
 mod amount;

@@ -24,7 +24,7 @@ impl Model for Lines {
 }
 
 impl Lines {
-    /// No lines; it takes no memory.
+    /// No lines.
     pub fn new(alloc: Global) -> Lines
         ensures { result ≡ [] }
     {

@@ -7,8 +7,11 @@ use book_commodity::{Commodities, Many, Text};
 use book_statement::{ReadError, Statement, next_line};
 use std::alloc::Global;
 
-/// The statements of a text in MT940, where the book has these commodities; else the first place at which the text
-/// breaks a rule of the format, with its line and what is wrong there.
+/// The statements of a text in MT940 (SWIFT, customer statement message), in the order of the text; pages of one
+/// statement are joined. `known` are the commodities of the book, whose currencies alone are read. Amounts are in
+/// smallest units of the statement's currency. `Fault` for a text that breaks a rule of the format: the first line at
+/// which a check fails, and the first check that fails there; `NoStatement`, at line 0, where no line begins a message.
+/// `OutOfMemory` where memory runs out. The rules are those of `reading` in `specs/Reading.antt`.
 pub fn read_mt940(
     alloc: Global,
     text: &Text,

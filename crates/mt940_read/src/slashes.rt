@@ -3,27 +3,16 @@ ghost use Rattle.mt940_read.specs.LineField.{before_slashes, behind_slashes};
 
 use book_statement::{text_before, text_behind};
 
-/// What stands before the first double slash, or the whole text.
-pub fn before_slashes(text: &str) -> &str
-    ensures { result.now ≡ before_slashes text.now }
+/// What stands before the first double slash, or the whole text; and what stands behind it, or nothing.
+pub fn parted_by_slashes(text: &str) -> (&str, &str)
+    ensures before { result.0.now ≡ before_slashes text.now }
+    ensures behind { result.1.now ≡ behind_slashes text.now }
 {
     let place = slashes_place(text.as_bytes());
     if place < text.len() {
-        text_before(text, place)
+        (text_before(text, place), text_behind(text, place + 1))
     } else {
-        text
-    }
-}
-
-/// What stands behind the first double slash, or nothing.
-pub fn behind_slashes(text: &str) -> &str
-    ensures { result.now ≡ behind_slashes text.now }
-{
-    let place = slashes_place(text.as_bytes());
-    if place < text.len() {
-        text_behind(text, place + 1)
-    } else {
-        ""
+        (text, "")
     }
 }
 

@@ -26,7 +26,7 @@ impl Model for Statements {
 }
 
 impl Statements {
-    /// No statements; it takes no memory.
+    /// No statements.
     pub fn new(alloc: Global) -> Statements
         ensures { result ≡ [] }
     {

@@ -12,9 +12,9 @@ use Rattle.book_statement.specs.declared.bad.Bad.TheVariants.{CutOff}
 use Rattle.book_statement.proofs.CheckLemmas.{first_fault-append}
 use Rattle.book_statement.proofs.ListLemmas.{each_after-push}
 use Rattle.qif_read.specs.Tree.{Line, Entry, Listing}
-use Rattle.qif_read.specs.Entries.{said}
-use Rattle.qif_read.specs.Sections.{no_entries, section_of, statements_in}
-use Rattle.qif_read.specs.Qif.{end_checks, name_of, name_given, name_behind, account_places}
+use Rattle.qif_read.specs.Kept.{end_checks}
+use Rattle.qif_read.specs.Sections.{no_entries, statements_in}
+use Rattle.qif_read.specs.Qif.{name_of, name_given, name_behind, account_places}
 use Rattle.qif_read.specs.Steps.{nothing, entry_fault, account_fault, end_fault, with_end, name_for, with_list}
 use Rattle.qif_read.specs.declared.form.Form.{Form}
 use Rattle.qif_read.specs.declared.kind.Topic.{Topic}
@@ -23,6 +23,7 @@ use Rattle.book_statement.specs.declared.statement.Statement.{Statement}
 use Rattle.qif_read.specs.declared.reader.Reader.{Reader}
 use Rattle.qif_read.specs.declared.said.Said.{Said}
 use Rattle.qif_read.specs.declared.section.Section.{Section}
+use Rattle.qif_read.proofs.KeptEntries.{said, section_of}
 use Rattle.qif_read.proofs.Growing.{Begun, begun, closed, turned}
 use Rattle.qif_read.proofs.KeptReading.{entry_places, entries_places, listing_places, places}
 use Rattle.qif_read.proofs.KeptReading.{section_in, statements_behind, statements}

@@ -10,8 +10,7 @@ use Rattle.book_statement.specs.declared.fault.StatementFault.{StatementFault}
 use Rattle.book_statement.proofs.CheckLemmas.{first_fault-append}
 use Rattle.book_statement.proofs.ListLemmas.{each_after-push}
 use Rattle.qif_read.specs.Tree.{Line, Entry, Listing}
-use Rattle.qif_read.specs.Entries.{said}
-use Rattle.qif_read.specs.Qif.{line_places, name_given, name_behind}
+use Rattle.qif_read.specs.Qif.{name_given, name_behind}
 use Rattle.qif_read.specs.Steps.{nothing, line_fault, field_fault, with_field}
 use Rattle.qif_read.specs.declared.form.Form.{Form}
 use Rattle.qif_read.specs.declared.kind.Code.{Code}
@@ -20,7 +19,8 @@ use Rattle.qif_read.specs.declared.kind.Topic.TheVariants.{Register, Accounts, P
 use Rattle.qif_read.specs.declared.reader.Reader.{Reader}
 use Rattle.qif_read.specs.declared.said.Said.{Said}
 use Rattle.qif_read.proofs.Growing.{Begun, begun}
-use Rattle.qif_read.proofs.KeptReading.{section_in, statements, entries_places, places}
+use Rattle.qif_read.proofs.KeptEntries.{said}
+use Rattle.qif_read.proofs.KeptReading.{section_in, statements, line_places, entries_places, places}
 use Rattle.qif_read.proofs.PushLemmas.{line_at, said-push, name_said, name_said-push}
 
 -- whether a list has no item

@@ -1,6 +1,8 @@
 pub mod Growing
 pub mod PushLemmas
 pub mod KeptReading
+pub mod KeptEntries
+pub mod SameEntries
 pub mod KeptLemmas
 pub mod AmountLemmas
 pub mod EndLemmas

@@ -11,10 +11,11 @@ use Rattle.book_statement.specs.Lists.{on_last}
 use Rattle.book_statement.specs.Texts.{is_nothing}
 use Rattle.qif_read.specs.QifAmount.{amount}
 use Rattle.qif_read.specs.Tree.{Line, Entry}
-use Rattle.qif_read.specs.Entries.{place_of, first_of, SplitsRest, split_in_front, splits_rest, splits_of, said}
-use Rattle.qif_read.specs.Entries.{amount_said, day_said, statement_line}
-use Rattle.qif_read.specs.Registers.{account_said, is_opening}
-use Rattle.qif_read.specs.Sections.{no_entries, opened_by, begun_by, after_first, with_later, section_of}
+use Rattle.qif_read.specs.Entries.{place_of, first_of}
+use Rattle.qif_read.specs.Kept.{amount_said, day_said, line_said, account_said, opens_with}
+use Rattle.qif_read.specs.Sections.{no_entries}
+use Rattle.qif_read.proofs.KeptEntries.{SplitsKept, split_in_front, splits_rest, splits_of, said}
+use Rattle.qif_read.proofs.KeptEntries.{opened_by, begun_by, after_first, with_later, section_of}
 use Rattle.qif_read.specs.Qif.{last_or}
 use Rattle.qif_read.specs.Steps.{with_memo, with_amount, after_line, after_account_line, nothing, later, with_opening}
 use Rattle.qif_read.specs.Steps.{with_line, with_entry}
@@ -61,17 +62,17 @@ on_last_push change (y ∷ []) x = refl
 on_last_push change (y ∷ z ∷ xs) x = ap (λ l. y ∷ l) (on_last_push change (z ∷ xs) x)
 
 -- the parts before a line, with that line behind them
-abbrev behind_splits : List ℕ → Option (List ℕ) → Option ℤ → List SplitSaid → SplitsRest
+abbrev behind_splits : List ℕ → Option (List ℕ) → Option ℤ → List SplitSaid → SplitsKept
 behind_splits text memo amount [] = record { memo = option_or memo (Some text); amount = amount; splits = [] }
 behind_splits text memo amount (s ∷ ss) =
     record { memo = memo; amount = amount; splits = on_last (with_memo text) (s ∷ ss) }
 
-abbrev amount_behind_splits : ℤ → Option (List ℕ) → Option ℤ → List SplitSaid → SplitsRest
+abbrev amount_behind_splits : ℤ → Option (List ℕ) → Option ℤ → List SplitSaid → SplitsKept
 amount_behind_splits found memo amount [] = record { memo = memo; amount = option_or amount (Some found); splits = [] }
 amount_behind_splits found memo amount (s ∷ ss) =
     record { memo = memo; amount = amount; splits = on_last (with_amount found) (s ∷ ss) }
 
-abbrev splits_then : ℕ → Code → List ℕ → SplitsRest → SplitsRest
+abbrev splits_then : ℕ → Code → List ℕ → SplitsKept → SplitsKept
 splits_then fraction Split text rest =
     record rest { splits = rest.splits ++ record { category = text; memo = None; amount = None } ∷ [] }
 splits_then fraction SplitMemo text rest = behind_splits text rest.memo rest.amount rest.splits
@@ -79,7 +80,7 @@ splits_then fraction SplitAmount text rest = amount_behind_splits
     (amount fraction text) rest.memo rest.amount rest.splits
 splits_then fraction _ text rest = rest
 
-abbrev rest_of : Option (List ℕ) → Option ℤ → List SplitSaid → SplitsRest
+abbrev rest_of : Option (List ℕ) → Option ℤ → List SplitSaid → SplitsKept
 rest_of memo amount splits = record { memo = memo; amount = amount; splits = splits }
 
 -- a line in front and a line behind
@@ -145,7 +146,7 @@ pub splits_of-push : (fraction : ℕ) (fs : List Line) (f : Line)
     → splits_of fraction (fs ++ f ∷ []) ≡ splits_after fraction f.code f.text (splits_of fraction fs)
 splits_of-push fraction fs f =
     let rest = splits_rest fraction fs in
-    ap (λ (r : SplitsRest). r.splits) (splits_rest-push fraction fs f)
+    ap (λ (r : SplitsKept). r.splits) (splits_rest-push fraction fs f)
     ∙ splits_of_then fraction f.code f.text rest.memo rest.amount rest.splits
 
 map-or : {X Y : Type 0} (g : X → Y) (o : Option X) (x : Option X)
@@ -183,21 +184,21 @@ name_said-push fs line _ text = simp (first_of-push, or-none)
 
 first_entry : (name : List ℕ) (s : Said) → with_later (after_first name s) [] ≡ with_entry (no_entries name) s
 first_entry name s =
-    elim (is_opening name s) as (λ t. with_later (if t then opened_by s else begun_by name s) []
+    elim (opens_with name s) as (λ t. with_later (if t then opened_by s else begun_by name s) []
     ≡ (if t then with_opening (no_entries name) (account_said s) (day_said s) (amount_said s) else with_line
-    (no_entries name) (day_said s) (statement_line s)))
+    (no_entries name) (day_said s) (line_said s)))
     [ true ↦ refl | false ↦ refl ]
 
 with_later-push : (s : Section) (later : List Said) (x : Said)
-    → with_later s (later ++ x ∷ []) ≡ with_line (with_later s later) (day_said x) (statement_line x)
+    → with_later s (later ++ x ∷ []) ≡ with_line (with_later s later) (day_said x) (line_said x)
 with_later-push s later x =
     rw (
       map-append day_said later (x ∷ []),
-      map-append statement_line later (x ∷ []),
+      map-append line_said later (x ∷ []),
       fold-append int_max
           (unwrap_or s.day (pos 0)) (map day_said later) (day_said x ∷ []),
       append_assoc s.lines
-          (map statement_line later) (statement_line x ∷ []),
+          (map line_said later) (line_said x ∷ []),
     )
     refl
 

@@ -3,7 +3,7 @@ use Rattle.std.proofs.Common.{◌≡◌, ℕ, ◌+◌, ◌<◌, List, [], ◌∷
 use Rattle.std.specs.Prelude.{unwrap_or}
 use Rattle.std.proofs.lemmas.Int.{ints}
 use Rattle.std.proofs.lemmas.List.{take_more}
-use Rattle.qif_read.specs.Entries.{sum_of_splits}
+use Rattle.qif_read.specs.Kept.{sum_of_splits}
 use Rattle.qif_read.specs.declared.split.SplitSaid.{SplitSaid}
 
 sum_of_splits-push : (ss : List SplitSaid) (s : SplitSaid)

@@ -14,9 +14,9 @@ use Rattle.book_statement.proofs.CheckLemmas.{first_fault-here}
 use Rattle.book_statement.proofs.ListLemmas.{each_after-append}
 use Rattle.qif_read.specs.Kinds.{kind_of, behind_code}
 use Rattle.qif_read.specs.Tree.{Line, Entry, Listing, Rest, entry_of, in_front, rest_after, listings_of}
-use Rattle.qif_read.specs.Sections.{section_of, statements_in}
+use Rattle.qif_read.specs.Sections.{statements_in}
 use Rattle.qif_read.specs.Qif as file
-use Rattle.qif_read.specs.Qif.{line_places, account_places, name_behind, answer_of}
+use Rattle.qif_read.specs.Qif.{account_places, name_behind, answer_of}
 use Rattle.qif_read.specs.Steps.{Takes, end_fault, with_end, with_list, fault_or, answer_after, fault_of, after, fresh}
 use Rattle.qif_read.specs.declared.form.Form.{Form}
 use Rattle.qif_read.specs.declared.kind.LineKind.{LineKind}
@@ -25,7 +25,8 @@ use Rattle.qif_read.specs.declared.kind.Topic.{Topic}
 use Rattle.qif_read.specs.declared.kind.Topic.TheVariants.{Register, Accounts, Passed}
 use Rattle.qif_read.specs.declared.reader.Reader.{Reader}
 use Rattle.qif_read.proofs.Growing.{Begun, begun, closed, turned, fill, grown, fill-grown, fill-closed, fill-end}
-use Rattle.qif_read.proofs.KeptReading.{entry_places, entries_places, listing_places, places}
+use Rattle.qif_read.proofs.KeptEntries.{section_of}
+use Rattle.qif_read.proofs.KeptReading.{line_places, entry_places, entries_places, listing_places, places}
 use Rattle.qif_read.proofs.KeptReading.{statements_behind, statements, result_of, result_same}
 use Rattle.qif_read.proofs.PushLemmas.{nothing-cons}
 use Rattle.qif_read.proofs.KeptLemmas.{is_empty, ended_places, fields_places, so_far, kept_of, has_entry, Knows}

@@ -4,15 +4,14 @@ use Rattle.std.specs.Prelude.{codes}
 use Rattle.jiff_core.specs.Calendar.{days_from_civil, day_count, days_of_years, days_of_months}
 use Rattle.book_commodity.specs.declared.commodity.Commodity.{Commodity}
 use Rattle.book_statement.specs.Dates.{date}
-use Rattle.book_statement.specs.Numbers.{number_onto, units, unit_checks}
+use Rattle.book_statement.specs.Numbers.{number, units, unit_checks}
 use Rattle.book_statement.specs.declared.bad.Bad.TheVariants.{SplitSum, CutOff}
 use Rattle.qif_read.specs.Kinds.{is_header, kind_of}
 use Rattle.qif_read.specs.QifDate.{behind_spaces, numeral, behind_numeral, is_date_form, year_said, day_named}
 use Rattle.qif_read.specs.QifAmount.{unsigned, whole_part, decimal_part, are_commas_placed, without_commas}
 use Rattle.qif_read.specs.QifAmount.{is_number, amount_checks, amount}
-use Rattle.qif_read.specs.Entries.{said}
-use Rattle.qif_read.specs.Registers.{is_in_brackets, inside, is_opening}
-use Rattle.qif_read.specs.Qif.{end_checks, reading}
+use Rattle.qif_read.specs.Registers.{is_in_brackets, inside, is_opening_text}
+use Rattle.qif_read.specs.Qif.{entry_checks, reading}
 use Rattle.qif_read.specs.declared.order.DateOrder.TheVariants.{DayMonth}
 
 abbrev euro : Commodity
@@ -54,8 +53,8 @@ pub shop_is_read : reading euro DayMonth (shop ++ line (codes "$-34.50") ++ line
   } ∷ [];
 } ∷ [])
 unfolding reading is_header kind_of behind_spaces numeral behind_numeral is_date_form year_said day_named unsigned
-    whole_part decimal_part are_commas_placed without_commas is_number amount_checks amount said is_in_brackets
-    inside is_opening end_checks date number_onto units unit_checks days_from_civil day_count days_of_years
+    whole_part decimal_part are_commas_placed without_commas is_number amount_checks amount is_in_brackets inside
+    is_opening_text entry_checks date number units unit_checks days_from_civil day_count days_of_years
     days_of_months
 shop_is_read = refl
 
@@ -65,15 +64,15 @@ pub parts_differ : reading euro DayMonth (shop ++ line (codes "$-34.51") ++ line
   bad = SplitSum (negsuc 123449) (negsuc 123450);
 })
 unfolding reading is_header kind_of behind_spaces numeral behind_numeral is_date_form year_said day_named unsigned
-    whole_part decimal_part are_commas_placed without_commas is_number amount_checks amount said is_in_brackets
-    inside is_opening end_checks date number_onto units unit_checks days_from_civil day_count days_of_years
+    whole_part decimal_part are_commas_placed without_commas is_number amount_checks amount is_in_brackets inside
+    is_opening_text entry_checks date number units unit_checks days_from_civil day_count days_of_years
     days_of_months
 parts_differ = refl
 
 -- the same without the end of the entry
 pub entry_cut_off : reading euro DayMonth (shop ++ line (codes "$-34.50")) ≡ Err (record { line = 11; bad = CutOff })
 unfolding reading is_header kind_of behind_spaces numeral behind_numeral is_date_form year_said day_named unsigned
-    whole_part decimal_part are_commas_placed without_commas is_number amount_checks amount said is_in_brackets
-    inside is_opening end_checks date number_onto units unit_checks days_from_civil day_count days_of_years
+    whole_part decimal_part are_commas_placed without_commas is_number amount_checks amount is_in_brackets inside
+    is_opening_text entry_checks date number units unit_checks days_from_civil day_count days_of_years
     days_of_months
 entry_cut_off = refl

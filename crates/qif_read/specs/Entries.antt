@@ -1,4 +1,4 @@
--- What an entry of a register says (Quicken's description of QIF, codes of a register).
+-- What an entry of a register says, by its lines (Quicken's description of QIF, codes of a register).
 use Rattle.std.specs.Prelude.{ℕ, ◌==◌, List, [], ◌∷◌, map, Option, Some, None, option_map, unwrap_or, if◌then◌else◌, ℤ}
 use Rattle.std.specs.Prelude.{pos, ◌+ℤ◌}
 use Rattle.std.specs.Option.{option_or}
@@ -12,8 +12,6 @@ use Rattle.qif_read.specs.declared.form.Form.{Form}
 use Rattle.qif_read.specs.declared.kind.Code.{Code}
 use Rattle.qif_read.specs.declared.kind.Code.TheVariants.{Date, Total, OtherTotal, Number, Payee, Memo, Category, Split}
 use Rattle.qif_read.specs.declared.kind.Code.TheVariants.{SplitMemo, SplitAmount, Other}
-use Rattle.qif_read.specs.declared.said.Said.{Said}
-use Rattle.qif_read.specs.declared.split.SplitSaid.{SplitSaid}
 
 -- The place of a code among the codes.
 abbrev pub place_of : Code → ℕ
@@ -34,85 +32,90 @@ abbrev pub first_of : Code → List Line → Option (List ℕ)
 first_of code [] = None
 first_of code (f ∷ fs) = if place_of f.code == place_of code then Some f.text else first_of code fs
 
--- The parts of some lines: the first memo and the first amount that go on with a part before them, and the parts that
--- begin among them.
-pub record SplitsRest : Type 0 where
-  pub memo : Option (List ℕ)
-  pub amount : Option ℤ
-  pub splits : List SplitSaid
-
--- The parts with a line more in front.
-abbrev pub split_in_front : ℕ → Code → List ℕ → SplitsRest → SplitsRest
-split_in_front fraction Split text rest = record {
-  memo = None;
-  amount = None;
-  splits = record { category = text; memo = rest.memo; amount = rest.amount } ∷ rest.splits;
-}
-split_in_front fraction SplitMemo text rest = record rest { memo = Some text }
-split_in_front fraction SplitAmount text rest = record rest { amount = Some (amount fraction text) }
-split_in_front fraction _ text rest = rest
-
--- What the lines of an entry say of parts, in smallest units of a commodity with this fraction: each S begins one.
-abbrev pub splits_rest : ℕ → List Line → SplitsRest
-splits_rest fraction [] = record { memo = None; amount = None; splits = [] }
-splits_rest fraction (f ∷ fs) = split_in_front fraction f.code f.text (splits_rest fraction fs)
-
--- The parts of an entry.
-abbrev pub splits_of : ℕ → List Line → List SplitSaid
-splits_of fraction fields = (splits_rest fraction fields).splits
-
--- What the lines of an entry say: the first line of each code counts.
-unfoldable pub said : Form → List Line → Said
-said form fields = record {
-  day = option_map (day_read form.order) (first_of Date fields);
-  total = option_map (amount form.fraction) (first_of Total fields);
-  other_total = option_map (amount form.fraction) (first_of OtherTotal fields);
-  number = first_of Number fields;
-  payee = first_of Payee fields;
-  memo = first_of Memo fields;
-  category = first_of Category fields;
-  splits = splits_of form.fraction fields;
-}
-
 -- The text that a line gives, empty where no such line stands.
 abbrev pub text_or_empty : Option (List ℕ) → List ℕ
 text_or_empty text = unwrap_or text []
 
--- The amount of an entry: its T, or else its U.
-abbrev pub total_said : Said → Option ℤ
-total_said said = option_or said.total said.other_total
+-- The text of the first line with a code, empty where no line has it.
+abbrev pub text_of : Code → List Line → List ℕ
+text_of code fields = text_or_empty (first_of code fields)
 
--- That amount; it only matters where there is one.
-abbrev pub amount_said : Said → ℤ
-amount_said said = unwrap_or (total_said said) (pos 0)
+-- The day of an entry: that of its first D.
+abbrev pub day_in : Form → List Line → Option ℤ
+day_in form fields = option_map (day_read form.order) (first_of Date fields)
+
+-- The amount of an entry: that of its first T, or else that of its first U.
+abbrev pub total_in : Form → List Line → Option ℤ
+total_in form fields =
+    option_or (option_map (amount form.fraction) (first_of Total fields))
+    (option_map (amount form.fraction) (first_of OtherTotal fields))
 
 -- The day of an entry; it only matters where there is one.
-abbrev pub day_said : Said → ℤ
-day_said said = unwrap_or said.day (pos 0)
+abbrev pub day_of : Form → List Line → ℤ
+day_of form fields = unwrap_or (day_in form fields) (pos 0)
 
--- A part as a statement's line has it.
-abbrev pub part_of : SplitSaid → Part
-part_of split = record {
+-- The amount of an entry; it only matters where there is one.
+abbrev pub amount_of : Form → List Line → ℤ
+amount_of form fields = unwrap_or (total_in form fields) (pos 0)
+
+-- A part of an entry: the category of the S that begins it, and the lines behind it up to the next S.
+pub record SplitLines : Type 0 where
+  pub category : List ℕ
+  pub fields : List Line
+
+-- What some lines of an entry mean, whatever stands before them: the lines that continue a part before them, and the
+-- parts that begin among them.
+pub record SplitsRest : Type 0 where
+  pub loose : List Line
+  pub splits : List SplitLines
+
+-- The same with one line more in front: an S begins a part.
+abbrev pub split_in_front : Line → SplitsRest → SplitsRest
+split_in_front f rest =
+    if place_of f.code == place_of Split
+    then record { loose = []; splits = record { category = f.text; fields = rest.loose } ∷ rest.splits }
+    else record { loose = f ∷ rest.loose; splits = rest.splits }
+
+-- What the lines of an entry say of parts.
+abbrev pub splits_rest : List Line → SplitsRest
+splits_rest [] = record { loose = []; splits = [] }
+splits_rest (f ∷ fs) = split_in_front f (splits_rest fs)
+
+-- The parts of an entry.
+abbrev pub splits_in : List Line → List SplitLines
+splits_in fields = (splits_rest fields).splits
+
+-- The amount of a part, in smallest units of a commodity with this fraction: that of its first $.
+abbrev pub split_amount : ℕ → SplitLines → Option ℤ
+split_amount fraction split = option_map (amount fraction) (first_of SplitAmount split.fields)
+
+-- A part as a statement's line has it; its memo is the first E.
+abbrev pub part_of : ℕ → SplitLines → Part
+part_of fraction split = record {
   category = split.category;
-  memo = text_or_empty split.memo;
-  amount = unwrap_or split.amount (pos 0);
+  memo = text_of SplitMemo split.fields;
+  amount = unwrap_or (split_amount fraction split) (pos 0);
 }
 
--- The sum of the amounts of the parts.
-abbrev pub sum_of_splits : List SplitSaid → ℤ
-sum_of_splits [] = pos 0
-sum_of_splits (s ∷ ss) = unwrap_or s.amount (pos 0) +ℤ sum_of_splits ss
+-- The parts of an entry as a statement's line has them.
+abbrev pub parts_in : ℕ → List Line → List Part
+parts_in fraction fields = map (part_of fraction) (splits_in fields)
 
--- The line of a statement that an entry gives: its text is payee and memo, its own reference the number.
-abbrev pub statement_line : Said → StatementLine
-statement_line said = record {
-  day = day_said said;
-  value_day = day_said said;
-  amount = amount_said said;
+-- The sum of the amounts of parts.
+abbrev pub sum_of_parts : List Part → ℤ
+sum_of_parts [] = pos 0
+sum_of_parts (p ∷ ps) = p.amount +ℤ sum_of_parts ps
+
+-- The line of a statement that an entry gives: its text is payee (P) and memo (M), its own reference the number (N).
+abbrev pub line_in : Form → List Line → StatementLine
+line_in form fields = record {
+  day = day_of form fields;
+  value_day = day_of form fields;
+  amount = amount_of form fields;
   kind = [];
-  ref_own = text_or_empty said.number;
+  ref_own = text_of Number fields;
   ref_bank = [];
-  text = joined (text_or_empty said.payee ∷ text_or_empty said.memo ∷ []);
-  category = text_or_empty said.category;
-  parts = map part_of said.splits;
+  text = joined (text_of Payee fields ∷ text_of Memo fields ∷ []);
+  category = text_of Category fields;
+  parts = parts_in form.fraction fields;
 }

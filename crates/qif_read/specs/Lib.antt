@@ -1,4 +1,5 @@
 pub mod Entries
+pub mod Kept
 pub mod Kinds
 pub mod Qif
 pub mod QifAmount

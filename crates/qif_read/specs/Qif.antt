@@ -1,5 +1,5 @@
 -- What a QIF file says: its statements, or the first place at which a check fails with the first failing check there.
-use Rattle.std.specs.Prelude.{ℕ, nat_lt, Bool, ◌||◌, not, List, [], ◌∷◌, ◌++◌, length, map, Option, Result, Err}
+use Rattle.std.specs.Prelude.{ℕ, nat_lt, Bool, ◌||◌, List, [], ◌∷◌, ◌++◌, length, map, Option, Result, Err}
 use Rattle.std.specs.Prelude.{is_some}
 use Rattle.std.specs.Ordering.{int_eq}
 use Rattle.std.specs.List.{list_all}
@@ -14,15 +14,16 @@ use Rattle.book_commodity.specs.declared.commodity.Commodity.{Commodity}
 use Rattle.qif_read.specs.QifDate.{day_named}
 use Rattle.qif_read.specs.QifAmount.{amount_checks}
 use Rattle.qif_read.specs.Tree.{Line, Entry, Listing, listings_of}
-use Rattle.qif_read.specs.Entries.{first_of, splits_of, said, total_said, amount_said, sum_of_splits, text_or_empty}
-use Rattle.qif_read.specs.Registers.{all_said, lines_in, statement_in}
+use Rattle.qif_read.specs.Entries.{first_of, text_of, day_in, total_in, amount_of, splits_in, split_amount, parts_in}
+use Rattle.qif_read.specs.Entries.{sum_of_parts}
+use Rattle.qif_read.specs.Registers.{lines_in, statement_in}
 use Rattle.qif_read.specs.declared.form.Form.{Form}
 use Rattle.qif_read.specs.declared.kind.Code.{Code}
-use Rattle.qif_read.specs.declared.kind.Code.TheVariants.{Date, Total, OtherTotal, Number, SplitMemo, SplitAmount}
+use Rattle.qif_read.specs.declared.kind.Code.TheVariants.{Date, Total, OtherTotal, Number, Split, SplitMemo}
+use Rattle.qif_read.specs.declared.kind.Code.TheVariants.{SplitAmount}
 use Rattle.qif_read.specs.declared.kind.Topic.{Topic}
 use Rattle.qif_read.specs.declared.kind.Topic.TheVariants.{Register, Accounts, Passed}
 use Rattle.qif_read.specs.declared.order.DateOrder.{DateOrder}
-use Rattle.qif_read.specs.declared.said.Said.{Said}
 
 -- What is asked of a line of an entry, before which a part has begun or not: the memo and the amount of a part stand
 -- behind its S, and dates and amounts have their form whether the line counts or not.
@@ -34,22 +35,21 @@ line_checks form in_split SplitMemo text = check in_split FieldForm ∷ []
 line_checks form in_split SplitAmount text = check in_split FieldForm ∷ amount_checks form.fraction text
 line_checks form in_split _ text = []
 
--- The checks of a line of an entry behind others.
+-- The checks of a line of an entry behind others: a part has begun where an S stands among them.
 abbrev pub line_places : Form → List Line → Line → List Place
-line_places form before f =
-    place f.line (line_checks form (not (is_nothing (splits_of form.fraction before))) f.code f.text) ∷ []
+line_places form before f = place f.line (line_checks form (is_some (first_of Split before)) f.code f.text) ∷ []
 
 -- What is asked at the end of an entry of a register: a line ^, a day, an amount, an amount of each part, and that the
 -- parts sum to the amount; then the limits of this project: fewer than 1,000 statements stand before the register, and
 -- fewer than 10,000 lines before the entry (one that gives the opening balance has none before it).
-unfoldable pub end_checks : Bool → ℕ → ℕ → Said → List Check
-end_checks whole lines statements said =
+unfoldable pub entry_checks : Form → Bool → ℕ → ℕ → List Line → List Check
+entry_checks form whole lines statements fields =
+    let sum = sum_of_parts (parts_in form.fraction fields) in
     check whole CutOff
-    ∷ check (is_some said.day) FieldForm
-    ∷ check (is_some (total_said said)) FieldForm
-    ∷ check (list_all (λ split. is_some split.amount) said.splits) FieldForm
-    ∷ check (is_nothing said.splits || int_eq (sum_of_splits said.splits) (amount_said said))
-    (SplitSum (amount_said said) (sum_of_splits said.splits))
+    ∷ check (is_some (day_in form fields)) FieldForm
+    ∷ check (is_some (total_in form fields)) FieldForm
+    ∷ check (list_all (λ split. is_some (split_amount form.fraction split)) (splits_in fields)) FieldForm
+    ∷ check (is_nothing (splits_in fields) || int_eq sum (amount_of form fields)) (SplitSum (amount_of form fields) sum)
     ∷ check (nat_lt statements 1000) TooMany
     ∷ check (nat_lt lines 10000) TooMany ∷ []
 
@@ -60,7 +60,7 @@ last_or before (x ∷ xs) = last_or x xs
 
 -- The name in an entry of a list of accounts.
 abbrev pub name_of : Entry → List ℕ
-name_of entry = text_or_empty (first_of Number entry.fields)
+name_of entry = text_of Number entry.fields
 
 -- The name that a list gives to a register that follows it directly: a list of accounts gives that of its last entry.
 abbrev pub name_given : Topic → List Entry → List ℕ
@@ -74,7 +74,7 @@ name_behind before = last_or [] (map (λ listing. name_given listing.topic listi
 
 -- The statement of a list: only a register gives one.
 abbrev pub statements_of : Form → Topic → List ℕ → List Entry → List Statement
-statements_of form Register name entries = statement_in form name (all_said form entries)
+statements_of form Register name entries = statement_in form name entries
 statements_of form Accounts name entries = []
 statements_of form Passed name entries = []
 
@@ -90,9 +90,9 @@ statements form listings = each_after (statements_behind form) [] listings
 -- The checks of an entry of a register behind others: of its lines, and of its end.
 abbrev pub entry_places : Form → List ℕ → ℕ → List Entry → Entry → List Place
 entry_places form name count before entry =
-    let lines = lines_in name (all_said form before) in
+    let lines = lines_in form name before in
     each_after (line_places form) [] entry.fields
-    ++ place entry.last (end_checks entry.whole (length lines) count (said form entry.fields)) ∷ []
+    ++ place entry.last (entry_checks form entry.whole (length lines) count entry.fields) ∷ []
 
 -- Of an entry of a list of accounts only the end is checked.
 abbrev pub account_places : List Entry → Entry → List Place

@@ -14,12 +14,12 @@ use Rattle.book_statement.specs.declared.read_error.ReadError.TheVariants.{Fault
 use Rattle.qif_read.specs.Kinds.{behind_code}
 use Rattle.qif_read.specs.QifDate.{day_read}
 use Rattle.qif_read.specs.QifAmount.{amount}
-use Rattle.qif_read.specs.Entries.{text_or_empty, amount_said, day_said, statement_line}
-use Rattle.qif_read.specs.Registers.{account_said, is_opening}
+use Rattle.qif_read.specs.Entries.{text_or_empty}
+use Rattle.qif_read.specs.Kept.{amount_said, day_said, line_said, account_said, opens_with, end_checks}
 use Rattle.qif_read.specs.Sections.{no_entries, statements_in}
 use Rattle.book_statement.specs.declared.statement.Statement.{Statement}
 use Rattle.book_statement.specs.declared.statement_line.StatementLine.{StatementLine}
-use Rattle.qif_read.specs.Qif.{line_checks, end_checks, answer_of}
+use Rattle.qif_read.specs.Qif.{line_checks, answer_of}
 use Rattle.qif_read.specs.declared.form.Form.{Form}
 use Rattle.qif_read.specs.declared.kind.Code.{Code}
 use Rattle.qif_read.specs.declared.kind.Code.TheVariants.{Date, Total, OtherTotal, Number, Payee, Memo, Category, Split}
@@ -96,7 +96,7 @@ after_account_line said _ text = said
 
 -- Whether an entry gives the opening balance of a register: its first entry alone does.
 abbrev pub opens : Section → Said → Bool
-opens section said = is_none section.day && is_opening section.account said
+opens section said = is_none section.day && opens_with section.account said
 
 -- The later of two days, of which the first may be missing.
 abbrev pub later : Option ℤ → ℤ → ℤ
@@ -117,7 +117,7 @@ with_line section day line =
 abbrev pub with_entry : Section → Said → Section
 with_entry section said =
     if opens section said then with_opening section (account_said said) (day_said said) (amount_said said)
-    else with_line section (day_said said) (statement_line said)
+    else with_line section (day_said said) (line_said said)
 
 -- The fault of a line in a list, where one is known already or the line has one.
 abbrev pub field_fault : Topic → Form → Reader → ℕ → Code → List ℕ → Option StatementFault

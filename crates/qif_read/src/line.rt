@@ -1,6 +1,7 @@
 ghost use Rattle.std.specs.Prelude.{◌≡◌, true, false, Some, IfOk, MatchOption};
-ghost use Rattle.qif_read.specs.Entries.{statement_line, text_or_empty, total_said};
-ghost use Rattle.qif_read.specs.Registers.{account_said, inside, is_in_brackets, is_opening};
+ghost use Rattle.qif_read.specs.Entries.{text_or_empty};
+ghost use Rattle.qif_read.specs.Kept.{account_said, line_said, opens_with, total_said};
+ghost use Rattle.qif_read.specs.Registers.{inside, is_in_brackets};
 
 use crate::said::Said;
 use book_commodity::{Day, OutOfMemory, Text};
@@ -26,10 +27,10 @@ pub fn into_text(alloc: Global, text: Option<Text>) -> Text
 
 /// The account that an entry names in brackets, where it gives the opening balance of an account with this name, or of
 /// one without a name.
-#[tactic(auto, unfolding(crate::specs::Registers::is_opening))]
+#[tactic(auto, unfolding(crate::specs::Registers::is_opening_text))]
 pub fn opening_account<'a>(name: &str, said: &'a Said) -> Option<&'a str>
-    ensures { MatchOption result (is_opening name.now said.now ≡ false)
-        (λ account. (is_opening name.now said.now ≡ true) × (account.now ≡ account_said said.now)) }
+    ensures { MatchOption result (opens_with name.now said.now ≡ false)
+        (λ account. (opens_with name.now said.now ≡ true) × (account.now ≡ account_said said.now)) }
 {
     if text_or_empty(&said.payee) != "Opening Balance" {
         return None;
@@ -64,7 +65,7 @@ pub fn statement_line(
 ) -> Result<StatementLine, OutOfMemory>
     requires day { said.day ≡ Some day }
     requires amount { total_said said ≡ Some amount }
-    ensures { IfOk result (λ line. line ≡ statement_line said) }
+    ensures { IfOk result (λ line. line ≡ line_said said) }
 {
     let mut text = into_text(alloc, said.payee);
     add_piece(alloc, &mut text, text_or_empty(&said.memo))?;

@@ -11,9 +11,11 @@ use book_commodity::{Commodity, Many, Text};
 use book_statement::{ReadError, Statement, next_line};
 use std::alloc::Global;
 
-/// The statements that a QIF file gives, in a currency and an order of day and month; or else its fault with its line:
-/// exactly what `reading` of `specs/Qif` says of the text. Amounts are in smallest units of the currency. It goes over
-/// the text once, and takes memory for what the statements hold (Quicken's description of QIF).
+/// The statements of a QIF file (Quicken's description of QIF), one for each register with an entry, in the order of
+/// the file. The file says neither its currency nor which number of a date is the month: both are handed in. Amounts
+/// are in smallest units of the currency. `Fault` for a file that breaks a rule of the format: the first line at which
+/// a check fails, and the first check that fails there; `NoStatement`, at line 0, where no register has an entry.
+/// `OutOfMemory` where memory runs out. The rules are those of `reading` in `specs/Qif.antt`.
 #[tactic(auto, unfolding(crate::specs::Qif::reading))]
 pub fn read_qif(
     alloc: Global,
@@ -22,7 +24,7 @@ pub fn read_qif(
     order: DateOrder,
 ) -> Result<Many<Statement>, ReadError>
     requires { IsFraction currency.now.fraction }
-    ensures statements { Gives (reading currency.now order text.now) result }
+    ensures exact { Gives (reading currency.now order text.now) result }
 {
     let Ok(name) = currency.name.copy() else {
         return Err(ReadError::OutOfMemory);

@@ -28,14 +28,14 @@ impl Reader {
     ghost use Rattle.std.specs.Prelude.{◌≡◌, ◌+◌, ◌<◌, ◌^◌, true, false, None, Some, IfErr, IfOk, OnOk};
     ghost use Rattle.book_statement.specs.Checks.{Gives, first_bad};
     ghost use Rattle.book_statement.specs.Currencies.{IsFraction};
-    ghost use Rattle.qif_read.specs.Entries.{total_said};
+    ghost use Rattle.qif_read.specs.Kept.{total_said};
     ghost use Rattle.qif_read.specs.Kinds.{kind_of};
     ghost use Rattle.qif_read.specs.Qif.{answer_of};
     ghost use Rattle.qif_read.specs.Steps.{Takes, account_end_fault, after, answer_after, checks_at_end, end_fault};
     ghost use Rattle.qif_read.specs.Steps.{entry_fault, fault_of, field_fault, fresh, with_account, with_end};
     ghost use Rattle.qif_read.specs.Steps.{with_field, with_list, with_transaction};
 
-    /// The reader before the first line; it takes no memory.
+    /// The reader before the first line.
     pub fn new(alloc: Global) -> Reader
         ensures { result ≡ fresh }
     {
@@ -173,7 +173,7 @@ impl Reader {
     }
 
     /// Checks an entry of a register at its end, and gives its day and its amount.
-    #[tactic(auto, unfolding(crate::specs::Qif::end_checks))]
+    #[tactic(auto, unfolding(crate::specs::Kept::end_checks))]
     fn check_end(&self, whole: bool) -> Result<(Day, i64), Bad>
         ensures fine { IfOk result (λ _. first_bad (checks_at_end whole self.now) ≡ None) }
         ensures day { IfOk result (λ found. self.now.said.day ≡ Some found.0) }

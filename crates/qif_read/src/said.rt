@@ -22,10 +22,10 @@ pub struct Said {
 impl Said {
     ghost use Rattle.std.specs.Prelude.{◌≡◌, None};
     ghost use Rattle.book_statement.specs.Currencies.{IsFraction};
-    ghost use Rattle.qif_read.specs.Entries.{total_said};
+    ghost use Rattle.qif_read.specs.Kept.{total_said};
     ghost use Rattle.qif_read.specs.Steps.{Takes, nothing, line_fault, after_line, after_account_line};
 
-    /// What an entry says before its first line; it takes no memory.
+    /// What an entry says before its first line.
     pub fn nothing(alloc: Global) -> Said
         ensures { result ≡ nothing }
     {

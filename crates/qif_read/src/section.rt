@@ -17,12 +17,11 @@ pub struct Section {
 
 impl Section {
     ghost use Rattle.std.specs.Prelude.{◌≡◌, Some, false, true, IfOk, OnOk, MatchOption, option_to_list};
-    ghost use Rattle.qif_read.specs.Entries.{total_said};
-    ghost use Rattle.qif_read.specs.Registers.{account_said};
+    ghost use Rattle.qif_read.specs.Kept.{account_said, total_said};
     ghost use Rattle.qif_read.specs.Sections.{no_entries, statements_in};
     ghost use Rattle.qif_read.specs.Steps.{later, opens, with_entry, with_line, with_opening};
 
-    /// A register without an entry, of an account with this name; it takes no memory.
+    /// A register without an entry, of an account with this name.
     pub fn new(alloc: Global, account: Text) -> Section
         ensures { result ≡ no_entries account }
     {

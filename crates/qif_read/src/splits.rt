@@ -24,10 +24,10 @@ impl Splits {
     ghost use Rattle.std.specs.List.{list_all};
     ghost use Rattle.book_statement.specs.Lists.{on_last};
     ghost use Rattle.book_statement.specs.Texts.{is_nothing};
-    ghost use Rattle.qif_read.specs.Entries.{part_of, sum_of_splits};
+    ghost use Rattle.qif_read.specs.Kept.{part_said, sum_of_splits};
     ghost use Rattle.qif_read.specs.Steps.{begun_split, with_memo, with_amount};
 
-    /// No parts; it takes no memory.
+    /// No parts.
     pub fn new(alloc: Global) -> Splits
         ensures { result ≡ [] }
     {
@@ -97,7 +97,7 @@ impl Splits {
 
     /// The parts as a line of a statement has them.
     pub fn into_parts(self, alloc: Global) -> Result<Many<Part>, OutOfMemory>
-        ensures { IfOk result (λ parts. parts ≡ map part_of self) }
+        ensures { IfOk result (λ parts. parts ≡ map part_said self) }
     {
         let mut parts = Vec::new(alloc);
         let Splits { items } = self;

@@ -28,7 +28,7 @@ use Rattle.book_statement.specs.declared.fault.StatementFault.{StatementFault}
 use Rattle.book_statement.specs.declared.level.Level.{Level}
 use Rattle.book_statement.specs.declared.level.Level.TheVariants as level
 
--- the name of what is wrong
+-- The name of what is wrong.
 abbrev pub name_of : Bad → List ℕ
 name_of NoStatement = codes "NoStatement"
 name_of FieldOrder = codes "FieldOrder"
@@ -49,12 +49,13 @@ name_of (SplitSum said reckoned) = codes "SplitSum"
 name_of CutOff = codes "CutOff"
 name_of TooMany = codes "TooMany"
 
--- the name of a level of totals, and of what is counted, behind a space
+-- The level of a total, behind a space (BAI2: account, group and file).
 abbrev pub level_name : Level → List ℕ
 level_name level.Account = codes " Account"
 level_name level.Group = codes " Group"
 level_name level.File = codes " File"
 
+-- What a count is of, behind a space (BAI2 records 49, 98 and 99).
 abbrev pub count_name : CountOf → List ℕ
 count_name of.AccountRecords = codes " AccountRecords"
 count_name of.GroupAccounts = codes " GroupAccounts"
@@ -62,11 +63,11 @@ count_name of.GroupRecords = codes " GroupRecords"
 count_name of.FileGroups = codes " FileGroups"
 count_name of.FileRecords = codes " FileRecords"
 
--- what is said and what is reckoned
+-- What is said and what is reckoned.
 abbrev pub sums : ℤ → ℤ → List ℕ
 sums said reckoned = codes " said " ++ signed_decimal said ++ codes " reckoned " ++ signed_decimal reckoned
 
--- what stands behind the name
+-- What stands behind the name.
 abbrev pub details : Bad → List ℕ
 details (BalanceMismatch said reckoned) = sums said reckoned
 details (ControlTotal which said reckoned) = level_name which ++ sums said reckoned
@@ -74,7 +75,7 @@ details (Count what said reckoned) = count_name what ++ sums said reckoned
 details (SplitSum said reckoned) = sums said reckoned
 details _ = []
 
--- the line of a fault
+-- The line of a fault.
 abbrev pub fault_row : StatementFault → List ℕ
 fault_row fault =
     codes "line " ++ decimal fault.line ++ codes ": " ++ name_of fault.bad ++ details fault.bad ++ 10 ∷ []

@@ -1,10 +1,10 @@
--- What the words of the program ask for.
+-- The fraction that the words of the program name for a QIF file.
 use Rattle.std.specs.Prelude.{⊤}
 use Rattle.book_statement.specs.Currencies.{IsFraction}
 use Rattle.show_statements.specs.declared.asked.Format.{Format}
 use Rattle.show_statements.specs.declared.asked.Format.TheVariants.{Mt940, Bai2, Qif}
 
--- a QIF file is read in a currency with a fraction from 1 to 10^9
+-- A QIF file is read in a currency with a fraction from 1 to 10^9.
 abbrev pub HasFraction : Format → Type 0
 HasFraction Mt940 = ⊤
 HasFraction Bai2 = ⊤

@@ -2,6 +2,8 @@ ghost use Rattle.std.specs.Prelude.{◌≡◌, ◌++◌, OnOk};
 ghost use Rattle.show_statements.specs.Rows.{
   amount_or_none,
   balances,
+  count_of_lines,
+  counts,
   line_row,
   line_rows,
   part,
@@ -114,12 +116,22 @@ pub fn add_counts(
     alloc: Global,
     out: &mut Vec<u8>,
     statements: &[Statement],
-) -> Result<(), AllocError> {
+) -> Result<(), AllocError>
+    ensures { OnOk result (out.new.items ≡ out.old.items ++ counts statements.now) }
+{
     let count = statements.len();
+    let lines = count_lines(statements);
+    let text = format!(in alloc; "{count} statements, {lines} lines\n")?;
+    out.extend_from_slice(text.as_bytes())
+}
+
+/// How many lines the statements have together.
+fn count_lines(statements: &[Statement]) -> u64
+    ensures { result ≡ count_of_lines statements.now }
+{
     let mut lines = 0u64;
     for statement in statements {
         lines = lines.saturating_add(statement.lines.len() as u64);
     }
-    let text = format!(in alloc; "{count} statements, {lines} lines\n")?;
-    out.extend_from_slice(text.as_bytes())
+    lines
 }

@@ -4,7 +4,7 @@
 /// A file, how many lines its statement has, the statement, and its lines; a text is empty where no answer named it.
 pub(super) type Case = (&'static str, usize, &'static str, &'static str);
 
-pub(super) const CASES: [Case; 32] = [
+pub(super) const CASES: [Case; 33] = [
     (
         ":20:X\n:25:ACC87\n:28:1\n:60F:C240101EUR1,\n:61:240102C2,NMSCREF\n:62F:C240103EUR3,\n",
         1,
@@ -462,5 +462,21 @@ pub(super) const CASES: [Case; 32] = [
         2,
         "NL01BANK0123456789|2|85000|84400|2024-02-28",
         "2024-02-09 2024-02-09 -300 NMSC|COFFEE||\n2024-02-09 2024-02-09 -300 NMSC|COFFEE||\n",
+    ),
+    (
+        ":20:STMT345\n:25:ACC9\n:28C:249/1\n:60F:C240331EUR434,74\n:61:240109D2932,38FCHK\n\
+            :61:240122RD3118,02NTRFR6\n:86:COFFEE\n:61:2401260124C4772,78FCHK\n:86:COFFEE\n\
+            :61:2401230125RD3118,02NTRFNONREF\n:86:ünï\n:61:240303RD2629,67NMSCRENT//B45\n\
+            :61:240304RD4940,65S103RENT\n:86:COFFEE\n:61:240316D930,78NMSCRENT\n:86:\n\
+            :61:2403200320C2516,70NMSCN1//B98\nmore of 61\n:86:a  b\nsecond line \n:62M:C240331EUR17667,42\n\
+            :20:STMT815\n:25P:ACC9\n:28C:249/2\n:60M:C240331EUR17667,42\n\
+            :61:2401290130C3443,16S103NONREF//B88\n:61:240208D4770,96NMSCN1\n:86:a  b\n\
+            :61:240229RD149,05FCHKNONREF//B3\n:86:a  b\n:61:2403010301D0,12FCHKR11\n\
+            :61:2403040306RD2629,67FCHKNONREF//B5\n:86:ünï\nsecond line \n:61:240316C2516,70FCHKRENT\n\
+            :86:a  b\nsecond line \n:61:2403210320C0,28FCHK\n:86:January rent\nsecond line \n\
+            :62F:C240331EUR21635,20\n",
+        15,
+        "ACC9|249|43474|2163520|2024-03-31",
+        "",
     ),
 ];

@@ -1,10 +1,9 @@
 use Rattle.std.proofs.Common.{◌≡◌, ◌+◌, ℕ, List, [], length, refl, sym, subst, ap, ◌∙◌, arith}
-use Rattle.std.proofs.Common.{Result, Err, rules}
+use Rattle.std.proofs.Common.{Err, rules}
 use Rattle.std.proofs.lemmas.Bool.{eqb-true}
 use Rattle.std.proofs.lemmas.List.{nil_from_length}
 use Rattle.std.proofs.lemmas.Result.{err_from_is_err_and}
 use Rattle.book_statement.specs.Checks.{Gives}
-use Rattle.book_statement.specs.declared.fault.StatementFault.{StatementFault}
 use Rattle.book_statement.specs.declared.statement.Statement.{Statement}
 use Rattle.bai2_read.specs.Reading.{reading}
 use Rattle.bai2_read.proofs.FileLemmas.{has_tree, reads_tree}
@@ -18,8 +17,8 @@ loop-rest-init c =
       so_far =
           subst (λ (rest : List ℕ). SoFar c.args.known.now.entries c.new-reader.result 0 rest text)
           (sym c.as_str-rest.ensures)
-          (first_so_far c.args.known.now.entries c.new-reader.result text c.new-reader.ensures.context
-          c.new-reader.ensures.pending);
+          (first_so_far c.args.known.now.entries c.new-reader.result text
+          (c.new-reader.ensures c.args.known.now.entries));
       utf8 = c.as_str-rest.utf8;
       within = omega (arith, ap (λ (l : List ℕ). length l) c.as_str-rest.ensures);
     }
@@ -60,9 +59,8 @@ returns c =
     nil_from_length c.loop-rest.rest.now
     (eqb-true (length c.loop-rest.rest.now) 0 (sym c.is_empty.ensures ∙ c.loop-rest-test.false)) in
     let exact : Gives (reading known text) c.end.result =
-    subst (λ (said : Result (List Statement) StatementFault). Gives said c.end.result)
-    (end_so_far known c.loop-rest.reader c.loop-rest.lines c.loop-rest.rest.now text c.loop-rest.invariant.so_far none)
-    c.end.ensures in
+    end_so_far known c.loop-rest.reader c.loop-rest.lines c.loop-rest.rest.now text c.end.result
+    c.loop-rest.invariant.so_far none c.end.ensures in
     record {
       exact = exact;
       tree = has_tree known text c.end.result exact;

@@ -2,7 +2,7 @@ use Rattle.std.proofs.Common.{◌≡◌, ℤ, ◌+ℤ◌, to_z, of_z, ap, ◌∙
 use mir.Syntax.{w128}
 use Rattle.std.specs.Ordering.{int_eq}
 use Rattle.std.proofs.lemmas.Int.{ints}
-use Rattle.bai2_read.specs.Context.{sum_of_lines}
+use Rattle.bai2_read.specs.Statements.{sum_of_lines}
 use Rattle.bai2_read.proofs.statements.do_tie.Goals as goal
 
 pub returns : goal.returns

@@ -1,7 +1,7 @@
 use Rattle.std.proofs.Common.{◌≡◌, ◌+◌, take, arith, ◌+ℤ◌}
 use Rattle.std.proofs.lemmas.Int.{ints}
-use Rattle.bai2_read.specs.Context.{sum_of_lines}
-use Rattle.bai2_read.proofs.ContextLemmas.{sum_of_lines_more}
+use Rattle.bai2_read.specs.Statements.{sum_of_lines}
+use Rattle.bai2_read.proofs.TotalLemmas.{sum_of_lines_more}
 use Rattle.bai2_read.proofs.statements.sum_of_lines.Goals as goal
 
 pub loop-line-preserved : goal.loop-line-preserved

@@ -1,5 +1,5 @@
 use Rattle.std.proofs.Common.{◌≡◌, ◌*◌, ◌^◌, take, pos, neg_ℤ, ◌≤ℤ◌}
-use Rattle.bai2_read.specs.Context.{sum_of_lines}
+use Rattle.bai2_read.specs.Statements.{sum_of_lines}
 use Rattle.bai2_read.proofs.statements.sum_of_lines.Given as goal
 
 abbrev pub invariant-loop-line : goal.invariant-loop-line

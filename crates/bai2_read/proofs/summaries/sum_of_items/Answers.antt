@@ -1,7 +1,7 @@
 use Rattle.std.proofs.Common.{◌≡◌, ◌≤◌, List, ℕ, length, ◌+ℤ◌, ℤ, to_z, of_z, w64, arith}
 use mir.Syntax.{w128}
 use Rattle.std.proofs.lemmas.Int.{ints}
-use Rattle.bai2_read.specs.Summaries.{items, sum_of_items}
+use Rattle.bai2_read.specs.Summaries.{items, items_after, sum_of_items}
 use Rattle.bai2_read.proofs.SummaryLemmas.{begins_rest, items_rest, length-after_fields-le, sum_more}
 use Rattle.bai2_read.proofs.summaries.sum_of_items.Goals as goal
 
@@ -9,9 +9,11 @@ pub loop-rest-init : goal.loop-rest-init
 loop-rest-init c =
     let shorter : length c.after_fields-rest.result.now ≤ length c.args.body.now =
     rw c.after_fields-rest.ensures (length-after_fields-le 2 c.args.body.now) in
+    let whole : sum_of_items (items c.args.body.now) ≡ sum_of_items (items_after 0 c.after_fields-rest.result.now) =
+    items_rest (λ (its : List (List ℕ)). sum_of_items its) c.args.body.now c.after_fields-rest.result.now
+    c.after_fields-rest.ensures in
     record {
-      whole = items_rest (λ (its : List (List ℕ)). sum_of_items its) c.args.body.now c.after_fields-rest.result.now
-          c.after_fields-rest.ensures;
+      whole = omega (arith, ints, whole);
       begins = begins_rest c.args.body.now c.after_fields-rest.result.now c.after_fields-rest.ensures;
       shorter = shorter;
       low = omega (arith, ints);

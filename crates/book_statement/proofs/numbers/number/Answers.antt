@@ -1,8 +1,11 @@
 use Rattle.std.proofs.Common.{◌-◌, get_or, sym, ap, ◌∙◌, arith}
 use Rattle.std.proofs.lemmas.List.{drop_all}
-use Rattle.book_statement.specs.Numbers.{number_onto}
-use Rattle.book_statement.proofs.NumberLemmas.{digit_at, power_below, power_more, number_onto-digit}
+use Rattle.book_statement.proofs.NumberLemmas.{digit_at, power_below, power_more, number_onto, number_onto-digit}
+use Rattle.book_statement.proofs.NumberLemmas.{number_onto-none}
 use Rattle.book_statement.proofs.numbers.number.Goals as goal
+
+pub loop-digit-init : goal.loop-digit-init
+loop-digit-init c = (number_onto-none c.args.digits.now, omega arith)
 
 pub overflow_mul-number : goal.overflow_mul-number
 overflow_mul-number c = omega (arith, power_below c.loop-digit.digit-index 18 (omega arith), c.loop-digit.invariant.1)

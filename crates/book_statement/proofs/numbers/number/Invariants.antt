@@ -1,5 +1,6 @@
 use Rattle.std.proofs.Common.{drop, ◌≡◌, ◌<◌, ◌^◌}
-use Rattle.book_statement.specs.Numbers.{number, number_onto}
+use Rattle.book_statement.specs.Numbers.{number}
+use Rattle.book_statement.proofs.NumberLemmas.{number_onto}
 use Rattle.book_statement.proofs.numbers.number.Given as goal
 
 -- the number so far, with the digits that are left, is the number of all

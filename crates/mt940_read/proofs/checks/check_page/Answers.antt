@@ -5,13 +5,13 @@ use Rattle.mt940_read.specs.Pages.{joins_page, agrees}
 use Rattle.mt940_read.proofs.CheckedLemmas.{page_wrong, page_many, page_right}
 use Rattle.mt940_read.proofs.checks.check_page.Goals as goal
 
-pub returns-then-not-is_page : goal.returns-then-not-is_page
-returns-then-not-is_page c =
+pub returns-then-not-fits_page : goal.returns-then-not-fits_page
+returns-then-not-fits_page c =
     let same : c.args.opening ≡ to_z w64 (of_z w64 c.args.opening) = omega (arith, ints) in
     page_wrong c.args.page.now c.args.statements c.args.message.now c.args.goes_on c.args.currency.now c.args.opening
     (ap (λ z. not (joins_page c.args.page.now c.args.message.now.account c.args.goes_on) || agrees c.args.page.now
     c.args.currency.now z c.args.goes_on) same
-    ∙ sym c.is_page.ensures ∙ c.if-not-is_page.true)
+    ∙ sym c.fits_page.ensures ∙ c.if-not-fits_page.true)
 
 pub returns-then-not-has_room_for_statement : goal.returns-then-not-has_room_for_statement
 returns-then-not-has_room_for_statement c =
@@ -19,7 +19,7 @@ returns-then-not-has_room_for_statement c =
     page_many c.args.page.now c.args.statements c.args.message.now c.args.goes_on c.args.currency.now c.args.opening
     (ap (λ z. not (joins_page c.args.page.now c.args.message.now.account c.args.goes_on) || agrees c.args.page.now
     c.args.currency.now z c.args.goes_on) same
-    ∙ sym c.is_page.ensures ∙ c.if-not-is_page.false)
+    ∙ sym c.fits_page.ensures ∙ c.if-not-fits_page.false)
     (sym c.has_room_for_statement.ensures ∙ c.if-not-has_room_for_statement.true)
 
 pub returns : goal.returns
@@ -28,7 +28,7 @@ returns c =
       page_right c.args.page.now c.args.statements c.args.message.now c.args.goes_on c.args.currency.now c.args.opening
           (ap (λ z. not (joins_page c.args.page.now c.args.message.now.account c.args.goes_on) || agrees
           c.args.page.now c.args.currency.now z c.args.goes_on) same
-          ∙ sym c.is_page.ensures ∙ c.if-not-is_page.false)
+          ∙ sym c.fits_page.ensures ∙ c.if-not-fits_page.false)
           (sym c.has_room_for_statement.ensures ∙ c.if-not-has_room_for_statement.false),
       omega (arith, ints),
     )

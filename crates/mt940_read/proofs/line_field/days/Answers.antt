@@ -1,8 +1,8 @@
-use Rattle.std.proofs.Common.{sym, ap, ◌∙◌}
+use Rattle.std.proofs.Common.{rules, sym, ap, ◌∙◌}
 use Rattle.book_statement.specs.Dates.{short_date}
 use Rattle.book_statement.specs.Numbers.{has_digits}
 use Rattle.book_statement.specs.Texts.{is_nothing}
-use Rattle.mt940_read.specs.LineField.{value_part}
+use Rattle.mt940_read.specs.LineField.{line_day, line_days, value_day, value_part}
 use Rattle.mt940_read.proofs.FormLemmas.{short_digits, entry_digits}
 use Rattle.mt940_read.proofs.line_field.days.Goals as goal
 
@@ -14,5 +14,17 @@ entry_date-requires-clause-value c =
 
 pub entry_date-requires-clause-entry : goal.entry_date-requires-clause-entry
 entry_date-requires-clause-entry c =
-    ap (has_digits 4 4) c.entry_part-entry.ensures
-    ∙ entry_digits c.args.text.now (sym (ap is_nothing c.entry_part-entry.ensures) ∙ sym c.if-is_empty.ensures)
+    ap (has_digits 4 4) c.requires
+    ∙ entry_digits c.args.text.now (sym (ap is_nothing c.requires) ∙ sym c.if-is_empty.ensures)
+
+pub returns-then-is_empty : goal.returns-then-is_empty
+unfolding line_days line_day value_day
+returns-then-is_empty c = search rules
+
+pub returns-in_err-day : goal.returns-in_err-day
+unfolding line_days line_day value_day
+returns-in_err-day c = search rules
+
+pub returns : goal.returns
+unfolding line_days line_day value_day
+returns c = search rules

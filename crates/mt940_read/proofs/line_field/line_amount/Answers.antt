@@ -4,4 +4,4 @@ use Rattle.mt940_read.proofs.FormLemmas.{line_parts}
 use Rattle.mt940_read.proofs.line_field.line_amount.Goals as goal
 
 pub amount-requires : goal.amount-requires
-amount-requires c = ap is_amount c.amount_part.ensures ∙ (line_parts c.args.text.now c.requires).amount
+amount-requires c = ap is_amount c.parts_of-parts.ensures.amount ∙ (line_parts c.args.text.now c.requires).amount

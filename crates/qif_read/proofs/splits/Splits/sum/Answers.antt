@@ -1,7 +1,7 @@
 use Rattle.std.proofs.Common.{◌≡◌, ◌+◌, ◌<◌, List, length, get_or, take, ap, ◌∙◌, sym, arith, pos, ◌+ℤ◌}
 use Rattle.std.specs.Prelude.{unwrap_or}
 use Rattle.std.proofs.lemmas.Int.{ints}
-use Rattle.qif_read.specs.Entries.{sum_of_splits}
+use Rattle.qif_read.specs.Kept.{sum_of_splits}
 use Rattle.qif_read.proofs.SplitLemmas.{sum_of_splits-take}
 use Rattle.qif_read.specs.declared.split.SplitSaid.{SplitSaid}
 use Rattle.qif_read.proofs.splits.Splits.sum.Goals as goal

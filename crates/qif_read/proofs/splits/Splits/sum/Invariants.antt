@@ -1,5 +1,5 @@
 use Rattle.std.proofs.Common.{◌≡◌, ◌*◌, ◌^◌, take, pos, ◌-ℤ◌, ◌≤ℤ◌}
-use Rattle.qif_read.specs.Entries.{sum_of_splits}
+use Rattle.qif_read.specs.Kept.{sum_of_splits}
 use Rattle.qif_read.proofs.splits.Splits.sum.Given as goal
 
 abbrev pub invariant-loop-split : goal.invariant-loop-split
