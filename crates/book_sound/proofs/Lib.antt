@@ -1,2 +1,14 @@
+pub mod BookFrames
+pub mod CheckFrames
+pub mod DismissalFrames
+pub mod DrawnFrames
+pub mod LineFrames
+pub mod PriceFrames
+pub mod ScheduleFrames
+pub mod SoundFacts
+pub mod SplitFrames
+pub mod StatementFrames
+pub mod TableFrames
+pub mod TransactionFrames
 pub mod WalkLemmas
 pub mod Worked

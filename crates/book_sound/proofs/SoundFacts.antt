@@ -1,0 +1,98 @@
+-- What follows from the rules that the things of a sound book keep.
+use Rattle.std.proofs.Common.{◌≡◌, ℕ, ◌^◌, ◌&&◌, nat_lt, Bool, true, false, if◌then◌else◌, All, List, [], ◌∷◌, Some}
+use Rattle.std.proofs.Common.{refl, sym, ap, ◌∙◌, eq-eqb, arith}
+use Rattle.std.proofs.lemmas.Bool.{and_parts, not-true, or_parts}
+use Rattle.std.proofs.lemmas.Bool.Decides.{nat_tests}
+use Rattle.std.proofs.lemmas.List.Elements.{All-cons, All-nil}
+use Rattle.book_commodity.specs.Rules.{IsSoundTable, stands_before}
+use Rattle.book_commodity.specs.Table.{Rises, value_of}
+use Rattle.book_commodity.specs.declared.commodity.Commodity.{Commodity}
+use Rattle.book_accounts.specs.Soundness.{IsTree}
+use Rattle.book_accounts.specs.Tree.{IsRooted}
+use Rattle.book_accounts.proofs.RootLemmas.{rooted_of, tree_of}
+use Rattle.book_splits.specs.Check as transaction
+use Rattle.book_splits.specs.declared.transaction.Txn.{Txn}
+use Rattle.book_splits.proofs.CheckLemmas.{sound_of}
+use Rattle.book_splits.proofs.TransactionRuleLemmas.{is_none_of}
+use Rattle.book_prices.specs.Rate.{AreKept, AreOnce, IsSound, is_same}
+use Rattle.book_prices.specs.declared.price.Price.{Price}
+use Rattle.book_edits.specs.Book.{Book}
+use Rattle.book_sound.specs.PriceRules.{price_rules}
+use Rattle.book_sound.specs.Soundness.{IsSoundBook}
+use Rattle.book_sound.specs.Tests.{is_within}
+use Rattle.book_sound.proofs.SplitFrames.{above_there}
+
+-- The accounts of a sound book form one tree.
+pub accounts_are_one_tree : (book : Book) → IsSoundBook book → IsTree book.accounts
+accounts_are_one_tree book is = tree_of book.commodities book.accounts is.accounts.rise is.accounts.keep
+
+-- Each of them has a way up.
+pub accounts_are_rooted : (book : Book) → IsSoundBook book → IsRooted book.accounts
+accounts_are_rooted book is = rooted_of book.commodities book.accounts is.accounts.rise is.accounts.keep
+
+-- Each transaction of a sound book has 1 to 500 splits, whose values sum to zero and whose amounts are within the
+-- limit.
+pub transactions_balance :
+    (book : Book) (n : ℕ) (t : Txn) → IsSoundBook book → value_of n book.transactions ≡ Some t
+    → transaction.IsSound t.splits
+transactions_balance book n t is there =
+    let kept = is.transactions.keep.each n t there in sound_of book.commodities book.accounts t (is_none_of _ kept.0)
+
+-- ---- prices
+
+-- what holds of each thing under its number holds of all entries
+all_of_each :
+    {T : Type 0} (P : ℕ × T → Type 0) (es : List (ℕ × T)) → Rises es
+    → ((k : ℕ) (x : T) → value_of k es ≡ Some x → P (k, x)) → All P es
+all_of_each P [] r each = All-nil P
+all_of_each {T} P (e ∷ es) r each =
+    let first = each e.0 e.1
+    (ap (λ (b : Bool). if b then Some e.1 else value_of e.0 es) (eq-eqb e.0 e.0 refl)) in
+    All-cons P e es first
+    (all_of_each P es r.1
+    (λ k x there. each k x
+    (let past = above_there e.0 k x es r.0 there in grind (arith, nat_tests, past, there))))
+
+-- a price of a later number is none of the pair and day of the first, nor of one between
+apart_from_first :
+    (first : ℕ × Price) (prices : List (ℕ × Price)) (k : ℕ) (x : Price) → Rises (first ∷ prices)
+    → value_of k prices ≡ Some x
+    → ((k : ℕ) (x : Price) → value_of k (first ∷ prices) ≡ Some x
+    → stands_before (is_same x) k (first ∷ prices) ≡ false)
+    → (is_same x first.1 ≡ false) × (stands_before (is_same x) k prices ≡ false)
+apart_from_first first prices k x r there each =
+    let past = above_there first.0 k x prices r.0 there in
+    let found : value_of k (first ∷ prices) ≡ Some x = grind (arith, nat_tests, past, there) in
+    let parts = or_parts (nat_lt first.0 k && is_same x first.1) (stands_before (is_same x) k prices)
+    (each k x found) in
+    let before : nat_lt first.0 k ≡ true = grind (arith, nat_tests, past) in
+    (sym (ap (λ (b : Bool). b && is_same x first.1) before) ∙ parts.0, parts.1)
+
+-- prices that have none of their pair and day before them are once for each
+once_of :
+    (prices : List (ℕ × Price)) → Rises prices
+    → ((k : ℕ) (x : Price) → value_of k prices ≡ Some x → stands_before (is_same x) k prices ≡ false)
+    → AreOnce prices
+once_of [] r each = tt
+once_of (e ∷ prices) r each = (
+  all_of_each (λ (other : ℕ × Price). is_same other.1 e.1 ≡ false) prices r.1
+      (λ k x there. (apart_from_first e prices k x r there each).0),
+  once_of prices r.1 (λ k x there. (apart_from_first e prices k x r there each).1),
+)
+
+-- The prices of a sound book are those of which rates are told.
+pub prices_are_kept :
+    (commodities : List (ℕ × Commodity)) (most : ℕ) (prices : List (ℕ × Price))
+    → IsSoundTable (price_rules commodities prices) most prices → AreKept prices
+prices_are_kept commodities most prices is =
+    let ratio = λ (k : ℕ) (x : Price) (there : value_of k prices ≡ Some x). and_parts (is_within 1 (10 ^ 9) x.num)
+    (is_within 1 (10 ^ 9) x.denom) (is.keep.each k x there).1.1.0 in (
+      all_of_each (λ (e : ℕ × Price). IsSound e.1) prices is.rise
+          (λ k x there.
+          let num = not-true _ (ratio k x there).0 in
+          let denom = not-true _ (ratio k x there).1 in (
+            (grind (arith, nat_tests, num), grind (arith, nat_tests, num)),
+            (grind (arith, nat_tests, denom), grind (arith, nat_tests, denom)),
+          )),
+      once_of prices is.rise (λ k x there. not-true _ (is.keep.each k x there).1.1.1.1.0),
+    )
