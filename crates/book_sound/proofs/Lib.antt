@@ -1,8 +1,10 @@
 pub mod BookFrames
 pub mod CheckFrames
+pub mod DismissalEdits
 pub mod DismissalFrames
 pub mod DrawnFrames
 pub mod LineFrames
+pub mod MarkLemmas
 pub mod PriceFrames
 pub mod ScheduleFrames
 pub mod SoundFacts

@@ -1,9 +1,12 @@
 -- What becomes of the lines of statements where other splits stand in the place of a transaction's.
-use Rattle.std.specs.Prelude.{ℕ, ◌==◌, not, Bool, false, ◌&&◌, if◌then◌else◌, List, [], ◌∷◌, Option, Some, None}
+use Rattle.std.specs.Prelude.{ℕ, ◌==◌, not, Bool, false, ◌&&◌, if◌then◌else◌, List, [], ◌∷◌, map, Option}
+use Rattle.std.specs.Prelude.{Some, None}
 use Rattle.std.specs.Ordering.{int_eq}
 use Rattle.book_splits.specs.declared.split.Split.{Split}
 use Rattle.book_statement.specs.declared.line.Line.{Line}
 use Rattle.book_statement.specs.declared.line_state.LineState.TheVariants.{Dismissed}
+use Rattle.book_edits.specs.declared.edit.Edit.{Edit, Put}
+use Rattle.book_edits.specs.declared.thing.Thing.TheVariants as thing
 use Rattle.book_sound.specs.LineRules.{matched_split, split_among}
 
 -- Whether there is a later split, and it has the account and the quantity of this one.
@@ -43,3 +46,14 @@ dismissed_where test (entry ∷ more) =
 -- dismissed (a rule of this project).
 abbrev pub lines_after : List Split → List Split → List (ℕ × Line) → List (ℕ × Line)
 lines_after old new lines = dismissed_where (loses_split old new) lines
+
+-- The lines that pass a test, dismissed, without the others.
+abbrev pub newly_dismissed : (Line → Bool) → List (ℕ × Line) → List (ℕ × Line)
+newly_dismissed test [] = []
+newly_dismissed test (entry ∷ more) =
+    if test entry.1 then (entry.0, dismissed entry.1) ∷ newly_dismissed test more else newly_dismissed test more
+
+-- The edits that dismiss the lines which lose their splits: one for each of them, and none for the others.
+abbrev pub dismissing : List Split → List Split → List (ℕ × Line) → List Edit
+dismissing old new lines =
+    map (λ entry. Put entry.0 (thing.Line entry.1)) (newly_dismissed (loses_split old new) lines)

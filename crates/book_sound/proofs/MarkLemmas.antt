@@ -1,0 +1,57 @@
+-- Which splits are rightly marked, whatever reconciliations there are, and which stay so.
+use Rattle.std.proofs.Common.{◌≡◌, ℕ, true, false, List, Option, is_none}
+use Rattle.std.proofs.Common.{ℤ, refl, ap, subst, ◌∙◌}
+use Rattle.std.specs.List.{list_all}
+use Rattle.std.proofs.lemmas.Bool.{and_parts}
+use Rattle.book_splits.specs.TransactionRules.{is_new, is_unmarked}
+use Rattle.book_splits.specs.declared.reconciliation.Recon.{Recon}
+use Rattle.book_splits.specs.declared.split.Mark.{Mark}
+use Rattle.book_splits.specs.declared.split.Mark.TheVariants.{New, Cleared, Reconciled}
+use Rattle.book_splits.specs.declared.split.Split.{Split}
+use Rattle.book_sound.specs.MarkedTransactionRules.{fits_mark, is_reconciled, is_rightly_marked}
+use Rattle.book_sound.proofs.TableFrames.{all_still}
+
+-- A split that isn't reconciled and names no reconciliation is rightly marked.
+pub unreconciled_is_right :
+    (reconciliations : List (ℕ × Recon)) (split : Split) → is_reconciled split.mark ≡ false
+    → is_none split.recon ≡ true → is_rightly_marked reconciliations split ≡ true
+unreconciled_is_right reconciliations split not_yet none = ap (fits_mark reconciliations split) not_yet ∙ none
+
+new_is_unreconciled : (mark : Mark) → is_new mark ≡ true → is_reconciled mark ≡ false
+new_is_unreconciled New is = refl
+new_is_unreconciled Cleared is = absurd cc
+new_is_unreconciled Reconciled is = absurd cc
+
+-- So are unmarked splits.
+pub unmarked_are_right :
+    (reconciliations : List (ℕ × Recon)) (splits : List Split) → list_all is_unmarked splits ≡ true
+    → list_all (is_rightly_marked reconciliations) splits ≡ true
+unmarked_are_right reconciliations splits =
+    all_still is_unmarked (is_rightly_marked reconciliations) splits
+    (λ split unmarked.
+    let parts = and_parts (is_new split.mark) (is_none split.recon) unmarked in
+    unreconciled_is_right reconciliations split (new_is_unreconciled split.mark parts.0) parts.1)
+
+-- What the rule of marks sees of a split.
+pub record MarkedAs (old new : Split) : Type 0 where
+  pub id : old.id ≡ new.id
+  pub account : old.account ≡ new.account
+  pub mark : old.mark ≡ new.mark
+  pub recon : old.recon ≡ new.recon
+  pub quantity : old.quantity ≡ new.quantity
+
+-- A split that is rightly marked stays so where that stays.
+pub right_still :
+    (reconciliations : List (ℕ × Recon)) (old new : Split) → MarkedAs old new
+    → is_rightly_marked reconciliations old ≡ true → is_rightly_marked reconciliations new ≡ true
+right_still reconciliations old new same is =
+    let with_id : Split = record old { id = new.id } in
+    let with_account : Split = record with_id { account = new.account } in
+    let with_mark : Split = record with_account { mark = new.mark } in
+    let with_recon : Split = record with_mark { recon = new.recon } in
+    let Right : Split → Type 0 = λ s. is_rightly_marked reconciliations s ≡ true in
+    let by_id = subst (λ (n : ℕ). Right (record old { id = n })) same.id is in
+    let by_account = subst (λ (n : ℕ). Right (record with_id { account = n })) same.account by_id in
+    let by_mark = subst (λ (m : Mark). Right (record with_account { mark = m })) same.mark by_account in
+    let by_recon = subst (λ (r : Option ℕ). Right (record with_mark { recon = r })) same.recon by_mark in
+    subst (λ (q : ℤ). Right (record with_recon { quantity = q })) same.quantity by_recon
