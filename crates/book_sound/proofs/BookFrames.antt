@@ -16,6 +16,7 @@
 -- So a new commodity asks nothing of the others, since what was there stays; another account in the place of one asks
 -- that the kinds stay, and that it takes splits as that did where it is in use; a new transaction asks that its splits
 -- have numbers of their own; and where a transaction changes or goes, the lines that lose their splits are dismissed.
+-- What is put into the other tables stands in BookChanges, and what only marks splits in MarkFrames.
 use Rattle.std.proofs.Common.{◌≡◌, ℕ, ◌+◌, ◌<◌, ◌≤◌, true, false, All, List, [], ◌++◌, length, Some, None, IsTrue}
 use Rattle.std.proofs.Common.{is_some, find, refl, ap, ◌∙◌, arith}
 use Rattle.std.proofs.Math.ListN.{length-append}

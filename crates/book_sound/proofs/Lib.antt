@@ -1,10 +1,15 @@
+pub mod BookChanges
 pub mod BookFrames
 pub mod CheckFrames
 pub mod DismissalEdits
 pub mod DismissalFrames
+pub mod DrawnChanges
 pub mod DrawnFrames
 pub mod LineFrames
+pub mod MarkFrames
 pub mod MarkLemmas
+pub mod OwnChanges
+pub mod OwnFrames
 pub mod PriceFrames
 pub mod ScheduleFrames
 pub mod SoundFacts

@@ -1,9 +1,8 @@
 -- What follows from the rules that the things of a sound book keep.
-use Rattle.std.proofs.Common.{◌≡◌, ℕ, ◌^◌, ◌&&◌, nat_lt, Bool, true, false, if◌then◌else◌, All, List, [], ◌∷◌, Some}
-use Rattle.std.proofs.Common.{refl, sym, ap, ◌∙◌, eq-eqb, arith}
+use Rattle.std.proofs.Common.{◌≡◌, ℕ, ◌^◌, ◌&&◌, nat_lt, Bool, true, false, List, [], ◌∷◌, Some}
+use Rattle.std.proofs.Common.{sym, ap, ◌∙◌, arith}
 use Rattle.std.proofs.lemmas.Bool.{and_parts, not-true, or_parts}
 use Rattle.std.proofs.lemmas.Bool.Decides.{nat_tests}
-use Rattle.std.proofs.lemmas.List.Elements.{All-cons, All-nil}
 use Rattle.book_commodity.specs.Rules.{IsSoundTable, stands_before}
 use Rattle.book_commodity.specs.Table.{Rises, value_of}
 use Rattle.book_commodity.specs.declared.commodity.Commodity.{Commodity}
@@ -20,6 +19,7 @@ use Rattle.book_edits.specs.Book.{Book}
 use Rattle.book_sound.specs.PriceRules.{price_rules}
 use Rattle.book_sound.specs.Soundness.{IsSoundBook}
 use Rattle.book_sound.specs.Tests.{is_within}
+use Rattle.book_sound.proofs.OwnFrames.{all_of_each}
 use Rattle.book_sound.proofs.SplitFrames.{above_there}
 
 -- The accounts of a sound book form one tree.
@@ -39,19 +39,6 @@ transactions_balance book n t is there =
     let kept = is.transactions.keep.each n t there in sound_of book.commodities book.accounts t (is_none_of _ kept.0)
 
 -- ---- prices
-
--- what holds of each thing under its number holds of all entries
-all_of_each :
-    {T : Type 0} (P : ℕ × T → Type 0) (es : List (ℕ × T)) → Rises es
-    → ((k : ℕ) (x : T) → value_of k es ≡ Some x → P (k, x)) → All P es
-all_of_each P [] r each = All-nil P
-all_of_each {T} P (e ∷ es) r each =
-    let first = each e.0 e.1
-    (ap (λ (b : Bool). if b then Some e.1 else value_of e.0 es) (eq-eqb e.0 e.0 refl)) in
-    All-cons P e es first
-    (all_of_each P es r.1
-    (λ k x there. each k x
-    (let past = above_there e.0 k x es r.0 there in grind (arith, nat_tests, past, there))))
 
 -- a price of a later number is none of the pair and day of the first, nor of one between
 apart_from_first :
