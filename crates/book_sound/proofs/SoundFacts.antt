@@ -1,15 +1,22 @@
 -- What follows from the rules that the things of a sound book keep.
 use Rattle.std.proofs.Common.{◌≡◌, ℕ, ◌^◌, ◌&&◌, nat_lt, Bool, true, false, List, [], ◌∷◌, Some}
+use Rattle.std.proofs.Common.{◌*◌, ◌≤◌, ℤ, pos, negsuc, ◌-ℤ◌, ◌≤ℤ◌, unsigned_abs, All, length, map, filter, not, refl}
 use Rattle.std.proofs.Common.{sym, ap, ◌∙◌, arith}
 use Rattle.std.proofs.lemmas.Bool.{and_parts, not-true, or_parts}
 use Rattle.std.proofs.lemmas.Bool.Decides.{nat_tests}
+use Rattle.std.proofs.lemmas.Int.{ints}
+use Rattle.std.proofs.lemmas.List.{length-map}
+use Rattle.std.proofs.lemmas.List.Elements.{All-append, All-filter, All-head, All-map, All-nil, All-tail, All-weaker}
+use Rattle.std.proofs.lemmas.List.Filters.{length-filter_both}
 use Rattle.book_commodity.specs.Rules.{IsSoundTable, stands_before}
 use Rattle.book_commodity.specs.Table.{Rises, value_of}
 use Rattle.book_commodity.specs.declared.commodity.Commodity.{Commodity}
 use Rattle.book_accounts.specs.Soundness.{IsTree}
 use Rattle.book_accounts.specs.Tree.{IsRooted}
 use Rattle.book_accounts.proofs.RootLemmas.{rooted_of, tree_of}
+use Rattle.book_splits.specs.Balance.{splits_of, total}
 use Rattle.book_splits.specs.Check as transaction
+use Rattle.book_splits.specs.declared.split.Split.{Split}
 use Rattle.book_splits.specs.declared.transaction.Txn.{Txn}
 use Rattle.book_splits.proofs.CheckLemmas.{sound_of}
 use Rattle.book_splits.proofs.TransactionRuleLemmas.{is_none_of}
@@ -37,6 +44,62 @@ pub transactions_balance :
     → transaction.IsSound t.splits
 transactions_balance book n t is there =
     let kept = is.transactions.keep.each n t there in sound_of book.commodities book.accounts t (is_none_of _ kept.0)
+
+-- ---- sums
+
+-- An amount is at most so much in size.
+abbrev pub IsAtMost : ℕ → ℤ → Type 0
+IsAtMost most amount = ((pos 0 -ℤ pos most) ≤ℤ amount) × (amount ≤ℤ pos most)
+
+most_of_size : (most : ℕ) (amount : ℤ) → unsigned_abs amount ≤ most → IsAtMost most amount
+most_of_size most (pos n) small = (omega (arith, ints, small), omega (arith, ints, small))
+most_of_size most (negsuc n) small = (omega (arith, ints, small), omega (arith, ints, small))
+
+-- The sum of some amounts of at most 10^12 in size.
+pub sum_is_small :
+    (amounts : List ℤ) → All (λ (a : ℤ). unsigned_abs a ≤ 10 ^ 12) amounts
+    → IsAtMost (10 ^ 12 * length amounts) (total amounts)
+sum_is_small [] small = (omega (arith, ints), omega (arith, ints))
+sum_is_small (a ∷ amounts) small =
+    let Small : ℤ → Type 0 = λ x. unsigned_abs x ≤ 10 ^ 12 in
+    let first = most_of_size (10 ^ 12) a (All-head Small a amounts small) in
+    let rest = sum_is_small amounts (All-tail Small a amounts small) in
+    (omega (arith, ints, first.0, rest.0), omega (arith, ints, first.1, rest.1))
+
+all_splits_small :
+    (ts : List (ℕ × Txn)) → All (λ (e : ℕ × Txn). All transaction.HasAmounts e.1.splits) ts
+    → All transaction.HasAmounts (splits_of ts)
+all_splits_small [] all = All-nil transaction.HasAmounts
+all_splits_small (e ∷ ts) all =
+    let Small : ℕ × Txn → Type 0 = λ x. All transaction.HasAmounts x.1.splits in
+    All-append transaction.HasAmounts e.1.splits (splits_of ts) (All-head Small e ts all)
+    (all_splits_small ts (All-tail Small e ts all))
+
+-- The amounts of each split of a sound book are within the limit.
+pub amounts_are_small : (book : Book) → IsSoundBook book → All transaction.HasAmounts (splits_of book.transactions)
+amounts_are_small book is =
+    all_splits_small book.transactions
+    (all_of_each (λ (e : ℕ × Txn). All transaction.HasAmounts e.1.splits) book.transactions is.transactions.rise
+    (λ k t there. (transactions_balance book k t is there).amounts))
+
+-- So the sum of the quantities of splits that pass a test, as of those on an account, is at most 10^18 in size.
+pub sums_are_small :
+    (book : Book) (test : Split → Bool) → IsSoundBook book
+    → IsAtMost (10 ^ 18) (total (map (λ (s : Split). s.quantity) (filter test (splits_of book.transactions))))
+sums_are_small book test is =
+    let splits = splits_of book.transactions in
+    let Small : ℤ → Type 0 = λ a. unsigned_abs a ≤ 10 ^ 12 in
+    let quantity : Split → ℤ = λ s. s.quantity in
+    let picked = filter test splits in
+    let kept = All-filter test transaction.HasAmounts splits (amounts_are_small book is) in
+    let quantities = All-map Small quantity picked
+    (All-weaker transaction.HasAmounts (λ (s : Split). Small s.quantity) (λ s small. small.1) picked kept) in
+    let sum = sum_is_small (map quantity picked) quantities in
+    let same : length (map quantity picked) ≡ length picked = length-map picked quantity in
+    let fewer = length-filter_both test (λ s. not (test s)) (λ s. refl) splits in (
+      omega (arith, ints, sum.0, same, fewer, is.few_splits),
+      omega (arith, ints, sum.1, same, fewer, is.few_splits),
+    )
 
 -- ---- prices
 
