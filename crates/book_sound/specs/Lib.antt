@@ -1,0 +1,11 @@
+pub mod BindingRules
+pub mod Dismissal
+pub mod LineRules
+pub mod MarkedTransactionRules
+pub mod Naming
+pub mod PriceRules
+pub mod ReconciliationRules
+pub mod ScheduleRules
+pub mod Soundness
+pub mod StatementRules
+pub mod Tests

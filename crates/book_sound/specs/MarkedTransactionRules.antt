@@ -1,0 +1,60 @@
+-- The rules that each transaction of a book keeps whose splits may be marked.
+use Rattle.std.specs.Prelude.{ℕ, ◌==◌, not, Bool, true, false, ◌&&◌, List, [], ◌∷◌, Option, Some, None, is_none}
+use Rattle.std.specs.List.{list_all, list_any}
+use Rattle.std.specs.Ordering.{int_eq}
+use Rattle.book_commodity.specs.Rules.{stands_before}
+use Rattle.book_commodity.specs.Table.{value_of}
+use Rattle.book_commodity.specs.declared.commodity.Commodity.{Commodity}
+use Rattle.book_accounts.specs.declared.account.Account.{Account}
+use Rattle.book_splits.specs.TransactionRules.{are_once, numbers_of, share_numbers}
+use Rattle.book_splits.specs.declared.reconciliation.MarkedSplit.{MarkedSplit}
+use Rattle.book_splits.specs.declared.reconciliation.Recon.{Recon}
+use Rattle.book_splits.specs.declared.split.Mark.{Mark}
+use Rattle.book_splits.specs.declared.split.Mark.TheVariants.{Reconciled}
+use Rattle.book_splits.specs.declared.split.Split.{Split}
+use Rattle.book_splits.specs.declared.transaction.Txn.{Txn}
+use Rattle.book_sound.specs.Tests.{passes_check}
+
+-- Whether it is the mark of a split that was reconciled with a bank statement (GnuCash SQL schema, column
+-- reconcile_state of splits).
+abbrev pub is_reconciled : Mark → Bool
+is_reconciled Reconciled = true
+is_reconciled _ = false
+
+-- Whether a marked split is this one: it has its number and its present quantity.
+abbrev pub is_marked_as : Split → MarkedSplit → Bool
+is_marked_as split marked = (marked.split == split.id) && int_eq marked.quantity split.quantity
+
+-- Whether there is a reconciliation, and it has marked the split: it is one of the split's account, and its list holds
+-- the split with its present quantity.
+abbrev pub has_marked : Split → Option Recon → Bool
+has_marked split None = false
+has_marked split (Some reconciliation) =
+    (reconciliation.account == split.account) && list_any (is_marked_as split) reconciliation.marked
+
+-- Whether the reconciliation that a split names, if it names one, has marked it.
+abbrev pub is_named_rightly : List (ℕ × Recon) → Split → Option ℕ → Bool
+is_named_rightly reconciliations split None = false
+is_named_rightly reconciliations split (Some number) = has_marked split (value_of number reconciliations)
+
+-- Whether the mark of a split says what its reconciliation does: where it is reconciled, it names a reconciliation
+-- that has marked it; where it isn't, it names none.
+abbrev pub fits_mark : List (ℕ × Recon) → Split → Bool → Bool
+fits_mark reconciliations split true = is_named_rightly reconciliations split split.recon
+fits_mark reconciliations split false = is_none split.recon
+
+-- Whether a split is rightly marked.
+abbrev pub is_rightly_marked : List (ℕ × Recon) → Split → Bool
+is_rightly_marked reconciliations split = fits_mark reconciliations split (is_reconciled split.mark)
+
+-- The rules of a transaction: it passes the check of transactions among the commodities and the accounts of the book;
+-- each of its splits has a number that no other of them has, and none of a transaction before it; and each is
+-- reconciled exactly where it names a reconciliation of its account that has marked it (GnuCash Manual, reconciling).
+abbrev pub marked_transaction_rules :
+    List (ℕ × Commodity) → List (ℕ × Account) → List (ℕ × Recon) → List (ℕ × Txn) → ℕ → Txn → List Bool
+marked_transaction_rules commodities accounts reconciliations transactions number transaction =
+    passes_check commodities accounts transaction
+    ∷ are_once (numbers_of transaction.splits)
+    ∷ not (stands_before (share_numbers transaction) number transactions)
+    ∷ list_all (is_rightly_marked reconciliations) transaction.splits
+    ∷ []
