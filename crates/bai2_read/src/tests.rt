@@ -63,7 +63,7 @@ fn shown(alloc: Global, statements: &[Statement]) -> Result<String, AllocError> 
 }
 
 /// Checks that a file has these statements.
-pub fn check_statements(
+pub(crate) fn check_statements(
     rt: &impl Abort,
     alloc: Global,
     file: &str,
@@ -76,7 +76,7 @@ pub fn check_statements(
 }
 
 /// Checks that a file has so many statements, each with so many lines.
-pub fn check_counts(
+pub(crate) fn check_counts(
     rt: &impl Abort,
     alloc: Global,
     file: &str,
@@ -91,7 +91,7 @@ pub fn check_counts(
 }
 
 /// Checks that a file is broken at this line in this way.
-pub fn check_fault(
+pub(crate) fn check_fault(
     rt: &impl Abort,
     alloc: Global,
     file: &str,

@@ -37,7 +37,7 @@ impl MemRows {
     }
 
     /// The allocator of the rows.
-    pub fn allocator(&self) -> Global {
+    pub(crate) fn allocator(&self) -> Global {
         *self.rows.allocator()
     }
 

@@ -107,7 +107,7 @@ fn amounts_of_three_decimals(rt: HostRuntime) -> Result<(), Fail> {
     let found = shown(rt.alloc(), &statements)?;
     assert!(rt;
         found.as_str()
-            == " None 2024-02-26\n2024-02-26 -777 R18|Shop||Food part -110|Gifts  -667\n",
+            == " None 2024-02-26\n2024-02-26 -777 \x5218|Shop||Food part -110|Gifts  -667\n",
         "{found}"
     );
     Ok(())

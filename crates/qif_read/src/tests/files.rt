@@ -37,17 +37,17 @@ pub(super) const FILES: [(DateOrder, &str, &str); 11] = [
         "ACC7 None 2024-03-30\n2024-03-30 51 NONREF|ü a b|\n\
             2024-03-22 -153904 RENT|Shop||Food part -61|Gifts  -153843\n\
             2024-02-19 498162 RENT|Opening Balance|\n\
-            2024-02-03 351 |COFFEE||Food part -311|Gifts  662\n2024-01-19 -129 R14|Shop memo|[Other]\n\
-            2024-03-03 268335 RENT||[Other]\n2024-03-08 0 R6|memo|\n\
+            2024-02-03 351 |COFFEE||Food part -311|Gifts  662\n2024-01-19 -129 \x5214|Shop memo|[Other]\n\
+            2024-03-03 268335 RENT||[Other]\n2024-03-08 0 \x526|memo|\n\
             2024-02-15 -376 N1|a b||Food part 99|Gifts  -475\n2024-03-10 0 N1|ü|\n\
             2024-01-03 -2 N1|ü|Food\n2024-02-23 -645 N1||Food:Out\n\
             2024-03-03 -462651 N1|COFFEE memo|\n2024-02-27 14 NONREF|memo||Food part 357|Gifts  -343\n\
             2024-02-27 14 NONREF|COFFEE|[Other]\n\
             2024-02-26 -652 N1||Food:Out|Food part 367|Gifts  -1019\n\
-            2024-01-13 386034 N1|COFFEE|Food\n2024-01-17 -129 R3|COFFEE memo|Food:Out\n\
+            2024-01-13 386034 N1|COFFEE|Food\n2024-01-17 -129 \x523|COFFEE memo|Food:Out\n\
             2024-02-05 -40 RENT||\n2024-02-20 -77572 RENT|COFFEE a b|\n\
-            2024-01-20 -129 R13|Opening Balance memo||Food part -114|Gifts  -15\n\
-            2024-01-18 -129 RENT||\n2024-02-04 621 N1|Shop memo|\n2024-02-07 28 R8|Shop|Food\n",
+            2024-01-20 -129 \x5213|Opening Balance memo||Food part -114|Gifts  -15\n\
+            2024-01-18 -129 RENT||\n2024-02-04 621 N1|Shop memo|\n2024-02-07 28 \x528|Shop|Food\n",
     ),
     // Without a name.
     (
@@ -62,7 +62,7 @@ pub(super) const FILES: [(DateOrder, &str, &str); 11] = [
             2024-03-18 21792 RENT|Shop memo||Food part -236|Gifts  22028\n2024-03-30 25 |a b|\n\
             2024-02-24 -579 RENT|a b|Food:Out\n\
             2024-03-07 215841 |memo|Food:Out|Food part 43|Gifts  215798\n\
-            2024-03-30 25 NONREF||Food:Out|Food part -86|Gifts  111\n2024-03-25 418471 R1|ü|Food\n",
+            2024-03-30 25 NONREF||Food:Out|Food part -86|Gifts  111\n2024-03-25 418471 \x521|ü|Food\n",
     ),
     // An opening balance counts in a first entry alone.
     (
@@ -74,7 +74,7 @@ pub(super) const FILES: [(DateOrder, &str, &str); 11] = [
             D 2/14'24\nT2.75\nNN1\nMmemo\nSFood\nEpart\n$0.00\nSGifts\n$2.75\n^\nD02/14'24\nU2.75\nNN1\n\
             SFood\nEpart\n$0.38\nSGifts\n$2.37\n^\n",
         "ACC29 None 2024-04-02\n2024-01-29 -371074 N1|memo|Food:Out|Food part -167|Gifts  -370907\n\
-            2024-01-06 -36 R7|Opening Balance|[Other]\n\
+            2024-01-06 -36 \x527|Opening Balance|[Other]\n\
             2024-03-28 2647 N1|COFFEE a b||Food part -304|Gifts  2951\n\
             2024-04-02 -67309 RENT|Shop a b|Food:Out\n2024-01-20 1 NONREF|memo|\n\
             2024-02-14 275 N1|memo||Food part 0|Gifts  275\n\
@@ -86,7 +86,7 @@ pub(super) const FILES: [(DateOrder, &str, &str); 11] = [
         "!Account\nNACC8\nTBank\n^\n!Type:bank\nD 3/ 8'24\nT-4363.84\n^\nD 3/ 9/2024\nT1859.54\nNN1\n\
             Mmemo\n^\nD 2/24'24\nT5.33\nNR19\nMa b\nLFood\n^\n",
         "ACC8 None 2024-03-09\n2024-03-08 -436384 ||\n2024-03-09 185954 N1|memo|\n\
-            2024-02-24 533 R19|a b|Food\n",
+            2024-02-24 533 \x5219|a b|Food\n",
     ),
     // With its name from a list of accounts.
     (
@@ -101,7 +101,7 @@ pub(super) const FILES: [(DateOrder, &str, &str); 11] = [
             D2/10/2024\nU-7.00\nMmemo\nLFood:Out\n^\nD4/2/24\nU0.81\nNR9\nPCOFFEE\nMa b\nL[Other]\n\
             CX\n^\nD2/18'24\nT2.76\nNN1\nMmemo\nLFood:Out\n^\n",
         "ACC80 3778 2024-04-02\n2024-02-10 -700 |memo|Food:Out\n\
-            2024-04-02 81 R9|COFFEE a b|[Other]\n2024-02-18 276 N1|memo|Food:Out\n",
+            2024-04-02 81 \x529|COFFEE a b|[Other]\n2024-02-18 276 N1|memo|Food:Out\n",
     ),
     // With a header in lower case.
     (
