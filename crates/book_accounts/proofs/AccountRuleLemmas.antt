@@ -27,7 +27,7 @@ use Rattle.book_accounts.specs.declared.account.Account.{Account}
 use Rattle.book_accounts.specs.declared.kind.AccountKind.{AccountKind}
 use Rattle.book_accounts.specs.declared.kind.AccountKind.TheVariants.{Root}
 use Rattle.book_accounts.specs.declared.rule.TreeRule.TheVariants.{NameTaken}
-use Rattle.book_accounts.proofs.SoundLaws.{own_name}
+use Rattle.book_accounts.proofs.NameLemmas.{own_name}
 use Rattle.book_accounts.proofs.TreeLaws.{no_child, option_eq-true, rooted_without}
 use Rattle.book_accounts.proofs.TreeLemmas.{other_without, way_of}
 

@@ -1,12 +1,13 @@
 pub mod AccountFitLemmas
 pub mod AccountRuleLemmas
 pub mod ChildrenLemmas
+pub mod KeptLemmas
+pub mod NameLemmas
 pub mod OnceLemmas
 pub mod OrderLemmas
 pub mod PathLemmas
 pub mod RootLemmas
 pub mod RuleLemmas
-pub mod SoundLaws
 pub mod TreeLaws
 pub mod TreeLemmas
 pub mod Worked

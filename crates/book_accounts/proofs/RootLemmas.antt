@@ -24,7 +24,7 @@ use Rattle.book_accounts.specs.declared.account.Account.{Account}
 use Rattle.book_accounts.specs.declared.kind.AccountKind.{AccountKind}
 use Rattle.book_accounts.specs.declared.kind.AccountKind.TheVariants.{Root}
 use Rattle.book_accounts.proofs.AccountRuleLemmas.{Keeps, by_name, some_value, top_chosen}
-use Rattle.book_accounts.proofs.SoundLaws.{pointwise-same}
+use Rattle.book_accounts.proofs.NameLemmas.{pointwise-same}
 use Rattle.book_accounts.proofs.TreeLaws.{option_eq-same, option_eq-true}
 
 -- the first that passes a test stands in the table, and passes it

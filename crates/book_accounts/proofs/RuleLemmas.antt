@@ -62,9 +62,6 @@ within_top tree upper n e other =
     ap (λ (t : Bool). t || list_any (λ k. k == upper) (ancestors tree n)) other
     ∙ ap (list_any (λ k. k == upper)) (ancestors_top tree n e)
 
-pub within_here : (tree : List (ℕ × Account)) (upper n : ℕ) → (n == upper) ≡ true → is_within tree upper n ≡ true
-within_here tree upper n e = ap (λ (t : Bool). t || list_any (λ k. k == upper) (ancestors tree n)) e
-
 -- the way up grows shorter from parent to parent
 pub ancestors_fall :
     (tree : List (ℕ × Account)) (n p : ℕ) → Rises tree → IsRooted tree → parent_of tree n ≡ Some p

@@ -83,40 +83,6 @@ none_some : (o : Option Account) → IsNone o → IsSome o → ⊥
 none_some None n s = cc
 none_some (Some account) n s = cc
 
-pub rooted_empty : IsRooted []
-rooted_empty = record { up = λ n there. absurd (let none : IsSome {T = Account} None = there in cc) }
-
--- an account added at the top, as the root of an empty tree is
-pub rooted_top :
-    (tree : List (ℕ × Account)) (m : ℕ) (account : Account) → IsRooted tree → account.parent ≡ None
-    → IsNone (value_of m tree) → IsRooted (with_entry m account tree)
-rooted_top tree m account rooted top free =
-    let new : List (ℕ × Account) = with_entry m account tree in
-    let here : value_of m new ≡ Some account =
-    tables.value_of_with m m account tree ∙ ap (λ (t : Bool). if t then Some account else value_of m tree)
-    (eq-eqb m m refl) in
-    record {
-      up = λ n there.
-          let P : Bool → Type 0 = λ t. (n == m) ≡ t → (found : List ℕ) × IsWayUp new n found in
-          elim (n == m) as P [
-            | true ↦ λ e. (
-              [],
-              (
-                there,
-                ap (λ (k : ℕ). parent_of new k) (eqb-true n m e)
-                    ∙ ap (option_and_then (λ account. account.parent)) here ∙ top,
-              ),
-            )
-            | false ↦ λ e.
-                let same = other_with tree m account n e in
-                let way = rooted.up n (subst (λ (o : Option Account). IsSome o) same there) in (
-                  way.0,
-                  way_kept tree new m (other_with tree m account) n way.0
-                      (way_without tree n m way.0 (none_some (value_of m tree) free) way.1) way.1,
-                )
-          ] refl;
-    }
-
 -- an account added under one that is there
 pub rooted_added :
     (tree : List (ℕ × Account)) (m : ℕ) (account : Account) (p : ℕ) → IsRooted tree → account.parent ≡ Some p

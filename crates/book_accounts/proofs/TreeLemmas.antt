@@ -1,9 +1,10 @@
 -- Rooted trees: an account has one way up, which is shorter than the tree; what adding, moving and taking an account
 -- leave of the ways.
-use Rattle.std.proofs.Common.{◌≡◌, ℕ, zero, suc, ◌+◌, ◌<◌, ◌≤◌, ◌==◌, ◌||◌, Bool, true, false, if◌then◌else◌, List, []}
+use Rattle.std.proofs.Common.{◌≡◌, ℕ, zero, suc, ◌+◌, ◌<◌, ◌≤◌, ◌==◌, Bool, true, false, if◌then◌else◌, List, []}
 use Rattle.std.proofs.Common.{◌∷◌, length, Option, Some, None, IsSome, refl, sym, ap, subst, ◌∙◌, arith}
 use Rattle.std.specs.List.{list_any}
 use Rattle.std.specs.Option.{option_and_then}
+use Rattle.std.proofs.lemmas.Bool.{or_parts}
 use Rattle.std.proofs.lemmas.Bool.Decides.{nat_tests}
 use Rattle.book_commodity.specs.Table.{Rises, value_of, with_entry, without_entry}
 use Rattle.book_commodity.proofs.TableLemmas as tables
@@ -51,22 +52,18 @@ way_apart tree n way w =
       | false ↦ λ e. e
     ] refl
 
-pub neither : (a b : Bool) → (a || b) ≡ false → (a ≡ false) × (b ≡ false)
-neither true b e = absurd cc
-neither false b e = (refl, e)
-
 -- where two trees agree on each account but one, a way that leaves that one out is a way in both
 pub way_kept :
     (tree new : List (ℕ × Account)) (m : ℕ) → ((k : ℕ) → (k == m) ≡ false → value_of k new ≡ value_of k tree)
     → (n : ℕ) (way : List ℕ) → list_any (λ k. k == m) (n ∷ way) ≡ false → IsWayUp tree n way → IsWayUp new n way
 way_kept tree new m same n [] h w =
-    let apart = neither (n == m) false h in (
+    let apart = or_parts (n == m) false h in (
       subst (λ (o : Option Account). IsSome o) (sym (same n apart.0)) w.0,
       ap
           (option_and_then (λ account. account.parent)) (same n apart.0) ∙ w.1,
     )
 way_kept tree new m same n (p ∷ above) h w =
-    let apart = neither (n == m) (list_any (λ k. k == m) (p ∷ above)) h in (
+    let apart = or_parts (n == m) (list_any (λ k. k == m) (p ∷ above)) h in (
       ap (option_and_then (λ account. account.parent)) (same n apart.0)
           ∙ w.0,
       way_kept tree new m same p above apart.1 w.1,

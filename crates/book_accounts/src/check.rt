@@ -1,9 +1,9 @@
 ghost use Rattle.std.specs.Prelude.{◌≡◌, ◌<◌, [], length, Some, OnOk, MatchBool, IfOk, option_map, slice_get};
 ghost use Rattle.std.specs.Bool.{OnFalse};
-ghost use Rattle.book_commodity.specs.Table.{value_of, without_entry};
+ghost use Rattle.book_commodity.specs.Table.{Rises, value_of};
 ghost use Rattle.book_accounts.specs.Rules.{IsAnswer, add_rule, is_within, is_namesake, move_rule, name_taken};
 ghost use Rattle.book_accounts.specs.Rules.{namesake, parent_kind, unknown_account};
-ghost use Rattle.book_accounts.specs.Soundness.{CanBeAdded, CanBeMoved, KeepsTree, StaysRooted};
+ghost use Rattle.book_accounts.specs.Soundness.{CanBeAdded, CanBeMoved, CanBeTaken};
 ghost use Rattle.book_accounts.specs.Tree.{IsRooted, children_of};
 
 use crate::{Account, AccountKind, Tree, TreeRule};
@@ -45,7 +45,7 @@ impl Tree {
     pub fn has_children(&self, number: u64) -> bool
         ensures children { let children = children_of self.now.entries (Some number) in
             MatchBool result (0 < length children) (children ≡ []) }
-        ensures keeps { OnFalse result (KeepsTree self.now.entries (without_entry number self.now.entries)) }
+        ensures keeps { OnFalse result (CanBeTaken self.now.entries number) }
     {
         for place in 0..self.len() {
             if self.value_at(place).parent == Some(number) {
@@ -59,8 +59,9 @@ impl Tree {
     fn known(&self, number: u64) -> Result<&Account, TreeRule>
         ensures there { IfOk result (λ account. value_of number self.now.entries ≡ Some account.now) }
         ensures unknown { IsAnswer (unknown_account self.now.entries number) result }
+        ensures rises { Rises self.now.entries }
     {
-        match self.find(number) {
+        match self.accounts.find(number) {
             Some(account) => Ok(account),
             None => Err(TreeRule::UnknownAccount { id: number }),
         }
@@ -99,8 +100,7 @@ impl Tree {
     /// Whether the account with this number is the upper one or stands under it.
     fn is_within(&self, upper: u64, number: u64) -> bool
         requires { IsRooted self.now.entries }
-        ensures within { result ≡ is_within self.now.entries upper number }
-        ensures rooted { OnFalse result (StaysRooted self.now.entries upper number) }
+        ensures { result ≡ is_within self.now.entries upper number }
     {
         let mut current = number;
         while current != upper {

@@ -13,7 +13,7 @@ use std::marker::Model;
 /// with its account, and how many more accounts it has room for.
 #[derive(Drop)]
 pub struct Tree {
-    accounts: Table<Account>,
+    pub(crate) accounts: Table<Account>,
     pub(crate) alloc: Global,
 }
 

@@ -1,14 +1,14 @@
 -- How the rules of commodities stay where a commodity is added, and what of the commodities the rules of other things
 -- see.
-use Rattle.std.proofs.Common.{◌≡◌, ℕ, ◌<◌, true, All, List, Option, Some, None, is_some, find, ap, ◌∙◌, refl}
+use Rattle.std.proofs.Common.{◌≡◌, ℕ, ◌<◌, true, All, List, Option, Some, None, find, ap, ◌∙◌, refl}
 use Rattle.std.proofs.Common.{arith}
 use Rattle.std.proofs.lemmas.Bool.{not-true, not_from_false}
 use Rattle.book_commodity.specs.CommodityRules.{commodity_rules, has_fraction, has_same_pair}
 use Rattle.book_commodity.specs.Currency.{is_currency_of}
 use Rattle.book_commodity.specs.Rules.{EachKeeps}
-use Rattle.book_commodity.specs.Table.{value_of, with_entry}
+use Rattle.book_commodity.specs.Table.{with_entry}
 use Rattle.book_commodity.specs.declared.commodity.Commodity.{Commodity}
-use Rattle.book_commodity.proofs.DrawnLemmas.{drawn_below, value_kept}
+use Rattle.book_commodity.proofs.DrawnLemmas.{drawn_below}
 use Rattle.book_commodity.proofs.RuleLemmas.{each_with, none_before, none_before_with}
 
 -- a currency that is there still is

@@ -82,10 +82,10 @@ later_year_is_no_day year month day late first within =
       days_from_civil-2199_end,
     )
 
-le_of_test : (a b : ℤ) → int_le a b ≡ true → a ≤ℤ b
+pub le_of_test : (a b : ℤ) → int_le a b ≡ true → a ≤ℤ b
 le_of_test a b e = omega (arith, ints, e)
 
-test_of_le : (a b : ℤ) → a ≤ℤ b → int_le a b ≡ true
+pub test_of_le : (a b : ℤ) → a ≤ℤ b → int_le a b ≡ true
 test_of_le a b h = grind (arith, ints)
 
 lt_of_test : (a b : ℤ) → int_le a b ≡ false → b <ℤ a

@@ -1,6 +1,6 @@
 -- A number that is drawn is above all numbers before, so nothing stands under it, and what is put there comes behind
 -- all.
-use Rattle.std.proofs.Common.{◌≡◌, ◌≢◌, ◌⊎◌, ◌==◌, nat_lt, true, false, ℕ, ◌<◌, ◌≤◌, ◌+◌, All, List, [], ◌∷◌, ◌++◌}
+use Rattle.std.proofs.Common.{◌≡◌, ◌≢◌, ◌⊎◌, inl, inr, ◌==◌, nat_lt, true, false, ℕ, ◌<◌, ◌≤◌, ◌+◌, All, List, [], ◌∷◌, ◌++◌}
 use Rattle.std.proofs.Common.{length, is_none, is_some, if◌then◌else◌, Bool, Option, Some, None, refl, sym, ap, ◌∙◌}
 use Rattle.std.proofs.Common.{arith}
 use Rattle.std.proofs.lemmas.Bool.Decides.{nat_tests}
@@ -139,3 +139,8 @@ length_left n es = omega (arith, length_without n es)
 -- what is put is found under its number
 pub value_here : {T : Type 0} (m n : ℕ) (v : T) (es : List (ℕ × T)) → m ≡ n → value_of m (with_entry n v es) ≡ Some v
 value_here m n v es same = let there_is = value_of_with m n v es in grind (arith, nat_tests, there_is, same)
+
+-- what stands in a table of one thing
+pub value_alone : {T : Type 0} (n k : ℕ) (x v : T) → value_of k ((n, v) ∷ []) ≡ Some x → (k ≡ n) × (v ≡ x)
+value_alone n k x v there =
+    elim (value_with k n v x [] there) [ inl here ↦ here | inr old ↦ absurd (let none = old.1 in cc) ]

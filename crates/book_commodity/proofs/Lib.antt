@@ -5,5 +5,6 @@ pub mod DayTextLemmas
 pub mod DrawnLemmas
 pub mod ListLemmas
 pub mod OneLine
+pub mod PairLemmas
 pub mod RuleLemmas
 pub mod TableLemmas

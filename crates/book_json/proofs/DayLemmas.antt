@@ -4,12 +4,12 @@ use Rattle.std.proofs.Common.{None, refl, sym, ap, ◌∙◌, arith, rules, Stri
 use Rattle.std.proofs.Common.{◌≤ℤ◌, unsigned_abs, int_le}
 use Rattle.std.specs.Prelude.{IfSome, IfNone}
 use Rattle.std.specs.Str.{bytes_eq}
-use Rattle.std.proofs.lemmas.Int.{ints}
+use Rattle.std.proofs.lemmas.Bool.{and_parts}
 use Rattle.std.proofs.lemmas.Slice.Eq.{bytes_eq-Decides}
 use Rattle.jiff_core.specs.Calendar.{days_from_civil}
 use Rattle.jiff_core.proofs.SignedLemmas.{signed_arith}
 use Rattle.book_commodity.specs.Day.{IsDay, year_of, month_of, day_of_month, day_text, date_text}
-use Rattle.book_commodity.proofs.DayLemmas.{date_of_day, pos-unsigned_abs}
+use Rattle.book_commodity.proofs.DayLemmas.{date_of_day, le_of_test, pos-unsigned_abs, test_of_le}
 use Rattle.serde_json.specs.Data.{string}
 use Rattle.serde_json.specs.View.{view}
 use Rattle.serde_json.specs.declared.value.Value as value
@@ -20,19 +20,9 @@ use Rattle.book_json.specs.Forms.{day_in_places, is_day, day_named}
 pub view-String : (text : String Global) → view (value.String text) ≡ string (string_bytes text)
 view-String text = search (rules, the_lemmas)
 
-le_of_test : (a b : ℤ) → int_le a b ≡ true → a ≤ℤ b
-le_of_test a b e = omega (arith, ints, e)
-
-test_of_le : (a b : ℤ) → a ≤ℤ b → int_le a b ≡ true
-test_of_le a b h = grind (arith, ints)
-
-both_hold : (a b : Bool) → (a && b) ≡ true → (a ≡ true) × (b ≡ true)
-both_hold true b e = (refl, e)
-both_hold false b e = absurd cc
-
 is_day-true : (day : ℤ) → is_day day ≡ true → IsDay day
 is_day-true day e =
-    let h = both_hold (int_le (negsuc 25566) day) (int_le day (pos 84005)) e in
+    let h = and_parts (int_le (negsuc 25566) day) (int_le day (pos 84005)) e in
     (le_of_test (negsuc 25566) day h.0, le_of_test day (pos 84005) h.1)
 
 true-is_day : (day : ℤ) → IsDay day → is_day day ≡ true

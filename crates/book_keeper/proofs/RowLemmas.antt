@@ -174,7 +174,8 @@ pub ruleset places = (
 )
 
 -- ---- what a binary search finds
-above_at : (n : ℕ) (rows : List Row) (i : ℕ) (x : Row) → AllAbove n rows → i < length rows → n < rank (get_or rows i x).key
+above_at :
+    (n : ℕ) (rows : List Row) (i : ℕ) (x : Row) → AllAbove n rows → i < length rows → n < rank (get_or rows i x).key
 above_at n [] i x a lt = absurd (omega arith)
 above_at n (r ∷ rows) zero x a lt = a.0
 above_at n (r ∷ rows) (suc i) x a lt = above_at n rows i x a.1 (omega arith)

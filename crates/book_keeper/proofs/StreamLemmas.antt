@@ -1,7 +1,7 @@
 -- What was taken and what was written, over one call after another.
-use Rattle.std.proofs.Common.{◌≡◌, ℕ, List, [], ◌++◌, Option, None, Some, refl, sym, ap, subst, ◌∙◌, append_assoc}
+use Rattle.std.proofs.Common.{ℕ, List, [], ◌++◌, Option, None, Some, refl, sym, ap, subst, ◌∙◌, append_assoc}
 use Rattle.std.proofs.Common.{append-nil, length-append, arith}
-use Rattle.std.specs.Io.KnownBytes.{Keeps, Appends, Consumes, IsAtEnd}
+use Rattle.std.specs.Io.KnownBytes.{Consumes, IsAtEnd}
 use Rattle.book_keeper.specs.Stream.{Are, Wrote, WrotePart}
 
 -- nothing written
@@ -32,17 +32,6 @@ Are-Consumes None b taken left p q = tt
 Are-Consumes (Some x) None taken left p q = absurd p
 Are-Consumes (Some x) (Some y) taken left p q = p ∙ ap (λ l. taken ++ l) q
 
--- bytes written whole, and then a part of others, are a part of both
-pub WrotePart-after : (a b c : List ℕ → Type 0) (first next : List ℕ) → Wrote a b first → WrotePart b c next
-    → WrotePart a c (first ++ next)
-WrotePart-after a b c first next whole part = record {
-  part = first ++ part.part;
-  rest = part.rest;
-  parts = ap (λ l. first ++ l) part.parts ∙ sym (append_assoc first part.part part.rest);
-  short = part.short;
-  wrote = Wrote-append a b c first part.part whole part.wrote;
-}
-
 -- a part of bytes is a part of longer ones
 pub WrotePart-longer : (a b : List ℕ → Type 0) (bytes more : List ℕ) → WrotePart a b bytes
     → WrotePart a b (bytes ++ more)
@@ -53,16 +42,3 @@ WrotePart-longer a b bytes more part = record {
   short = let short = part.short in omega (arith, length-append part.rest more);
   wrote = part.wrote;
 }
-
--- what a writer is known to hold stays known where a call appends to it, or keeps it
-pub known_appends : (a b : Option (List ℕ)) (before bytes : List ℕ) → Appends a b bytes → a ≡ Some before
-    → b ≡ Some (before ++ bytes)
-known_appends None b before bytes p is = absurd cc
-known_appends (Some x) None before bytes p is = absurd p
-known_appends (Some x) (Some y) before bytes p is = let held : x ≡ before = cc in ap Some
-    (p ∙ ap (λ l. l ++ bytes) held)
-
-pub known_keeps : (a b : Option (List ℕ)) (before : List ℕ) → Keeps a b → a ≡ Some before → b ≡ Some before
-known_keeps None b before p is = absurd cc
-known_keeps (Some x) None before p is = absurd p
-known_keeps (Some x) (Some y) before p is = let held : x ≡ before = cc in ap Some (p ∙ held)

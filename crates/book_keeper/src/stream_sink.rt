@@ -2,7 +2,7 @@ ghost use Rattle.std.specs.Prelude.{◌≡◌, ◌<◌, ◌≤◌, [], false, If
 ghost use Rattle.std.specs.Io.KnownBytes.{Appends, Keeps};
 ghost use Rattle.book_keeper.specs.Faults.{HasCause, next_count};
 ghost use Rattle.book_keeper.specs.Stream.{Wrote};
-ghost use Rattle.book_keeper.specs.Written.{may_hold};
+ghost use Rattle.book_keeper.specs.Written.{HasTaken, may_hold};
 
 use crate::interrupted::{TRIES, is_interrupted};
 use crate::{Failed, Sink};
@@ -30,13 +30,15 @@ impl<W: Write> StreamSink<W> {
         }
     }
 
-    /// Writes from the front of the bytes and flushes the writer; says how many bytes it took.
+    /// Writes from the front of the bytes and flushes the writer; says how many bytes it took. Where that failed, the
+    /// writer holds what it held and then, if it took some before its flush failed, some of the bytes from their front.
     fn write_flushed(&mut self, bytes: &[u8]) -> Result<usize, Failed>
         ensures within { IfOk result (λ count. count ≤ length bytes.now) }
         ensures progress { IfOk result (λ count. 0 < length bytes.now → 0 < count) }
         ensures added { IfOk result (λ count.
             Wrote (may_hold W.contents self.old) (may_hold W.contents self.new) (take count bytes.now)) }
         ensures unchanged { OnErr result (Wrote (may_hold W.contents self.old) (may_hold W.contents self.new) []) }
+        ensures held { HasTaken (W.contents self.old.writer) (W.contents self.new.writer) bytes.now }
         ensures faults { self.new.faults ≡ self.old.faults }
         ensures reports { OnOk result (self.new.unflushed ≡ self.old.unflushed) }
     {
@@ -59,13 +61,14 @@ impl<W: Write> Sink for StreamSink<W> {
 
     /// Writes and flushes once, each again only where it was interrupted: up to 1,000,000 times in all. Failed, and
     /// one fault counted, where the writer answers another error, is interrupted each time, or takes nothing of a
-    /// piece.
+    /// piece. Also then the writer holds what it held, and nothing behind it but some of the bytes from their front.
     fn write(&mut self, bytes: &[u8]) -> Result<usize, Failed>
         ensures within { IfOk result (λ count. count ≤ length bytes.now) }
         ensures progress { IfOk result (λ count. 0 < length bytes.now → 0 < count) }
         ensures added { IfOk result (λ count.
             Wrote (may_hold W.contents self.old) (may_hold W.contents self.new) (take count bytes.now)) }
         ensures unchanged { OnErr result (Wrote (may_hold W.contents self.old) (may_hold W.contents self.new) []) }
+        ensures held { HasTaken (W.contents self.old.writer) (W.contents self.new.writer) bytes.now }
         ensures wrote { OnOk result (self.new.faults ≡ self.old.faults) }
         ensures reports { OnOk result (self.new.unflushed ≡ self.old.unflushed) }
         ensures failed { OnErr result (self.new.faults ≡ next_count self.old.faults) }

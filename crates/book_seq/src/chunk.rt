@@ -160,8 +160,8 @@ impl<E: Weigh + Drop> Chunk<E> {
         other.sums = moved;
     }
 
-    /// Moves all entries of another chunk behind those of this one, as a block: its sums are read, one step. It takes no
-    /// memory.
+    /// Moves all entries of another chunk behind those of this one, as a block: its sums are read, one step. It takes
+    /// no memory.
     pub(crate) fn append<L>(&mut self, other: &mut Chunk<E>, steps: &mut Steps<L>)
         requires few { length self.old.entries + length other.old.entries ≤ 512 }
         requires room { 512 ≤ self.old.room }

@@ -1,6 +1,6 @@
 -- Laws of sums over splits.
 use Rattle.std.proofs.Common.{◌≡◌, ℕ, ℤ, pos, ◌+ℤ◌, ◌==◌, Bool, true, false, if◌then◌else◌, List, [], ◌∷◌, ◌++◌}
-use Rattle.std.proofs.Common.{◌≤◌, ◌<◌, nat_lt, not, arith, length, map, refl, sym, ap, subst}
+use Rattle.std.proofs.Common.{◌≤◌, ◌<◌, nat_lt, not, All, arith, length, map, refl, sym, ap, subst}
 use Rattle.std.proofs.Common.{◌∙◌, append_assoc, filter}
 use Rattle.std.proofs.Math.ListN.{length-append}
 use Rattle.std.proofs.lemmas.Bool.{eqb-true}
@@ -9,6 +9,7 @@ use Rattle.std.proofs.lemmas.List.{append-nil}
 use Rattle.std.proofs.lemmas.List.Elements.{filter-append}
 use Rattle.std.proofs.Math.IntN.{+ℤ_assoc, +ℤ_comm, +ℤ_idl, +ℤ_idr}
 use Rattle.book_commodity.specs.Table.{AllAbove, Rises, with_entry}
+use Rattle.book_commodity.proofs.DrawnLemmas.{with_last}
 use Rattle.book_commodity.proofs.TableLemmas.{above_less}
 use Rattle.book_splits.specs.Balance.{total, quantity_on, splits_beside, splits_of}
 use Rattle.book_splits.specs.declared.split.Split.{Split}
@@ -51,6 +52,12 @@ pub splits_of-added : (transactions : List (ℕ × Txn)) (entry : ℕ × Txn)
     → splits_of (transactions ++ entry ∷ []) ≡ splits_of transactions ++ entry.1.splits
 splits_of-added transactions entry = splits_of-append transactions (entry ∷ [])
     ∙ ap (λ splits. splits_of transactions ++ splits) (append-nil entry.1.splits)
+
+-- the splits of a transaction under a number above all others stand behind those of the others
+pub splits_last :
+    (n : ℕ) (new : Txn) (ts : List (ℕ × Txn)) → All (λ (e : ℕ × Txn). e.0 < n) ts
+    → splits_of (with_entry n new ts) ≡ splits_of ts ++ new.splits
+splits_last n new ts below = ap splits_of (with_last n new ts below) ∙ splits_of-added ts (n, new)
 
 pub splits_beside-append : (n : ℕ) (xs ys : List (ℕ × Txn))
     → splits_beside n (xs ++ ys) ≡ splits_beside n xs ++ splits_beside n ys

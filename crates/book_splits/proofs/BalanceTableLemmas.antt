@@ -124,21 +124,6 @@ splits_beside-item n transactions i entry below is other =
     ap (λ splits. splits_beside n (take i transactions) ++ splits) one
     ∙ splits_beside-more n transactions i entry below is
 
--- the one that stands under the number
-pub splits_beside-same :
-    (n : ℕ) (transactions : List (ℕ × Txn)) (i : ℕ) (entry : ℕ × Txn) → i < length transactions
-    → entry ≡ get_or transactions i entry → entry.0 ≡ n
-    → splits_beside n (take i transactions) ≡ splits_beside n (take (i + 1) transactions)
-splits_beside-same n transactions i entry below is same =
-    let P : Bool → Type 0 = λ t. IsTrue t → [] ≡ splits_of (if not t then entry ∷ [] else []) in
-    let none : [] ≡ splits_beside n (entry ∷ []) = elim (n == entry.0) as P [
-      | true ↦ λ h. refl
-      | false ↦ λ h. cc
-    ] (eq-eqb n entry.0 (sym same)) in
-    sym (append-nil (splits_beside n (take i transactions)))
-    ∙ ap (λ splits. splits_beside n (take i transactions) ++ splits) none
-    ∙ splits_beside-more n transactions i entry below is
-
 length-splits_of-take : (transactions : List (ℕ × Txn)) (i : ℕ)
     → length (splits_of (take i transactions)) ≤ length (splits_of transactions)
 length-splits_of-take transactions i =

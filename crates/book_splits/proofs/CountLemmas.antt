@@ -1,5 +1,5 @@
 -- How many splits there are after a transaction is put or taken.
-use Rattle.std.proofs.Common.{◌≡◌, ℕ, ◌+◌, ◌-◌, ◌%◌, ◌^◌, ◌<◌, List, [], ◌∷◌, ◌++◌, length, arith}
+use Rattle.std.proofs.Common.{◌≡◌, ℕ, ◌+◌, ◌-◌, ◌%◌, ◌^◌, ◌<◌, ◌≤◌, List, [], ◌∷◌, ◌++◌, length, arith}
 use Rattle.std.proofs.Math.ListN.{length-append}
 use Rattle.std.proofs.lemmas.Bool.Decides.{nat_tests}
 use Rattle.book_commodity.specs.Table.{Rises, value_of, with_entry, without_entry}
@@ -42,6 +42,10 @@ splits-without n (e ∷ es) =
     let later = length-append e.1.splits (splits_of (without_entry n es)) in
     let more = splits-without n es in
     grind (arith, nat_tests, first, later, more)
+
+-- the splits of a transaction are among those of all
+pub splits-within : (number : ℕ) (ts : List (ℕ × Txn)) → splits_in (value_of number ts) ≤ length (splits_of ts)
+splits-within number ts = omega (arith, splits-without number ts)
 
 -- A count that is kept after division by 2^64 is so after some are added and some removed.
 pub count-changed :

@@ -2,6 +2,7 @@ pub mod BalanceLemmas
 pub mod BalanceTableLemmas
 pub mod CheckLemmas
 pub mod CountLemmas
+pub mod NamedLemmas
 pub mod ReplacedLemmas
 pub mod SplitLemmas
 pub mod SuitsLemmas

@@ -8,7 +8,7 @@ use Rattle.book_splits.specs.Balance.{has_splits}
 use Rattle.book_splits.specs.declared.transaction.Txn.{Txn}
 use Rattle.book_splits.proofs.TransactionRuleLemmas.{Suits, TakesAs}
 
-takes_as_itself : (account : Account) → TakesAs account account
+pub takes_as_itself : (account : Account) → TakesAs account account
 takes_as_itself account = record { kind = refl; commodity = refl; basis = refl; placeholder = λ still. still }
 
 -- where all that stood still stands

@@ -33,7 +33,7 @@ is_none_of (Some x) e = absurd cc
 
 -- ---- where commodities are added
 
-currency_kept :
+pub currency_kept :
     (currency : ℕ) (found later : Option Commodity) → ((c : Commodity) → found ≡ Some c → later ≡ Some c)
     → AllKept (currency_rules currency found) → AllKept (currency_rules currency later)
 currency_kept currency None later same kept = absurd (let broken = kept.0 in cc)
@@ -68,7 +68,7 @@ pub record TakesAs (old new : Account) : Type 0 where
 pub record Suits (found later : Option Account) : Type 0 where
   pub each : (old : Account) → found ≡ Some old → (new : Account) × (later ≡ Some new) × TakesAs old new
 
-taken_split :
+pub taken_split :
     (currency place : ℕ) (split : Split) (old new : Account) → TakesAs old new
     → AllKept (split_rules currency place split (Some old)) → AllKept (split_rules currency place split (Some new))
 taken_split currency place split old new takes kept =
@@ -83,7 +83,7 @@ taken_split currency place split old new takes kept =
     let valued = subst Valued takes.commodity kept.1.1.1.0 in
     (ap (λ (t : Bool). broken_where t (Placeholder split.account)) still, (kept.1.0, (based, (valued, tt))))
 
-split_kept :
+pub split_kept :
     (currency place : ℕ) (split : Split) (found later : Option Account) → Suits found later
     → AllKept (split_rules currency place split found) → AllKept (split_rules currency place split later)
 split_kept currency place split None later suits kept = absurd (let broken = kept.0 in cc)
@@ -111,7 +111,7 @@ splits_kept old new currency place (split ∷ more) suits kept =
     (splits_kept old new currency (place + 1) more later (kept_back before rest kept))
 
 -- the splits of a transaction are among all splits
-has_of_one :
+pub has_of_one :
     (k account : ℕ) (t : Txn) (ts : List (ℕ × Txn)) → value_of k ts ≡ Some t
     → list_any (λ (split : Split). split.account == account) t.splits ≡ true → has_splits ts account ≡ true
 has_of_one k account t [] there has = absurd cc

@@ -121,8 +121,8 @@ pub fn balances_after(
     transaction: &Txn,
 ) -> Result<Many<i128>, OutOfMemory>
     requires few { length (splits_of transactions.now.entries) ≤ 2 ^ 61 }
-    ensures { IfOk result (λ sums.
-        sums ≡ balances_in (splits_of (with_entry number transaction.now transactions.now.entries)) transaction.now.splits) }
+    ensures { let later = with_entry number transaction.now transactions.now.entries in
+        IfOk result (λ sums. sums ≡ balances_in (splits_of later) transaction.now.splits) }
 {
     let splits = transaction.splits.as_slice();
     let mut balances = Balances::of_accounts(alloc, splits)?;

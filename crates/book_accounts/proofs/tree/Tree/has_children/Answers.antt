@@ -3,7 +3,7 @@ use Rattle.std.specs.Option.{option_eq}
 use Rattle.std.proofs.lemmas.List.{drop_all}
 use Rattle.book_accounts.specs.Tree.{children_of}
 use Rattle.book_accounts.proofs.RuleLemmas.{children_some, children_skip}
-use Rattle.book_accounts.proofs.SoundLaws.{keeps_without}
+use Rattle.book_accounts.proofs.KeptLemmas.{kept_taken}
 use Rattle.book_accounts.proofs.tree.Tree.has_children.Goals as goal
 
 pub returns-then-eq-clause-children : goal.returns-then-eq-clause-children
@@ -27,4 +27,4 @@ returns-clause-keeps c =
     drop_all c.loop-place.place c.args.self.now.entries (omega arith) in
     let none : children_of c.args.self.now.entries (Some c.args.number) ≡ [] = sym c.loop-place.invariant
     ∙ ap (λ entries. children_of entries (Some c.args.number)) rest in
-    keeps_without c.args.self.now.entries c.args.number c.len-place-end.ensures.rises none
+    kept_taken c.args.self.now.entries c.args.number c.len-place-end.ensures.rises none

@@ -2,7 +2,6 @@ use Rattle.std.proofs.Common.{◌≡◌, ◌==◌, false, None, sym, ◌∙◌, 
 use Rattle.std.proofs.lemmas.Bool.Decides.{nat_tests}
 use Rattle.book_accounts.specs.Tree.{parent_of}
 use Rattle.book_accounts.proofs.RuleLemmas.{within_top, within_up, ancestors_fall}
-use Rattle.book_accounts.proofs.TreeLaws.{rooted_moved}
 use Rattle.book_accounts.proofs.tree.Tree.is_within.Goals as goal
 
 pub returns-in_default : goal.returns-in_default
@@ -10,13 +9,7 @@ returns-in_default c =
     let other : (c.loop-current.current == c.args.upper) ≡ false = grind (arith, nat_tests, c.loop-current-test.true) in
     let top : parent_of c.args.self.now.entries c.loop-current.current ≡ None = sym c.parent_of.ensures.parent
     ∙ c.in_default.is in
-    let apart = sym c.loop-current.invariant ∙ within_top c.args.self.now.entries c.args.upper c.loop-current.current
-    top other in
-    record {
-      within = sym apart;
-      rooted = λ there account under. rooted_moved c.args.self.now.entries c.args.upper account c.args.number
-          c.parent_of.ensures.rises c.requires under there apart;
-    }
+    sym (sym c.loop-current.invariant ∙ within_top c.args.self.now.entries c.args.upper c.loop-current.current top other)
 
 pub loop-current-smaller : goal.loop-current-smaller
 loop-current-smaller c =
