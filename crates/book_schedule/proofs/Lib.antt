@@ -2,4 +2,5 @@ pub mod DueLemmas
 pub mod MonthLemmas
 pub mod NextLemmas
 pub mod OccurrenceLemmas
+pub mod Weekdays
 mod WorkedRows

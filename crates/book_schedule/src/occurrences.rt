@@ -66,7 +66,7 @@ fn end_of_month(start: Day, months: u64) -> Option<Day>
 
 /// The day with the start's weekday and ordinal so many months later, the last such weekday for a start after the
 /// 28th; `None` past the range.
-#[tactic(auto, using(jiff_core::proofs::CalendarLemmas::weekday_number_bound), unfolding(crate::specs::Recurrence::weekday_from))]
+#[tactic(auto, using(crate::proofs::Weekdays::weekdays), unfolding(crate::specs::Recurrence::weekday_from))]
 fn nth_weekday(start: Day, months: u64) -> Option<Day>
     requires { months < 2 ^ 63 }
     ensures some { IsSome result ↔ IsDay (nth_weekday start (month_count start months)) }
@@ -83,7 +83,7 @@ fn nth_weekday(start: Day, months: u64) -> Option<Day>
 }
 
 /// The last day with the start's weekday in the month so many months later; `None` past the range.
-#[tactic(auto, using(jiff_core::proofs::CalendarLemmas::weekday_number_bound), unfolding(crate::specs::Recurrence::weekday_up_to))]
+#[tactic(auto, using(crate::proofs::Weekdays::weekdays), unfolding(crate::specs::Recurrence::weekday_up_to))]
 fn last_weekday(start: Day, months: u64) -> Option<Day>
     requires { months < 2 ^ 63 }
     ensures some { IsSome result ↔ IsDay (last_weekday start (month_count start months)) }
@@ -107,7 +107,7 @@ fn adjustment(recurrence: &Recurrence) -> Adjust
 }
 
 /// The day, moved from the weekend to the Friday before or to the Monday after; `None` past the range.
-#[tactic(auto, using(jiff_core::proofs::CalendarLemmas::weekday_number_bound), unfolding(crate::specs::Recurrence::adjusted))]
+#[tactic(auto, using(crate::proofs::Weekdays::weekdays), unfolding(crate::specs::Recurrence::adjusted))]
 fn moved(adjust: Adjust, day: Day) -> Option<Day>
     ensures some { IsSome result ↔ IsDay (adjusted adjust day) }
     ensures day { IfSome result (λ moved. moved ≡ adjusted adjust day) }
