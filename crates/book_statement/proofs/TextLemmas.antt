@@ -4,6 +4,7 @@ use Rattle.std.proofs.Common.{
   inl,
   inr,
   get_or,
+  Option,
   Some,
   None,
   position,
@@ -40,7 +41,8 @@ use Rattle.std.proofs.Common.{
 use Rattle.std.specs.Prelude.{◌==◌, if◌then◌else◌, nat_eq}
 use lib.Pointwise.{bytes_decides}
 use Rattle.std.specs.List.{position_or_len, starts_with}
-use Rattle.std.proofs.lemmas.Bool.{ne_eqb, eqb-true, cases_lt, lt-ltb, cond-true, cond-false, false_from_ne_true}
+use Rattle.memchr.specs.Find.{IsFirstByte, is_byte}
+use Rattle.std.proofs.lemmas.Bool.{ne_eqb, eqb-true, cases_lt, lt-ltb, le-ltb, cond-true, cond-false, false_from_ne_true}
 use Rattle.std.proofs.lemmas.List.{take_more, append-nil, take-append-drop}
 use Rattle.std.proofs.lemmas.List.Sums.{position_or_len_is}
 use Rattle.std.proofs.lemmas.List.Quantifiers.{position-Some}
@@ -160,6 +162,21 @@ only_line text some e =
   where
     some_none : {n : ℕ} → Some n ≡ None → ⊥
     some_none p = absurd cc
+
+-- a search for a line feed finds the place of the first
+pub found_feed : (text : List ℕ) (found : Option ℕ) → IsFirstByte (is_byte 10) text found
+    → found ≡ position is_line_feed text
+found_feed text None none =
+    let size = position_or_len is_line_feed text in
+    let place = position_or_len_is is_line_feed text (length text) 0 (omega arith)
+    (λ k lt. false_from_ne_true (is_line_feed (get_or text k 0)) (none k (omega arith) lt)) (λ lt. absurd (omega arith)) in
+    sym (ap (λ t. cond t (Some size) None) (le-ltb size (length text) (omega (arith, place))))
+found_feed text (Some end) (found, feed) =
+    let size = position_or_len is_line_feed text in
+    let place = position_or_len_is is_line_feed text end 0 (omega (arith, found.high))
+    (λ k lt. false_from_ne_true (is_line_feed (get_or text k 0)) (found.before k (omega arith) lt)) (λ _. feed) in
+    ap Some (sym place)
+    ∙ sym (ap (λ t. cond t (Some size) None) (lt-ltb size (length text) (omega (arith, place, found.high))))
 
 -- a text that begins with a front is that front and what stands behind it
 pub begins_with : (text front : List ℕ) → starts_with nat_eq text front ≡ true

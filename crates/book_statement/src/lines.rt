@@ -4,6 +4,7 @@ ghost use Rattle.std.specs.Str.Lines.{strip_carriage_return};
 ghost use Rattle.book_statement.specs.Texts.{lines_of, without_spaces, trimmed};
 
 use crate::pieces::{text_before, text_behind};
+use memchr::memchr;
 
 /// The first line of a text, trimmed, and what stands behind its line feed.
 pub fn next_line(text: &str) -> (&str, &str)
@@ -64,5 +65,5 @@ fn kept_len(line: &[u8]) -> usize
 fn line_feed(text: &[u8]) -> Option<usize>
     ensures { result ≡ position (λ b. b == 10) text.now }
 {
-    text.iter().position(|byte| *byte == b'\n')
+    memchr(b'\n', text)
 }

@@ -7,6 +7,8 @@ mod asked;
 mod currencies;
 mod faults;
 mod rows;
+#[cfg(test)]
+mod tests;
 
 ghost use Rattle.show_statements.specs.Words.{HasFraction};
 
