@@ -89,3 +89,10 @@ read_on spelling (x ∷ xs) item rest =
     append_assoc (spelling x) (flat_map spelling xs) (spelling item ++ rest)
     ∙ ap (λ b. spelling x ++ b) (read_on spelling xs item rest)
     ∙ sym (append_assoc (spelling x) (flat_map spelling (xs ++ item ∷ [])) rest)
+
+-- items that fit, and one more that does, all fit
+pub fit_more :
+    {T : Type 0} (fits : T → Type 0) (items : List T) (item : T) → AllByRecursion fits items → fits item
+    → AllByRecursion fits (items ++ item ∷ [])
+fit_more fits [] item all one = (one, tt)
+fit_more fits (x ∷ xs) item all one = (all.0, fit_more fits xs item all.1 one)

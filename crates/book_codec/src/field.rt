@@ -23,6 +23,7 @@ pub trait Field<W>: Sized + Drop {
     /// Bad: the bytes begin with no spelling.
     fn read(alloc: Global, bytes: &[u8]) -> Result<(Self, &[u8]), DecodeError>
         ensures found { IfOk result (λ found. bytes.now ≡ spelling found.0 ++ found.1.now) }
+        ensures fits { IfOk result (λ found. fits found.0) }
         ensures again { (value : Self) (rest : List ℕ) → fits value → bytes.now ≡ spelling value ++ rest
             → Gives {Y = Self × List ℕ} (λ found. (found.0, found.1.now)) result (value, rest) };
 }

@@ -53,6 +53,7 @@ fn read_all<W, T: Field<W>>(
 ) -> Result<(Many<T>, &[u8]), DecodeError>
     ensures count { IfOk result (λ found. length found.0 ≡ count) }
     ensures found { IfOk result (λ found. bytes.now ≡ flat_map T.spelling found.0 ++ found.1.now) }
+    ensures fits { IfOk result (λ found. AllByRecursion T.fits found.0) }
     ensures again { (items : List T) (rest : List ℕ) → AllByRecursion T.fits items → length items ≡ count
         → bytes.now ≡ flat_map T.spelling items ++ rest
         → Gives {Y = List T × List ℕ} (λ found. (found.0, found.1.now)) result (items, rest) }

@@ -44,6 +44,7 @@ impl<W> Field<W> for Text {
 /// Bad: they are not UTF-8.
 fn text_of(alloc: Global, bytes: &[u8]) -> Result<Text, DecodeError>
     ensures found { IfOk result (λ text. text ≡ bytes.now) }
+    ensures utf8 { IfOk result IsUtf8 }
     ensures again { IsUtf8 bytes.now → Gives (λ text. text) result bytes.now }
 {
     let Ok(text) = str::from_utf8(bytes) else {

@@ -20,6 +20,7 @@ pub fn write_whole<W, T: Field<W>>(alloc: Global, value: &T) -> Result<Bytes, Ou
 /// Bad: they are no value's body.
 pub fn read_whole<W, T: Field<W>>(alloc: Global, body: &[u8]) -> Result<T, DecodeError>
     ensures found { IfOk result (λ value. body.now ≡ 1 ∷ T.spelling value) }
+    ensures fits { IfOk result T.fits }
     ensures again { (value : T) → T.fits value → body.now ≡ 1 ∷ T.spelling value → Gives (λ x. x) result value }
 {
     match behind_format(body) {
@@ -42,6 +43,7 @@ fn behind_format(body: &[u8]) -> Option<&[u8]>
 /// Bad: they spell none, or bytes are left behind it.
 fn read_to_end<W, T: Field<W>>(alloc: Global, bytes: &[u8]) -> Result<T, DecodeError>
     ensures found { IfOk result (λ value. bytes.now ≡ T.spelling value) }
+    ensures fits { IfOk result T.fits }
     ensures again { (value : T) → T.fits value → bytes.now ≡ T.spelling value → Gives (λ x. x) result value }
 {
     let (value, left) = match T::read(alloc, bytes) {

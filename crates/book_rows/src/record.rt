@@ -74,6 +74,7 @@ pub fn write_row(alloc: Global, what: &Record) -> Result<Bytes, OutOfMemory>
 /// Bad: it stands for none; the error names the row.
 pub fn read_row(alloc: Global, key: RowKey, body: &[u8]) -> Result<Record, RowError>
     ensures found { IfOk result (λ it. IsSpelledBy key body.now it) }
+    ensures fits { IfOk result IsRecord }
     ensures again { (it : Record) → StandsFor key body.now it → IsReadAs result it }
     ensures error { IfErr result (IsErrorAt key) }
 {
@@ -110,6 +111,7 @@ fn read_head(alloc: Global, key: RowKey, body: &[u8]) -> Result<Record, RowError
     requires kind { key.kind ≡ 1 }
     requires id { key.id < 2 ^ 62 }
     ensures found { IfOk result (λ it. IsSpelledBy key body.now it) }
+    ensures fits { IfOk result IsRecord }
     ensures again { (it : Head) → IsHead it → IsWithin it → key.id ≡ 0 → body.now ≡ 1 ∷ head_bytes it
         → IsReadAs result (Record.Head it) }
     ensures error { IfErr result (IsErrorAt key) }
@@ -141,6 +143,7 @@ fn read_commodity(alloc: Global, key: RowKey, body: &[u8]) -> Result<Record, Row
     requires kind { key.kind ≡ 2 }
     requires id { key.id < 2 ^ 62 }
     ensures found { IfOk result (λ it. IsSpelledBy key body.now it) }
+    ensures fits { IfOk result IsRecord }
     ensures again { (it : Commodity) → IsCommodity it → body.now ≡ 1 ∷ commodity_bytes it
         → IsReadAs result (Record.Commodity it) }
     ensures error { IfErr result (IsErrorAt key) }
@@ -156,6 +159,7 @@ fn read_account(alloc: Global, key: RowKey, body: &[u8]) -> Result<Record, RowEr
     requires kind { key.kind ≡ 3 }
     requires id { key.id < 2 ^ 62 }
     ensures found { IfOk result (λ it. IsSpelledBy key body.now it) }
+    ensures fits { IfOk result IsRecord }
     ensures again { (it : Account) → IsAccount it → body.now ≡ 1 ∷ account_bytes it
         → IsReadAs result (Record.Account it) }
     ensures error { IfErr result (IsErrorAt key) }
@@ -171,6 +175,7 @@ fn read_txn(alloc: Global, key: RowKey, body: &[u8]) -> Result<Record, RowError>
     requires kind { key.kind ≡ 4 }
     requires id { key.id < 2 ^ 62 }
     ensures found { IfOk result (λ it. IsSpelledBy key body.now it) }
+    ensures fits { IfOk result IsRecord }
     ensures again { (it : Txn) → IsTxn it → body.now ≡ 1 ∷ txn_bytes it → IsReadAs result (Record.Txn it) }
     ensures error { IfErr result (IsErrorAt key) }
 {
@@ -185,6 +190,7 @@ fn read_price(alloc: Global, key: RowKey, body: &[u8]) -> Result<Record, RowErro
     requires kind { key.kind ≡ 5 }
     requires id { key.id < 2 ^ 62 }
     ensures found { IfOk result (λ it. IsSpelledBy key body.now it) }
+    ensures fits { IfOk result IsRecord }
     ensures again { (it : Price) → IsPrice it → body.now ≡ 1 ∷ price_bytes it → IsReadAs result (Record.Price it) }
     ensures error { IfErr result (IsErrorAt key) }
 {
@@ -199,6 +205,7 @@ fn read_schedule(alloc: Global, key: RowKey, body: &[u8]) -> Result<Record, RowE
     requires kind { key.kind ≡ 6 }
     requires id { key.id < 2 ^ 62 }
     ensures found { IfOk result (λ it. IsSpelledBy key body.now it) }
+    ensures fits { IfOk result IsRecord }
     ensures again { (it : Schedule) → IsSchedule it → body.now ≡ 1 ∷ schedule_bytes it
         → IsReadAs result (Record.Schedule it) }
     ensures error { IfErr result (IsErrorAt key) }
@@ -214,6 +221,7 @@ fn read_held(alloc: Global, key: RowKey, body: &[u8]) -> Result<Record, RowError
     requires kind { key.kind ≡ 7 }
     requires id { key.id < 2 ^ 62 }
     ensures found { IfOk result (λ it. IsSpelledBy key body.now it) }
+    ensures fits { IfOk result IsRecord }
     ensures again { (it : Held) → IsHeld it → body.now ≡ 1 ∷ held_bytes it → IsReadAs result (Record.Held it) }
     ensures error { IfErr result (IsErrorAt key) }
 {
@@ -228,6 +236,7 @@ fn read_line(alloc: Global, key: RowKey, body: &[u8]) -> Result<Record, RowError
     requires kind { key.kind ≡ 8 }
     requires id { key.id < 2 ^ 62 }
     ensures found { IfOk result (λ it. IsSpelledBy key body.now it) }
+    ensures fits { IfOk result IsRecord }
     ensures again { (it : Line) → IsLine it → body.now ≡ 1 ∷ line_bytes it → IsReadAs result (Record.Line it) }
     ensures error { IfErr result (IsErrorAt key) }
 {
@@ -242,6 +251,7 @@ fn read_binding(alloc: Global, key: RowKey, body: &[u8]) -> Result<Record, RowEr
     requires kind { key.kind ≡ 9 }
     requires id { key.id < 2 ^ 62 }
     ensures found { IfOk result (λ it. IsSpelledBy key body.now it) }
+    ensures fits { IfOk result IsRecord }
     ensures again { (it : Binding) → IsBinding it → body.now ≡ 1 ∷ binding_bytes it
         → IsReadAs result (Record.Binding it) }
     ensures error { IfErr result (IsErrorAt key) }
@@ -257,6 +267,7 @@ fn read_recon(alloc: Global, key: RowKey, body: &[u8]) -> Result<Record, RowErro
     requires kind { key.kind ≡ 10 }
     requires id { key.id < 2 ^ 62 }
     ensures found { IfOk result (λ it. IsSpelledBy key body.now it) }
+    ensures fits { IfOk result IsRecord }
     ensures again { (it : Recon) → IsRecon it → body.now ≡ 1 ∷ recon_bytes it → IsReadAs result (Record.Recon it) }
     ensures error { IfErr result (IsErrorAt key) }
 {

@@ -7,6 +7,7 @@ use Rattle.book_codec.proofs.many.read_all.Given as goal
 abbrev pub invariant-loop-place : goal.invariant-loop-place
 invariant-loop-place g l = record {
   count : length l.items ≡ l._place;
+  fits : AllByRecursion g.T.Field.fits l.items;
   found : l.bytes ≡ flat_map g.T.Field.spelling l.items ++ l.rest;
   again : (items : List g.row.T.Denot) (tail : List ℕ) → AllByRecursion g.T.Field.fits items
       → length items ≡ l.count → l.bytes ≡ flat_map g.T.Field.spelling items ++ tail

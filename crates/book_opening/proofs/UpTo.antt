@@ -1,0 +1,226 @@
+-- Rows that are read one after another: those up to a rank, the next one, and whether one is bad.
+use Rattle.std.proofs.Common.{◌≡◌, ℕ, ◌+◌, ◌*◌, ◌^◌, ◌<◌, ◌≤◌, nat_lt, ◌==◌, Bool, true, false, if◌then◌else◌, List, []}
+use Rattle.std.proofs.Common.{◌∷◌, map, Option, Some, None, IfSome, inl, inr, ◌⊎◌, refl, sym, ap, ◌∙◌, subst, arith}
+use Rattle.std.proofs.lemmas.Bool.Decides.{nat_tests}
+use Rattle.std.specs.List.{AllByRecursion}
+use Rattle.book_keeper.specs.declared.row.RowKey.{RowKey}
+use Rattle.book_keeper.specs.declared.row.Row.{Row}
+use Rattle.book_keeper.specs.Rows.{AllAbove, Rises, rank, with_row, first_above, first_row}
+use Rattle.book_keeper.proofs.RowLemmas.{first_is_above}
+use Rattle.book_rows.specs.declared.record.Record.{Record}
+use Rattle.book_opening.specs.BookRows.{row_of}
+use Rattle.book_opening.specs.Opening.{CanBeRow, IsBad, IsLeastBad, IsNoRecord, IsOnlyRecord, LacksHead, OpensAs}
+use Rattle.book_opening.specs.Opening.{SomeRow, head_key}
+
+-- The rows whose keys are at most at a rank.
+abbrev pub up_to : ℕ → List Row → List Row
+up_to n [] = []
+up_to n (row ∷ rows) = if nat_lt n (rank row.key) then [] else row ∷ up_to n rows
+
+up_to_none : (n : ℕ) (rows : List Row) → AllAbove n rows → up_to n rows ≡ []
+up_to_none n [] a = refl
+up_to_none n (r ∷ rows) a = grind (arith, nat_tests, a.0)
+
+-- the first row alone
+pub up_to_first :
+    (rows : List Row) (row : Row) → Rises rows → first_row rows ≡ Some row → up_to (rank row.key) rows ≡ row ∷ []
+up_to_first [] row rise e = absurd cc
+up_to_first (r ∷ rows) row rise e =
+    let same : r ≡ row = cc in
+    let none = up_to_none (rank r.key) rows rise.0 in
+    subst (λ (x : Row). up_to (rank x.key) (r ∷ rows) ≡ x ∷ []) same (grind (arith, nat_tests, none))
+
+next_by :
+    (n : ℕ) (r : Row) (rows : List Row) (row : Row) (t : Bool) → nat_lt n (rank r.key) ≡ t → Rises (r ∷ rows)
+    → (if t then Some r else first_above n rows) ≡ Some row
+    → (first_above n rows ≡ Some row → up_to (rank row.key) rows ≡ with_row row (up_to n rows))
+    → up_to (rank row.key) (r ∷ rows) ≡ with_row row (if t then [] else r ∷ up_to n rows)
+next_by n r rows row true test rise e more =
+    up_to_first (r ∷ rows) row rise e
+next_by n r rows row false test rise e more =
+    let above : n < rank row.key =
+    subst (λ (o : Option Row). IfSome o (λ (x : Row). n < rank x.key)) e (first_is_above n rows) in
+    let below : rank r.key < rank row.key = grind (arith, nat_tests) in
+    let rest = more e in
+    grind (arith, nat_tests, below, rest)
+
+-- with the next row
+pub up_to_next :
+    (n : ℕ) (rows : List Row) (row : Row) → Rises rows → first_above n rows ≡ Some row
+    → up_to (rank row.key) rows ≡ with_row row (up_to n rows)
+up_to_next n [] row rise e = absurd cc
+up_to_next n (r ∷ rows) row rise e =
+    next_by n r rows row (nat_lt n (rank r.key)) refl rise e (λ f. up_to_next n rows row rise.1 f)
+
+end_by :
+    (n : ℕ) (r : Row) (rows : List Row) (t : Bool) → (if t then Some r else first_above n rows) ≡ None
+    → (first_above n rows ≡ None → up_to n rows ≡ rows) → (if t then [] else r ∷ up_to n rows) ≡ r ∷ rows
+end_by n r rows true e more = absurd cc
+end_by n r rows false e more = ap (λ l. r ∷ l) (more e)
+
+-- where there is no next row, these are all
+pub up_to_end : (n : ℕ) (rows : List Row) → first_above n rows ≡ None → up_to n rows ≡ rows
+up_to_end n [] e = refl
+up_to_end n (r ∷ rows) e = end_by n r rows (nat_lt n (rank r.key)) e (up_to_end n rows)
+
+-- ---- bad rows
+-- A row that can be opened.
+abbrev pub IsGood : Row → Type 0
+IsGood row = (it : Record) × OpensAs row it
+
+-- That the row of a key can't be opened.
+abbrev pub IsBadAt : RowKey → Row → Type 0
+IsBadAt key row = (row.key ≡ key) × IsNoRecord row
+
+bad_above :
+    (n : ℕ) (key : RowKey) (rows : List Row) → AllAbove n rows → SomeRow (IsBadAt key) rows → n < rank key
+bad_above n key [] a some = absurd some
+bad_above n key (r ∷ rows) a (inl h) = subst (λ (k : RowKey). n < rank k) h.0 a.0
+bad_above n key (r ∷ rows) a (inr h) = bad_above n key rows a.1 h
+
+least_by :
+    (n : ℕ) (r : Row) (rows : List Row) (row : Row) (t : Bool) (key : RowKey) → Rises (r ∷ rows)
+    → (if t then Some r else first_above n rows) ≡ Some row → AllByRecursion IsGood (if t then [] else r ∷ up_to n rows)
+    → (first_above n rows ≡ Some row → AllByRecursion IsGood (up_to n rows) → SomeRow (IsBadAt key) rows
+    → rank row.key ≤ rank key) → SomeRow (IsBadAt key) (r ∷ rows) → rank row.key ≤ rank key
+least_by n r rows row true key rise e good more (inl h) =
+    let same : r ≡ row = cc in
+    subst (λ (x : Row). rank x.key ≤ rank key) same (subst (λ (k : RowKey). rank r.key ≤ rank k) h.0 (omega arith))
+least_by n r rows row true key rise e good more (inr h) =
+    let same : r ≡ row = cc in
+    let above = bad_above (rank r.key) key rows rise.0 h in
+    subst (λ (x : Row). rank x.key ≤ rank key) same (omega (arith, above))
+least_by n r rows row false key rise e good more (inl h) = absurd (h.1 good.0.0 good.0.1)
+least_by n r rows row false key rise e good more (inr h) = more e good.1 h
+
+-- where the rows up to a rank are good, the first bad row is the next one or behind it
+pub least_next :
+    (n : ℕ) (rows : List Row) (row : Row) (key : RowKey) → Rises rows → first_above n rows ≡ Some row
+    → AllByRecursion IsGood (up_to n rows) → SomeRow (IsBadAt key) rows → rank row.key ≤ rank key
+least_next n [] row key rise e good some = absurd some
+least_next n (r ∷ rows) row key rise e good some =
+    least_by n r rows row (nat_lt n (rank r.key)) key rise e good
+    (λ f g h. least_next n rows row key rise.1 f g h) some
+
+among_by :
+    (P : Row → Type 0) (n : ℕ) (r : Row) (rows : List Row) (row : Row) (t : Bool)
+    → (if t then Some r else first_above n rows) ≡ Some row → P row
+    → (first_above n rows ≡ Some row → SomeRow P rows) → P r ⊎ SomeRow P rows
+among_by P n r rows row true e here more = let same : row ≡ r = cc in inl (subst P same here)
+among_by P n r rows row false e here more = inr (more e)
+
+-- the next row is one of the rows
+pub next_among :
+    (P : Row → Type 0) (n : ℕ) (rows : List Row) (row : Row) → first_above n rows ≡ Some row → P row → SomeRow P rows
+next_among P n [] row e here = absurd cc
+next_among P n (r ∷ rows) row e here =
+    among_by P n r rows row (nat_lt n (rank r.key)) e here (λ f. next_among P n rows row f here)
+
+pub first_among :
+    (P : Row → Type 0) (rows : List Row) (row : Row) → first_row rows ≡ Some row → P row → SomeRow P rows
+first_among P [] row e here = absurd cc
+first_among P (r ∷ rows) row e here = let same : row ≡ r = cc in inl (subst P same here)
+
+-- the next row is the least bad one, where the rows before it are good and begin with a head
+pub bad_next :
+    (n : ℕ) (rows : List Row) (row head : Row) → Rises rows → first_above n rows ≡ Some row
+    → AllByRecursion IsGood (up_to n rows) → first_row rows ≡ Some head → head.key ≡ head_key → IsNoRecord row
+    → IsLeastBad rows row.key
+bad_next n rows row head rise e good first at none = record {
+  bad = inl (next_among (IsBadAt row.key) n rows row e (refl, none));
+  least = λ other bad. elim bad as (λ _. rank row.key ≤ rank other) [
+    inl some ↦ least_next n rows row other rise e good some
+  | inr lacks ↦ absurd (lacks.1.1 (first_among (λ r. r.key ≡ head_key) rows head first at))
+  ];
+}
+
+keys_above : (n : ℕ) (key : RowKey) (rows : List Row) → AllAbove n rows → SomeRow (λ r. r.key ≡ key) rows → n < rank key
+keys_above n key [] a some = absurd some
+keys_above n key (r ∷ rows) a (inl h) = subst (λ (k : RowKey). n < rank k) h a.0
+keys_above n key (r ∷ rows) a (inr h) = keys_above n key rows a.1 h
+
+first_least :
+    (rows : List Row) (row : Row) (key : RowKey) → Rises rows → first_row rows ≡ Some row
+    → SomeRow (IsBadAt key) rows → rank row.key ≤ rank key
+first_least [] row key rise e some = absurd some
+first_least (r ∷ rows) row key rise e (inl h) =
+    let same : r ≡ row = cc in
+    subst (λ (x : Row). rank x.key ≤ rank key) same (subst (λ (k : RowKey). rank r.key ≤ rank k) h.0 (omega arith))
+first_least (r ∷ rows) row key rise e (inr h) =
+    let same : r ≡ row = cc in
+    let above = bad_above (rank r.key) key rows rise.0 h in
+    subst (λ (x : Row). rank x.key ≤ rank key) same (omega (arith, above))
+
+-- a first row that can't be opened is the least bad one, where it is not behind the place of the head
+pub bad_first :
+    (rows : List Row) (row : Row) → Rises rows → first_row rows ≡ Some row → rank row.key ≤ rank head_key
+    → IsNoRecord row → IsLeastBad rows row.key
+bad_first rows row rise e low none = record {
+  bad = inl (first_among (IsBadAt row.key) rows row e (refl, none));
+  least = λ other bad. elim bad as (λ _. rank row.key ≤ rank other) [
+    inl some ↦ first_least rows row other rise e some
+  | inr lacks ↦ subst (λ (k : RowKey). rank row.key ≤ rank k) (sym lacks.0) low
+  ];
+}
+
+lacks_head :
+    (rows : List Row) (row : Row) → Rises rows → first_row rows ≡ Some row → rank head_key < rank row.key
+    → LacksHead rows
+lacks_head [] row rise e past = absurd cc
+lacks_head (r ∷ rows) row rise e past =
+    let same : row ≡ r = cc in
+    let above : rank head_key < rank r.key = subst (λ (x : Row). rank head_key < rank x.key) same past in
+    (
+      (λ none. absurd cc),
+      (λ some. elim some as (λ _. ⊥) [
+        inl h ↦ absurd (let at : rank head_key < rank head_key =
+            subst (λ (k : RowKey). rank head_key < rank k) h above in omega (arith, at))
+      | inr h ↦ absurd (let at = keys_above (rank r.key) head_key rows rise.0 h in omega (arith, at, above))
+      ]),
+    )
+
+-- where the first row stands behind the place of the head, the head is the least bad row
+pub bad_head :
+    (rows : List Row) (row : Row) → Rises rows → first_row rows ≡ Some row → rank head_key < rank row.key
+    → IsLeastBad rows head_key
+bad_head rows row rise e past = record {
+  bad = inr (refl, lacks_head rows row rise e past);
+  least = λ other bad. elim bad as (λ _. rank head_key ≤ rank other) [
+    inl some ↦ (let low = first_least rows row other rise e some in omega (arith, low, past))
+  | inr lacks ↦ subst (λ (k : RowKey). rank head_key ≤ rank k) (sym lacks.0) (omega arith)
+  ];
+}
+
+-- ---- the records of rows
+pub good_rows :
+    (es : List (ℕ × Record)) → AllByRecursion IsOnlyRecord es → AllByRecursion IsGood (map row_of es)
+good_rows [] h = tt
+good_rows (e ∷ es) h = ((e.1, h.0.0), good_rows es h.1)
+
+only_by :
+    (e f : ℕ × Record) → row_of e ≡ row_of f → IsOnlyRecord e → CanBeRow f → f ≡ e
+only_by e f same only can =
+    let record_same : f.1 ≡ e.1 = only.1 f.1 (subst (λ (r : Row). OpensAs r f.1) (sym same) can) in
+    let number_same : f.0 ≡ e.0 = ap (λ (r : Row). r.key.id) (sym same) in
+    ap (λ (n : ℕ). (n, f.1)) number_same ∙ ap (λ (it : Record). (e.0, it)) record_same
+
+-- rows have only one list of records
+pub only_records :
+    (es fs : List (ℕ × Record)) → map row_of es ≡ map row_of fs → AllByRecursion IsOnlyRecord es
+    → AllByRecursion CanBeRow fs → fs ≡ es
+only_records [] [] same only can = refl
+only_records [] (f ∷ fs) same only can = absurd cc
+only_records (e ∷ es) [] same only can = absurd cc
+only_records (e ∷ es) (f ∷ fs) same only can =
+    let first : row_of e ≡ row_of f = cc in
+    let more : map row_of es ≡ map row_of fs = cc in
+    ap (λ (x : ℕ × Record). x ∷ fs) (only_by e f first only.0 can.0)
+    ∙ ap (λ (l : List (ℕ × Record)). e ∷ l) (only_records es fs more only.1 can.1)
+
+-- the row of a record among rows
+mapped_if :
+    (s t : Bool) (a b c : List (ℕ × Record)) (d : List Row) → d ≡ map row_of c
+    → (if s then map row_of a else (if t then map row_of b else d)) ≡ map row_of (if s then a else (if t then b else c))
+mapped_if true t a b c d e = refl
+mapped_if false true a b c d e = refl
+mapped_if false false a b c d e = e

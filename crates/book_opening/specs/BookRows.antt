@@ -1,0 +1,61 @@
+-- The rows of a book: one for its head and one for each thing, in rising order of their keys.
+use Rattle.std.specs.Prelude.{ℕ, List, [], ◌∷◌, map, flat_map}
+use Rattle.book_keeper.specs.declared.row.Row.{Row}
+use Rattle.book_edits.specs.Book.{Book}
+use Rattle.book_edits.specs.declared.thing.Thing.{Thing}
+use Rattle.book_edits.specs.declared.thing.Thing.TheVariants as thing
+use Rattle.book_rows.specs.Row.{kind_of, body_of}
+use Rattle.book_rows.specs.declared.head.Head.{Head}
+use Rattle.book_rows.specs.declared.record.Record.{Record}
+use Rattle.book_rows.specs.declared.record.Record.TheVariants as kept
+use Rattle.book_opening.specs.State.{State, head_of}
+
+-- The record of a thing.
+abbrev pub record_of : Thing → Record
+record_of (thing.Commodity commodity) = kept.Commodity commodity
+record_of (thing.Account account) = kept.Account account
+record_of (thing.Txn transaction) = kept.Txn transaction
+record_of (thing.Price price) = kept.Price price
+record_of (thing.Schedule schedule) = kept.Schedule schedule
+record_of (thing.Held statement) = kept.Held statement
+record_of (thing.Line line) = kept.Line line
+record_of (thing.Binding binding) = kept.Binding binding
+record_of (thing.Recon reconciliation) = kept.Recon reconciliation
+
+-- The records of a table, each with its number.
+abbrev pub records_in : {T : Type 0} → (T → Thing) → List (ℕ × T) → List (ℕ × Record)
+records_in of entries = map (λ entry. (entry.0, record_of (of entry.1))) entries
+
+-- The records of the nine tables, in the order of their kinds.
+abbrev pub tables_of : Book → List (List (ℕ × Record))
+tables_of book =
+    records_in (λ it. thing.Commodity it) book.commodities
+    ∷ records_in (λ it. thing.Account it) book.accounts
+    ∷ records_in (λ it. thing.Txn it) book.transactions
+    ∷ records_in (λ it. thing.Price it) book.prices
+    ∷ records_in (λ it. thing.Schedule it) book.schedules
+    ∷ records_in (λ it. thing.Held it) book.statements
+    ∷ records_in (λ it. thing.Line it) book.lines
+    ∷ records_in (λ it. thing.Binding it) book.bindings
+    ∷ records_in (λ it. thing.Recon it) book.reconciliations
+    ∷ []
+
+-- The records of all things of a book, each with its number, by rising kinds and numbers.
+unfoldable pub things_of : Book → List (ℕ × Record)
+things_of book = flat_map (λ table. table) (tables_of book)
+
+-- A head, and behind it the records of a book.
+abbrev pub behind_head : Head → Book → List (ℕ × Record)
+behind_head head book = (0, kept.Head head) ∷ things_of book
+
+-- The row of a record under a number.
+abbrev pub row_of : ℕ × Record → Row
+row_of entry = record { key = record { kind = kind_of entry.1; id = entry.0 }; body = body_of entry.1 }
+
+-- The records of a state.
+abbrev pub records_of : State → List (ℕ × Record)
+records_of state = behind_head (head_of state) state.book
+
+-- The rows of a state: that of its head, and one for each thing.
+abbrev pub rows_of : State → List Row
+rows_of state = map row_of (records_of state)

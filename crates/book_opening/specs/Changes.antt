@@ -1,0 +1,39 @@
+-- What an edit of a book changes in its rows.
+use Rattle.std.specs.Prelude.{ℕ, ◌^◌, ◌<◌, ⊤, List, [], ◌∷◌, flat_map, map}
+use Rattle.book_keeper.specs.declared.row.Change.{Change}
+use Rattle.book_keeper.specs.declared.row.Change.TheVariants as change
+use Rattle.book_edits.specs.Edit.{Leaf, OfCurrency, OfPut, OfGone, leaves}
+use Rattle.book_edits.specs.Thing.{row_kind}
+use Rattle.book_edits.specs.declared.edit.Edit.{Edit}
+use Rattle.book_rows.specs.Row.{IsRecord}
+use Rattle.book_rows.specs.declared.head.Head.{Head}
+use Rattle.book_rows.specs.declared.record.Record.TheVariants as kept
+use Rattle.book_opening.specs.BookRows.{record_of, row_of, rows_of}
+use Rattle.book_opening.specs.State.{State}
+
+-- The changes of rows that a leaf comes to: a thing that is put is written, and one that is deleted has no row any
+-- more. The currency stands in the head.
+abbrev pub leaf_changes : Leaf → List Change
+leaf_changes (OfCurrency currency) = []
+leaf_changes (OfPut number thing) = change.Put (row_of (number, record_of thing)) ∷ []
+leaf_changes (OfGone kind number) = change.Gone (record { kind = row_kind kind; id = number }) ∷ []
+
+-- The changes of rows that an edit and a new head come to: the head is written, and then what each leaf changes.
+abbrev pub changes_of : Head → Edit → List Change
+changes_of head edit = change.Put (row_of (0, kept.Head head)) ∷ flat_map leaf_changes (leaves edit)
+
+-- What a leaf writes has a spelling.
+abbrev pub LeafFits : Leaf → Type 0
+LeafFits (OfCurrency currency) = ⊤
+LeafFits (OfPut number thing) = IsRecord (record_of thing)
+LeafFits (OfGone kind number) = ⊤
+
+-- The number of what a leaf changes can be that of a row.
+abbrev pub IsSmallLeaf : Leaf → Type 0
+IsSmallLeaf (OfCurrency currency) = ⊤
+IsSmallLeaf (OfPut number thing) = number < 2 ^ 62
+IsSmallLeaf (OfGone kind number) = number < 2 ^ 62
+
+-- The changes by which rows come to be where there were none: each row of a state is written.
+abbrev pub all_put : State → List Change
+all_put state = map (λ row. change.Put row) (rows_of state)

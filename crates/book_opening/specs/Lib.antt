@@ -1,0 +1,4 @@
+pub mod BookRows
+pub mod Changes
+pub mod Opening
+pub mod State

@@ -1,0 +1,121 @@
+-- What rows open as: the state whose rows they are, or a key at which they are bad.
+use Rattle.std.specs.Prelude.{ℕ, ◌≡◌, ◌≤◌, ◌<◌, ◌⊎◌, ⊤, Bool, IsTrue, List, [], ◌∷◌, Option, Some, None, Result, Ok, Err, OnOk, IfErr}
+use Rattle.std.specs.List.{AllByRecursion}
+use Rattle.book_keeper.specs.Faults.{Rose}
+use Rattle.book_keeper.specs.Rows.{rank, first_row}
+use Rattle.book_keeper.specs.declared.row.Row.{Row}
+use Rattle.book_keeper.specs.declared.row.RowKey.{RowKey}
+use Rattle.book_rows.specs.Row.{StandsFor}
+use Rattle.book_rows.specs.declared.head.Head.{Head}
+use Rattle.book_rows.specs.declared.record.Record.{Record}
+use Rattle.book_rows.specs.declared.record.Record.TheVariants as kept
+use Rattle.book_opening.specs.BookRows.{records_of, row_of, rows_of}
+use Rattle.book_opening.specs.State.{State, state_of}
+use Rattle.book_opening.specs.declared.fault.OpenFault.{OpenFault}
+use Rattle.book_opening.specs.declared.fault.OpenFault.TheVariants as fault
+use Rattle.book_opening.specs.declared.saved.Saved.{Saved}
+
+-- A head that counts no steps back or forth. None are kept yet.
+abbrev pub HasNoSteps : Record → Type 0
+HasNoSteps (kept.Head head) = (head.past ≡ 0) × (head.later ≡ 0)
+HasNoSteps _ = ⊤
+
+-- A row can be opened as a record: it stands for it, and where it is the head, no steps are kept.
+abbrev pub OpensAs : Row → Record → Type 0
+OpensAs row it = StandsFor row.key row.body it × HasNoSteps it
+
+-- A row can't be opened as any record.
+abbrev pub IsNoRecord : Row → Type 0
+IsNoRecord row = (it : Record) → OpensAs row it → ⊥
+
+-- One of the rows is such a one.
+abbrev pub SomeRow : (Row → Type 0) → List Row → Type 0
+SomeRow P [] = ⊥
+SomeRow P (row ∷ rows) = P row ⊎ SomeRow P rows
+
+-- The key of the head.
+abbrev pub head_key : RowKey
+head_key = record { kind = 1; id = 0 }
+
+-- There are rows, and none is at the key of the head.
+abbrev pub LacksHead : List Row → Type 0
+LacksHead rows = (rows ≡ [] → ⊥) × (SomeRow (λ row. row.key ≡ head_key) rows → ⊥)
+
+-- Rows are bad at a key: the row there can't be opened, or it is the head and missing. So far a row of kind 11 or 12
+-- is bad, since no steps are kept.
+abbrev pub IsBad : List Row → RowKey → Type 0
+IsBad rows key = SomeRow (λ row. (row.key ≡ key) × IsNoRecord row) rows ⊎ ((key ≡ head_key) × LacksHead rows)
+
+-- The least key at which rows are bad.
+pub record IsLeastBad (rows : List Row) (key : RowKey) : Type 0 where
+  pub bad : IsBad rows key
+  pub least : (other : RowKey) → IsBad rows other → rank key ≤ rank other
+
+-- A record under a number can be a row.
+abbrev pub CanBeRow : ℕ × Record → Type 0
+CanBeRow entry = OpensAs (row_of entry) entry.1
+
+-- A record under a number is the one as which its row opens.
+abbrev pub IsOnlyRecord : ℕ × Record → Type 0
+IsOnlyRecord entry = CanBeRow entry × ((it : Record) → OpensAs (row_of entry) it → it ≡ entry.1)
+
+-- Rows open as a state: they are its rows, and each of its records can be a row.
+pub record OpenAs (rows : List Row) (state : State) : Type 0 where
+  pub are : rows ≡ rows_of state
+  pub spelled : AllByRecursion CanBeRow (records_of state)
+
+-- What is answered of rows: that there are none; the state that they open as; or the least key at which they are bad.
+-- That the keeper failed, or the program is out of memory, says nothing of them.
+abbrev pub Answers : List Row → Result (Option Saved) OpenFault → Type 0
+Answers rows (Ok None) = rows ≡ []
+Answers rows (Ok (Some saved)) = OpenAs rows (state_of saved)
+Answers rows (Err (fault.BadRows kind id)) = IsLeastBad rows (record { kind = kind; id = id })
+Answers rows (Err fault.Keeper) = ⊤
+Answers rows (Err fault.OutOfMemory) = ⊤
+
+-- The rows begin with that of a head.
+abbrev pub Begins : List Row → Head → Type 0
+Begins rows head = first_row rows ≡ Some (row_of (0, kept.Head head))
+
+-- If rows are answered to be bad, it is at the least key.
+abbrev pub IsBadFor : List Row → OpenFault → Type 0
+IsBadFor rows (fault.BadRows kind id) = IsLeastBad rows (record { kind = kind; id = id })
+IsBadFor rows fault.Keeper = ⊤
+IsBadFor rows fault.OutOfMemory = ⊤
+
+-- A row behind the head is answered to be bad: it can't be opened.
+abbrev pub IsBadThing : Row → OpenFault → Type 0
+IsBadThing row (fault.BadRows kind id) = (kind ≡ row.key.kind) × (id ≡ row.key.id) × IsNoRecord row
+IsBadThing row fault.Keeper = ⊥
+IsBadThing row fault.OutOfMemory = ⊤
+
+-- The first row is answered to be bad: it stands behind the place of the head, which is missing; or it can't be
+-- opened.
+abbrev pub IsBadHead : Row → OpenFault → Type 0
+IsBadHead row (fault.BadRows kind id) =
+    ((rank head_key < rank row.key) × (kind ≡ 1) × (id ≡ 0))
+    ⊎ ((rank row.key ≤ rank head_key) × (kind ≡ row.key.kind) × (id ≡ row.key.id) × IsNoRecord row)
+IsBadHead row fault.Keeper = ⊥
+IsBadHead row fault.OutOfMemory = ⊤
+
+-- A keeper that was read: its path stays; it knows its rows now only if it did before, and then they stay.
+pub record WasRead {K : Type 0} (path : K → List ℕ) (sure : K → Bool) (holds : K → List Row → Type 0) (before now : K)
+    : Type 0 where
+  pub same_path : path now ≡ path before
+  pub still_sure : IsTrue (sure now) → IsTrue (sure before)
+  pub same_rows : IsTrue (sure now) → (rows : List Row) → holds before rows → holds now rows
+
+-- The answer is this state, unless the keeper failed or the program is out of memory.
+abbrev pub IsOpened : State → Result (Option Saved) OpenFault → Type 0
+IsOpened state (Ok None) = ⊥
+IsOpened state (Ok (Some saved)) = state_of saved ≡ state
+IsOpened state (Err (fault.BadRows kind id)) = ⊥
+IsOpened state (Err fault.Keeper) = ⊤
+IsOpened state (Err fault.OutOfMemory) = ⊤
+
+-- The keeper's count of faults never falls. It stays where the call succeeds, and where it is answered that the keeper
+-- failed, it rose.
+pub record HasOpenCause {T : Type 0} (before now : ℕ) (result : Result T OpenFault) : Type 0 where
+  pub later : before ≤ now
+  pub done : OnOk result (now ≡ before)
+  pub failed : IfErr result (λ error. error ≡ fault.Keeper → Rose before now)
