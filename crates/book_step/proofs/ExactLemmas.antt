@@ -1,19 +1,17 @@
 -- The edits of the commands are exact for a sound book: each leaf may be applied, and changes what stands at its key.
-use Rattle.std.proofs.Common.{◌≡◌, ◌≢◌, ℕ, Bool, false, if◌then◌else◌, List, [], ◌∷◌, Option, Some, None, is_none}
+use Rattle.std.proofs.Common.{◌≡◌, ◌≢◌, ℕ, Bool, false, if◌then◌else◌, [], ◌∷◌, Option, Some, None, is_none}
 use Rattle.std.proofs.Common.{option_map, refl, sym, ap, ◌∙◌}
 use Rattle.book_commodity.specs.Table.{value_of}
 use Rattle.book_commodity.specs.declared.commodity.Commodity.{Commodity}
 use Rattle.book_commodity.proofs.DrawnLemmas.{drawn_free}
 use Rattle.book_accounts.specs.declared.account.Account.{Account}
-use Rattle.book_splits.specs.declared.split.Split.{Split}
 use Rattle.book_splits.specs.declared.transaction.Txn.{Txn}
 use Rattle.book_undo.specs.Book.{Book, thing_at, with_thing, without_thing}
 use Rattle.book_undo.specs.Edit.{OfGone, OfPut, edited, together}
 use Rattle.book_undo.specs.EditRules.{first_missing}
 use Rattle.book_undo.specs.Exact.{IsExact}
 use Rattle.book_undo.specs.declared.rule.EditRule.TheVariants.{Missing}
-use Rattle.book_undo.specs.declared.edit.Edit.{Edit, Currency, Gone, Put}
-use Rattle.book_undo.specs.declared.thing.Thing.{Thing}
+use Rattle.book_undo.specs.declared.edit.Edit.{Currency, Gone, Put}
 use Rattle.book_undo.specs.declared.thing.Thing.TheVariants as thing
 use Rattle.book_undo.specs.declared.thing.ThingKind.TheVariants as kind
 use Rattle.book_undo.proofs.ExactLaws.{exact_currency, exact_gone, exact_put}

@@ -1,6 +1,6 @@
 -- The edit and the deletion of a transaction lead from sound states to sound states: what stands in the book then keeps
 -- the rules of transactions, since it keeps those of the command.
-use Rattle.std.proofs.Common.{◌≡◌, ℕ, ◌+◌, ◌<◌, ℤ, Bool, List, [], ◌∷◌, Option, Some, None, is_none, refl, ap, arith}
+use Rattle.std.proofs.Common.{◌≡◌, ℕ, ◌+◌, ◌<◌, ℤ, Bool, [], ◌∷◌, Option, Some, None, is_none, refl, ap, arith}
 use Rattle.std.proofs.lemmas.Bool.Decides.{nat_tests}
 use Rattle.book_commodity.specs.Rules.{AllKept, first_broken}
 use Rattle.book_commodity.specs.Table.{value_of, with_entry, without_entry}
@@ -22,7 +22,6 @@ use Rattle.book_command.specs.Lifted.{of_txn_rule}
 use Rattle.book_command.specs.declared.answer.Answer.{Answer}
 use Rattle.book_command.specs.declared.answer.Answer.TheVariants as answer
 use Rattle.book_command.specs.declared.command.GivenTxn.{GivenTxn}
-use Rattle.book_command.specs.declared.rule.Rule.{Rule}
 use Rattle.book_step.specs.Editing.{book_with, book_without, drop_at, drop_transaction, drawn_by, edit_answer, edit_at, edit_of, edit_rules}
 use Rattle.book_step.specs.Editing.{edit_transaction, edited_transaction, number_rules, reconciled, too_many_after}
 use Rattle.book_step.specs.Outcome.{Done}

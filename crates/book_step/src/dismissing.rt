@@ -1,10 +1,11 @@
 ghost use Rattle.std.specs.Prelude.{◌≡◌, [], IfOk};
 ghost use Rattle.std.specs.Option.{option_copied};
-ghost use Rattle.book_undo.specs.Edit.{together};
+ghost use Rattle.book_undo.specs.Edit.{edited, together};
 ghost use Rattle.book_undo.specs.declared.edit.Edit.{Gone, Put};
 ghost use Rattle.book_undo.specs.declared.thing.Thing.TheVariants as thing;
 ghost use Rattle.book_undo.specs.declared.thing.ThingKind.TheVariants as kind;
 ghost use Rattle.book_sound.specs.Dismissal.{dismissed, dismissing, is_lost, is_lost_split, loses_split, stays_as};
+ghost use Rattle.book_step.specs.Editing.{book_with, book_without};
 
 use crate::edited_splits::find_split;
 use crate::present::Present;
@@ -22,8 +23,10 @@ pub(crate) fn putting(
     old: &Txn,
     new: Txn,
 ) -> Result<Edit, OutOfMemory>
-    ensures { IfOk result (λ edit. edit ≡ together (Put number (thing.Txn new))
+    ensures edit { IfOk result (λ edit. edit ≡ together (Put number (thing.Txn new))
         (dismissing old.now.splits new.splits present.now.book.lines)) }
+    ensures leads { IfOk result (λ edit. edited edit present.now.book
+        ≡ book_with present.now.book number old.now new) }
 {
     let lines = &present.plain.lines;
     let dismissals = dismissing(
@@ -37,8 +40,10 @@ pub(crate) fn putting(
 
 /// The edit that deletes the transaction, with those that dismiss the lines which lose their splits.
 pub(crate) fn deleting(present: &Present, number: u64, old: &Txn) -> Result<Edit, OutOfMemory>
-    ensures { IfOk result (λ edit. edit ≡ together (Gone kind.Txn number)
+    ensures edit { IfOk result (λ edit. edit ≡ together (Gone kind.Txn number)
         (dismissing old.now.splits [] present.now.book.lines)) }
+    ensures leads { IfOk result (λ edit. edited edit present.now.book
+        ≡ book_without present.now.book number old.now) }
 {
     let lines = &present.plain.lines;
     let dismissals = dismissing(present.alloc, lines, old.splits.as_slice(), &[])?;

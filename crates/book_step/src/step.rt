@@ -51,7 +51,7 @@ impl Step {
     ) -> Result<Step, Refusal>
         requires drawn { drawn ≤ 2 ^ 62 }
         requires changes { is_nothing edit ≡ false }
-        requires exact { IsExact present.now.book edit }
+        requires exact { IsSound present.now → IsExact present.now.book edit }
         ensures { ChangesBy present.now edit drawn answer result }
     {
         check_numbers(present, drawn)?;

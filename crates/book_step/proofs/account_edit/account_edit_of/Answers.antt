@@ -10,8 +10,6 @@ use Rattle.book_step.proofs.AccountEditLemmas.{edit-broken, edit-changed, edit-l
 use Rattle.book_step.proofs.OutcomeLemmas.{refused}
 use Rattle.book_undo.specs.Exact.{IsExact}
 use Rattle.book_undo.specs.declared.edit.Edit.{Put}
-use Rattle.book_step.specs.Soundness.{IsSound}
-use Rattle.book_step.specs.State.{State}
 use Rattle.book_step.proofs.ExactLemmas.{other_account}
 use Rattle.book_step.proofs.account_edit.account_edit_of.Goals as goal
 
@@ -51,9 +49,8 @@ returns c =
     edit-changed state c.args.number c.args.given c.args.old.now c.changing.result kept other changed
 
 pub changing-requires-clause-exact : goal.changing-requires-clause-exact
-changing-requires-clause-exact c =
+changing-requires-clause-exact c sound =
     let state = c.args.present.now in
-    let sound = subst (λ (s : State). IsSound s) c.present.view_is c.present.invariant in
     let other = ap (λ (new : Account). (same_fields c.args.old.now new).is) (sym c.in_ok-new.ensures)
     ∙ sym c.is_same.ensures ∙ c.if-is_same.false in
     subst (λ (new : Account). IsExact state.book (Put c.args.number (thing.Account new))) (sym c.in_ok-new.ensures)

@@ -1,4 +1,4 @@
-use Rattle.std.proofs.Common.{refl, ap, subst}
+use Rattle.std.proofs.Common.{ℕ, refl, ap, subst, sym}
 use Rattle.book_undo.specs.Book.{with_thing}
 use Rattle.book_undo.specs.declared.thing.Thing.TheVariants as thing
 use Rattle.book_step.specs.Accounts.{add_rules}
@@ -29,6 +29,6 @@ returns c =
     (c.changing.ensures (answer.AccountAdd c.present.inside.next) refl)
 
 pub changing-requires-clause-exact : goal.changing-requires-clause-exact
-changing-requires-clause-exact c =
-    subst (λ (state : State). IsExact state.book (Put c.present.inside.next (thing.Account c.args.account)))
-    c.present.view_is (new_account _ c.args.account c.present.invariant)
+changing-requires-clause-exact c sound =
+    subst (λ (n : ℕ). IsExact c.args.present.now.book (Put n (thing.Account c.args.account)))
+    (sym (ap (λ (state : State). state.next) c.present.view_is)) (new_account c.args.present.now c.args.account sound)

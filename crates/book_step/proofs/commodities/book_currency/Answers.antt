@@ -6,7 +6,6 @@ use Rattle.book_step.specs.Outcome.{Outcome, StepsTo, changing, leaving}
 use Rattle.book_step.specs.State.{State}
 use Rattle.book_command.specs.declared.answer.Answer.TheVariants as answer
 use Rattle.book_step.proofs.OutcomeLemmas.{past-changing, past-leaving}
-use Rattle.book_step.specs.Soundness.{IsSound}
 use Rattle.book_step.proofs.ExactLemmas.{other_currency}
 use Rattle.book_step.proofs.commodities.book_currency.Goals as goal
 
@@ -37,8 +36,6 @@ returns c =
     (c.changing.ensures answer.BookCurrency refl))
 
 pub changing-requires-clause-exact : goal.changing-requires-clause-exact
-changing-requires-clause-exact c =
-    let state = c.args.present.now in
+changing-requires-clause-exact c sound =
     let here = ap (λ (s : State). s.book.currency) c.present.view_is in
-    let sound = subst (λ (s : State). IsSound s) c.present.view_is c.present.invariant in
-    other_currency state c.args.commodity sound (λ same. c.if-commodity-present.false (same ∙ sym here))
+    other_currency c.args.present.now c.args.commodity sound (λ same. c.if-commodity-present.false (same ∙ sym here))

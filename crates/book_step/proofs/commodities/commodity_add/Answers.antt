@@ -1,4 +1,4 @@
-use Rattle.std.proofs.Common.{refl, ap, subst}
+use Rattle.std.proofs.Common.{ℕ, refl, ap, subst, sym}
 use Rattle.book_undo.specs.Book.{with_thing}
 use Rattle.book_undo.specs.declared.thing.Thing.TheVariants as thing
 use Rattle.book_step.specs.Commodities.{add_rules}
@@ -18,6 +18,6 @@ returns c =
     (c.changing.ensures (answer.CommodityAdd c.present.inside.next) refl)
 
 pub changing-requires-clause-exact : goal.changing-requires-clause-exact
-changing-requires-clause-exact c =
-    subst (λ (state : State). IsExact state.book (Put c.present.inside.next (thing.Commodity c.args.commodity)))
-    c.present.view_is (new_commodity _ c.args.commodity c.present.invariant)
+changing-requires-clause-exact c sound =
+    subst (λ (n : ℕ). IsExact c.args.present.now.book (Put n (thing.Commodity c.args.commodity)))
+    (sym (ap (λ (state : State). state.next) c.present.view_is)) (new_commodity c.args.present.now c.args.commodity sound)

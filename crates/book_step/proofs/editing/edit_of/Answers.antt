@@ -1,6 +1,6 @@
 use Rattle.std.proofs.Common.{ℕ, [], List, Ok, map, refl, ap, sym, subst, ◌∙◌}
 use Rattle.book_splits.specs.declared.split.Split.{Split}
-use Rattle.book_undo.specs.Edit.{edited, is_nothing}
+use Rattle.book_undo.specs.Edit.{is_nothing}
 use Rattle.book_undo.specs.Book.{Book}
 use Rattle.book_undo.specs.Exact.{IsExact}
 use Rattle.book_undo.specs.declared.edit.Edit.{Edit, Put}
@@ -9,11 +9,10 @@ use Rattle.book_sound.specs.Dismissal.{dismissing}
 use Rattle.book_sound.proofs.DismissalExact.{something_together}
 use Rattle.book_step.specs.Editing.{book_with, edit_answer, edit_of, edited_transaction}
 use Rattle.book_step.specs.Outcome.{StepsTo, changing}
-use Rattle.book_step.specs.Soundness.{IsSound}
 use Rattle.book_step.specs.State.{State}
 use Rattle.book_command.specs.declared.answer.Answer.TheVariants as answer
 use Rattle.book_step.proofs.EditingLemmas.{edit_to, edit-broken, edit-changed, edit-left, edit-made, edit-misgiven}
-use Rattle.book_step.proofs.ExactLemmas.{leads_with, other_transaction}
+use Rattle.book_step.proofs.ExactLemmas.{other_transaction}
 use Rattle.book_step.proofs.OutcomeLemmas.{refused}
 use Rattle.book_step.proofs.editing.edit_of.Goals as goal
 
@@ -69,13 +68,10 @@ returns c =
     (ap (λ (s : State). s.next) c.present.view_is) in
     let short = c.in_ok-answer.ensures
     ∙ ap (λ (splits : List Split). answer.Edit c.args.number (map (λ split. split.id) splits) []) c.as_slice.ensures in
-    let sound = subst (λ (s : State). IsSound s) c.present.view_is c.present.invariant in
     let later = book_with state.book c.args.number old new in
     let whole = edit_answer later c.args.number new in
-    let lead = ap (λ (e : Edit). edited e state.book) c.in_ok-edit.ensures
-    ∙ leads_with state c.args.number old new sound in
     let changed = subst (λ (b : Book). StepsTo state (changing state [] b c.in_ok-new.drawn whole) c.changing.result)
-    lead (c.changing.ensures whole (sym short)) in
+    c.in_ok-edit.ensures.leads (c.changing.ensures whole (sym short)) in
     edit-made state c.args.number c.args.force c.args.day c.args.given old new c.in_ok-new.drawn
     c.changing.result made c.in_ok-new.ensures.drawn
     (edit-changed state c.args.number c.args.force c.args.given old new c.in_ok-new.drawn c.changing.result
@@ -84,14 +80,13 @@ returns c =
 
 pub changing-requires-clause-changes : goal.changing-requires-clause-changes
 changing-requires-clause-changes c =
-    ap is_nothing c.in_ok-edit.ensures
+    ap is_nothing c.in_ok-edit.ensures.edit
     ∙ something_together (Put c.args.number (thing.Txn c.in_ok-new.new))
     (dismissing c.args.old.now.splits c.in_ok-new.new.splits c.args.present.now.book.lines) refl
 
 pub changing-requires-clause-exact : goal.changing-requires-clause-exact
-changing-requires-clause-exact c =
+changing-requires-clause-exact c sound =
     let state = c.args.present.now in
-    let sound = subst (λ (s : State). IsSound s) c.present.view_is c.present.invariant in
-    subst (λ (e : Edit). IsExact state.book e) (sym c.in_ok-edit.ensures)
+    subst (λ (e : Edit). IsExact state.book e) (sym c.in_ok-edit.ensures.edit)
     (other_transaction state c.args.number c.args.old.now c.in_ok-new.new sound c.requires
     (sym c.is_same.ensures ∙ c.if-is_same.false))

@@ -1,5 +1,5 @@
 use Rattle.std.proofs.Common.{sym, ◌∙◌}
-use Rattle.book_step.proofs.TableWalkLemmas.{named-end, named-here, named-past}
+use Rattle.book_step.proofs.TableWalkLemmas.{named-here, named-past}
 use Rattle.book_step.proofs.in_use.check_table.Goals as goal
 
 pub returns-then-has_named : goal.returns-then-has_named

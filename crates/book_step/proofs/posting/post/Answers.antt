@@ -45,7 +45,7 @@ returns c =
     (ap (λ (n : ℕ). 1 + n) c.len.ensures) changed)
 
 pub changing-requires-clause-exact : goal.changing-requires-clause-exact
-changing-requires-clause-exact c =
+changing-requires-clause-exact c sound =
     let transaction = c.in_ok-transaction.transaction in
-    subst (λ (state : State). IsExact state.book (Put c.present.inside.next (thing.Txn transaction)))
-    c.present.view_is (new_put _ transaction c.present.invariant)
+    subst (λ (n : ℕ). IsExact c.args.present.now.book (Put n (thing.Txn transaction)))
+    (sym (ap (λ (state : State). state.next) c.present.view_is)) (new_put c.args.present.now transaction sound)
