@@ -23,6 +23,8 @@ pub enum Rule {
     Placeholder { account: u64 },
     /// This account has an account under it, or a split.
     NotEmpty { account: u64 },
+    /// This schedule, statement, line, binding or reconciliation names the account.
+    InUse { kind: Kind, id: u64 },
     /// One unit of a commodity is not made of 1 to 10^9 smallest units.
     FractionShape,
     /// A security account has no currency as its basis, or another account has a basis.

@@ -1,6 +1,7 @@
 -- A plan: what finishing it makes of the state, and the answer.
 use Rattle.std.specs.Prelude.{◌≡◌, ℕ, ⊤}
 use Rattle.book_undo.specs.Edit.{edited}
+use Rattle.book_undo.specs.Exact.{IsExact}
 use Rattle.book_undo.specs.declared.edit.Edit.{Edit}
 use Rattle.book_undo.specs.Book.{Book}
 use Rattle.book_step.specs.AnswerBalances.{with_balances}
@@ -34,10 +35,11 @@ after state plan = record { book = edited plan.edit state.book; next = plan.next
 abbrev pub IsStepOf : State → Command → Planned → Type 0
 IsStepOf state command plan = step state command ≡ Done (after state plan) plan.answer
 
--- The plan is the step of some command from this state.
+-- The plan is the step of some command from this state, and its edit is exact for the book.
 pub record IsPlanFor (state : State) (plan : Planned) : Type 0 where
   pub command : Command
   pub made : IsStepOf state command plan
+  pub exact : IsExact state.book plan.edit
 
 -- The step with the balances in its answer, which are those of the book that it leads to.
 abbrev pub whole_step : Book → Step → Step

@@ -1,7 +1,7 @@
-ghost use Rattle.std.specs.Prelude.{◌≡◌, IfOk};
+ghost use Rattle.std.specs.Prelude.{◌≡◌, IfOk, flat_map};
 ghost use Rattle.std.specs.Option.{option_copied};
 ghost use Rattle.book_undo.specs.Book.{book_of};
-ghost use Rattle.book_undo.specs.Edit.{edited};
+ghost use Rattle.book_undo.specs.Edit.{edited, leaves};
 ghost use Rattle.book_step.specs.AnswerBalances.{PutsAnswered, PutsUnder, balances_of, with_balances as filled};
 ghost use Rattle.book_engine.specs.Balances.{CanSum, put_at};
 ghost use Rattle.book_engine.specs.Planned.{whole_step};
@@ -14,7 +14,8 @@ use std::alloc::Global;
 
 /// The step with the balances in its answer, which are those of the book that it leads to.
 pub(crate) fn with_balances(alloc: Global, plain: &Plain, step: Step) -> Result<Step, OutOfMemory>
-    requires { CanSum (book_of plain.now) (PutsAnswered (book_of plain.now) step.edit step.answer) }
+    requires { CanSum (book_of plain.now) step.edit
+        (PutsAnswered (book_of plain.now) step.edit step.answer) }
     ensures { IfOk result (λ whole. whole ≡ whole_step (book_of plain.now) step) }
 {
     let Step { edit, next, answer } = step;
@@ -29,7 +30,7 @@ fn answer_with_balances(
     edit: &Edit,
     answer: Answer,
 ) -> Result<Answer, OutOfMemory>
-    requires { CanSum (book_of plain.now) (PutsAnswered (book_of plain.now) edit.now answer) }
+    requires { CanSum (book_of plain.now) edit.now (PutsAnswered (book_of plain.now) edit.now answer) }
     ensures { IfOk result (λ whole. whole ≡ filled (edited edit.now (book_of plain.now)) answer) }
 {
     match answer {
@@ -63,7 +64,7 @@ fn balances_put(
     edit: &Edit,
     number: u64,
 ) -> Result<Many<i128>, OutOfMemory>
-    requires { CanSum (book_of plain.now) (PutsUnder (book_of plain.now) edit.now number) }
+    requires { CanSum (book_of plain.now) edit.now (PutsUnder (book_of plain.now) edit.now number) }
     ensures { IfOk result (λ balances. balances ≡ balances_of (edited edit.now (book_of plain.now)) number) }
 {
     let Some(transaction) = put(edit, number).or(plain.transactions.find(number)) else {
@@ -73,8 +74,10 @@ fn balances_put(
 }
 
 /// The transaction that the edit puts under the number, if it puts one there.
+#[cycle(put)]
+#[tactic(auto, using(book_undo::proofs::PartLaws::leaves_of_all))]
 fn put(edit: &Edit, number: u64) -> Option<&Txn>
-    ensures { option_copied result ≡ put_at edit.now number }
+    ensures { option_copied result ≡ put_at (leaves edit.now) number }
 {
     match edit {
         Edit::Put(other, Thing::Txn(transaction)) => {
@@ -84,6 +87,21 @@ fn put(edit: &Edit, number: u64) -> Option<&Txn>
                 None
             }
         }
-        Edit::Put(_, _) | Edit::Unchanged | Edit::Currency(_) | Edit::Gone(_, _) => None,
+        Edit::All(parts) => put_among(parts.as_slice(), number),
+        Edit::Put(_, _) | Edit::Currency(_) | Edit::Gone(_, _) => None,
     }
+}
+
+/// The transaction that the first of the edits puts which puts one under the number, if one does.
+#[cycle(put)]
+fn put_among(parts: &[Edit], number: u64) -> Option<&Txn>
+    ensures { option_copied result ≡ put_at (flat_map leaves parts.now) number }
+{
+    for part in parts {
+        let found = put(part, number);
+        if found.is_some() {
+            return found;
+        }
+    }
+    None
 }

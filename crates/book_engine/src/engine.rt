@@ -2,6 +2,7 @@ ghost use Rattle.std.specs.Prelude.{◌≡◌, IfOk, IfErr};
 ghost use Rattle.book_step.specs.Soundness.{IsSound};
 ghost use Rattle.book_step.specs.State.{fresh_state};
 ghost use Rattle.book_step.specs.Step.{step as step_from};
+ghost use Rattle.book_undo.specs.Exact.{IsExact};
 ghost use Rattle.book_undo.specs.Room.{HasRoom};
 ghost use Rattle.book_engine.specs.Planned.{after, IsPlanFor, IsRefusal, IsStepOf};
 
@@ -55,6 +56,7 @@ impl Engine {
     /// it is. Refused by the first rule that the command breaks, or out of memory.
     pub fn prepare(&mut self, command: Command) -> Result<Plan, Refusal>
         ensures planned { IfOk result (IsStepOf self.old.state command) }
+        ensures exact { IfOk result (λ plan. IsExact self.old.state.book plan.edit) }
         ensures room { IfOk result (λ plan. HasRoom self.new.plain plan.edit) }
         ensures refused { IfErr result (IsRefusal (step_from self.old.state command)) }
         ensures unchanged { self.new.state ≡ self.old.state }

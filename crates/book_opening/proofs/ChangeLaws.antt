@@ -9,16 +9,16 @@ use Rattle.book_keeper.specs.declared.row.RowKey.{RowKey}
 use Rattle.book_keeper.specs.declared.row.Row.{Row}
 use Rattle.book_keeper.specs.declared.row.Change.{Change}
 use Rattle.book_keeper.specs.Rows.{AreRising, AreRisingFrom, after_change, after_changes, rank, with_row, without_row}
-use Rattle.book_edits.specs.Book.{Book, with_currency, with_thing, without_thing}
-use Rattle.book_edits.specs.Edit.{Leaf, OfCurrency, OfPut, OfGone, leaves, edited, Key, key_at, key_of}
-use Rattle.book_edits.specs.EditRules.{is_above, first_unordered, out_of_order}
-use Rattle.book_edits.specs.Thing.{row_kind, kind_of as thing_kind}
-use Rattle.book_edits.specs.declared.edit.Edit.{Edit}
-use Rattle.book_edits.specs.declared.thing.Thing.{Thing}
-use Rattle.book_edits.specs.declared.thing.Thing.TheVariants as thing
-use Rattle.book_edits.specs.declared.thing.ThingKind.{ThingKind}
-use Rattle.book_edits.specs.declared.thing.ThingKind.TheVariants as kind
-use Rattle.book_edits.proofs.EditLaws.{after_leaf, after_leaves, edited-leaves}
+use Rattle.book_undo.specs.Book.{Book, with_currency, with_thing, without_thing}
+use Rattle.book_undo.specs.Edit.{Leaf, OfCurrency, OfPut, OfGone, leaves, edited, Key, key_at, key_of}
+use Rattle.book_undo.specs.EditRules.{is_above, first_unordered, out_of_order}
+use Rattle.book_undo.specs.Thing.{row_kind, kind_of as thing_kind}
+use Rattle.book_undo.specs.declared.edit.Edit.{Edit}
+use Rattle.book_undo.specs.declared.thing.Thing.{Thing}
+use Rattle.book_undo.specs.declared.thing.Thing.TheVariants as thing
+use Rattle.book_undo.specs.declared.thing.ThingKind.{ThingKind}
+use Rattle.book_undo.specs.declared.thing.ThingKind.TheVariants as kind
+use Rattle.book_undo.proofs.EditLaws.{after_leaf, after_leaves, edited-leaves}
 use Rattle.book_rows.specs.Row.{IsRecord, IsWithin, kind_of}
 use Rattle.book_rows.specs.declared.head.Head.{Head}
 use Rattle.book_rows.specs.declared.record.Record.{Record}

@@ -4,7 +4,7 @@ use Rattle.std.proofs.Common.{◌∙◌, subst, ◌⊎◌}
 use Rattle.std.specs.List.{AllByRecursion}
 use Rattle.book_keeper.specs.declared.row.Row.{Row}
 use Rattle.book_keeper.specs.declared.row.RowKey.{RowKey}
-use Rattle.book_edits.specs.Book.{Book}
+use Rattle.book_undo.specs.Book.{Book}
 use Rattle.book_rows.specs.declared.head.Head.{Head}
 use Rattle.book_rows.specs.declared.record.Record.{Record}
 use Rattle.book_rows.specs.declared.record.Record.TheVariants as kept

@@ -6,9 +6,9 @@ use Rattle.std.specs.List.{AllByRecursion}
 use Rattle.book_keeper.specs.declared.row.Row.{Row}
 use Rattle.book_keeper.specs.declared.row.RowKey.{RowKey}
 use Rattle.book_keeper.specs.Rows.{Rises, rank, first_above, first_row, with_row}
-use Rattle.book_edits.specs.Book.{Book, empty_book, with_thing}
-use Rattle.book_edits.specs.declared.thing.Thing.{Thing}
-use Rattle.book_edits.proofs.BookLaws.{currency-with}
+use Rattle.book_undo.specs.Book.{Book, empty_book, with_thing}
+use Rattle.book_undo.specs.declared.thing.Thing.{Thing}
+use Rattle.book_undo.proofs.BookLaws.{currency-with}
 use Rattle.book_rows.specs.declared.head.Head.{Head}
 use Rattle.book_rows.specs.declared.record.Record.{Record}
 use Rattle.book_rows.specs.declared.record.Record.TheVariants as kept

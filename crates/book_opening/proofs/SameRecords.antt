@@ -1,9 +1,9 @@
 -- Books with the same records are the same: each table is what its kind has among the records.
 use Rattle.std.proofs.Common.{◌≡◌, ℕ, List, [], ◌∷◌, ◌++◌, map, Option, Some, None, refl, sym, ap, ◌∙◌, append-nil}
 use Rattle.std.specs.List.{flat_map}
-use Rattle.book_edits.specs.Book.{Book}
-use Rattle.book_edits.specs.declared.thing.Thing.{Thing}
-use Rattle.book_edits.specs.declared.thing.Thing.TheVariants as thing
+use Rattle.book_undo.specs.Book.{Book}
+use Rattle.book_undo.specs.declared.thing.Thing.{Thing}
+use Rattle.book_undo.specs.declared.thing.Thing.TheVariants as thing
 use Rattle.book_rows.specs.declared.head.Head.{Head}
 use Rattle.book_rows.specs.declared.record.Record.{Record}
 use Rattle.book_rows.specs.declared.record.Record.TheVariants as kept
@@ -14,7 +14,7 @@ use Rattle.book_commodity.specs.declared.commodity.Commodity.{Commodity}
 use Rattle.book_accounts.specs.declared.account.Account.{Account}
 use Rattle.book_splits.specs.declared.transaction.Txn.{Txn}
 use Rattle.book_prices.specs.declared.price.Price.{Price}
-use Rattle.book_edits.specs.declared.schedule.Schedule.{Schedule}
+use Rattle.book_undo.specs.declared.schedule.Schedule.{Schedule}
 use Rattle.book_statement.specs.declared.held.Held.{Held}
 use Rattle.book_statement.specs.declared.line.Line.{Line}
 use Rattle.book_statement.specs.declared.binding.Binding.{Binding}

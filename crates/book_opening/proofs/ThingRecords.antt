@@ -3,12 +3,12 @@ use Rattle.std.proofs.Common.{◌≡◌, ℕ, zero, suc, ◌+◌, ◌*◌, ◌^�
 use Rattle.std.proofs.Common.{sym, ap, ◌∙◌, subst, arith}
 use Rattle.std.specs.List.{AllByRecursion, flat_map}
 use Rattle.book_commodity.specs.Table.{with_entry, without_entry}
-use Rattle.book_edits.specs.Book.{Book, with_thing, without_thing}
-use Rattle.book_edits.specs.Thing.{row_kind}
-use Rattle.book_edits.specs.declared.thing.Thing.{Thing}
-use Rattle.book_edits.specs.declared.thing.Thing.TheVariants as thing
-use Rattle.book_edits.specs.declared.thing.ThingKind.{ThingKind}
-use Rattle.book_edits.specs.declared.thing.ThingKind.TheVariants as kind
+use Rattle.book_undo.specs.Book.{Book, with_thing, without_thing}
+use Rattle.book_undo.specs.Thing.{row_kind}
+use Rattle.book_undo.specs.declared.thing.Thing.{Thing}
+use Rattle.book_undo.specs.declared.thing.Thing.TheVariants as thing
+use Rattle.book_undo.specs.declared.thing.ThingKind.{ThingKind}
+use Rattle.book_undo.specs.declared.thing.ThingKind.TheVariants as kind
 use Rattle.book_rows.specs.Row.{kind_of}
 use Rattle.book_rows.specs.declared.record.Record.{Record}
 use Rattle.book_opening.specs.BookRows.{record_of, records_in, tables_of, things_of}

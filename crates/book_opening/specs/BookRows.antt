@@ -1,9 +1,9 @@
 -- The rows of a book: one for its head and one for each thing, in rising order of their keys.
 use Rattle.std.specs.Prelude.{ℕ, List, [], ◌∷◌, map, flat_map}
 use Rattle.book_keeper.specs.declared.row.Row.{Row}
-use Rattle.book_edits.specs.Book.{Book}
-use Rattle.book_edits.specs.declared.thing.Thing.{Thing}
-use Rattle.book_edits.specs.declared.thing.Thing.TheVariants as thing
+use Rattle.book_undo.specs.Book.{Book}
+use Rattle.book_undo.specs.declared.thing.Thing.{Thing}
+use Rattle.book_undo.specs.declared.thing.Thing.TheVariants as thing
 use Rattle.book_rows.specs.Row.{kind_of, body_of}
 use Rattle.book_rows.specs.declared.head.Head.{Head}
 use Rattle.book_rows.specs.declared.record.Record.{Record}

@@ -2,9 +2,9 @@
 use Rattle.std.specs.Prelude.{ℕ, ◌^◌, ◌<◌, ⊤, List, [], ◌∷◌, flat_map, map}
 use Rattle.book_keeper.specs.declared.row.Change.{Change}
 use Rattle.book_keeper.specs.declared.row.Change.TheVariants as change
-use Rattle.book_edits.specs.Edit.{Leaf, OfCurrency, OfPut, OfGone, leaves}
-use Rattle.book_edits.specs.Thing.{row_kind}
-use Rattle.book_edits.specs.declared.edit.Edit.{Edit}
+use Rattle.book_undo.specs.Edit.{Leaf, OfCurrency, OfPut, OfGone, leaves}
+use Rattle.book_undo.specs.Thing.{row_kind}
+use Rattle.book_undo.specs.declared.edit.Edit.{Edit}
 use Rattle.book_rows.specs.Row.{IsRecord}
 use Rattle.book_rows.specs.declared.head.Head.{Head}
 use Rattle.book_rows.specs.declared.record.Record.TheVariants as kept

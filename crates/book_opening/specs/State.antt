@@ -1,6 +1,6 @@
 -- The state of a book that is kept as rows.
 use Rattle.std.specs.Prelude.{ℕ}
-use Rattle.book_edits.specs.Book.{Book, book_of}
+use Rattle.book_undo.specs.Book.{Book, book_of}
 use Rattle.book_opening.specs.declared.saved.Saved.{Saved}
 use Rattle.book_rows.specs.declared.head.Head.{Head}
 

@@ -1,12 +1,12 @@
 ghost use Rattle.std.specs.Prelude.{◌≡◌, ◌++◌, IfOk, OnOk, flat_map};
 ghost use Rattle.std.specs.List.{AllByRecursion};
-ghost use Rattle.book_edits.specs.Edit.{leaves};
+ghost use Rattle.book_undo.specs.Edit.{leaves};
 ghost use Rattle.book_rows.specs.Row.{IsRecord, IsWithin};
 ghost use Rattle.book_opening.specs.Changes.{LeafFits, changes_of, leaf_changes};
 
 use crate::thing_row::{head_row, kind_byte, thing_row};
 use book_commodity::{Many, OutOfMemory};
-use book_edits::Edit;
+use book_undo::Edit;
 use book_keeper::{Change, RowKey};
 use book_rows::{Head, Record};
 use std::alloc::Global;
@@ -27,7 +27,7 @@ pub fn changes_of(alloc: Global, head: Head, edit: &Edit) -> Result<Many<Change>
 
 /// Adds the changes that the leaves of the edit come to.
 #[cycle(changes)]
-#[tactic(auto, using(book_edits::proofs::PartLaws::leaves_of_all))]
+#[tactic(auto, using(book_undo::proofs::PartLaws::leaves_of_all))]
 fn add_changes(alloc: Global, edit: &Edit, changes: &mut Many<Change>) -> Result<(), OutOfMemory>
     ensures added { OnOk result (changes.new ≡ changes.old ++ flat_map leaf_changes (leaves edit.now)) }
     ensures fit { OnOk result (AllByRecursion LeafFits (leaves edit.now)) }

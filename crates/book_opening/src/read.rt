@@ -2,7 +2,7 @@ ghost use Rattle.std.specs.Prelude.{◌≡◌, ◌<◌, List, Some, Option, IfOk
 ghost use Rattle.std.specs.List.{AllByRecursion};
 ghost use Rattle.book_keeper.specs.Rows.{rank};
 ghost use Rattle.book_keeper.specs.declared.row.Row.{Row as HeldRow};
-ghost use Rattle.book_edits.specs.Book.{book_of, with_thing};
+ghost use Rattle.book_undo.specs.Book.{book_of, with_thing};
 ghost use Rattle.book_rows.specs.Row.{kind_of};
 ghost use Rattle.book_opening.specs.BookRows.{behind_head, record_of, row_of};
 ghost use Rattle.book_opening.specs.Opening.{Answers, Begins, HasOpenCause, IsBadFor, IsBadHead, IsBadThing, IsOnlyRecord};
@@ -11,7 +11,7 @@ ghost use Rattle.book_opening.specs.State.{State, state_of, head_of};
 
 use crate::{OpenFault, Saved};
 use book_commodity::OutOfMemory;
-use book_edits::{Edit, Plain, Thing};
+use book_undo::{Edit, Plain, Thing};
 use book_keeper::{KeepError, Keeper, Row, RowKey};
 use book_rows::{Head, Record, RowError, read_row};
 use std::alloc::Global;

@@ -1,4 +1,4 @@
-use book_edits::Plain;
+use book_undo::Plain;
 
 /// A state of the machine as it is saved: its book, the number that the next thing gets, the count of the changes so
 /// far, and how many steps lead from the fresh book to the present one.

@@ -1,6 +1,6 @@
 use crate::{OpenFault, changes_of, read_rows};
 use book_commodity::{Bytes, Many};
-use book_edits::{Edit, Thing, ThingKind};
+use book_undo::{Edit, Thing, ThingKind};
 use book_keeper::{Change, Keeper, MemKeeper, Row, RowKey};
 use book_rows::Head;
 use book_statement::Binding;

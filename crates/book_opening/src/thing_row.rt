@@ -1,12 +1,12 @@
 ghost use Rattle.std.specs.Prelude.{◌≡◌, IfOk};
-ghost use Rattle.book_edits.specs.Thing.{row_kind};
+ghost use Rattle.book_undo.specs.Thing.{row_kind};
 ghost use Rattle.book_rows.specs.Row.{IsRecord, IsWithin, body_of};
 ghost use Rattle.book_opening.specs.BookRows.{record_of, row_of};
 
 use book_accounts::Account;
 use book_codec::write_whole;
 use book_commodity::{Bytes, Commodity, OutOfMemory};
-use book_edits::{Schedule, Thing, ThingKind};
+use book_undo::{Schedule, Thing, ThingKind};
 use book_keeper::{Row, RowKey};
 use book_prices::Price;
 use book_rows::{Head, Record, Rows, write_row};

@@ -13,7 +13,7 @@ use Rattle.book_schedule.specs.declared.timing.End.{End}
 use Rattle.book_schedule.specs.declared.timing.End.TheVariants.{Never, Until, After}
 use Rattle.book_schedule.specs.declared.recurrence.Recurrence.{Recurrence}
 use Rattle.book_schedule.specs.declared.timing.Timing.{Timing}
-use Rattle.book_edits.specs.declared.schedule.Schedule.{Schedule}
+use Rattle.book_undo.specs.declared.schedule.Schedule.{Schedule}
 use Rattle.book_splits.specs.declared.transaction.Txn.{Txn}
 use Rattle.book_rows.specs.TransactionBytes.{txn_bytes, IsTxn}
 

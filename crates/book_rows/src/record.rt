@@ -17,7 +17,7 @@ use crate::{Head, Rows};
 use book_accounts::Account;
 use book_codec::{DecodeError, read_whole, write_whole};
 use book_commodity::{Bytes, Commodity, OutOfMemory};
-use book_edits::Schedule;
+use book_undo::Schedule;
 use book_keeper::RowKey;
 use book_prices::Price;
 use book_splits::{Recon, Txn};

@@ -9,7 +9,7 @@ ghost use Rattle.book_rows.specs.ScheduleBytes.{place_of_recurrence_kind, place_
 use crate::Rows;
 use book_codec::{DecodeError, Field};
 use book_commodity::{Day, Many, OutOfMemory, Text};
-use book_edits::Schedule;
+use book_undo::Schedule;
 use book_schedule::{Adjust, End, Recurrence, RecurrenceKind, Timing};
 use book_splits::Txn;
 use std::alloc::Global;

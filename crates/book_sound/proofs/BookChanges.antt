@@ -13,8 +13,8 @@ use Rattle.book_statement.specs.declared.held.Held.{Held}
 use Rattle.book_statement.specs.declared.line.Line.{Line}
 use Rattle.book_statement.specs.declared.line_state.LineState.{LineState}
 use Rattle.book_statement.specs.declared.line_state.LineState.TheVariants.{Open}
-use Rattle.book_edits.specs.Book.{Book}
-use Rattle.book_edits.specs.declared.schedule.Schedule.{Schedule}
+use Rattle.book_undo.specs.Book.{Book}
+use Rattle.book_undo.specs.declared.schedule.Schedule.{Schedule}
 use Rattle.book_sound.specs.BindingRules.{is_same_binding, takes_splits}
 use Rattle.book_sound.specs.LineRules.{fits_in_state, has_same_key, shares_split}
 use Rattle.book_sound.specs.ReconciliationRules.{reconciliation_rules}

@@ -41,7 +41,7 @@ use Rattle.book_splits.proofs.BalanceLemmas.{splits_of-added}
 use Rattle.book_splits.proofs.CountLemmas.{splits-without}
 use Rattle.book_splits.proofs.SuitsLemmas.{suits_stays}
 use Rattle.book_splits.proofs.TransactionRuleLemmas.{Suits, TakesAs}
-use Rattle.book_edits.specs.Book.{Book}
+use Rattle.book_undo.specs.Book.{Book}
 use Rattle.book_sound.specs.Dismissal.{lines_after}
 use Rattle.book_sound.specs.Naming.{binding_names, has_thing, is_in_use, line_names, reconciliation_names}
 use Rattle.book_sound.specs.Naming.{schedule_names, statement_names}

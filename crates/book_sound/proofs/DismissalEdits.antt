@@ -5,10 +5,10 @@ use Rattle.std.proofs.lemmas.Bool.Decides.{nat_tests}
 use Rattle.book_commodity.specs.Table.{AllAbove, Rises, with_entry}
 use Rattle.book_splits.specs.declared.split.Split.{Split}
 use Rattle.book_statement.specs.declared.line.Line.{Line}
-use Rattle.book_edits.specs.Book.{Book}
-use Rattle.book_edits.specs.Edit.{edited_all}
-use Rattle.book_edits.specs.declared.edit.Edit.{Put}
-use Rattle.book_edits.specs.declared.thing.Thing.TheVariants as thing
+use Rattle.book_undo.specs.Book.{Book}
+use Rattle.book_undo.specs.Edit.{edited_all}
+use Rattle.book_undo.specs.declared.edit.Edit.{Put}
+use Rattle.book_undo.specs.declared.thing.Thing.TheVariants as thing
 use Rattle.book_sound.specs.Dismissal.{dismissed, dismissed_if, dismissed_where, dismissing, lines_after}
 use Rattle.book_sound.specs.Dismissal.{loses_split, newly_dismissed}
 
@@ -43,7 +43,7 @@ lines_past (put ∷ more) e lines above =
     ap (with_lines more) (with_past put.0 put.1 e lines above.0)
     ∙ lines_past more e (with_entry put.0 put.1 lines) above.1
 
-above_dismissed :
+pub above_dismissed :
     (test : Line → Bool) (n : ℕ) (lines : List (ℕ × Line)) → AllAbove n lines → AllAbove n (newly_dismissed test lines)
 above_dismissed test n [] above = tt
 above_dismissed test n (e ∷ lines) above =

@@ -9,8 +9,8 @@ use Rattle.book_prices.specs.declared.price.Price.{Price}
 use Rattle.book_statement.specs.declared.binding.Binding.{Binding}
 use Rattle.book_statement.specs.declared.held.Held.{Held}
 use Rattle.book_statement.specs.declared.line.Line.{Line}
-use Rattle.book_edits.specs.Book.{Book}
-use Rattle.book_edits.specs.declared.schedule.Schedule.{Schedule}
+use Rattle.book_undo.specs.Book.{Book}
+use Rattle.book_undo.specs.declared.schedule.Schedule.{Schedule}
 use Rattle.book_sound.specs.Soundness.{AreDrawn}
 
 pub price_drawn :

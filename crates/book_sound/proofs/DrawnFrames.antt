@@ -12,8 +12,8 @@ use Rattle.book_splits.specs.declared.split.Split.{Split}
 use Rattle.book_splits.specs.declared.transaction.Txn.{Txn}
 use Rattle.book_splits.proofs.ReplacedLemmas.{all_splits_with, all_splits_without}
 use Rattle.book_statement.specs.declared.line.Line.{Line}
-use Rattle.book_edits.specs.Book.{Book}
-use Rattle.book_edits.specs.declared.schedule.Schedule.{Schedule}
+use Rattle.book_undo.specs.Book.{Book}
+use Rattle.book_undo.specs.declared.schedule.Schedule.{Schedule}
 use Rattle.book_sound.specs.Dismissal.{dismissed_where}
 use Rattle.book_sound.specs.Soundness.{AreDrawn}
 

@@ -2,6 +2,7 @@ pub mod BookChanges
 pub mod BookFrames
 pub mod CheckFrames
 pub mod DismissalEdits
+pub mod DismissalExact
 pub mod DismissalFrames
 pub mod DrawnChanges
 pub mod DrawnFrames

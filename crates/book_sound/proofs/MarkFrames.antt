@@ -24,7 +24,7 @@ use Rattle.book_splits.specs.declared.transaction.Txn.{Txn}
 use Rattle.book_splits.proofs.CountLemmas.{splits-with}
 use Rattle.book_splits.proofs.ReplacedLemmas.{IsFrom}
 use Rattle.book_statement.specs.declared.line.Line.{Line}
-use Rattle.book_edits.specs.Book.{Book}
+use Rattle.book_undo.specs.Book.{Book}
 use Rattle.book_sound.specs.Dismissal.{dismissed_if, is_lost, is_lost_split, lines_after}
 use Rattle.book_sound.specs.LineRules.{matched_split, split_among}
 use Rattle.book_sound.specs.MarkedTransactionRules.{is_rightly_marked}

@@ -24,7 +24,7 @@ use Rattle.book_statement.specs.declared.held.Held.{Held}
 use Rattle.book_statement.specs.declared.line.Line.{Line}
 use Rattle.book_statement.specs.declared.line_state.LineState.{LineState}
 use Rattle.book_statement.specs.declared.line_state.LineState.TheVariants.{Open}
-use Rattle.book_edits.specs.declared.schedule.Schedule.{Schedule}
+use Rattle.book_undo.specs.declared.schedule.Schedule.{Schedule}
 use Rattle.book_sound.specs.BindingRules.{binding_rules, is_same_binding, takes_splits}
 use Rattle.book_sound.specs.LineRules.{fits_in_state, has_same_key, line_rules, matched_split, shares_split}
 use Rattle.book_sound.specs.PriceRules.{has_pair, has_ratio, price_rules}

@@ -6,7 +6,7 @@ use Rattle.book_commodity.specs.declared.commodity.Commodity.{Commodity}
 use Rattle.book_commodity.proofs.DrawnLemmas.{Stays}
 use Rattle.book_accounts.specs.declared.account.Account.{Account}
 use Rattle.book_splits.proofs.TransactionRuleLemmas.{Suits}
-use Rattle.book_edits.specs.declared.schedule.Schedule.{Schedule}
+use Rattle.book_undo.specs.declared.schedule.Schedule.{Schedule}
 use Rattle.book_sound.specs.Naming.{has_thing, schedule_names}
 use Rattle.book_sound.specs.ScheduleRules.{schedule_rules}
 use Rattle.book_sound.proofs.CheckFrames.{check_beside, check_on}

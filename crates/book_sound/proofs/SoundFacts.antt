@@ -22,12 +22,26 @@ use Rattle.book_splits.proofs.CheckLemmas.{sound_of}
 use Rattle.book_splits.proofs.TransactionRuleLemmas.{is_none_of}
 use Rattle.book_prices.specs.Rate.{AreKept, AreOnce, IsSound, is_same}
 use Rattle.book_prices.specs.declared.price.Price.{Price}
-use Rattle.book_edits.specs.Book.{Book}
+use Rattle.book_undo.specs.Book.{Book, IsRising}
 use Rattle.book_sound.specs.PriceRules.{price_rules}
 use Rattle.book_sound.specs.Soundness.{IsSoundBook}
 use Rattle.book_sound.specs.Tests.{is_within}
 use Rattle.book_sound.proofs.OwnFrames.{all_of_each}
 use Rattle.book_sound.proofs.SplitFrames.{above_there}
+
+-- The numbers of each table of a sound book rise.
+pub tables_rise : (book : Book) → IsSoundBook book → IsRising book
+tables_rise book is = record {
+  commodities = is.commodities.rise;
+  accounts = is.accounts.rise;
+  transactions = is.transactions.rise;
+  prices = is.prices.rise;
+  schedules = is.schedules.rise;
+  statements = is.statements.rise;
+  lines = is.lines.rise;
+  bindings = is.bindings.rise;
+  reconciliations = is.reconciliations.rise;
+}
 
 -- The accounts of a sound book form one tree.
 pub accounts_are_one_tree : (book : Book) → IsSoundBook book → IsTree book.accounts

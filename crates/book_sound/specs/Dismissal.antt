@@ -5,8 +5,8 @@ use Rattle.std.specs.Ordering.{int_eq}
 use Rattle.book_splits.specs.declared.split.Split.{Split}
 use Rattle.book_statement.specs.declared.line.Line.{Line}
 use Rattle.book_statement.specs.declared.line_state.LineState.TheVariants.{Dismissed}
-use Rattle.book_edits.specs.declared.edit.Edit.{Edit, Put}
-use Rattle.book_edits.specs.declared.thing.Thing.TheVariants as thing
+use Rattle.book_undo.specs.declared.edit.Edit.{Edit, Put}
+use Rattle.book_undo.specs.declared.thing.Thing.TheVariants as thing
 use Rattle.book_sound.specs.LineRules.{matched_split, split_among}
 
 -- Whether there is a later split, and it has the account and the quantity of this one.

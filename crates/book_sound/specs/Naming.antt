@@ -7,8 +7,8 @@ use Rattle.book_splits.specs.declared.split.Split.{Split}
 use Rattle.book_statement.specs.declared.binding.Binding.{Binding}
 use Rattle.book_statement.specs.declared.held.Held.{Held}
 use Rattle.book_statement.specs.declared.line.Line.{Line}
-use Rattle.book_edits.specs.Book.{Book}
-use Rattle.book_edits.specs.declared.schedule.Schedule.{Schedule}
+use Rattle.book_undo.specs.Book.{Book}
+use Rattle.book_undo.specs.declared.schedule.Schedule.{Schedule}
 
 -- Whether one of some splits is on an account.
 abbrev pub is_on_some : ℕ → List Split → Bool

@@ -8,7 +8,7 @@ use Rattle.book_splits.specs.declared.split.Split.{Split}
 use Rattle.book_schedule.specs.declared.recurrence.Recurrence.{Recurrence}
 use Rattle.book_schedule.specs.declared.timing.End.{End}
 use Rattle.book_schedule.specs.declared.timing.End.TheVariants.{Never, Until, After}
-use Rattle.book_edits.specs.declared.schedule.Schedule.{Schedule}
+use Rattle.book_undo.specs.declared.schedule.Schedule.{Schedule}
 use Rattle.book_sound.specs.Tests.{is_within, passes_check}
 
 -- Whether a recurrence goes on by 1 to 10,000 days, weeks, months or years at a time (a limit of this project).

@@ -6,7 +6,7 @@ use Rattle.book_commodity.specs.Rules.{IsSoundTable}
 use Rattle.book_commodity.specs.Table.{value_of}
 use Rattle.book_accounts.specs.AccountRules.{account_rules, root_of}
 use Rattle.book_splits.specs.Balance.{splits_of}
-use Rattle.book_edits.specs.Book.{Book}
+use Rattle.book_undo.specs.Book.{Book}
 use Rattle.book_sound.specs.BindingRules.{binding_rules}
 use Rattle.book_sound.specs.LineRules.{line_rules}
 use Rattle.book_sound.specs.MarkedTransactionRules.{marked_transaction_rules}

@@ -2,7 +2,7 @@
 use Rattle.std.proofs.Common.{◌≡◌, ℕ, true, false, [], Some, None, Result}
 use Rattle.book_commodity.specs.Rules.{first_broken}
 use Rattle.book_accounts.specs.declared.account.Account.{Account}
-use Rattle.book_undo.specs.declared.edit.Edit.TheVariants as edit
+use Rattle.book_undo.specs.Book.{with_thing}
 use Rattle.book_undo.specs.declared.thing.Thing.TheVariants as thing
 use Rattle.book_step.specs.Accounts.{account_edit_of, edit_rules, stays, with_given}
 use Rattle.book_step.specs.Outcome.{Broken, StepsTo, changing, leaving}
@@ -21,7 +21,7 @@ pub edit-broken :
     → account_edit_of state number given old ≡ Broken rule
 edit-broken state number given old rule e =
     either-broken state (stays old given).is (edit_rules state.book number given.parent old (with_given old given))
-    (edit.Put number (thing.Account (with_given old given))) 0 answer.AccountEdit answer.AccountEdit rule e
+    (with_thing number (thing.Account (with_given old given)) state.book) 0 answer.AccountEdit answer.AccountEdit rule e
 
 -- an account that keeps its rules and stays as it is leaves the book
 pub edit-left :
@@ -32,7 +32,7 @@ pub edit-left :
     → StepsTo state (account_edit_of state number given old) result
 edit-left state number given old result unbroken same h =
     either-left state (stays old given).is (edit_rules state.book number given.parent old (with_given old given))
-    (edit.Put number (thing.Account (with_given old given))) 0 answer.AccountEdit answer.AccountEdit result unbroken
+    (with_thing number (thing.Account (with_given old given)) state.book) 0 answer.AccountEdit answer.AccountEdit result unbroken
     same h
 
 -- one that becomes another account changes it
@@ -41,9 +41,9 @@ pub edit-changed :
     → first_broken (edit_rules state.book number given.parent old (with_given old given)) ≡ None
     → (stays old given).is ≡ false
     → StepsTo state (changing state []
-    (edit.Put number (thing.Account (with_given old given))) 0 answer.AccountEdit) result
+    (with_thing number (thing.Account (with_given old given)) state.book) 0 answer.AccountEdit) result
     → StepsTo state (account_edit_of state number given old) result
 edit-changed state number given old result unbroken other h =
     either-changed state (stays old given).is (edit_rules state.book number given.parent old (with_given old given))
-    (edit.Put number (thing.Account (with_given old given))) 0 answer.AccountEdit answer.AccountEdit result unbroken
+    (with_thing number (thing.Account (with_given old given)) state.book) 0 answer.AccountEdit answer.AccountEdit result unbroken
     other h

@@ -7,22 +7,21 @@ use Rattle.book_commodity.specs.Table.{Rises, value_of, with_entry}
 use Rattle.book_commodity.proofs.DrawnLemmas.{value_here}
 use Rattle.book_accounts.specs.declared.account.Account.{Account}
 use Rattle.book_splits.specs.declared.transaction.Txn.{Txn}
-use Rattle.book_undo.specs.Book.{Book}
+use Rattle.book_undo.specs.Book.{Book, with_currency, with_thing, without_thing}
 use Rattle.book_undo.specs.Edit.{edited}
 use Rattle.book_undo.specs.declared.edit.Edit as edits
-use Rattle.book_undo.specs.declared.edit.Edit.TheVariants as edit
 use Rattle.book_undo.specs.declared.thing.Thing.TheVariants as thing
 use Rattle.book_undo.specs.declared.thing.ThingKind.TheVariants as kind
-use Rattle.book_step.specs.Accounts.{account_drop_of, account_edit_at, add_rules, edit_rules, not_empty, root_stays}
+use Rattle.book_step.specs.Accounts.{account_drop_of, account_edit_at, add_rules, drop_rules, edit_rules}
 use Rattle.book_step.specs.Accounts.{stays, with_given}
 use Rattle.book_step.specs.AnswerBalances.{PutsAnswered, PutsUnder, balances_at, balances_of, with_balances}
 use Rattle.book_step.specs.AnswerBalances.{without_balances}
 use Rattle.book_step.specs.Commodities as commodities
-use Rattle.book_step.specs.Outcome.{Outcome, Broken, Done, but_balances, changing, leaving, numbers, state_after}
+use Rattle.book_step.specs.Outcome.{Outcome, Broken, Done, but_balances, changed, changing, leaving, numbers}
 use Rattle.book_step.specs.Outcome.{unless_broken}
 use Rattle.book_step.specs.Posting.{new_transaction, post_answer, post_rules}
 use Rattle.book_step.specs.Editing as editing
-use Rattle.book_step.specs.Editing.{drop_at, drawn_by, edit_answer, edit_at, edited_transaction, reconciled}
+use Rattle.book_step.specs.Editing.{book_with, book_without, drop_at, drawn_by, edit_answer, edit_at, edited_transaction, reconciled}
 use Rattle.book_step.specs.SameTransaction.{same_transaction}
 use Rattle.book_step.specs.Soundness.{IsSound}
 use Rattle.book_splits.proofs.ReplacedLemmas.{with_there}
@@ -61,13 +60,13 @@ unless_answered None state new given answer e = (cc, cc)
 unless_answered (Some rule) state new given answer e = absurd cc
 
 changing_answered :
-    (state : State) (rules : List (Option Rule)) (edit : edits.Edit) (drawn : ℕ) (given : Answer) (new : State)
+    (state : State) (rules : List (Option Rule)) (book : Book) (drawn : ℕ) (given : Answer) (new : State)
     (answer : Answer)
-    → HasBalances state (state_after state edit (state.next + drawn)) given
-    → changing state rules edit drawn given ≡ Done new answer → HasBalances state new answer
-changing_answered state rules edit drawn given new answer has e =
+    → HasBalances state (changed state book drawn) given
+    → changing state rules book drawn given ≡ Done new answer → HasBalances state new answer
+changing_answered state rules book drawn given new answer has e =
     let both = unless_answered (first_broken (rules ++ numbers state drawn ∷ []))
-    (state_after state edit (state.next + drawn)) new given answer e in
+    (changed state book drawn) new given answer e in
     subst (λ (a : Answer). HasBalances state new a) both.1
     (subst (λ (s : State). HasBalances state s given) both.0 has)
 
@@ -80,29 +79,28 @@ leaving_answered state rules given new answer has e =
     (subst (λ (s : State). HasBalances state s given) both.0 has)
 
 either_answered :
-    (stay : Bool) (state : State) (rules : List (Option Rule)) (edit : edits.Edit) (given : Answer) (new : State)
+    (stay : Bool) (state : State) (rules : List (Option Rule)) (book : Book) (given : Answer) (new : State)
     (answer : Answer)
     → ((s : State) → HasBalances state s given)
-    → (if stay then leaving state rules given else changing state rules edit 0 given) ≡ Done new answer
+    → (if stay then leaving state rules given else changing state rules book 0 given) ≡ Done new answer
     → HasBalances state new answer
-either_answered true state rules edit given new answer has e = leaving_answered state rules given new answer
+either_answered true state rules book given new answer has e = leaving_answered state rules given new answer
     (has state) e
-either_answered false state rules edit given new answer has e = changing_answered state rules edit 0 given new
-    answer (has (state_after state edit (state.next + 0))) e
+either_answered false state rules book given new answer has e = changing_answered state rules book 0 given new
+    answer (has (changed state book 0)) e
 
 edit_answered : (state : State) (n : ℕ) (given : GivenAccount) (found : Option Account) (new : State)
     (reply : Answer) → account_edit_at state n given found ≡ Done new reply → HasBalances state new reply
 edit_answered state n given None new reply e = absurd cc
 edit_answered state n given (Some old) new reply e =
     either_answered (stays old given).is state (edit_rules state.book n given.parent old (with_given old given))
-    (edit.Put n (thing.Account (with_given old given))) answer.AccountEdit new reply (λ s. tt) e
+    (with_thing n (thing.Account (with_given old given)) state.book) answer.AccountEdit new reply (λ s. tt) e
 
 drop_answered : (state : State) (n : ℕ) (found : Option Account) (new : State) (reply : Answer)
     → account_drop_of state n found ≡ Done new reply → HasBalances state new reply
 drop_answered state n None new reply e = absurd cc
 drop_answered state n (Some old) new reply e =
-    changing_answered state (root_stays old ∷ not_empty state.book n ∷ [])
-    (edit.Gone kind.Account n) 0 answer.AccountDrop new reply tt e
+    changing_answered state (drop_rules state.book n old) (without_thing kind.Account n state.book) 0 answer.AccountDrop new reply tt e
 
 given_answered :
     (state : State) (n : ℕ) (force : Bool) (day : ℤ) (given : GivenTxn) (found : Option Txn) (new : State)
@@ -113,15 +111,15 @@ given_answered state n force day given None new reply there e = absurd cc
 given_answered state n force day given (Some old) new reply there e =
     let ts = state.book.transactions in
     let transaction = edited_transaction old state.next day given in
-    let put = edit.Put n (thing.Txn transaction) in
+    let book = book_with state.book n old transaction in
     let drawn = drawn_by old.splits given.splits in
     let rules = editing.edit_rules state.book n force given old transaction in
     let left = edit_answer state.book n transaction in
-    let made = edit_answer (edited put state.book) n transaction in
+    let made = edit_answer book n transaction in
     let entries = with_entry n transaction ts in
     let same = same_transaction transaction old in
     let Chosen : Bool → Type 0 = λ t. same.is ≡ t
-    → (if t then leaving state rules left else changing state rules put drawn made) ≡ Done new reply
+    → (if t then leaving state rules left else changing state rules book drawn made) ≡ Done new reply
     → HasBalances state new reply in
     elim same.is as Chosen [
       | true ↦ λ stays done.
@@ -130,7 +128,7 @@ given_answered state n force day given (Some old) new reply there e =
           leaving_answered state rules left new reply
           ((λ r. (transaction, sym (with_there n transaction ts r still))), ap (balances_at ts) (sym still)) done
       | false ↦ λ other done.
-          changing_answered state rules put drawn made new reply
+          changing_answered state rules book drawn made new reply
           ((λ r. (transaction, refl)), ap (balances_at entries) (sym (value_here n n transaction ts refl))) done
     ] refl e
 
@@ -139,30 +137,31 @@ taken_answered :
     → drop_at state n force found ≡ Done new reply → HasBalances state new reply
 taken_answered state n force None new reply e = absurd cc
 taken_answered state n force (Some old) new reply e =
-    changing_answered state (reconciled force old.splits [] ∷ []) (edit.Gone kind.Txn n) 0 answer.Drop new reply tt e
+    changing_answered state (reconciled force old.splits [] ∷ []) (book_without state.book n old) 0 answer.Drop new
+    reply tt e
 
 answered : (state : State) (what : What) (new : State) (reply : Answer) → outcome state what ≡ Done new reply
     → HasBalances state new reply
 answered state (BookCurrency commodity) new reply e =
     either_answered (commodity == state.book.currency) state (commodities.currency_rules state.book commodity)
-    (edit.Currency commodity) answer.BookCurrency new reply (λ s. tt) e
+    (with_currency commodity state.book) answer.BookCurrency new reply (λ s. tt) e
 answered state (CommodityAdd commodity) new reply e =
     changing_answered state (commodities.add_rules state.book commodity)
-    (edit.Put state.next (thing.Commodity commodity)) 1 (answer.CommodityAdd state.next) new reply tt e
+    (with_thing state.next (thing.Commodity commodity) state.book) 1 (answer.CommodityAdd state.next) new reply tt e
 answered state (AccountAdd account) new reply e =
-    changing_answered state (add_rules state.book account) (edit.Put state.next (thing.Account account)) 1
-    (answer.AccountAdd state.next) new reply tt e
+    changing_answered state (add_rules state.book account)
+    (with_thing state.next (thing.Account account) state.book) 1 (answer.AccountAdd state.next) new reply tt e
 answered state (AccountEdit account given) new reply e = edit_answered state account given
     (value_of account state.book.accounts) new reply e
 answered state (AccountDrop account) new reply e = drop_answered state account
     (value_of account state.book.accounts) new reply e
 answered state (Post day given) new reply e =
     let transaction = new_transaction state.next day given in
-    let put = edit.Put state.next (thing.Txn transaction) in
+    let book = with_thing state.next (thing.Txn transaction) state.book in
     let entries = with_entry state.next transaction state.book.transactions in
     let here = value_here state.next state.next transaction state.book.transactions refl in
-    changing_answered state (post_rules state.book transaction) put (1 + length transaction.splits)
-    (post_answer (edited put state.book) state.next transaction) new reply
+    changing_answered state (post_rules state.book transaction) book (1 + length transaction.splits)
+    (post_answer book state.next transaction) new reply
     ((λ r. (transaction, refl)), ap (balances_at entries) (sym here)) e
 answered state (Edit n force day given) new reply e =
     given_answered state n force day given (value_of n state.book.transactions) new reply refl e

@@ -1,18 +1,23 @@
 -- The splits of a transaction that is edited: the numbers that they have, and their marks.
 use Rattle.std.proofs.Common.{◌≡◌, ℕ, ◌+◌, ◌<◌, ◌≤◌, ◌==◌, not, inl, inr, Bool, true, false, All, List, [], ◌∷◌, ◌++◌}
-use Rattle.std.proofs.Common.{Option, Some, None, if◌then◌else◌, ◌&&◌, is_none, find}
+use Rattle.std.proofs.Common.{Option, Some, None, if◌then◌else◌, ◌&&◌, ◌||◌, find}
 use Rattle.std.proofs.Common.{refl, sym, ap, subst, ◌∙◌, eq-eqb, arith}
 use Rattle.std.specs.List.{list_all, list_any}
 use Rattle.std.specs.Option.{option_and_then}
-use Rattle.std.proofs.lemmas.Bool.{and_from, eqb-true, ne_eqb, not_from_false, or_from, or_left, or_parts, or_right}
+use Rattle.std.specs.Ordering.{int_eq}
+use Rattle.std.proofs.lemmas.Bool.{and_from, and_parts, eqb-true, ne_eqb, not_from_false, or_from, or_left, or_parts, or_right}
+use Rattle.std.proofs.lemmas.Bool.Decides.{Decides-int_eq}
 use Rattle.std.proofs.lemmas.List.Elements.{All-cons, All-head, All-nil, All-tail}
 use Rattle.std.proofs.lemmas.List.Folds.{list_any-append}
 use Rattle.book_commodity.specs.Rules.{AllKept}
 use Rattle.book_commodity.proofs.RuleLemmas.{not-broken}
-use Rattle.book_splits.specs.TransactionRules.{are_once, is_among, is_new, is_unmarked, numbers_of}
+use Rattle.book_splits.specs.TransactionRules.{are_once, is_among, numbers_of}
+use Rattle.book_splits.specs.declared.reconciliation.Recon.{Recon}
 use Rattle.book_splits.specs.declared.split.Mark.TheVariants.{New}
 use Rattle.book_splits.specs.declared.split.Split.{Split}
 use Rattle.book_splits.proofs.ReplacedLemmas.{IsFrom, none_from_limit, not_among_from, numbers_below}
+use Rattle.book_sound.specs.MarkedTransactionRules.{is_reconciled, is_rightly_marked}
+use Rattle.book_sound.proofs.MarkLemmas.{right_still, unreconciled_is_right, unreconciled_names_none}
 use Rattle.book_command.specs.declared.command.GivenSplit.{GivenSplit}
 use Rattle.book_step.specs.Editing.{drawn_by, drawn_for, edited_split, edited_splits, keeps_mark, kept_by, number_given}
 use Rattle.book_step.specs.Editing.{number_rules, unknown_split}
@@ -56,22 +61,18 @@ named_among id (x ∷ splits) s there =
       | false ↦ λ more. or_right (x.id == s.id) _ (named_among id splits s more)
     ] there
 
--- what is unmarked in all splits is in it
-named_unmarked :
-    (id : ℕ) (splits : List Split) (s : Split) → list_all is_unmarked splits ≡ true → named id splits ≡ Some s
-    → is_unmarked s ≡ true
-named_unmarked id [] s all there = absurd cc
-named_unmarked id (x ∷ splits) s all there =
-    let Here : Bool → Type 0 = λ b. (if b then Some x else named id splits) ≡ Some s → is_unmarked s ≡ true in
-    let First : Bool → Type 0 = λ b. is_unmarked x ≡ b → (b && list_all is_unmarked splits) ≡ true
-    → is_unmarked s ≡ true in
-    elim (is_unmarked x) as First [
-      | true ↦ λ marked rest. elim (x.id == id) as Here [
-        | true ↦ λ same. let one : x ≡ s = cc in subst (λ (y : Split). is_unmarked y ≡ true) one marked
-        | false ↦ λ more. named_unmarked id splits s rest more
-      ] there
-      | false ↦ λ marked rest. absurd cc
-    ] refl all
+-- what all splits pass, it does
+named_passes :
+    (test : Split → Bool) (id : ℕ) (splits : List Split) (s : Split) → list_all test splits ≡ true
+    → named id splits ≡ Some s → test s ≡ true
+named_passes test id [] s all there = absurd cc
+named_passes test id (x ∷ splits) s all there =
+    let Here : Bool → Type 0 = λ b. (if b then Some x else named id splits) ≡ Some s → test s ≡ true in
+    let parts = and_parts (test x) (list_all test splits) all in
+    elim (x.id == id) as Here [
+      | true ↦ λ same. let one : x ≡ s = cc in subst (λ (y : Split). test y ≡ true) one parts.0
+      | false ↦ λ more. named_passes test id splits s parts.1 more
+    ] there
 
 -- ---- one split of an edit
 
@@ -109,19 +110,60 @@ one_other id next splits before (Some n) given (Some s) is among less known same
     let one : n ≡ id = sym (named_number n splits s is) ∙ same in
     absurd (let other = ap (is_among before) one in let none = parts.1 in cc)
 
-one_unmarked :
-    (next : ℕ) (splits : List Split) (id : Option ℕ) (given : GivenSplit) (found : Option Split)
-    → named_by splits id ≡ found → list_all is_unmarked splits ≡ true
-    → is_unmarked (edited_split next given found) ≡ true
-one_unmarked next splits id given None is all = refl
-one_unmarked next splits None given (Some s) is all = absurd cc
-one_unmarked next splits (Some n) given (Some s) is all =
-    let was = named_unmarked n splits s all is in
-    elim (keeps_mark s given.account given.quantity) as (λ (b : Bool).
-    (is_new (if b then s.mark else New) && is_none (if b then s.recon else None)) ≡ true) [
-      | true ↦ was
-      | false ↦ refl
-    ]
+-- a split that keeps its mark stays rightly marked
+kept_right :
+    (reconciliations : List (ℕ × Recon)) (split : Split) (given : GivenSplit)
+    → is_rightly_marked reconciliations split ≡ true → keeps_mark split given.account given.quantity ≡ true
+    → is_rightly_marked reconciliations (record split
+    { account = given.account; memo = given.memo; action = given.action; value = given.value; quantity =
+    given.quantity }) ≡ true
+kept_right reconciliations split given right keeps =
+    let new : Split = record split
+    { account = given.account; memo = given.memo; action = given.action; value = given.value; quantity =
+    given.quantity } in
+    let Marked : Bool → Type 0 = λ b. is_reconciled split.mark ≡ b
+    → (not b || ((given.account == split.account) && int_eq given.quantity split.quantity)) ≡ true
+    → is_rightly_marked reconciliations new ≡ true in
+    elim (is_reconciled split.mark) as Marked [
+      | true ↦ λ marked same.
+          let parts = and_parts (given.account == split.account) (int_eq given.quantity split.quantity) same in
+          right_still reconciliations split new
+          (record {
+            id = refl;
+            account = sym (eqb-true given.account split.account parts.0);
+            mark = refl;
+            recon = refl;
+            quantity = sym ((Decides-int_eq given.quantity split.quantity).0 parts.1);
+          }) right
+      | false ↦ λ unmarked same.
+          unreconciled_is_right reconciliations new unmarked
+          (unreconciled_names_none reconciliations split right unmarked)
+    ] refl keeps
+
+one_right :
+    (reconciliations : List (ℕ × Recon)) (next : ℕ) (splits : List Split) (id : Option ℕ) (given : GivenSplit)
+    (found : Option Split)
+    → named_by splits id ≡ found → list_all (is_rightly_marked reconciliations) splits ≡ true
+    → is_rightly_marked reconciliations (edited_split next given found) ≡ true
+one_right reconciliations next splits id given None is all = refl
+one_right reconciliations next splits None given (Some s) is all = absurd cc
+one_right reconciliations next splits (Some n) given (Some s) is all =
+    let was = named_passes (is_rightly_marked reconciliations) n splits s all is in
+    let Kept : Bool → Type 0 = λ b. keeps_mark s given.account given.quantity ≡ b
+    → is_rightly_marked reconciliations (record {
+      id = s.id;
+      account = given.account;
+      memo = given.memo;
+      action = given.action;
+      mark = if b then s.mark else New;
+      recon = if b then s.recon else None;
+      value = given.value;
+      quantity = given.quantity;
+    }) ≡ true in
+    elim (keeps_mark s given.account given.quantity) as Kept [
+      | true ↦ λ keeps. kept_right reconciliations s given was keeps
+      | false ↦ λ new. refl
+    ] refl
 
 -- ---- all splits of an edit
 
@@ -201,12 +243,13 @@ edited_once limit next splits before (g ∷ more) below le kept =
     (edited_once limit (next + drawn_for found) splits (before ++ number_given g.id) more below (omega (arith, le))
     kept.1)
 
--- and they are unmarked, as those of the transaction were.
-pub edited_unmarked :
-    (next : ℕ) (splits : List Split) (given : List GivenSplit) → list_all is_unmarked splits ≡ true
-    → list_all is_unmarked (edited_splits splits next given) ≡ true
-edited_unmarked next splits [] all = refl
-edited_unmarked next splits (g ∷ more) all =
+-- and they are rightly marked, as those of the transaction were.
+pub edited_right :
+    (reconciliations : List (ℕ × Recon)) (next : ℕ) (splits : List Split) (given : List GivenSplit)
+    → list_all (is_rightly_marked reconciliations) splits ≡ true
+    → list_all (is_rightly_marked reconciliations) (edited_splits splits next given) ≡ true
+edited_right reconciliations next splits [] all = refl
+edited_right reconciliations next splits (g ∷ more) all =
     let found = kept_by splits g in
-    and_from _ _ (one_unmarked next splits g.id g found refl all)
-    (edited_unmarked (next + drawn_for found) splits more all)
+    and_from _ _ (one_right reconciliations next splits g.id g found refl all)
+    (edited_right reconciliations (next + drawn_for found) splits more all)

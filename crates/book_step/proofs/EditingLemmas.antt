@@ -9,11 +9,7 @@ use Rattle.book_splits.specs.SplitCount.{splits_in}
 use Rattle.book_splits.specs.declared.transaction.Txn.{Txn}
 use Rattle.book_splits.proofs.CountLemmas.{splits-with, splits-without}
 use Rattle.book_undo.specs.Book.{Book}
-use Rattle.book_undo.specs.Edit.{edited}
-use Rattle.book_undo.specs.declared.edit.Edit.TheVariants as edit
-use Rattle.book_undo.specs.declared.edit.Edit.{Edit}
-use Rattle.book_undo.specs.declared.thing.Thing.TheVariants as thing
-use Rattle.book_step.specs.Editing.{drawn_by, edit_answer, edit_of, edit_rules, edited_transaction, number_rules}
+use Rattle.book_step.specs.Editing.{book_with, drawn_by, edit_answer, edit_of, edit_rules, edited_transaction, number_rules}
 use Rattle.book_step.specs.Editing.{reconciled, too_many_after}
 use Rattle.book_step.specs.Outcome.{Broken, Outcome, StepsTo, changing, leaving}
 use Rattle.book_step.specs.Posting.{broken_by}
@@ -54,9 +50,9 @@ new_rules book number force old new =
 abbrev pub edit_to : State → ℕ → Bool → GivenTxn → Txn → Txn → ℕ → Outcome
 edit_to state number force given old new drawn =
     let rules = edit_rules state.book number force given old new in
-    let change = edit.Put number (thing.Txn new) in
+    let book = book_with state.book number old new in
     if (same_transaction new old).is then leaving state rules (edit_answer state.book number new)
-    else changing state rules change drawn (edit_answer (edited change state.book) number new)
+    else changing state rules book drawn (edit_answer book number new)
 
 -- that is what the edit comes to, where the transaction and the numbers drawn are those of the edit
 pub edit-made :
@@ -77,10 +73,10 @@ pub edit-misgiven :
     → edit_of state number force day given old ≡ Broken rule
 edit-misgiven state number force day given old rule e =
     let new : Txn = edited_transaction old state.next day given in
-    let change : Edit = edit.Put number (thing.Txn new) in
+    let book : Book = book_with state.book number old new in
     let left : Answer = edit_answer state.book number new in
-    let changed : Answer = edit_answer (edited change state.book) number new in
-    either-broken state (same_transaction new old).is (edit_rules state.book number force given old new) change
+    let changed : Answer = edit_answer book number new in
+    either-broken state (same_transaction new old).is (edit_rules state.book number force given old new) book
     (drawn_by old.splits given.splits) left changed rule
     (first-here (number_rules old.splits [] given.splits) (new_rules state.book number force old new) rule e)
 
@@ -91,10 +87,10 @@ pub edit-broken :
     → first_broken (new_rules state.book number force old new) ≡ Some rule
     → edit_to state number force given old new drawn ≡ Broken rule
 edit-broken state number force given old new drawn rule numbers e =
-    let change : Edit = edit.Put number (thing.Txn new) in
+    let book : Book = book_with state.book number old new in
     let left : Answer = edit_answer state.book number new in
-    let changed : Answer = edit_answer (edited change state.book) number new in
-    either-broken state (same_transaction new old).is (edit_rules state.book number force given old new) change
+    let changed : Answer = edit_answer book number new in
+    either-broken state (same_transaction new old).is (edit_rules state.book number force given old new) book
     drawn left changed rule
     (first-past (number_rules old.splits [] given.splits) (new_rules state.book number force old new) numbers ∙ e)
 
@@ -108,10 +104,10 @@ pub edit-left :
     → StepsTo state (leaving state [] (edit_answer state.book number new)) result
     → StepsTo state (edit_to state number force given old new drawn) result
 edit-left state number force given old new drawn result numbers kept same h =
-    let change : Edit = edit.Put number (thing.Txn new) in
+    let book : Book = book_with state.book number old new in
     let left : Answer = edit_answer state.book number new in
-    let changed : Answer = edit_answer (edited change state.book) number new in
-    either-left state (same_transaction new old).is (edit_rules state.book number force given old new) change
+    let changed : Answer = edit_answer book number new in
+    either-left state (same_transaction new old).is (edit_rules state.book number force given old new) book
     drawn left changed result
     (first-past (number_rules old.splits [] given.splits) (new_rules state.book number force old new) numbers ∙ kept)
     same h
@@ -123,14 +119,14 @@ pub edit-changed :
     → first_broken (number_rules old.splits [] given.splits) ≡ None
     → first_broken (new_rules state.book number force old new) ≡ None
     → (same_transaction new old).is ≡ false
-    → (let change = edit.Put number (thing.Txn new) in
-    StepsTo state (changing state [] change drawn (edit_answer (edited change state.book) number new)) result)
+    → (let book = book_with state.book number old new in
+    StepsTo state (changing state [] book drawn (edit_answer book number new)) result)
     → StepsTo state (edit_to state number force given old new drawn) result
 edit-changed state number force given old new drawn result numbers kept other h =
-    let change : Edit = edit.Put number (thing.Txn new) in
+    let book : Book = book_with state.book number old new in
     let left : Answer = edit_answer state.book number new in
-    let changed : Answer = edit_answer (edited change state.book) number new in
-    either-changed state (same_transaction new old).is (edit_rules state.book number force given old new) change
+    let changed : Answer = edit_answer book number new in
+    either-changed state (same_transaction new old).is (edit_rules state.book number force given old new) book
     drawn left changed result
     (first-past (number_rules old.splits [] given.splits) (new_rules state.book number force old new) numbers ∙ kept)
     other h

@@ -4,10 +4,16 @@ use Rattle.std.proofs.Common.{Result, Ok, Err, sym, ap, subst, ◌∙◌}
 use Rattle.std.specs.Result.{IsErrAnd}
 use Rattle.book_commodity.specs.Rules.{first_broken}
 use Rattle.book_commodity.proofs.RuleLemmas.{first-here, first-past}
-use Rattle.book_undo.specs.declared.edit.Edit.{Edit}
+use Rattle.book_undo.specs.Book.{Book}
+use Rattle.book_undo.specs.Edit.{edited, is_nothing}
+use Rattle.book_undo.specs.Exact.{IsExact}
+use Rattle.book_undo.specs.declared.edit.Edit.{Edit, All}
+use Rattle.book_undo.proofs.ExactLaws.{exact_nothing}
+use Rattle.book_sound.specs.Soundness.{IsSoundBook}
+use Rattle.book_sound.proofs.SoundFacts.{tables_rise}
 use Rattle.book_step.specs.AnswerBalances.{without_balances}
 use Rattle.book_step.specs.Outcome.{Outcome, Broken, Done, StepsTo, after, but_balances, changing, leaving, numbers}
-use Rattle.book_step.specs.Outcome.{state_after, unless_broken}
+use Rattle.book_step.specs.Outcome.{changed, unless_broken, version_after}
 use Rattle.book_step.specs.State.{State}
 use Rattle.book_command.specs.declared.answer.Answer.{Answer}
 use Rattle.book_command.specs.declared.refusal.Refusal.{Refusal}
@@ -28,47 +34,73 @@ refused state outcome rule (Err error) h e = subst (λ (error : Refusal). StepsT
 pub done-changing :
     (state : State) (edit : Edit) (drawn : ℕ) (whole answer : Answer)
     → first_broken (numbers state drawn ∷ []) ≡ None
-    → without_balances whole ≡ answer
-    → but_balances (changing state [] edit drawn whole)
+    → without_balances whole ≡ answer → is_nothing edit ≡ false
+    → but_balances (changing state [] (edited edit state.book) drawn whole)
     ≡ Done (after state (record { edit = edit; next = state.next + drawn; answer = answer })) answer
-done-changing state edit drawn whole answer e same =
-    let new : State = state_after state edit (state.next + drawn) in
-    ap (λ (broken : Option Rule). but_balances (unless_broken broken (Done new whole))) e
-    ∙ ap (λ (a : Answer). Done new a) same
+done-changing state edit drawn whole answer e same changes =
+    let book : Book = edited edit state.book in
+    let new : ℕ → State = λ v. record { book = book; next = state.next + drawn; version = v } in
+    ap (λ (broken : Option Rule). but_balances (unless_broken broken (Done (changed state book drawn) whole))) e
+    ∙ ap (λ (b : Bool). Done (new (version_after b state.version)) (without_balances whole)) (sym changes)
+    ∙ ap (λ (a : Answer). Done (new (version_after (is_nothing edit) state.version)) a) same
+
+-- and is a step
+pub step-changing :
+    (state : State) (edit : Edit) (drawn : ℕ) (whole answer : Answer)
+    → first_broken (numbers state drawn ∷ []) ≡ None
+    → without_balances whole ≡ answer → is_nothing edit ≡ false → IsExact state.book edit
+    → StepsTo state (changing state [] (edited edit state.book) drawn whole)
+    (Ok (record { edit = edit; next = state.next + drawn; answer = answer }))
+step-changing state edit drawn whole answer e same changes exact =
+    record { leads = done-changing state edit drawn whole answer e same changes; exact = exact }
+
+-- a command that leaves the book is a step that changes nothing
+pub step-leaving :
+    (state : State) (edit : Edit) (whole answer : Answer) → edit ≡ All [] → without_balances whole ≡ answer
+    → IsSoundBook state.book
+    → StepsTo state (leaving state [] whole) (Ok (record { edit = edit; next = state.next; answer = answer }))
+unfolding Rattle.book_undo.specs.declared.edit.Edit.TheBlock.hidden-the_row-Edit-0 denote.Hole.Carrier.hidden
+step-leaving state edit whole answer nothing same is =
+    let made : Edit → Step = λ e. record { edit = e; next = state.next; answer = answer } in
+    subst (λ (e : Edit). StepsTo state (leaving state [] whole) (Ok (made e))) (sym nothing)
+    (record {
+      leads = ap (λ (a : Answer). Done state a) same;
+      exact = exact_nothing state.book (tables_rise state.book is);
+    })
 
 -- a broken rule is what a change comes to
 pub broken-changing :
-    (state : State) (rules : List (Option Rule)) (edit : Edit) (drawn : ℕ) (answer : Answer) (rule : Rule)
+    (state : State) (rules : List (Option Rule)) (book : Book) (drawn : ℕ) (answer : Answer) (rule : Rule)
     → first_broken rules ≡ Some rule
-    → changing state rules edit drawn answer ≡ Broken rule
-broken-changing state rules edit drawn answer rule e =
-    ap (λ (broken : Option Rule). unless_broken broken (Done (state_after state edit (state.next + drawn)) answer))
+    → changing state rules book drawn answer ≡ Broken rule
+broken-changing state rules book drawn answer rule e =
+    ap (λ (broken : Option Rule). unless_broken broken (Done (changed state book drawn) answer))
     (first-here rules (numbers state drawn ∷ []) rule e)
 
 -- a change whose rules aren't broken comes to what it would without them
 pub past-changing :
-    (state : State) (rules : List (Option Rule)) (edit : Edit) (drawn : ℕ) (answer : Answer)
+    (state : State) (rules : List (Option Rule)) (book : Book) (drawn : ℕ) (answer : Answer)
     (result : Result Step Refusal)
     → first_broken rules ≡ None
-    → StepsTo state (changing state [] edit drawn answer) result
-    → StepsTo state (changing state rules edit drawn answer) result
-past-changing state rules edit drawn answer result e h =
-    let same : changing state rules edit drawn answer ≡ changing state [] edit drawn answer =
-    ap (λ (broken : Option Rule). unless_broken broken (Done (state_after state edit (state.next + drawn)) answer))
+    → StepsTo state (changing state [] book drawn answer) result
+    → StepsTo state (changing state rules book drawn answer) result
+past-changing state rules book drawn answer result e h =
+    let same : changing state rules book drawn answer ≡ changing state [] book drawn answer =
+    ap (λ (broken : Option Rule). unless_broken broken (Done (changed state book drawn) answer))
     (first-past rules (numbers state drawn ∷ []) e) in
     subst (λ (outcome : Outcome). StepsTo state outcome result) (sym same) h
 
 -- the same of a change under the next number
 pub past-drawing :
-    (state : State) (number : ℕ) (rules : List (Option Rule)) (edit : ℕ → Edit) (drawn : ℕ) (answer : ℕ → Answer)
+    (state : State) (number : ℕ) (rules : List (Option Rule)) (book : ℕ → Book) (drawn : ℕ) (answer : ℕ → Answer)
     (result : Result Step Refusal)
     → number ≡ state.next
     → first_broken rules ≡ None
-    → StepsTo state (changing state [] (edit number) drawn (answer number)) result
-    → StepsTo state (changing state rules (edit state.next) drawn (answer state.next)) result
-past-drawing state number rules edit drawn answer result next e h =
-    past-changing state rules (edit state.next) drawn (answer state.next) result e
-    (subst (λ (n : ℕ). StepsTo state (changing state [] (edit n) drawn (answer n)) result) next h)
+    → StepsTo state (changing state [] (book number) drawn (answer number)) result
+    → StepsTo state (changing state rules (book state.next) drawn (answer state.next)) result
+past-drawing state number rules book drawn answer result next e h =
+    past-changing state rules (book state.next) drawn (answer state.next) result e
+    (subst (λ (n : ℕ). StepsTo state (changing state [] (book n) drawn (answer n)) result) next h)
 
 -- the same of a command that leaves the book
 pub broken-leaving :
@@ -89,40 +121,40 @@ past-leaving state rules answer result e h =
 
 -- a command that leaves the book or changes it comes to the rule that is broken, whichever it does
 pub either-broken :
-    (state : State) (stays : Bool) (rules : List (Option Rule)) (edit : Edit) (drawn : ℕ) (left changed : Answer)
+    (state : State) (stays : Bool) (rules : List (Option Rule)) (book : Book) (drawn : ℕ) (left changed : Answer)
     (rule : Rule)
     → first_broken rules ≡ Some rule
-    → (if stays then leaving state rules left else changing state rules edit drawn changed) ≡ Broken rule
-either-broken state true rules edit drawn left changed rule e = broken-leaving state rules left rule e
-either-broken state false rules edit drawn left changed rule e = broken-changing state rules edit drawn changed rule e
+    → (if stays then leaving state rules left else changing state rules book drawn changed) ≡ Broken rule
+either-broken state true rules book drawn left made rule e = broken-leaving state rules left rule e
+either-broken state false rules book drawn left made rule e = broken-changing state rules book drawn made rule e
 
 -- where no rule is broken it leaves the book
 pub either-left :
-    (state : State) (stays : Bool) (rules : List (Option Rule)) (edit : Edit) (drawn : ℕ) (left changed : Answer)
+    (state : State) (stays : Bool) (rules : List (Option Rule)) (book : Book) (drawn : ℕ) (left changed : Answer)
     (result : Result Step Refusal)
     → first_broken rules ≡ None
     → stays ≡ true
     → StepsTo state (leaving state [] left) result
-    → StepsTo state (if stays then leaving state rules left else changing state rules edit drawn changed) result
-either-left state true rules edit drawn left changed result e same h = past-leaving state rules left result e h
-either-left state false rules edit drawn left changed result e same h = absurd cc
+    → StepsTo state (if stays then leaving state rules left else changing state rules book drawn changed) result
+either-left state true rules book drawn left made result e same h = past-leaving state rules left result e h
+either-left state false rules book drawn left made result e same h = absurd cc
 
 -- or changes it
 pub either-changed :
-    (state : State) (stays : Bool) (rules : List (Option Rule)) (edit : Edit) (drawn : ℕ) (left changed : Answer)
+    (state : State) (stays : Bool) (rules : List (Option Rule)) (book : Book) (drawn : ℕ) (left changed : Answer)
     (result : Result Step Refusal)
     → first_broken rules ≡ None
     → stays ≡ false
-    → StepsTo state (changing state [] edit drawn changed) result
-    → StepsTo state (if stays then leaving state rules left else changing state rules edit drawn changed) result
-either-changed state true rules edit drawn left changed result e other h = absurd cc
-either-changed state false rules edit drawn left changed result e other h =
-    past-changing state rules edit drawn changed result e h
+    → StepsTo state (changing state [] book drawn changed) result
+    → StepsTo state (if stays then leaving state rules left else changing state rules book drawn changed) result
+either-changed state true rules book drawn left made result e other h = absurd cc
+either-changed state false rules book drawn left made result e other h =
+    past-changing state rules book drawn made result e h
 
 -- the limit of numbers is the last rule of a change
 pub broken-numbers :
-    (state : State) (edit : Edit) (drawn : ℕ) (answer : Answer) (rule : Rule)
+    (state : State) (book : Book) (drawn : ℕ) (answer : Answer) (rule : Rule)
     → first_broken (numbers state drawn ∷ []) ≡ Some rule
-    → changing state [] edit drawn answer ≡ Broken rule
-broken-numbers state edit drawn answer rule e = ap
-    (λ (broken : Option Rule). unless_broken broken (Done (state_after state edit (state.next + drawn)) answer)) e
+    → changing state [] book drawn answer ≡ Broken rule
+broken-numbers state book drawn answer rule e =
+    ap (λ (broken : Option Rule). unless_broken broken (Done (changed state book drawn) answer)) e

@@ -2,8 +2,7 @@
 use Rattle.std.proofs.Common.{◌≡◌, ℕ, ◌+◌, List, [], ◌∷◌, ◌++◌, length, Some, None, Result, ap, subst, ◌∙◌, arith}
 use Rattle.book_commodity.specs.Rules.{first_broken}
 use Rattle.book_splits.specs.declared.transaction.Txn.{Txn}
-use Rattle.book_undo.specs.Edit.{edited}
-use Rattle.book_undo.specs.declared.edit.Edit.TheVariants as edit
+use Rattle.book_undo.specs.Book.{with_thing}
 use Rattle.book_undo.specs.declared.thing.Thing.TheVariants as thing
 use Rattle.book_step.specs.Outcome.{Broken, StepsTo, changing}
 use Rattle.book_step.specs.Posting.{new_split, new_splits, post_answer, post_of, post_rules}
@@ -31,22 +30,20 @@ pub post-broken :
     → first_broken (post_rules state.book transaction) ≡ Some rule
     → post_of state transaction ≡ Broken rule
 post-broken state transaction rule e =
-    let change = edit.Put state.next (thing.Txn transaction) in
-    broken-changing state (post_rules state.book transaction) change (1 + length transaction.splits)
-    (post_answer (edited change state.book) state.next transaction) rule e
+    let book = with_thing state.next (thing.Txn transaction) state.book in
+    broken-changing state (post_rules state.book transaction) book (1 + length transaction.splits)
+    (post_answer book state.next transaction) rule e
 
 -- one that breaks none is put into the book
 pub post-changed :
     (state : State) (transaction : Txn) (drawn : ℕ) (result : Result Step Refusal)
     → first_broken (post_rules state.book transaction) ≡ None
     → drawn ≡ 1 + length transaction.splits
-    → (let change = edit.Put state.next (thing.Txn transaction) in
-    StepsTo state (changing state [] change drawn (post_answer (edited change state.book) state.next transaction))
-    result)
+    → (let book = with_thing state.next (thing.Txn transaction) state.book in
+    StepsTo state (changing state [] book drawn (post_answer book state.next transaction)) result)
     → StepsTo state (post_of state transaction) result
 post-changed state transaction drawn result unbroken count h =
-    let change = edit.Put state.next (thing.Txn transaction) in
-    let whole = post_answer (edited change state.book) state.next transaction in
-    past-changing state (post_rules state.book transaction) change
-    (1 + length transaction.splits) whole result unbroken
-    (subst (λ (n : ℕ). StepsTo state (changing state [] change n whole) result) count h)
+    let book = with_thing state.next (thing.Txn transaction) state.book in
+    let whole = post_answer book state.next transaction in
+    past-changing state (post_rules state.book transaction) book (1 + length transaction.splits) whole result unbroken
+    (subst (λ (n : ℕ). StepsTo state (changing state [] book n whole) result) count h)

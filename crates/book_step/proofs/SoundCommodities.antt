@@ -8,12 +8,12 @@ use Rattle.book_commodity.specs.Table.{with_entry}
 use Rattle.book_commodity.specs.declared.commodity.Commodity.{Commodity}
 use Rattle.book_commodity.proofs.ListLemmas.{mapped_none}
 use Rattle.book_commodity.proofs.RuleLemmas.{not-broken}
-use Rattle.book_undo.specs.Book.{Book}
+use Rattle.book_undo.specs.Book.{Book, with_currency, with_thing}
 use Rattle.book_step.specs.Commodities.{fraction_shape, name_taken, too_many_commodities, unknown_commodity}
 use Rattle.book_step.specs.Commodities.{wrong_currency, book_currency, commodity_add, add_rules, currency_rules}
 use Rattle.book_step.specs.Soundness.{IsSoundBook, AreDrawn, IsSound}
-use Rattle.book_step.proofs.SoundBook.{commodity_put, currency_set, commodity_drawn, currency_drawn, drawn_later}
-use Rattle.book_undo.specs.declared.edit.Edit.TheVariants as edit
+use Rattle.book_sound.proofs.BookFrames.{commodity_put, currency_set}
+use Rattle.book_sound.proofs.DrawnFrames.{commodity_drawn, currency_drawn, drawn_later}
 use Rattle.book_undo.specs.declared.thing.Thing.TheVariants as thing
 use Rattle.book_command.specs.declared.answer.Answer.{Answer}
 use Rattle.book_command.specs.declared.answer.Answer.TheVariants as answer
@@ -60,19 +60,19 @@ pub book_currency-sound :
     → IsSound new
 book_currency-sound state n new answered is e =
     let book = state.book in
-    let put = edit.Currency n in
+    let later = with_currency n book in
     let rules = currency_rules book n in
     let Chosen : Bool → Type 0 =
-    λ t. (if t then leaving state rules answer.BookCurrency else changing state rules put 0 answer.BookCurrency)
+    λ t. (if t then leaving state rules answer.BookCurrency else changing state rules later 0 answer.BookCurrency)
     ≡ Done new answered → IsSound new in
     elim (n == book.currency) as Chosen [
       | true ↦ λ done.
           subst (λ (s : State). IsSound s) (leaving_done state rules answer.BookCurrency new answered done) is
       | false ↦ λ done.
-          let change = changing_done state rules put 0 answer.BookCurrency new answered done in
-          let later = drawn_later book state.next (state.next + 0) (omega arith) is.drawn in
-          sound_after state rules put 0 new change (currency_chosen book n change.kept is.book)
-          (currency_drawn book n (state.next + 0) later)
+          let change = changing_done state rules later 0 answer.BookCurrency new answered done in
+          let drawn = drawn_later book state.next (state.next + 0) (omega arith) is.drawn in
+          sound_after state rules later 0 new change (currency_chosen book n change.kept is.book)
+          (currency_drawn book n (state.next + 0) drawn)
     ] e
 
 pub commodity_add-sound :
@@ -81,9 +81,9 @@ pub commodity_add-sound :
     → IsSound new
 commodity_add-sound state commodity new answered is e =
     let book = state.book in
-    let put = edit.Put state.next (thing.Commodity commodity) in
+    let later = with_thing state.next (thing.Commodity commodity) book in
     let rules = add_rules book commodity in
-    let change = changing_done state rules put 1 (answer.CommodityAdd state.next) new answered e in
-    let later = drawn_later book state.next (state.next + 1) (omega arith) is.drawn in
-    sound_after state rules put 1 new change (commodity_added book state.next commodity is.drawn change.kept is.book)
-    (commodity_drawn book state.next (state.next + 1) commodity (omega arith) later)
+    let change = changing_done state rules later 1 (answer.CommodityAdd state.next) new answered e in
+    let drawn = drawn_later book state.next (state.next + 1) (omega arith) is.drawn in
+    sound_after state rules later 1 new change (commodity_added book state.next commodity is.drawn change.kept is.book)
+    (commodity_drawn book state.next (state.next + 1) commodity (omega arith) drawn)

@@ -1,6 +1,7 @@
 -- A post leads from sound states to sound states: the transaction keeps the rules of transactions, since it keeps those
 -- of the command.
-use Rattle.std.proofs.Common.{◌≡◌, ℕ, ◌+◌, ◌<◌, ◌≤◌, ℤ, All, true, List, [], ◌∷◌, length, None, refl, arith}
+use Rattle.std.proofs.Common.{◌≡◌, ℕ, ◌+◌, ◌<◌, ◌≤◌, ℤ, All, true, List, [], ◌∷◌, length, None, is_none, refl, ap}
+use Rattle.std.proofs.Common.{arith}
 use Rattle.std.specs.List.{list_all}
 use Rattle.std.proofs.lemmas.Bool.{not_from_false, and_from}
 use Rattle.std.proofs.lemmas.Bool.Decides.{nat_tests}
@@ -12,16 +13,17 @@ use Rattle.book_commodity.proofs.RuleLemmas.{not-broken}
 use Rattle.book_splits.specs.Check.{txn_rules}
 use Rattle.book_splits.specs.TransactionRules.{are_once, is_unmarked, numbers_of}
 use Rattle.book_splits.specs.declared.split.Split.{Split}
-use Rattle.book_undo.specs.Book.{Book}
+use Rattle.book_undo.specs.Book.{Book, with_thing}
 use Rattle.book_command.specs.Lifted.{of_txn_rule}
 use Rattle.book_command.specs.declared.command.GivenSplit.{GivenSplit}
 use Rattle.book_command.specs.declared.command.GivenTxn.{GivenTxn}
 use Rattle.book_step.specs.Posting.{new_splits, new_transaction, post_rules, post, post_answer, broken_by}
 use Rattle.book_step.specs.Posting.{too_many_splits, too_many_transactions}
 use Rattle.book_step.specs.Soundness.{IsSoundBook, AreDrawn, IsSound}
-use Rattle.book_step.proofs.SoundBook.{transaction_put, transaction_drawn}
-use Rattle.book_undo.specs.Edit.{edited}
-use Rattle.book_undo.specs.declared.edit.Edit.TheVariants as edit
+use Rattle.book_sound.proofs.BookFrames.{transaction_put}
+use Rattle.book_sound.proofs.DrawnFrames.{drawn_later, transaction_drawn}
+use Rattle.book_sound.proofs.MarkLemmas.{unmarked_are_right}
+use Rattle.book_sound.proofs.TransactionFrames.{drawn_from}
 use Rattle.book_undo.specs.declared.thing.Thing.TheVariants as thing
 use Rattle.book_command.specs.declared.answer.Answer.{Answer}
 use Rattle.book_step.specs.Outcome.{Done}
@@ -82,10 +84,11 @@ posted book n day given are kept is =
     let splits = not-broken _ _ keeps.few_splits in
     transaction_put book n new are
     (record {
-      check = mapped_none of_txn_rule (first_broken (txn_rules book.commodities book.accounts new)) keeps.check;
+      check = ap is_none
+          (mapped_none of_txn_rule (first_broken (txn_rules book.commodities book.accounts new)) keeps.check);
       once = new_once (n + 1) given.splits;
-      above = new_above n (n + 1) given.splits (omega arith);
-      marks = new_marks (n + 1) given.splits;
+      from = drawn_from n (numbers_of new.splits) (new_above n (n + 1) given.splits (omega arith));
+      marks = unmarked_are_right book.reconciliations new.splits (new_marks (n + 1) given.splits);
     })
     (grind (arith, nat_tests, few)) (grind (arith, nat_tests, splits)) is
 
@@ -96,11 +99,11 @@ pub post-sound :
 post-sound state day given new answered is e =
     let book = state.book in
     let transaction = new_transaction state.next day given in
-    let put = edit.Put state.next (thing.Txn transaction) in
+    let new_book = with_thing state.next (thing.Txn transaction) book in
     let rules = post_rules book transaction in
     let drawn = 1 + length transaction.splits in
-    let change = changing_done state rules put drawn (post_answer (edited put book) state.next transaction) new answered
-    e in
-    sound_after state rules put drawn new change (posted book state.next day given is.drawn change.kept is.book)
+    let change = changing_done state rules new_book drawn (post_answer new_book state.next transaction) new answered e in
+    sound_after state rules new_book drawn new change (posted book state.next day given is.drawn change.kept is.book)
     (transaction_drawn book state.next (state.next + drawn) transaction (omega arith)
-    (new_below (state.next + 1) (state.next + drawn) given.splits (omega arith)) is.drawn)
+    (new_below (state.next + 1) (state.next + drawn) given.splits (omega arith))
+    (drawn_later book state.next (state.next + drawn) (omega arith) is.drawn))

@@ -1,13 +1,27 @@
 -- Every step from a sound state leads to a sound state, and the fresh state is sound.
-use Rattle.std.proofs.Common.{◌≡◌, ℕ, ◌<◌, ◌≤◌, Bool, List, [], ◌∷◌, Some, inl, inr, refl, sym, subst, arith}
+use Rattle.std.proofs.Common.{◌≡◌, ℕ, ◌<◌, ◌≤◌, Bool, All, List, [], ◌∷◌, Some, inl, inr, refl, sym, subst, arith}
 use Rattle.std.proofs.lemmas.List.Elements.{All-nil, All-cons}
 use Rattle.book_commodity.specs.CommodityRules.{commodity_rules}
 use Rattle.book_commodity.specs.Rules.{AllHold, IsSoundTable}
 use Rattle.book_commodity.specs.Table.{value_of}
 use Rattle.book_commodity.proofs.DrawnLemmas.{value_with}
 use Rattle.book_accounts.specs.AccountRules.{account_rules}
+use Rattle.book_splits.specs.declared.reconciliation.MarkedSplit.{MarkedSplit}
+use Rattle.book_splits.specs.declared.reconciliation.Recon.{Recon}
 use Rattle.book_splits.specs.declared.split.Split.{Split}
 use Rattle.book_splits.specs.declared.transaction.Txn.{Txn}
+use Rattle.book_prices.specs.declared.price.Price.{Price}
+use Rattle.book_statement.specs.declared.binding.Binding.{Binding}
+use Rattle.book_statement.specs.declared.held.Held.{Held}
+use Rattle.book_statement.specs.declared.line.Line.{Line}
+use Rattle.book_undo.specs.declared.schedule.Schedule.{Schedule}
+use Rattle.book_sound.specs.BindingRules.{binding_rules}
+use Rattle.book_sound.specs.LineRules.{line_rules}
+use Rattle.book_sound.specs.MarkedTransactionRules.{marked_transaction_rules}
+use Rattle.book_sound.specs.PriceRules.{price_rules}
+use Rattle.book_sound.specs.ReconciliationRules.{reconciliation_rules}
+use Rattle.book_sound.specs.ScheduleRules.{schedule_rules}
+use Rattle.book_sound.specs.StatementRules.{statement_rules}
 use Rattle.book_command.specs.declared.answer.Answer.{Answer}
 use Rattle.book_command.specs.declared.command.Command.{Command}
 use Rattle.book_command.specs.declared.command.What.{What}
@@ -67,6 +81,10 @@ sound_alone {T} rules most n v room kept = record {
   few = omega (arith, room);
 }
 
+-- So is one of nothing.
+sound_none : {T : Type 0} (rules : ℕ → T → List Bool) (most : ℕ) → IsSoundTable rules most []
+sound_none rules most = record { rise = tt; keep = record { each = λ k x there. absurd cc }; few = omega arith }
+
 -- Each run begins in a sound state.
 pub fresh-sound : IsSound fresh_state
 fresh-sound = record {
@@ -74,7 +92,13 @@ fresh-sound = record {
     commodities = sound_alone (commodity_rules fresh_book.commodities) 10000 1 euro (omega arith) (refl, (refl, tt));
     accounts = sound_alone (account_rules fresh_book.commodities fresh_book.accounts) 10000 2 root (omega arith)
         (refl, (refl, (refl, (refl, (refl, (refl, (refl, (refl, tt))))))));
-    transactions = record { rise = tt; keep = record { each = λ k x there. absurd cc }; few = omega arith };
+    transactions = sound_none (marked_transaction_rules fresh_book.commodities fresh_book.accounts [] []) 200000;
+    prices = sound_none (price_rules fresh_book.commodities []) 1000000;
+    schedules = sound_none (schedule_rules fresh_book.commodities fresh_book.accounts) 1000;
+    statements = sound_none (statement_rules fresh_book.accounts []) 100000;
+    lines = sound_none (line_rules fresh_book.accounts [] [] []) 1000000;
+    bindings = sound_none (binding_rules fresh_book.accounts []) 10000;
+    reconciliations = sound_none (reconciliation_rules fresh_book.accounts) 100000;
     few_splits = omega arith;
     root = refl;
     currency = refl;
@@ -83,7 +107,15 @@ fresh-sound = record {
     commodities = All-cons (λ (e : ℕ × _). e.0 < 3) (1, euro) [] (omega arith) (All-nil (λ (e : ℕ × _). e.0 < 3));
     accounts = All-cons (λ (e : ℕ × _). e.0 < 3) (2, root) [] (omega arith) (All-nil (λ (e : ℕ × _). e.0 < 3));
     transactions = All-nil (λ (e : ℕ × Txn). e.0 < 3);
+    prices = All-nil (λ (e : ℕ × Price). e.0 < 3);
+    schedules = All-nil (λ (e : ℕ × Schedule). e.0 < 3);
+    statements = All-nil (λ (e : ℕ × Held). e.0 < 3);
+    lines = All-nil (λ (e : ℕ × Line). e.0 < 3);
+    bindings = All-nil (λ (e : ℕ × Binding). e.0 < 3);
+    reconciliations = All-nil (λ (e : ℕ × Recon). e.0 < 3);
     splits = All-nil (λ (split : Split). split.id < 3);
+    marked = All-nil (λ (e : ℕ × Recon). All (λ (m : MarkedSplit). m.split < 3) e.1.marked);
+    made = All-nil (λ (e : ℕ × Schedule). e.1.timing.made < 3);
   };
   next = omega arith;
   version = omega arith;

@@ -8,6 +8,10 @@ use Rattle.book_accounts.specs.declared.kind.AccountKind.TheVariants.{Bank, Inco
 use Rattle.book_splits.specs.declared.split.Mark.{Mark}
 use Rattle.book_splits.specs.declared.split.Mark.TheVariants.{New, Reconciled}
 use Rattle.book_splits.specs.declared.split.Split.{Split}
+use Rattle.book_statement.specs.declared.line.Line.{Line}
+use Rattle.book_statement.specs.declared.line_state.LineState.{LineState}
+use Rattle.book_statement.specs.declared.line_state.LineState.TheVariants.{Dismissed, Matched}
+use Rattle.book_undo.specs.Book.{Book}
 use Rattle.book_step.specs.Editing.{reconciled}
 use Rattle.book_step.specs.Outcome.{Outcome, Broken, Done}
 use Rattle.book_step.specs.State.{State, fresh_state}
@@ -221,3 +225,64 @@ lost_with_force = refl
 
 dropped : last two_accounts (AccountDrop 3) ≡ Answered answer.AccountDrop 3
 dropped = refl
+
+-- ---- what names an account, and a line that is matched with a split
+
+abbrev matched : LineState → Line
+matched state = record {
+  account = 3;
+  statement = 9;
+  ordinal = 0;
+  body = record {
+    day = pos 19728;
+    value_day = pos 19728;
+    amount = pos 250000;
+    kind = [];
+    ref_own = [];
+    ref_bank = [];
+    text = codes "Pay";
+    category = [];
+    parts = [];
+  };
+  state = state;
+}
+
+abbrev lined : LineState → Book → Book
+lined state book = record book { lines = (8, matched state) ∷ [] }
+
+-- the state with one line, in this state of a line
+abbrev with_line : LineState → State → State
+with_line state old = record { book = lined state old.book; next = old.next; version = old.version }
+
+-- what the last command comes to after the others, with a line of account 3 that is matched with split 6
+abbrev last_lined : List What → What → Outcome
+last_lined before what = step (with_line (Matched 6) (run fresh_state before)) (now what)
+
+abbrev lines_of : Outcome → List (ℕ × Line)
+lines_of (Broken rule) = []
+lines_of (Done state answer) = state.book.lines
+
+named_account : reply (last_lined two_accounts (AccountDrop 3)) ≡ Refused (rule.InUse kind.Line 8)
+named_account = refl
+
+abbrev holding : GivenAccount
+holding = record
+    { name = None; parent = None; code = None; note = None; hidden = None; placeholder = Some true }
+
+named_placeholder : reply (last_lined two_accounts (AccountEdit 3 holding)) ≡ Refused (rule.InUse kind.Line 8)
+unfolding nearest_parents
+named_placeholder = refl
+
+-- the line of a transaction that is deleted is dismissed
+line_dismissed : lines_of (last_lined paid_book (Drop 5 false)) ≡ (8, matched Dismissed) ∷ []
+line_dismissed = refl
+
+-- and so is one whose split gets another quantity, but not one whose split is given as it was
+line_lost : lines_of (last_lined paid_book corrected) ≡ (8, matched Dismissed) ∷ []
+line_lost = refl
+
+line_kept :
+    lines_of (last_lined paid_book
+    (given_anew (given_with (Some 6) 3 (pos 250000) ∷ given_with None 4 (negsuc 249999) ∷ [])))
+    ≡ (8, matched (Matched 6)) ∷ []
+line_kept = refl

@@ -1,5 +1,5 @@
 -- The commands on accounts.
-use Rattle.std.specs.Prelude.{◌≡◌, ℕ, ◌+◌, nat_lt, not, ◌&&◌, ◌||◌, if◌then◌else◌, List, [], ◌∷◌}
+use Rattle.std.specs.Prelude.{◌≡◌, ℕ, ◌+◌, nat_lt, not, Bool, true, false, ◌&&◌, ◌||◌, if◌then◌else◌, List, [], ◌∷◌}
 use Rattle.std.specs.Prelude.{length, Option, Some, None, is_none, option_map, unwrap_or}
 use Rattle.std.specs.Option.{option_or}
 use Rattle.std.proofs.Common.{ap}
@@ -17,12 +17,12 @@ use Rattle.book_accounts.specs.declared.account.Account.{Account}
 use Rattle.book_accounts.specs.declared.rule.TreeRule.TheVariants as tree
 use Rattle.book_splits.specs.Balance.{has_splits}
 use Rattle.book_splits.specs.declared.transaction.Txn.{Txn}
-use Rattle.book_undo.specs.Book.{Book}
-use Rattle.book_undo.specs.declared.edit.Edit.TheVariants as edit
+use Rattle.book_undo.specs.Book.{Book, with_thing, without_thing}
 use Rattle.book_undo.specs.declared.thing.Thing.TheVariants as thing
 use Rattle.book_undo.specs.declared.thing.ThingKind.TheVariants as thing_kind
 use Rattle.book_step.specs.Commodities.{unknown_commodity}
 use Rattle.book_command.specs.Lifted.{of_tree_rule}
+use Rattle.book_step.specs.InUse.{in_use_rules}
 use Rattle.book_step.specs.Outcome.{Outcome, Broken, changing, leaving}
 use Rattle.book_step.specs.State.{State}
 use Rattle.book_command.specs.declared.answer.Answer.TheVariants as answer
@@ -69,7 +69,7 @@ add_rules book account =
 -- A new account, under the next number.
 abbrev pub account_add : State → Account → Outcome
 account_add state account =
-    changing state (add_rules state.book account) (edit.Put state.next (thing.Account account)) 1
+    changing state (add_rules state.book account) (with_thing state.next (thing.Account account) state.book) 1
     (answer.AccountAdd state.next)
 
 -- The root stays as it is (GnuCash SQL schema, table books: a book has one root account for good).
@@ -139,20 +139,27 @@ abbrev pub moved_rule : List (ℕ × Account) → ℕ → Account → Option ℕ
 moved_rule accounts number new None = Some (of_tree_rule tree.ParentKind)
 moved_rule accounts number new (Some parent) = option_map of_tree_rule (move_rule accounts number new.name parent)
 
--- An account with splits doesn't become a placeholder (GnuCash Concepts Guide, placeholder accounts).
-abbrev pub becomes_placeholder : List (ℕ × Txn) → ℕ → Account → Account → Option Rule
-becomes_placeholder transactions number old new =
-    broken_where (not old.placeholder && (new.placeholder && has_splits transactions number)) (NotEmpty number)
+-- Whether an account becomes a placeholder.
+abbrev pub becomes_placeholder : Account → Account → Bool
+becomes_placeholder old new = not old.placeholder && new.placeholder
+
+-- An account with splits takes splits (GnuCash Concepts Guide, placeholder accounts).
+abbrev pub has_split : List (ℕ × Txn) → ℕ → Option Rule
+has_split transactions number = broken_where (has_splits transactions number) (NotEmpty number)
+
+-- The rules of an account that becomes a placeholder: it has no split, and nothing else of the book names it.
+abbrev pub placeholder_rules : Bool → Book → ℕ → List (Option Rule)
+placeholder_rules true book number = has_split book.transactions number ∷ in_use_rules book number
+placeholder_rules false book number = []
 
 -- The rules of an edit: the new parent is in the book, the account isn't the root, it may stand in the tree with its
--- new name under its new parent, and it becomes a placeholder only where it has no split.
+-- new name under its new parent, and it becomes a placeholder only where it isn't in use.
 abbrev pub edit_rules : Book → ℕ → Option ℕ → Account → Account → List (Option Rule)
 edit_rules book number parent old new =
     unknown_given_account book.accounts parent
     ∷ root_stays old
     ∷ moved_rule book.accounts number new new.parent
-    ∷ becomes_placeholder book.transactions number old new
-    ∷ []
+    ∷ placeholder_rules (becomes_placeholder old new) book number
 
 -- The edit of an account that is there.
 abbrev pub account_edit_of : State → ℕ → GivenAccount → Account → Outcome
@@ -160,7 +167,7 @@ account_edit_of state number given old =
     let new = with_given old given in
     let rules = edit_rules state.book number given.parent old new in
     if (stays old given).is then leaving state rules answer.AccountEdit
-    else changing state rules (edit.Put number (thing.Account new)) 0 answer.AccountEdit
+    else changing state rules (with_thing number (thing.Account new) state.book) 0 answer.AccountEdit
 
 -- The edit of an account, if it is there.
 abbrev pub account_edit_at : State → ℕ → GivenAccount → Option Account → Outcome
@@ -178,13 +185,18 @@ not_empty book number =
     broken_where (nat_lt 0 (length (children_of book.accounts (Some number))) || has_splits book.transactions
     number) (NotEmpty number)
 
+-- The rules of the deletion of an account: it isn't the root, has neither an account under it nor a split, and nothing
+-- else of the book names it.
+abbrev pub drop_rules : Book → ℕ → Account → List (Option Rule)
+drop_rules book number account = root_stays account ∷ not_empty book number ∷ in_use_rules book number
+
 -- The deletion of an account, if it is there.
 abbrev pub account_drop_of : State → ℕ → Option Account → Outcome
 account_drop_of state number None = Broken (Unknown kind.Account number)
 account_drop_of state number (Some account) =
-    changing state (root_stays account ∷ not_empty state.book number ∷ [])
-    (edit.Gone thing_kind.Account number) 0 answer.AccountDrop
+    changing state (drop_rules state.book number account)
+    (without_thing thing_kind.Account number state.book) 0 answer.AccountDrop
 
--- An account is deleted: it is in the book, isn't the root, and has neither an account under it nor a split.
+-- An account of the book is deleted.
 abbrev pub account_drop : State → ℕ → Outcome
 account_drop state number = account_drop_of state number (value_of number state.book.accounts)

@@ -8,8 +8,7 @@ use Rattle.book_commodity.specs.Table.{value_of}
 use Rattle.book_commodity.specs.declared.commodity.Commodity.{Commodity}
 use Rattle.book_commodity.specs.declared.counted.Counted.TheVariants.{Commodities}
 use Rattle.book_commodity.specs.declared.kind.Kind.TheVariants as kind
-use Rattle.book_undo.specs.Book.{Book}
-use Rattle.book_undo.specs.declared.edit.Edit.TheVariants as edit
+use Rattle.book_undo.specs.Book.{Book, with_currency, with_thing}
 use Rattle.book_undo.specs.declared.thing.Thing.TheVariants as thing
 use Rattle.book_step.specs.Outcome.{Outcome, changing, leaving}
 use Rattle.book_step.specs.State.{State}
@@ -37,7 +36,7 @@ abbrev pub book_currency : State → ℕ → Outcome
 book_currency state commodity =
     let rules = currency_rules state.book commodity in
     if commodity == state.book.currency then leaving state rules answer.BookCurrency
-    else changing state rules (edit.Currency commodity) 0 answer.BookCurrency
+    else changing state rules (with_currency commodity state.book) 0 answer.BookCurrency
 
 -- Whether a commodity has the space and the name of another.
 abbrev pub is_namesake : Commodity → ℕ × Commodity → Bool
@@ -65,5 +64,5 @@ add_rules book commodity = name_taken book.commodities commodity ∷ fraction_sh
 -- A new commodity, under the next number.
 abbrev pub commodity_add : State → Commodity → Outcome
 commodity_add state commodity =
-    changing state (add_rules state.book commodity) (edit.Put state.next (thing.Commodity commodity)) 1
-    (answer.CommodityAdd state.next)
+    changing state (add_rules state.book commodity)
+    (with_thing state.next (thing.Commodity commodity) state.book) 1 (answer.CommodityAdd state.next)

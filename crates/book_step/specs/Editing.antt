@@ -5,20 +5,17 @@ use Rattle.std.specs.List.{list_any}
 use Rattle.std.specs.Option.{option_and_then}
 use Rattle.std.specs.Ordering.{int_eq}
 use Rattle.book_commodity.specs.Rules.{broken_where}
-use Rattle.book_commodity.specs.Table.{value_of, with_entry}
+use Rattle.book_commodity.specs.Table.{value_of, with_entry, without_entry}
 use Rattle.book_commodity.specs.declared.counted.Counted.TheVariants.{Splits}
 use Rattle.book_commodity.specs.declared.kind.Kind.TheVariants as kind
 use Rattle.book_splits.specs.Balance.{splits_of}
 use Rattle.book_splits.specs.TransactionRules.{is_among, numbers_of}
-use Rattle.book_splits.specs.declared.split.Mark.{Mark}
 use Rattle.book_splits.specs.declared.split.Mark.TheVariants as mark
 use Rattle.book_splits.specs.declared.split.Split.{Split}
 use Rattle.book_splits.specs.declared.transaction.Txn.{Txn}
 use Rattle.book_undo.specs.Book.{Book}
-use Rattle.book_undo.specs.Edit.{edited}
-use Rattle.book_undo.specs.declared.edit.Edit.TheVariants as edit
-use Rattle.book_undo.specs.declared.thing.Thing.TheVariants as thing
-use Rattle.book_undo.specs.declared.thing.ThingKind.TheVariants as thing_kind
+use Rattle.book_sound.specs.Dismissal.{lines_after}
+pub use Rattle.book_sound.specs.MarkedTransactionRules.{is_reconciled}
 use Rattle.book_step.specs.AnswerBalances.{balances_at}
 use Rattle.book_step.specs.Outcome.{Outcome, Broken, changing, leaving}
 use Rattle.book_step.specs.Posting.{broken_by, new_split}
@@ -65,11 +62,6 @@ number_rules splits before (given ∷ more) =
 -- The split that a given split is the new form of: the one whose number it has.
 abbrev pub kept_by : List Split → GivenSplit → Option Split
 kept_by splits given = option_and_then (λ id. find (λ split. split.id == id) splits) given.id
-
--- Whether it is the mark of a split that is reconciled with a bank statement (GnuCash Manual, reconciling).
-abbrev pub is_reconciled : Mark → Bool
-is_reconciled mark.Reconciled = true
-is_reconciled _ = false
 
 -- Whether a split keeps its mark and its reconciliation under this account with this quantity: it isn't reconciled, or
 -- both are what they were.
@@ -161,15 +153,22 @@ abbrev pub edit_answer : Book → ℕ → Txn → Answer
 edit_answer after number new =
     answer.Edit number (map (λ split. split.id) new.splits) (balances_at after.transactions (Some new))
 
+-- The book with another transaction in the place of one: a statement's line that is matched with a split which is gone
+-- then, or has another account or quantity, is dismissed.
+abbrev pub book_with : Book → ℕ → Txn → Txn → Book
+book_with book number old new = record book {
+  transactions = with_entry number new book.transactions;
+  lines = lines_after old.splits new.splits book.lines;
+}
+
 -- The edit of a transaction that is there. One that leaves the book as it is leaves the version too.
 abbrev pub edit_of : State → ℕ → Bool → ℤ → GivenTxn → Txn → Outcome
 edit_of state number force day given old =
     let new = edited_transaction old state.next day given in
     let rules = edit_rules state.book number force given old new in
-    let change = edit.Put number (thing.Txn new) in
+    let book = book_with state.book number old new in
     if (same_transaction new old).is then leaving state rules (edit_answer state.book number new)
-    else changing state rules change (drawn_by old.splits given.splits)
-    (edit_answer (edited change state.book) number new)
+    else changing state rules book (drawn_by old.splits given.splits) (edit_answer book number new)
 
 -- The edit of a transaction, if it is there.
 abbrev pub edit_at : State → ℕ → Bool → ℤ → GivenTxn → Option Txn → Outcome
@@ -183,11 +182,18 @@ edit_transaction state number force day given =
 
 -- ---- the deletion
 
+-- The book without a transaction: the lines that are matched with its splits are dismissed.
+abbrev pub book_without : Book → ℕ → Txn → Book
+book_without book number old = record book {
+  transactions = without_entry number book.transactions;
+  lines = lines_after old.splits [] book.lines;
+}
+
 -- The deletion of a transaction, if it is there: without force it has no reconciled split.
 abbrev pub drop_at : State → ℕ → Bool → Option Txn → Outcome
 drop_at state number force None = Broken (Unknown kind.Transaction number)
 drop_at state number force (Some old) =
-    changing state (reconciled force old.splits [] ∷ []) (edit.Gone thing_kind.Txn number) 0 answer.Drop
+    changing state (reconciled force old.splits [] ∷ []) (book_without state.book number old) 0 answer.Drop
 
 -- A transaction of the book is deleted.
 abbrev pub drop_transaction : State → ℕ → Bool → Outcome

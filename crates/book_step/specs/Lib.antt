@@ -2,6 +2,7 @@ pub mod Accounts
 pub mod AnswerBalances
 pub mod Commodities
 pub mod Editing
+pub mod InUse
 pub mod Outcome
 pub mod Posting
 pub mod SameTransaction

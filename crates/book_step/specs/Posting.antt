@@ -7,9 +7,7 @@ use Rattle.book_splits.specs.Check.{txn_rules}
 use Rattle.book_splits.specs.declared.split.Mark.TheVariants.{New}
 use Rattle.book_splits.specs.declared.split.Split.{Split}
 use Rattle.book_splits.specs.declared.transaction.Txn.{Txn}
-use Rattle.book_undo.specs.Book.{Book}
-use Rattle.book_undo.specs.Edit.{edited}
-use Rattle.book_undo.specs.declared.edit.Edit.TheVariants as edit
+use Rattle.book_undo.specs.Book.{Book, with_thing}
 use Rattle.book_undo.specs.declared.thing.Thing.TheVariants as thing
 use Rattle.book_command.specs.Lifted.{of_txn_rule}
 use Rattle.book_step.specs.AnswerBalances.{balances_at}
@@ -78,9 +76,9 @@ post_answer after number transaction =
 -- The transaction stands in the book, under the next number.
 abbrev pub post_of : State → Txn → Outcome
 post_of state transaction =
-    let change = edit.Put state.next (thing.Txn transaction) in
-    changing state (post_rules state.book transaction) change (1 + length transaction.splits)
-    (post_answer (edited change state.book) state.next transaction)
+    let book = with_thing state.next (thing.Txn transaction) state.book in
+    changing state (post_rules state.book transaction) book (1 + length transaction.splits)
+    (post_answer book state.next transaction)
 
 -- A new transaction.
 abbrev pub post : State → ℤ → GivenTxn → Outcome

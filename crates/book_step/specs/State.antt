@@ -37,7 +37,18 @@ root = record {
 
 -- The fresh book: the euro has number 1 and is the book's currency, the root has number 2, and there is nothing else.
 abbrev pub fresh_book : Book
-fresh_book = record { commodities = (1, euro) ∷ []; accounts = (2, root) ∷ []; transactions = []; currency = 1 }
+fresh_book = record {
+  commodities = (1, euro) ∷ [];
+  accounts = (2, root) ∷ [];
+  transactions = [];
+  prices = [];
+  schedules = [];
+  statements = [];
+  lines = [];
+  bindings = [];
+  reconciliations = [];
+  currency = 1;
+}
 
 -- A run begins with the fresh book, before any change.
 abbrev pub fresh_state : State

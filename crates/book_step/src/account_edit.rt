@@ -1,10 +1,12 @@
-ghost use Rattle.std.specs.Prelude.{◌≡◌, [], ◌∷◌, IfOk, unwrap_or};
+ghost use Rattle.std.specs.Prelude.{◌≡◌, [], ◌∷◌, Some, IfOk, unwrap_or};
 ghost use Rattle.book_commodity.specs.Rules.{ReportsFirst};
-ghost use Rattle.book_step.specs.Accounts.{account_edit, account_edit_of, becomes_placeholder, edit_rules};
-ghost use Rattle.book_step.specs.Accounts.{moved_rule, same_fields, with_given};
+ghost use Rattle.book_commodity.specs.Table.{value_of};
+ghost use Rattle.book_step.specs.Accounts.{account_edit, account_edit_of, becomes_placeholder, edit_rules, has_split};
+ghost use Rattle.book_step.specs.Accounts.{moved_rule, placeholder_rules, same_fields, with_given};
 ghost use Rattle.book_step.specs.Outcome.{StepsTo};
 
 use crate::accounts::{check_given, check_not_root, known};
+use crate::in_use::check_unused;
 use crate::present::Present;
 use crate::{Answer, GivenAccount, Refusal, Rule, Step};
 use book_accounts::Account;
@@ -31,6 +33,7 @@ fn account_edit_of(
     given: GivenAccount,
     old: &Account,
 ) -> Result<Step, Refusal>
+    requires { value_of number present.now.book.accounts ≡ Some old.now }
     ensures { StepsTo present.now (account_edit_of present.now number given old.now) result }
 {
     let parent = given.parent;
@@ -112,16 +115,28 @@ fn check_moved(present: &Present, number: u64, new: &Account) -> Result<(), Rule
     Ok(())
 }
 
-/// The account becomes a placeholder only where it has no split.
+/// The account becomes a placeholder only where it isn't in use.
 fn check_placeholder(
     present: &Present,
     number: u64,
     old: &Account,
     new: &Account,
 ) -> Result<(), Rule>
-    ensures { ReportsFirst (becomes_placeholder present.now.book.transactions number old.now new.now ∷ []) result }
+    ensures { ReportsFirst
+        (placeholder_rules (becomes_placeholder old.now new.now) present.now.book number) result }
 {
-    if !old.placeholder && new.placeholder && has_splits(&present.plain.transactions, number) {
+    if old.placeholder || !new.placeholder {
+        return Ok(());
+    }
+    check_without_splits(present, number)?;
+    check_unused(present, number)
+}
+
+/// The account has no split.
+fn check_without_splits(present: &Present, number: u64) -> Result<(), Rule>
+    ensures { ReportsFirst (has_split present.now.book.transactions number ∷ []) result }
+{
+    if has_splits(&present.plain.transactions, number) {
         return Err(Rule::NotEmpty { account: number });
     }
     Ok(())

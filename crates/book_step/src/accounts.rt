@@ -1,12 +1,13 @@
 ghost use Rattle.std.specs.Prelude.{◌≡◌, [], ◌∷◌, Some, IfOk};
 ghost use Rattle.book_commodity.specs.Rules.{ReportsFirst};
 ghost use Rattle.book_commodity.specs.Table.{value_of};
-ghost use Rattle.book_step.specs.Accounts.{account_add, account_drop, add_rules, basis_shape, fits_basis};
+ghost use Rattle.book_step.specs.Accounts.{account_add, account_drop, add_rules, basis_shape, drop_rules, fits_basis};
 ghost use Rattle.book_step.specs.Accounts.{not_empty, root_stays, too_many_accounts, unknown_account};
 ghost use Rattle.book_step.specs.Accounts.{unknown_given_account, unknown_given_commodity};
 ghost use Rattle.book_step.specs.Outcome.{StepsTo};
 
 use crate::commodities::{check_known as check_known_commodity, is_currency};
+use crate::in_use::check_unused;
 use crate::present::Present;
 use crate::{Answer, Refusal, Rule, Step};
 use book_accounts::{Account, AccountKind, Tree};
@@ -31,10 +32,18 @@ pub(crate) fn account_drop(present: &Present, number: u64) -> Result<Step, Refus
     ensures { StepsTo present.now (account_drop present.now number) result }
 {
     let account = known(present, number)?;
-    check_not_root(account)?;
-    check_empty(present, number)?;
+    check_drop(present, number, account)?;
     let edit = Edit::Gone(ThingKind::Account, number);
     Step::changing(present, 0, edit, Answer::AccountDrop)
+}
+
+/// The account of this number may be deleted.
+fn check_drop(present: &Present, number: u64, account: &Account) -> Result<(), Rule>
+    ensures { ReportsFirst (drop_rules present.now.book number account.now) result }
+{
+    check_not_root(account)?;
+    check_empty(present, number)?;
+    check_unused(present, number)
 }
 
 /// The account of this number has no account under it and no split.

@@ -80,7 +80,7 @@ fn has_number(given: &GivenSplit, id: u64) -> bool
 }
 
 /// The split of this number, if it is one of these.
-fn find_split(splits: &[Split], id: u64) -> Option<&Split>
+pub(crate) fn find_split(splits: &[Split], id: u64) -> Option<&Split>
     ensures { option_copied result ≡ find (λ split. split.id == id) splits.now }
 {
     splits.iter().find(|split| split.id == id)

@@ -9,6 +9,7 @@ ghost use Rattle.book_step.specs.Editing.{unknown_transaction};
 ghost use Rattle.book_step.specs.Outcome.{StepsTo};
 ghost use Rattle.book_step.specs.Posting.{broken_by};
 
+use crate::dismissing::{deleting, putting};
 use crate::edited_splits::{check_given_numbers, edited_splits, is_reconciled};
 use crate::posting::{MAX_SPLITS, check_transaction};
 use crate::present::Present;
@@ -16,12 +17,10 @@ use crate::same_transaction::is_same;
 use crate::{Answer, GivenTxn, Refusal, Rule, Step};
 use book_commodity::{Counted, Day, Kind, Many, OutOfMemory};
 use book_splits::{Split, Txn};
-use book_undo::{Edit, Thing, ThingKind};
 use std::alloc::Global;
 
 /// The transaction of this number is given anew. The answer's balances are left empty.
 pub(crate) fn edit(
-    alloc: Global,
     present: &Present,
     number: u64,
     force: bool,
@@ -31,12 +30,11 @@ pub(crate) fn edit(
     ensures { StepsTo present.now (edit_transaction present.now number force day given) result }
 {
     let old = known(present, number)?;
-    edit_of(alloc, present, number, force, day, given, old)
+    edit_of(present, number, force, day, given, old)
 }
 
 /// The same of a transaction that was found.
 fn edit_of(
-    alloc: Global,
     present: &Present,
     number: u64,
     force: bool,
@@ -44,16 +42,17 @@ fn edit_of(
     given: GivenTxn,
     old: &Txn,
 ) -> Result<Step, Refusal>
+    requires { value_of number present.now.book.transactions ≡ Some old.now }
     ensures { StepsTo present.now (edit_of present.now number force day given old.now) result }
 {
     check_given(old, &given)?;
-    let (new, drawn) = edited_transaction(alloc, old, present.next, day, given)?;
+    let (new, drawn) = edited_transaction(present.alloc, old, present.next, day, given)?;
     check_edit(present, number, force, old, &new)?;
-    let answer = edit_answer(alloc, number, new.splits.as_slice())?;
+    let answer = edit_answer(present.alloc, number, new.splits.as_slice())?;
     if is_same(&new, old) {
         return Ok(Step::leaving(present, answer));
     }
-    let edit = Edit::Put(number, Thing::Txn(new));
+    let edit = putting(present, number, old, new)?;
     Step::changing(present, drawn, edit, answer)
 }
 
@@ -106,7 +105,7 @@ pub(crate) fn drop(present: &Present, number: u64, force: bool) -> Result<Step, 
 {
     let old = known(present, number)?;
     check_reconciled(force, old.splits.as_slice(), &[])?;
-    let edit = Edit::Gone(ThingKind::Txn, number);
+    let edit = deleting(present, number, old)?;
     Step::changing(present, 0, edit, Answer::Drop)
 }
 

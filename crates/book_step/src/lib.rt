@@ -6,8 +6,10 @@
 mod account_edit;
 mod accounts;
 mod commodities;
+mod dismissing;
 mod edited_splits;
 mod editing;
+mod in_use;
 mod posting;
 mod present;
 mod same_transaction;

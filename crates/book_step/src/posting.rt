@@ -18,18 +18,13 @@ pub(crate) const MAX_SPLITS: u64 = 1_000_000;
 
 /// A new transaction stands in the book, under the next number, its splits under those that follow. The answer's
 /// balances are left empty.
-pub(crate) fn post(
-    alloc: Global,
-    present: &Present,
-    day: Day,
-    given: GivenTxn,
-) -> Result<Step, Refusal>
+pub(crate) fn post(present: &Present, day: Day, given: GivenTxn) -> Result<Step, Refusal>
     ensures { StepsTo present.now (post present.now day given) result }
 {
     let number = present.next;
-    let transaction = new_transaction(alloc, number, day, given)?;
+    let transaction = new_transaction(present.alloc, number, day, given)?;
     check_post(present, &transaction)?;
-    let answer = post_answer(alloc, number, transaction.splits.as_slice())?;
+    let answer = post_answer(present.alloc, number, transaction.splits.as_slice())?;
     let drawn = 1 + transaction.splits.len() as u64;
     let edit = Edit::Put(number, Thing::Txn(transaction));
     Step::changing(present, drawn, edit, answer)

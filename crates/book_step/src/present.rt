@@ -1,10 +1,12 @@
 use book_undo::Plain;
+use std::alloc::Global;
 use std::marker::Model;
 
 /// The present state of the machine: its book, borrowed, the number that the next thing gets, and the count of the
-/// changes so far. Contracts see the state, which is sound.
+/// changes so far; and where memory is taken from. Contracts see the state, which is sound.
 #[derive(Drop)]
 pub(crate) struct Present<'a> {
+    pub(crate) alloc: Global,
     pub(crate) plain: &'a Plain,
     pub(crate) next: u64,
     pub(crate) version: u64,

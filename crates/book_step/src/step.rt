@@ -1,6 +1,7 @@
-ghost use Rattle.std.specs.Prelude.{◌≡◌, ◌<◌, ◌≤◌, ◌^◌, [], ◌∷◌};
+ghost use Rattle.std.specs.Prelude.{◌≡◌, ◌<◌, ◌≤◌, ◌^◌, [], ◌∷◌, false};
 ghost use Rattle.book_commodity.specs.Rules.{ReportsFirst};
-ghost use Rattle.book_undo.specs.Edit.{is_unchanged};
+ghost use Rattle.book_undo.specs.Edit.{is_nothing};
+ghost use Rattle.book_undo.specs.Exact.{IsExact};
 ghost use Rattle.book_step.specs.Outcome.{ChangesBy, LeavesBy, StepsTo, numbers, version_after};
 ghost use Rattle.book_step.specs.Soundness.{IsSound};
 ghost use Rattle.book_step.specs.State.{state_of};
@@ -34,13 +35,14 @@ impl Step {
         ensures { LeavesBy present.now answer result }
     {
         Step {
-            edit: Edit::Unchanged,
+            edit: Edit::nothing(present.alloc),
             next: present.next,
             answer,
         }
     }
 
-    /// The step of an edit that draws so many numbers, and breaks no rule but, it may be, the limit of numbers.
+    /// The step of an edit that changes the book and draws so many numbers, and breaks no rule but, it may be, the
+    /// limit of numbers.
     pub(crate) fn changing(
         present: &Present,
         drawn: u64,
@@ -48,6 +50,8 @@ impl Step {
         answer: Answer,
     ) -> Result<Step, Refusal>
         requires drawn { drawn ≤ 2 ^ 62 }
+        requires changes { is_nothing edit ≡ false }
+        requires exact { IsSound present.now → IsExact present.now.book edit }
         ensures { ChangesBy present.now edit drawn answer result }
     {
         check_numbers(present, drawn)?;
@@ -61,9 +65,9 @@ impl Step {
     /// The version after the step, from the one before it: only a step that changes the book raises it.
     pub fn version_after(&self, version: u64) -> u64
         requires { version < 2 ^ 62 }
-        ensures { result ≡ version_after (is_unchanged self.now.edit) version }
+        ensures { result ≡ version_after (is_nothing self.now.edit) version }
     {
-        if self.edit.is_unchanged() {
+        if self.edit.is_nothing() {
             version
         } else {
             version + 1
@@ -73,8 +77,9 @@ impl Step {
 
 /// What the command comes to in a book with this next number and this version, all of which stay as they are. It is
 /// broken with the first rule in its order that it breaks, the version being asked first; else it is done by the step,
-/// after which the version is the same if the edit changes nothing, and one more if not. The answer is whole but for
-/// its balances. Out of memory where there is none for texts or for the answer.
+/// whose edit has a leaf for each key at which the book becomes different and for no other. The version is the same
+/// after it if the edit changes nothing, and one more if not. The answer is whole but for its balances. Out of memory
+/// where there is none for texts, for the edit or for the answer.
 pub fn step_of(
     alloc: Global,
     plain: &Plain,
@@ -86,17 +91,18 @@ pub fn step_of(
     ensures { StepsTo (state_of plain.now next version) (step (state_of plain.now next version) command) result }
 {
     let present = Present {
+        alloc,
         plain,
         next,
         version,
     };
     let Command { at, what } = command;
     check_version(&present, at)?;
-    step_of_what(alloc, &present, what)
+    step_of_what(&present, what)
 }
 
 /// The same of what is asked, at the present version.
-fn step_of_what(alloc: Global, present: &Present, what: What) -> Result<Step, Refusal>
+fn step_of_what(present: &Present, what: What) -> Result<Step, Refusal>
     ensures { StepsTo present.now (outcome present.now what) result }
 {
     match what {
@@ -105,13 +111,13 @@ fn step_of_what(alloc: Global, present: &Present, what: What) -> Result<Step, Re
         What::AccountAdd { account } => account_add(present, account),
         What::AccountEdit { account, given } => account_edit(present, account, given),
         What::AccountDrop { account } => account_drop(present, account),
-        What::Post { day, given } => post(alloc, present, day, given),
+        What::Post { day, given } => post(present, day, given),
         What::Edit {
             transaction,
             force,
             day,
             given,
-        } => edit(alloc, present, transaction, force, day, given),
+        } => edit(present, transaction, force, day, given),
         What::Drop { transaction, force } => drop(present, transaction, force),
     }
 }

@@ -68,6 +68,13 @@ fn fresh(alloc: Global) -> Result<Machine, OutOfMemory>
     })
 }
 
+/// The same machine, whose state is sound.
+fn begun(alloc: Global) -> Result<Machine, OutOfMemory>
+    ensures { IfOk result (λ machine. IsSound (state_of machine.plain machine.next machine.version)) }
+{
+    fresh(alloc)
+}
+
 impl Machine {
     /// Takes the command, and changes the book by its step.
     fn take(&mut self, alloc: Global, what: What) -> Result<Answer, Refusal>
@@ -132,25 +139,44 @@ fn nothing_moved(alloc: Global, account: u64) -> Result<GivenTxn, OutOfMemory> {
 
 // Edits and deletions of transactions are run by `examples/household.jsonl`.
 #[test]
-fn commands_are_taken(rt: HostRuntime) -> Result<(), Fail> {
+fn commodities_are_taken(rt: HostRuntime) -> Result<(), Fail> {
     let alloc = rt.alloc();
-    let day = Day::of_number(19_732).ok_or("a day of the range")?;
-    let mut machine = fresh(alloc)?;
+    let mut machine = begun(alloc)?;
     let euro = machine.take(alloc, What::BookCurrency { commodity: 1 })?;
     assert!(rt; matches!(euro, Answer::BookCurrency));
     let commodity = commodity(alloc, "NYSE", "ACME")?;
     let added = machine.take(alloc, What::CommodityAdd { commodity })?;
     assert!(rt; matches!(added, Answer::CommodityAdd { commodity: 3 }));
+    assert!(rt; machine.next == 4 && machine.version == 1);
+    Ok(())
+}
+
+#[test]
+fn accounts_are_taken(rt: HostRuntime) -> Result<(), Fail> {
+    let alloc = rt.alloc();
+    let mut machine = begun(alloc)?;
     let bank = machine.take(alloc, bank(alloc, "Bank")?)?;
-    assert!(rt; matches!(bank, Answer::AccountAdd { account: 4 }));
+    assert!(rt; matches!(bank, Answer::AccountAdd { account: 3 }));
     let given = renamed(alloc, "Checking")?;
-    let edited = machine.take(alloc, What::AccountEdit { account: 4, given })?;
+    let edited = machine.take(alloc, What::AccountEdit { account: 3, given })?;
     assert!(rt; matches!(edited, Answer::AccountEdit));
-    let given = nothing_moved(alloc, 4)?;
+    let dropped = machine.take(alloc, What::AccountDrop { account: 3 })?;
+    assert!(rt; matches!(dropped, Answer::AccountDrop));
+    assert!(rt; machine.next == 4 && machine.version == 3);
+    Ok(())
+}
+
+#[test]
+fn posts_are_taken(rt: HostRuntime) -> Result<(), Fail> {
+    let alloc = rt.alloc();
+    let day = Day::of_number(19_732).ok_or("a day of the range")?;
+    let mut machine = begun(alloc)?;
+    let bank = machine.take(alloc, bank(alloc, "Bank")?)?;
+    assert!(rt; matches!(bank, Answer::AccountAdd { account: 3 }));
+    let given = nothing_moved(alloc, 3)?;
     let posted = machine.take(alloc, What::Post { day, given })?;
-    assert!(rt; matches!(posted, Answer::Post { transaction: 5, .. }));
-    let kept = machine.take(alloc, What::AccountDrop { account: 4 });
-    assert!(rt; matches!(kept, Err(Refusal::Broken(Rule::NotEmpty { account: 4 }))));
-    assert!(rt; machine.next == 7 && machine.version == 4);
+    assert!(rt; matches!(posted, Answer::Post { transaction: 4, .. }));
+    let kept = machine.take(alloc, What::AccountDrop { account: 3 });
+    assert!(rt; matches!(kept, Err(Refusal::Broken(Rule::NotEmpty { account: 3 }))));
     Ok(())
 }

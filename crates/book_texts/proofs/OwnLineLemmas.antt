@@ -73,6 +73,7 @@ rule-letter ParentKind version = refl
 rule-letter Root version = refl
 rule-letter (Placeholder account) version = refl
 rule-letter (NotEmpty account) version = refl
+rule-letter (InUse kind id) version = refl
 rule-letter FractionShape version = refl
 rule-letter BasisShape version = refl
 rule-letter (SplitCount count) version = refl

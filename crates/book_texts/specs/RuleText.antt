@@ -1,26 +1,31 @@
 -- The line that answers a command which would break a rule.
 use Rattle.std.specs.Prelude.{ℕ, List, [], ◌∷◌, codes}
 use Rattle.serde_json.specs.Data.{Members}
+use Rattle.book_commodity.specs.declared.kind.Kind.{Kind}
 use Rattle.book_command.specs.declared.rule.Rule.{Rule}
 use Rattle.book_command.specs.declared.rule.Rule.TheVariants.{Stale, Unknown, NameTaken, Cycle, ParentKind, Root}
-use Rattle.book_command.specs.declared.rule.Rule.TheVariants.{Placeholder, NotEmpty, FractionShape, BasisShape}
-use Rattle.book_command.specs.declared.rule.Rule.TheVariants.{SplitCount, WrongCurrency, Basis, ValueNotQuantity}
-use Rattle.book_command.specs.declared.rule.Rule.TheVariants.{Unbalanced, Reconciled, Limit}
+use Rattle.book_command.specs.declared.rule.Rule.TheVariants.{Placeholder, NotEmpty, InUse, FractionShape}
+use Rattle.book_command.specs.declared.rule.Rule.TheVariants.{BasisShape, SplitCount, WrongCurrency, Basis}
+use Rattle.book_command.specs.declared.rule.Rule.TheVariants.{ValueNotQuantity, Unbalanced, Reconciled, Limit}
 use Rattle.book_texts.specs.Fields.{broken, line_of}
 use Rattle.book_texts.specs.Shown.{number_data, sum_data}
 use Rattle.book_texts.specs.Words.{kind_data, limit_data}
 
+-- A thing by its kind and its number.
+abbrev pub named_by : Kind → ℕ → Members
+named_by kind id = (codes "kind", kind_data kind) ∷ (codes "id", number_data id) ∷ []
+
 -- Each rule by its name and its own fields, with the version, which stays.
 abbrev pub rule_members : Rule → ℕ → Members
 rule_members (Stale now) = broken (codes "Stale") ((codes "now", number_data now) ∷ [])
-rule_members (Unknown kind id) = broken (codes "Unknown")
-    ((codes "kind", kind_data kind) ∷ (codes "id", number_data id) ∷ [])
+rule_members (Unknown kind id) = broken (codes "Unknown") (named_by kind id)
 rule_members (NameTaken id) = broken (codes "NameTaken") ((codes "id", number_data id) ∷ [])
 rule_members Cycle = broken (codes "Cycle") []
 rule_members ParentKind = broken (codes "ParentKind") []
 rule_members Root = broken (codes "Root") []
 rule_members (Placeholder account) = broken (codes "Placeholder") ((codes "account", number_data account) ∷ [])
 rule_members (NotEmpty account) = broken (codes "NotEmpty") ((codes "account", number_data account) ∷ [])
+rule_members (InUse kind id) = broken (codes "InUse") (named_by kind id)
 rule_members FractionShape = broken (codes "FractionShape") []
 rule_members BasisShape = broken (codes "BasisShape") []
 rule_members (SplitCount count) = broken (codes "SplitCount") ((codes "count", number_data count) ∷ [])

@@ -1,6 +1,6 @@
 ghost use Rattle.std.specs.Prelude.{◌≡◌, [], ◌∷◌, IfOk};
 ghost use Rattle.book_texts.specs.Fields.{broken, members_of};
-ghost use Rattle.book_texts.specs.RuleText.{rule_bytes, rule_members};
+ghost use Rattle.book_texts.specs.RuleText.{named_by, rule_bytes, rule_members};
 
 use crate::fields::Fields;
 use crate::shown::Shown;
@@ -21,13 +21,14 @@ fn rule_fields(alloc: Global, rule: Rule, version: u64) -> Result<Fields, AllocE
 {
     match rule {
         Rule::Stale { now } => one(alloc, "Stale", "now", &now, version),
-        Rule::Unknown { kind, id } => unknown(alloc, kind, id, version),
+        Rule::Unknown { kind, id } => kind_and_id(alloc, "Unknown", kind, id, version),
         Rule::NameTaken { id } => one(alloc, "NameTaken", "id", &id, version),
         Rule::Cycle => Fields::broken(alloc, "Cycle", version),
         Rule::ParentKind => Fields::broken(alloc, "ParentKind", version),
         Rule::Root => Fields::broken(alloc, "Root", version),
         Rule::Placeholder { account } => one(alloc, "Placeholder", "account", &account, version),
         Rule::NotEmpty { account } => one(alloc, "NotEmpty", "account", &account, version),
+        Rule::InUse { kind, id } => kind_and_id(alloc, "InUse", kind, id, version),
         Rule::FractionShape => Fields::broken(alloc, "FractionShape", version),
         Rule::BasisShape => Fields::broken(alloc, "BasisShape", version),
         Rule::SplitCount { count } => one(alloc, "SplitCount", "count", &count, version),
@@ -67,10 +68,17 @@ fn one<T: Shown>(
     Ok(fields.with(field, value)?)
 }
 
-fn unknown(alloc: Global, kind: Kind, id: u64, version: u64) -> Result<Fields, AllocError>
-    ensures { IfOk result (λ fields. members_of fields ≡ rule_members (Rule.Unknown kind id) version) }
+/// A rule of a thing of a kind.
+fn kind_and_id(
+    alloc: Global,
+    name: &str,
+    kind: Kind,
+    id: u64,
+    version: u64,
+) -> Result<Fields, AllocError>
+    ensures { IfOk result (λ fields. members_of fields ≡ broken name.now (named_by kind id) version) }
 {
-    let fields = Fields::broken(alloc, "Unknown", version)?;
+    let fields = Fields::broken(alloc, name, version)?;
     Ok(fields.with("kind", &kind)?.with("id", &id)?)
 }
 

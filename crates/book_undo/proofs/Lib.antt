@@ -1,1 +1,8 @@
 pub mod BookLaws
+pub mod EditLaws
+pub mod ExactLaws
+pub mod InverseLaws
+pub mod KindLaws
+pub mod OrderLaws
+pub mod PartLaws
+pub mod ThreeRules

@@ -3,7 +3,7 @@ use Rattle.std.specs.Option.{option_copied, option_or}
 use Rattle.std.proofs.lemmas.Result.{IfOk-weaker}
 use Rattle.book_splits.specs.declared.transaction.Txn.{Txn}
 use Rattle.book_undo.specs.Book.{book_of}
-use Rattle.book_undo.specs.Edit.{edited}
+use Rattle.book_undo.specs.Edit.{edited, leaves}
 use Rattle.book_engine.specs.Balances.{put_at}
 use Rattle.book_engine.proofs.BalanceLemmas.{copied_or, stands_after, summed_after}
 use Rattle.book_engine.proofs.balances.balances_put.Goals as goal
@@ -11,21 +11,23 @@ use Rattle.book_engine.proofs.balances.balances_put.Goals as goal
 pub unreachable-requires : goal.unreachable-requires
 unreachable-requires c =
     let book = book_of c.args.plain.now in
-    let stands = stands_after book c.args.edit.now c.args.number c.requires.puts.0 c.requires.rise c.requires.puts.1 in
+    let stands = stands_after book c.args.edit.now c.args.number c.requires.puts.0 c.requires.rise c.requires.allowed
+    c.requires.puts.1 in
     let one : option_copied c.or.result ≡ Some c.requires.puts.0 =
     ap option_copied c.or.ensures ∙ copied_or c.put.result c.find.result
     ∙ ap (λ (o : Option Txn). option_or o (option_copied c.find.result)) c.put.ensures
-    ∙ ap (λ (o : Option Txn). option_or (put_at c.args.edit.now c.args.number) o) c.find.ensures ∙ stands in
+    ∙ ap (λ (o : Option Txn). option_or (put_at (leaves c.args.edit.now) c.args.number) o) c.find.ensures ∙ stands in
     absurd (let none = ap option_copied c.in_default.is in cc)
 
 pub returns : goal.returns
 returns c =
     let book = book_of c.args.plain.now in
-    let stands = stands_after book c.args.edit.now c.args.number c.requires.puts.0 c.requires.rise c.requires.puts.1 in
+    let stands = stands_after book c.args.edit.now c.args.number c.requires.puts.0 c.requires.rise c.requires.allowed
+    c.requires.puts.1 in
     let one : option_copied c.or.result ≡ Some c.requires.puts.0 =
     ap option_copied c.or.ensures ∙ copied_or c.put.result c.find.result
     ∙ ap (λ (o : Option Txn). option_or o (option_copied c.find.result)) c.put.ensures
-    ∙ ap (λ (o : Option Txn). option_or (put_at c.args.edit.now c.args.number) o) c.find.ensures ∙ stands in
+    ∙ ap (λ (o : Option Txn). option_or (put_at (leaves c.args.edit.now) c.args.number) o) c.find.ensures ∙ stands in
     let same : c.in-Some.transaction.now ≡ c.requires.puts.0 =
     (let here = ap option_copied c.in-Some.is in let both = sym here ∙ one in cc) in
     IfOk-weaker c.balances_after.result _ _

@@ -1,8 +1,8 @@
 -- One edit more: its leaves are those that come next.
 use Rattle.std.proofs.Common.{List, ap, ◌≡◌, ◌+◌, ◌++◌, drop, flat_map}
 use Rattle.book_commodity.proofs.ListLemmas.{from-item}
-use Rattle.book_edits.specs.Edit.{Leaf, leaves}
-use Rattle.book_edits.specs.declared.edit.Edit.{Edit}
+use Rattle.book_undo.specs.Edit.{Leaf, leaves}
+use Rattle.book_undo.specs.declared.edit.Edit.{Edit}
 use Rattle.book_opening.specs.Changes.{LeafFits}
 use Rattle.book_opening.proofs.ChangeLaws.{step_added, step_fit}
 use Rattle.book_opening.proofs.changes.+changes.Goals as goal

@@ -1,7 +1,7 @@
 -- The changes are those before and what the leaves of the edits so far come to; the leaves that are left fit if all do.
 use Rattle.std.proofs.Common.{◌≡◌, ◌++◌, flat_map, drop}
 use Rattle.std.specs.List.{AllByRecursion}
-use Rattle.book_edits.specs.Edit.{leaves}
+use Rattle.book_undo.specs.Edit.{leaves}
 use Rattle.book_opening.specs.Changes.{LeafFits, leaf_changes}
 use Rattle.book_opening.proofs.changes.+changes.Given as goal
 

@@ -1,7 +1,7 @@
 -- What was read of the rows is what they open as.
 use Rattle.std.proofs.Common.{◌≡◌, List, Some, None, ap, sym, ◌∙◌, refl}
 use Rattle.book_keeper.specs.declared.row.Row.{Row}
-use Rattle.book_edits.specs.Book.{book_of}
+use Rattle.book_undo.specs.Book.{book_of}
 use Rattle.book_opening.specs.State.{state_of}
 use Rattle.book_opening.proofs.ReadLaws.{bad_start}
 use Rattle.book_opening.proofs.OpenLaws.{bad_answers, bad_opens, only_state, opened}

@@ -3,7 +3,7 @@ use Rattle.std.proofs.Common.{◌≡◌, List, IsTrue, map, ℕ, ◌-◌, ◌*�
 use Rattle.std.specs.List.{AllByRecursion}
 use Rattle.book_keeper.specs.Rows.{rank}
 use Rattle.book_keeper.specs.declared.row.Row.{Row}
-use Rattle.book_edits.specs.Book.{book_of}
+use Rattle.book_undo.specs.Book.{book_of}
 use Rattle.book_opening.specs.BookRows.{behind_head, row_of}
 use Rattle.book_opening.specs.Opening.{Begins, IsOnlyRecord, WasRead, head_key}
 use Rattle.book_opening.proofs.UpTo.{up_to}

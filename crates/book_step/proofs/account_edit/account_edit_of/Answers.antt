@@ -1,13 +1,16 @@
 use Rattle.std.proofs.Common.{◌≡◌, [], None, Ok, Some, refl, subst, sym, ap, ◌∙◌}
 use Rattle.book_commodity.specs.Rules.{first_broken}
 use Rattle.book_accounts.specs.declared.account.Account.{Account}
-use Rattle.book_undo.specs.declared.edit.Edit.TheVariants as edit
+use Rattle.book_undo.specs.Book.{with_thing}
 use Rattle.book_undo.specs.declared.thing.Thing.TheVariants as thing
 use Rattle.book_step.specs.Accounts.{account_edit_of, edit_rules, same_fields}
 use Rattle.book_step.specs.Outcome.{StepsTo, changing}
 use Rattle.book_command.specs.declared.answer.Answer.TheVariants as answer
 use Rattle.book_step.proofs.AccountEditLemmas.{edit-broken, edit-changed, edit-left}
 use Rattle.book_step.proofs.OutcomeLemmas.{refused}
+use Rattle.book_undo.specs.Exact.{IsExact}
+use Rattle.book_undo.specs.declared.edit.Edit.{Put}
+use Rattle.book_step.proofs.ExactLemmas.{other_account}
 use Rattle.book_step.proofs.account_edit.account_edit_of.Goals as goal
 
 pub returns-in_err-check_edit : goal.returns-in_err-check_edit
@@ -41,6 +44,14 @@ returns c =
     let other = ap (λ (new : Account). (same_fields c.args.old.now new).is) (sym c.in_ok-new.ensures)
     ∙ sym c.is_same.ensures ∙ c.if-is_same.false in
     let changed = subst (λ (new : Account). StepsTo state
-    (changing state [] (edit.Put c.args.number (thing.Account new)) 0 answer.AccountEdit) c.changing.result)
+    (changing state [] (with_thing c.args.number (thing.Account new) state.book) 0 answer.AccountEdit) c.changing.result)
     c.in_ok-new.ensures (c.changing.ensures answer.AccountEdit refl) in
     edit-changed state c.args.number c.args.given c.args.old.now c.changing.result kept other changed
+
+pub changing-requires-clause-exact : goal.changing-requires-clause-exact
+changing-requires-clause-exact c sound =
+    let state = c.args.present.now in
+    let other = ap (λ (new : Account). (same_fields c.args.old.now new).is) (sym c.in_ok-new.ensures)
+    ∙ sym c.is_same.ensures ∙ c.if-is_same.false in
+    subst (λ (new : Account). IsExact state.book (Put c.args.number (thing.Account new))) (sym c.in_ok-new.ensures)
+    (other_account state c.args.number c.args.given c.args.old.now sound c.requires other)

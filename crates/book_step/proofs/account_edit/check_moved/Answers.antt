@@ -1,4 +1,4 @@
-use Rattle.book_step.proofs.SoundFacts.{accounts_are_rooted}
+use Rattle.book_sound.proofs.SoundFacts.{accounts_are_rooted}
 use Rattle.book_step.proofs.account_edit.check_moved.Goals as goal
 
 pub check_move-requires : goal.check_move-requires

@@ -17,7 +17,7 @@ returns c =
     let taken = c.in_ok-step.step in
     let new : State = after state taken in
     let sound = step-sound state command new (with_balances new.book taken.answer) c.requires
-    (whole_step state command new taken.answer c.in_ok-step.ensures) in
+    (whole_step state command new taken.answer c.in_ok-step.ensures.leads) in
     let book : book_of c.apply.new.self ≡ edited taken.edit state.book = c.apply.ensures
     ∙ ap (edited taken.edit) c.in_ok-reserve_for.ensures.book in
     subst (λ (version : ℕ). IsSound

@@ -1,7 +1,0 @@
-pub mod BookLaws
-pub mod EditLaws
-pub mod InverseLaws
-pub mod KindLaws
-pub mod OrderLaws
-pub mod PartLaws
-pub mod ThreeRules

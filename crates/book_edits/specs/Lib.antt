@@ -1,6 +1,0 @@
-pub mod Book
-pub mod Edit
-pub mod EditRules
-pub mod Inverse
-pub mod Room
-pub mod Thing
