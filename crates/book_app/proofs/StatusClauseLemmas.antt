@@ -1,5 +1,5 @@
 -- From what holds at a run's end to what holds when the program's work has ended.
-use Rattle.std.proofs.Common.{ℕ, List, [], Option, refl, sym, subst, arith}
+use Rattle.std.proofs.Common.{◌≡◌, ◌≢◌, ℕ, List, [], Option, refl, sym, subst, arith}
 use Rattle.book_keeper.proofs.StreamLemmas.{Are-some, Wrote-nil}
 use Rattle.book_lines.specs.RunClause.{Moment, at, RunClause}
 use Rattle.book_lines.specs.declared.running.RunEnd.{RunEnd}
@@ -79,3 +79,12 @@ IsBookRun-memory first input output = let bytes = Are-some input in record {
   wrote = Wrote-nil output;
   clause = record { input = refl; output = refl; state = refl };
 }
+
+-- where it ends by one of these two
+pub IsBookRun-early :
+    (first : State) (input : Option (List ℕ)) (output : List ℕ → Type 0) (status : Status)
+    → (status ≢ Usage → status ≡ Memory) → IsBookRun first input input output output status
+IsBookRun-early first input output Usage is = IsBookRun-usage first input output
+IsBookRun-early first input output other is =
+    subst (λ (s : Status). IsBookRun first input input output output s) (sym (is (λ same. cc)))
+    (IsBookRun-memory first input output)

@@ -1,4 +1,4 @@
-ghost use Rattle.std.specs.Prelude.{◌≡◌, ◌≢◌, ◌↔◌, false};
+ghost use Rattle.std.specs.Prelude.{◌≡◌, ◌≢◌, ◌↔◌, false, OnErr, MatchResult};
 ghost use Rattle.std.specs.IoError.{error_kind};
 ghost use Rattle.std.specs.Process.{exit_status};
 ghost use Rattle.book_keeper.specs.Faults.{Rose};
@@ -55,17 +55,46 @@ pub fn run_over<I: Read, O: Write>(alloc: Global, words: &[Text], reader: I, wri
     }
 }
 
-/// How the program ends where its words could not be read: by Usage where one of them is not UTF-8, else by Memory.
-pub(crate) fn ended_without_words(error: &io::Error) -> Ended
-    ensures usage { (result.status ≡ Status.Usage) ↔ (error_kind error.now ≡ ErrorKind.InvalidData) }
-    ensures memory { result.status ≢ Status.Usage → result.status ≡ Status.Memory }
+/// Does what a program's words ask, if they could be read, as `run_over` does. Where they could not, nothing is read or
+/// written, and it ends by Usage if one of them is not UTF-8, else by Memory.
+pub(crate) fn run_words<I: Read, O: Write>(
+    alloc: Global,
+    words: io::Result<Vec<Text>>,
+    reader: I,
+    writer: O,
+) -> Ran<I, O>
+    ensures run { IsBookRun fresh_state (I.remaining reader) (left_of I.remaining result.input)
+        (may_hold O.contents (sink_over writer)) (may_hold O.contents result.output) result.ended.status }
+    ensures usage { (result.ended.status ≡ Status.Usage) ↔ MatchResult words
+        (λ given. is_run given.items ≡ false) (λ error. error_kind error ≡ ErrorKind.InvalidData) }
+    ensures memory { OnErr words (result.ended.status ≢ Status.Usage → result.ended.status ≡ Status.Memory) }
+    ensures input_fault { result.ended.status ≡ Status.InputFault → Rose 0 (source_faults result.input) }
+    ensures no_input_fault { result.ended.status ≢ Status.InputFault → source_faults result.input ≡ 0 }
+    ensures output_fault { result.ended.status ≡ Status.OutputFault → Rose 0 (sink_faults result.output) }
+    ensures no_output_fault { result.ended.status ≢ Status.OutputFault → sink_faults result.output ≡ 0 }
 {
-    let status = if error.kind() == ErrorKind::InvalidData {
+    match words {
+        Ok(words) => run_over(alloc, words.as_slice(), reader, writer),
+        Err(error) => Ran {
+            ended: Ended {
+                status: status_without_words(&error),
+            },
+            input: FileSource::new(reader),
+            output: StreamSink::new(writer),
+        },
+    }
+}
+
+/// The status where the words could not be read: Usage where one of them is not UTF-8, else Memory.
+fn status_without_words(error: &io::Error) -> Status
+    ensures usage { (result ≡ Status.Usage) ↔ (error_kind error.now ≡ ErrorKind.InvalidData) }
+    ensures memory { result ≢ Status.Usage → result ≡ Status.Memory }
+{
+    if error.kind() == ErrorKind::InvalidData {
         Status::Usage
     } else {
         Status::Memory
-    };
-    Ended { status }
+    }
 }
 
 impl Termination for Ended {

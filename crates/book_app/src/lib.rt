@@ -1,8 +1,8 @@
 //! The program's work as one call, generic over where the lines come from and where the answers go: `book_main`
 //! takes the words, reads the input to its end, and says how it ended. Its clause `run` is the whole promise of a run:
 //! what was written is what the machine of whole books answers to the lines that were read. `run_over` says the same
-//! over any reader and writer of std. `run_program` hands it a program's own words and standard streams, and `Ended` is
-//! what the program's `main` answers.
+//! over any reader and writer of std. `run_program` does so over a program's own words and standard streams, and
+//! `Ended` is what the program's `main` answers.
 #![tactic(auto)]
 
 mod ended;
@@ -12,6 +12,9 @@ mod reply;
 mod status;
 mod words;
 
+/// What `run_lines` keeps between two lines: the room for a begun line, of 8 MiB, and for the piece that is read at a
+/// time. It is made once.
+pub use book_lines::LineRoom;
 pub use ended::{Ended, Ran, run_over};
 pub use main_call::{book_main, run_lines};
 pub use program::run_program;

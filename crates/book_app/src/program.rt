@@ -1,15 +1,14 @@
-use crate::ended::{Ended, ended_without_words, run_over};
+use crate::ended::{Ended, run_words};
 use book_commodity::Text;
 use std::env::Env;
 use std::io::{Input, Print};
 use std::{env, io};
 
-/// Does what the program's words ask, over its standard streams.
+/// Does what the program's words ask, over its standard streams: `run_words` with the host's words, reader and writer,
+/// which has all clauses. This call has none, since std says nothing of what a host's words are and of what its streams
+/// hold.
 pub fn run_program<R: Env + Input + Print + AllocGlobal>(rt: &R) -> Ended {
-    match words(rt) {
-        Ok(words) => run_over(rt.alloc(), words.as_slice(), rt.reader(), io::writer(rt)).ended,
-        Err(error) => ended_without_words(&error),
-    }
+    run_words(rt.alloc(), words(rt), rt.reader(), io::writer(rt)).ended
 }
 
 /// The words behind the program's name.

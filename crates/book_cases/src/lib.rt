@@ -5,9 +5,15 @@
 #[cfg(test)]
 mod cases;
 #[cfg(test)]
+mod changes;
+#[cfg(test)]
 mod faults;
 #[cfg(test)]
+mod hidden;
+#[cfg(test)]
 mod long;
+#[cfg(test)]
+mod long_refusals;
 #[cfg(test)]
 mod program;
 #[cfg(test)]
@@ -16,3 +22,5 @@ mod refusals;
 mod runs;
 #[cfg(test)]
 mod sizes;
+#[cfg(test)]
+mod texts;

@@ -1,53 +1,9 @@
-use crate::runs::{ACCOUNTS, ran};
+use crate::runs::ran;
+use crate::texts::{LAST_PAIR, PAIR, add_post, last_answer, repeated, two_thousand_posts};
 use book_app::Status;
 use book_commodity::OutOfMemory;
 use std::alloc::Global;
 use std::test::Fail;
-
-/// Runs the lines behind those of the two accounts, and gives the last answer.
-fn last_answer(alloc: Global, lines: &str) -> Result<String, Fail> {
-    let mut input = String::from_str(alloc, ACCOUNTS)?;
-    input.push_str(lines)?;
-    let ended = ran(
-        alloc,
-        &["run", "household.book"],
-        input.as_bytes(),
-        65_536,
-        &[],
-        &[],
-    )?;
-    if ended.status != Status::Done {
-        Err("the run did not end by Done")?;
-    }
-    let answers = str::from_utf8(ended.output.written()).map_err(|_| "no text")?;
-    let last = answers.lines().last().ok_or("no answer")?;
-    Ok(String::from_str(alloc, last)?)
-}
-
-/// A post with these splits, in a line.
-fn add_post(lines: &mut String, description: &str, splits: &str) -> Result<(), OutOfMemory> {
-    lines.push_str(r#"{"do":"post","day":"2024-01-05","currency":1,"description":""#)?;
-    lines.push_str(description)?;
-    lines.push_str(r#"","splits":["#)?;
-    lines.push_str(splits)?;
-    lines.push_str("]}\n")?;
-    Ok(())
-}
-
-/// The text so many times.
-fn repeated(alloc: Global, text: &str, count: usize) -> Result<String, OutOfMemory> {
-    let mut repeated = String::new(alloc);
-    for _ in 0..count {
-        repeated.push_str(text)?;
-    }
-    Ok(repeated)
-}
-
-/// Five splits.
-const FIVE: &str = concat!(
-    r#"{"account":3,"value":4},{"account":4,"value":-1},{"account":4,"value":-1},"#,
-    r#"{"account":4,"value":-1},{"account":4,"value":-1}"#
-);
 
 /// The last commands after two thousand posts, and the answer to the last of them.
 static PAST_ALL: [Row; 11] = [
@@ -108,10 +64,7 @@ static PAST_ALL: [Row; 11] = [
 // Two thousand versions and twelve thousand numbers, and each kind of answer behind them.
 #[test]
 fn behind_two_thousand_posts(rt: HostRuntime) -> Result<(), Fail> {
-    let mut posts = String::new(rt.alloc());
-    for _ in 0..2000 {
-        add_post(&mut posts, "Pay", FIVE)?;
-    }
+    let posts = two_thousand_posts(rt.alloc())?;
     for (line, answer) in PAST_ALL {
         let mut lines = String::from_str(rt.alloc(), posts.as_str())?;
         lines.push_str(line)?;
@@ -159,10 +112,6 @@ fn long_texts(rt: HostRuntime) -> Result<(), Fail> {
     }
     Ok(())
 }
-
-const PAIR: &str = r#"{"account":3,"value":1},{"account":4,"value":-1},"#;
-
-const LAST_PAIR: &str = r#"{"account":3,"value":1},{"account":4,"value":-1}"#;
 
 // A post of 500 splits is done; one of 501 is refused.
 #[test]

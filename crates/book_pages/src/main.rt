@@ -5,7 +5,7 @@
 mod page;
 mod session;
 
-use crate::page::{Page, page_of};
+use crate::page::{Page, add_line, page_of};
 use crate::session::answers_to;
 use std::process::ExitCode;
 use std::{fs, io};
@@ -44,13 +44,37 @@ fn is_example(rt: &HostRuntime, name: &str, answered: &str) -> io::Result<bool> 
     Ok(answers.as_str() == fs::read_to_string(rt, answered)?.as_str())
 }
 
+/// Whether the README runs the salary and shows its answers, and then the last command of the month with its answer.
+fn is_readme(rt: &HostRuntime, name: &str, salary: &str, month: &str) -> io::Result<bool> {
+    let text = fs::read_to_string(rt, name)?;
+    let page = page_of(rt.alloc(), text.as_str())?;
+    let lines = fs::read_to_string(rt, month)?;
+    let month_answers = answers_to(rt.alloc(), lines.as_str())?;
+    let mut answers = answers_to(rt.alloc(), fs::read_to_string(rt, salary)?.as_str())?;
+    add_line(&mut answers, last_line(month_answers.as_str()))?;
+    let command = page.commands.as_str().trim_end();
+    println!(rt; "{name}: the last command of {month}, and {salary}")?;
+    Ok(
+        text.as_str()
+            .contains("./book run household.book < examples/salary.jsonl\n")
+            && command == last_line(lines.as_str())
+            && page.answers.as_str() == answers.as_str(),
+    )
+}
+
+/// The last line of a text; empty where there is none.
+fn last_line(text: &str) -> &str {
+    text.lines().last().unwrap_or("")
+}
+
 /// Compares all pages and examples.
 fn compare(rt: &HostRuntime) -> io::Result<bool> {
     Ok(
         is_session(rt, "GUIDE.md")?
             && is_of_session(rt, "COMMANDS.md", "household.jsonl")?
             && is_example(rt, "month.jsonl", "month.answers.jsonl")?
-            && is_example(rt, "salary.jsonl", "salary.answers.jsonl")?,
+            && is_example(rt, "salary.jsonl", "salary.answers.jsonl")?
+            && is_readme(rt, "README.md", "salary.jsonl", "month.jsonl")?,
     )
 }
 

@@ -32,7 +32,7 @@ fn has_pair(commands: &str, answers: &str, command: &str, answer: &str) -> bool 
 }
 
 /// Adds a line to the lines.
-fn add_line(lines: &mut String, line: &str) -> Result<(), AllocError> {
+pub(crate) fn add_line(lines: &mut String, line: &str) -> Result<(), AllocError> {
     lines.push_str(line)?;
     lines.push('\n')
 }
