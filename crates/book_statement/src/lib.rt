@@ -1,5 +1,5 @@
 //! Bank statements: what a statement file says, what the book keeps of it, and by what its lines are known again.
-//! `Held`, `Line` with its `LineState`, and `Binding` are what a book keeps; no command uses them yet. `as_text` makes
+//! `Held`, `Line` with its `LineState`, and `Binding` are what a book keeps. `as_text` makes
 //! a text of a file's bytes and `keys_of` gives the keys of a statement's lines. The parts that the readers of
 //! statement files share stand here too: lines, digits, amounts, dates, currencies and joined texts.
 #![tactic(auto)]
