@@ -170,7 +170,7 @@ spelled_after (OfCurrency c ∷ ls) b all small fit can =
 spelled_after (OfPut n t ∷ ls) b all small fit can =
     let least = record_least t in
     let here : CanBeRow (n, record_of t) =
-        (((refl, small.0, (λ one. absurd (omega (arith, one, least)))), fit.0, refl), no_steps t) in
+    (((refl, small.0, (λ one. absurd (omega (arith, one, least)))), fit.0, refl), no_steps t) in
     spelled_after ls (with_thing n t b) (all_with IsSmall n t b small.0 all small.0 all) small.1 fit.1
     (all_with CanBeRow n t b small.0 all here can)
 spelled_after (OfGone k n ∷ ls) b all small fit can =
@@ -225,10 +225,9 @@ rise_from j m (OfPut k t ∷ ls) n e small low le =
     let least = record_least t in
     let same = kind-record t in
     let both = ordered_by (is_above (key_at (row_kind (thing_kind t)) k) (key_at j m))
-        (first_unordered (key_at (row_kind (thing_kind t)) k) ls) e in
+    (first_unordered (key_at (row_kind (thing_kind t)) k) ls) e in
     let above = above_rank (row_kind (thing_kind t)) k j m both.0 (omega arith) in
-    let small_here = small.0 in
-    (
+    let small_here = small.0 in (
       omega (arith, above, least, same),
       small.0,
       rise_from (row_kind (thing_kind t)) k ls (kind_of (record_of t) * 2 ^ 64 + k + 1) both.1 small.1 small.0
@@ -237,8 +236,7 @@ rise_from j m (OfPut k t ∷ ls) n e small low le =
 rise_from j m (OfGone t k ∷ ls) n e small low le =
     let least = kind_least t in
     let both = ordered_by (is_above (key_at (row_kind t) k) (key_at j m)) (first_unordered (key_at (row_kind t) k) ls) e in
-    let above = above_rank (row_kind t) k j m both.0 (omega arith) in
-    (
+    let above = above_rank (row_kind t) k j m both.0 (omega arith) in (
       omega (arith, above, least),
       small.0,
       rise_from (row_kind t) k ls (row_kind t * 2 ^ 64 + k + 1) both.1 small.1 small.0 (omega arith),

@@ -1,7 +1,9 @@
+pub mod AllRowLaws
 pub mod ChangeLaws
 pub mod OpenLaws
 pub mod Ranked
 pub mod ReadLaws
 pub mod SameRecords
+pub mod TableLaws
 pub mod ThingRecords
 pub mod UpTo

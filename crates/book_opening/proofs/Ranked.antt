@@ -3,7 +3,7 @@ use Rattle.std.proofs.Common.{◌≡◌, ℕ, zero, suc, ◌+◌, ◌<◌, ◌�
 use Rattle.std.proofs.Common.{List, [], ◌∷◌, ◌++◌, map, length, refl, sym, ap, ◌∙◌, subst, arith}
 use Rattle.std.proofs.lemmas.Bool.Decides.{nat_tests}
 use Rattle.std.specs.List.{AllByRecursion, flat_map}
-use Rattle.book_commodity.specs.Table.{with_entry, without_entry}
+use Rattle.book_commodity.specs.Table.{AllAbove, Rises, with_entry, without_entry}
 
 -- The list with an item in rising order of the ranks, in place of the one with its rank.
 abbrev pub put_in : {X : Type 0} → (X → ℕ) → X → List X → List X
@@ -226,3 +226,46 @@ take_joined {X} r edge up (suc d) k n (s ∷ ss) o lt low high =
     (all_weak (λ (y : X). (edge k ≤ r y) × (r y < edge (suc k))) (λ (y : X). r y < n)
     (λ y h. let high' = h.1 in omega (arith, high', past, least)) s o.0)
     ∙ ap (λ l. s ++ l) (take_joined r edge up d (suc k) n ss o.1 (omega arith) least most)
+
+-- ---- rising ranks
+-- The ranks rise from item to item.
+abbrev pub RisesBy : {X : Type 0} → (X → ℕ) → List X → Type 0
+RisesBy r [] = Unit {0}
+RisesBy r (x ∷ xs) = AllByRecursion (λ y. r x < r y) xs × RisesBy r xs
+
+rises_both :
+    {X : Type 0} (r : X → ℕ) (xs ys : List X) → RisesBy r xs → RisesBy r ys
+    → AllByRecursion (λ x. AllByRecursion (λ y. r x < r y) ys) xs → RisesBy r (xs ++ ys)
+rises_both r [] ys p q h = q
+rises_both r (x ∷ xs) ys p q h =
+    (all_both (λ y. r x < r y) xs ys p.0 h.0, rises_both r xs ys p.1 q h.1)
+
+-- pieces in order, the ranks of each of which rise, have rising ranks
+pub rises_joined :
+    {X : Type 0} (r : X → ℕ) (edge : ℕ → ℕ) → ((i : ℕ) → edge i ≤ edge (suc i)) → (k : ℕ) (ss : List (List X))
+    → InOrder r edge k ss → AllByRecursion (RisesBy r) ss → RisesBy r (joined ss)
+rises_joined r edge up k [] o h = tt
+rises_joined {X} r edge up k (s ∷ ss) o h =
+    rises_both r s (joined ss) h.0 (rises_joined r edge up (suc k) ss o.1 h.1)
+    (all_weak (λ (x : X). (edge k ≤ r x) × (r x < edge (suc k))) (λ (x : X). AllByRecursion (λ (y : X). r x < r y) (joined ss))
+    (λ x within. above_edge r edge up (suc k) ss o.1 (r x) within.1) s o.0)
+
+above_entries :
+    {T X : Type 0} (k : ℕ) (f : ℕ × T → X) (r : X → ℕ) → ((e : ℕ × T) → r (f e) ≡ k + e.0) → (n : ℕ) (es : List (ℕ × T))
+    → AllAbove n es → (m : ℕ) → m ≡ k + n → AllByRecursion (λ y. m < r y) (map f es)
+above_entries k f r h n [] a m is = tt
+above_entries k f r h n (e ∷ es) a m is =
+    ((let here = h e in let past = a.0 in omega (arith, here, past, is)), above_entries k f r h n es a.1 m is)
+
+-- the items of a table have rising ranks
+pub rises_entries :
+    {T X : Type 0} (k : ℕ) (f : ℕ × T → X) (r : X → ℕ) → ((e : ℕ × T) → r (f e) ≡ k + e.0) → (es : List (ℕ × T))
+    → Rises es → RisesBy r (map f es)
+rises_entries k f r h [] rise = tt
+rises_entries k f r h (e ∷ es) rise =
+    (above_entries k f r h e.0 es rise.0 (r (f e)) (h e), rises_entries k f r h es rise.1)
+
+pub above_first_edge :
+    {X : Type 0} (r : X → ℕ) (edge : ℕ → ℕ) → ((i : ℕ) → edge i ≤ edge (suc i)) → (k : ℕ) (ss : List (List X))
+    → InOrder r edge k ss → (n : ℕ) → n < edge k → AllByRecursion (λ y. n < r y) (joined ss)
+above_first_edge r edge up k ss o n lt = above_edge r edge up k ss o n lt

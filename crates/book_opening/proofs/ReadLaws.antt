@@ -29,12 +29,11 @@ small_records es h = all_weak IsOnlyRecord IsSmall (λ e only. only.0.0.0.1) es 
 pub next_read :
     (head : Head) (b c : Book) (n : ℕ) (t : Thing) → c ≡ with_thing n t b → IsOnlyRecord (n, record_of t)
     → AllByRecursion IsOnlyRecord (behind_head head b) → AllByRecursion IsOnlyRecord (behind_head head c)
-next_read head b c n t is here h =
-    (
-      h.0,
-      subst (λ (x : Book). AllByRecursion IsOnlyRecord (things_of x)) (sym is)
-          (all_with IsOnlyRecord n t b here.0.0.0.1 (small_records (things_of b) h.1) here h.1),
-    )
+next_read head b c n t is here h = (
+  h.0,
+  subst (λ (x : Book). AllByRecursion IsOnlyRecord (things_of x)) (sym is)
+      (all_with IsOnlyRecord n t b here.0.0.0.1 (small_records (things_of b) h.1) here h.1),
+)
 
 pub next_currency :
     (b c : Book) (n : ℕ) (t : Thing) (currency : ℕ) → c ≡ with_thing n t b → b.currency ≡ currency
@@ -82,8 +81,8 @@ bad_row rows last row head b (fault.BadRows kind id) rise next so_far h begins b
     let good = subst (AllByRecursion IsGood) (sym so_far) (good_rows (behind_head head b) h) in
     let least = bad_next last rows row (row_of (0, kept.Head head)) rise next good begins refl bad.2 in
     let key : row.key ≡ record { kind = kind; id = id } =
-        ap (λ (k : ℕ). key_of k row.key.id) (sym bad.0)
-        ∙ ap (λ (i : ℕ). key_of kind i) (sym bad.1) in
+    ap (λ (k : ℕ). key_of k row.key.id) (sym bad.0)
+    ∙ ap (λ (i : ℕ). key_of kind i) (sym bad.1) in
     subst (λ (k : RowKey). IsLeastBad rows k) key least
 bad_row rows last row head b fault.Keeper rise next so_far h begins bad = absurd bad
 bad_row rows last row head b fault.OutOfMemory rise next so_far h begins bad = tt
@@ -94,13 +93,13 @@ pub bad_start :
     → IsBadFor rows error
 bad_start rows row (fault.BadRows kind id) rise first (inl h) =
     let key : head_key ≡ record { kind = kind; id = id } =
-        ap (λ (k : ℕ). key_of k 0) (sym h.1)
-        ∙ ap (λ (i : ℕ). key_of kind i) (sym h.2) in
+    ap (λ (k : ℕ). key_of k 0) (sym h.1)
+    ∙ ap (λ (i : ℕ). key_of kind i) (sym h.2) in
     subst (λ (k : RowKey). IsLeastBad rows k) key (bad_head rows row rise first h.0)
 bad_start rows row (fault.BadRows kind id) rise first (inr h) =
     let key : row.key ≡ record { kind = kind; id = id } =
-        ap (λ (k : ℕ). key_of k row.key.id) (sym h.1)
-        ∙ ap (λ (i : ℕ). key_of kind i) (sym h.2) in
+    ap (λ (k : ℕ). key_of k row.key.id) (sym h.1)
+    ∙ ap (λ (i : ℕ). key_of kind i) (sym h.2) in
     subst (λ (k : RowKey). IsLeastBad rows k) key (bad_first rows row rise first h.0 h.3)
 bad_start rows row fault.Keeper rise first bad = absurd bad
 bad_start rows row fault.OutOfMemory rise first bad = tt
@@ -113,11 +112,10 @@ empty_things currency = refl
 pub start_read :
     (head : Head) (b : Book) (currency : ℕ) → b ≡ empty_book currency → IsOnlyRecord (0, kept.Head head)
     → AllByRecursion IsOnlyRecord (behind_head head b)
-start_read head b currency is only =
-    (
-      only,
-      subst (AllByRecursion IsOnlyRecord) (sym (ap things_of is ∙ empty_things currency)) tt,
-    )
+start_read head b currency is only = (
+  only,
+  subst (AllByRecursion IsOnlyRecord) (sym (ap things_of is ∙ empty_things currency)) tt,
+)
 
 pub start_rows :
     (rows : List Row) (head : Head) (b : Book) (currency : ℕ) → b ≡ empty_book currency → Rises rows

@@ -2,8 +2,8 @@
 use Rattle.std.proofs.Common.{◌≡◌, ℕ, zero, suc, ◌+◌, ◌*◌, ◌^◌, ◌<◌, ◌≤◌, List, [], ◌∷◌, ◌++◌, map, length, refl}
 use Rattle.std.proofs.Common.{sym, ap, ◌∙◌, subst, arith}
 use Rattle.std.specs.List.{AllByRecursion, flat_map}
-use Rattle.book_commodity.specs.Table.{with_entry, without_entry}
-use Rattle.book_undo.specs.Book.{Book, with_thing, without_thing}
+use Rattle.book_commodity.specs.Table.{Rises, with_entry, without_entry}
+use Rattle.book_undo.specs.Book.{Book, IsRising, with_thing, without_thing}
 use Rattle.book_undo.specs.Thing.{row_kind}
 use Rattle.book_undo.specs.declared.thing.Thing.{Thing}
 use Rattle.book_undo.specs.declared.thing.Thing.TheVariants as thing
@@ -13,7 +13,8 @@ use Rattle.book_rows.specs.Row.{kind_of}
 use Rattle.book_rows.specs.declared.record.Record.{Record}
 use Rattle.book_opening.specs.BookRows.{record_of, records_in, tables_of, things_of}
 use Rattle.book_opening.proofs.Ranked.{put_in, take_out, put_at, take_at, joined, InOrder, put_entry, take_entry}
-use Rattle.book_opening.proofs.Ranked.{put_joined, take_joined, all_first, all_last}
+use Rattle.book_opening.proofs.Ranked.{put_joined, take_joined, all_first, all_last, RisesBy, rises_entries}
+use Rattle.book_opening.proofs.Ranked.{rises_joined, above_first_edge}
 
 -- The place of a record under a number among all, as one number.
 abbrev pub rank_of : ℕ × Record → ℕ
@@ -63,17 +64,33 @@ in_order k (s ∷ ss) same small = (
 
 kinds_of : (b : Book) → AreOfKinds 2 (tables_of b)
 kinds_of b = (
-  of_kind 2 (λ it. thing.Commodity it) (λ _. refl) b.commodities, (
-  of_kind 3 (λ it. thing.Account it) (λ _. refl) b.accounts, (
-  of_kind 4 (λ it. thing.Txn it) (λ _. refl) b.transactions, (
-  of_kind 5 (λ it. thing.Price it) (λ _. refl) b.prices, (
-  of_kind 6 (λ it. thing.Schedule it) (λ _. refl) b.schedules, (
-  of_kind 7 (λ it. thing.Held it) (λ _. refl) b.statements, (
-  of_kind 8 (λ it. thing.Line it) (λ _. refl) b.lines, (
-  of_kind 9 (λ it. thing.Binding it) (λ _. refl) b.bindings, (
-  of_kind 10 (λ it. thing.Recon it) (λ _. refl) b.reconciliations,
-  tt
-)))))))))
+  of_kind 2 (λ it. thing.Commodity it) (λ _. refl) b.commodities,
+  (
+    of_kind 3 (λ it. thing.Account it) (λ _. refl) b.accounts,
+    (
+      of_kind 4 (λ it. thing.Txn it) (λ _. refl) b.transactions,
+      (
+        of_kind 5 (λ it. thing.Price it) (λ _. refl) b.prices,
+        (
+          of_kind 6 (λ it. thing.Schedule it) (λ _. refl) b.schedules,
+          (
+            of_kind 7 (λ it. thing.Held it) (λ _. refl) b.statements,
+            (
+              of_kind 8 (λ it. thing.Line it) (λ _. refl) b.lines,
+              (
+                of_kind 9 (λ it. thing.Binding it) (λ _. refl) b.bindings,
+                (
+                  of_kind 10 (λ it. thing.Recon it) (λ _. refl) b.reconciliations,
+                  tt,
+                ),
+              ),
+            ),
+          ),
+        ),
+      ),
+    ),
+  ),
+)
 
 tables_in_order : (b : Book) → AllByRecursion IsSmall (things_of b) → InOrder rank_of edge 2 (tables_of b)
 unfolding things_of
@@ -358,3 +375,51 @@ things_without kind.Recon n b small all =
     ∷ records_in (λ it. thing.Binding it) b.bindings
     ∷ s ∷ [])
     (take_table 10 (λ it. thing.Recon it) (λ _. refl) n b.reconciliations)) refl (omega arith) small all
+
+rises_table :
+    {T : Type 0} (k : ℕ) (of : T → Thing) → ((x : T) → kind_of (record_of (of x)) ≡ k) → (es : List (ℕ × T))
+    → Rises es → RisesBy rank_of (records_in of es)
+rises_table {T} k of same es rise =
+    rises_entries (k * 2 ^ 64) (λ (e : ℕ × T). (e.0, record_of (of e.1))) rank_of
+    (λ e. ap (λ (i : ℕ). i * 2 ^ 64 + e.0) (same e.1)) es rise
+
+-- the records of a book rise by kind and number
+pub things_rise : (b : Book) → IsRising b → AllByRecursion IsSmall (things_of b) → RisesBy rank_of (things_of b)
+unfolding things_of
+things_rise b rise small =
+    rises_joined rank_of edge edges_rise 2 (tables_of b) (in_order 2 (tables_of b) (kinds_of b) small) (
+      rises_table 2 (λ it. thing.Commodity it) (λ _. refl) b.commodities rise.commodities,
+      (
+        rises_table 3 (λ it. thing.Account it) (λ _. refl) b.accounts rise.accounts,
+        (
+          rises_table 4 (λ it. thing.Txn it) (λ _. refl) b.transactions rise.transactions,
+          (
+            rises_table 5 (λ it. thing.Price it) (λ _. refl) b.prices rise.prices,
+            (
+              rises_table 6 (λ it. thing.Schedule it) (λ _. refl) b.schedules rise.schedules,
+              (
+                rises_table 7 (λ it. thing.Held it) (λ _. refl) b.statements rise.statements,
+                (
+                  rises_table 8 (λ it. thing.Line it) (λ _. refl) b.lines rise.lines,
+                  (
+                    rises_table 9 (λ it. thing.Binding it) (λ _. refl) b.bindings rise.bindings,
+                    (
+                      rises_table 10 (λ it. thing.Recon it) (λ _. refl) b.reconciliations rise.reconciliations,
+                      tt,
+                    ),
+                  ),
+                ),
+              ),
+            ),
+          ),
+        ),
+      ),
+    )
+
+-- and they stand behind the head
+pub things_behind : (b : Book) → AllByRecursion IsSmall (things_of b)
+    → AllByRecursion (λ e. 1 * 2 ^ 64 + 0 < rank_of e) (things_of b)
+unfolding things_of
+things_behind b small =
+    above_first_edge rank_of edge edges_rise 2 (tables_of b) (in_order 2 (tables_of b) (kinds_of b) small)
+    (1 * 2 ^ 64 + 0) (omega arith)

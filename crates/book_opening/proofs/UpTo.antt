@@ -129,8 +129,8 @@ pub bad_next :
 bad_next n rows row head rise e good first at none = record {
   bad = inl (next_among (IsBadAt row.key) n rows row e (refl, none));
   least = λ other bad. elim bad as (λ _. rank row.key ≤ rank other) [
-    inl some ↦ least_next n rows row other rise e good some
-  | inr lacks ↦ absurd (lacks.1.1 (first_among (λ r. r.key ≡ head_key) rows head first at))
+    | inl some ↦ least_next n rows row other rise e good some
+    | inr lacks ↦ absurd (lacks.1.1 (first_among (λ r. r.key ≡ head_key) rows head first at))
   ];
 }
 
@@ -158,8 +158,8 @@ pub bad_first :
 bad_first rows row rise e low none = record {
   bad = inl (first_among (IsBadAt row.key) rows row e (refl, none));
   least = λ other bad. elim bad as (λ _. rank row.key ≤ rank other) [
-    inl some ↦ first_least rows row other rise e some
-  | inr lacks ↦ subst (λ (k : RowKey). rank row.key ≤ rank k) (sym lacks.0) low
+    | inl some ↦ first_least rows row other rise e some
+    | inr lacks ↦ subst (λ (k : RowKey). rank row.key ≤ rank k) (sym lacks.0) low
   ];
 }
 
@@ -169,13 +169,12 @@ lacks_head :
 lacks_head [] row rise e past = absurd cc
 lacks_head (r ∷ rows) row rise e past =
     let same : row ≡ r = cc in
-    let above : rank head_key < rank r.key = subst (λ (x : Row). rank head_key < rank x.key) same past in
-    (
+    let above : rank head_key < rank r.key = subst (λ (x : Row). rank head_key < rank x.key) same past in (
       (λ none. absurd cc),
       (λ some. elim some as (λ _. ⊥) [
-        inl h ↦ absurd (let at : rank head_key < rank head_key =
+        | inl h ↦ absurd (let at : rank head_key < rank head_key =
             subst (λ (k : RowKey). rank head_key < rank k) h above in omega (arith, at))
-      | inr h ↦ absurd (let at = keys_above (rank r.key) head_key rows rise.0 h in omega (arith, at, above))
+        | inr h ↦ absurd (let at = keys_above (rank r.key) head_key rows rise.0 h in omega (arith, at, above))
       ]),
     )
 
@@ -186,8 +185,8 @@ pub bad_head :
 bad_head rows row rise e past = record {
   bad = inr (refl, lacks_head rows row rise e past);
   least = λ other bad. elim bad as (λ _. rank head_key ≤ rank other) [
-    inl some ↦ (let low = first_least rows row other rise e some in omega (arith, low, past))
-  | inr lacks ↦ subst (λ (k : RowKey). rank head_key ≤ rank k) (sym lacks.0) (omega arith)
+    | inl some ↦ (let low = first_least rows row other rise e some in omega (arith, low, past))
+    | inr lacks ↦ subst (λ (k : RowKey). rank head_key ≤ rank k) (sym lacks.0) (omega arith)
   ];
 }
 

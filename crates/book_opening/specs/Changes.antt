@@ -1,5 +1,6 @@
 -- What an edit of a book changes in its rows.
 use Rattle.std.specs.Prelude.{ℕ, ◌^◌, ◌<◌, ⊤, List, [], ◌∷◌, flat_map, map}
+use Rattle.std.specs.List.{AllByRecursion}
 use Rattle.book_keeper.specs.declared.row.Change.{Change}
 use Rattle.book_keeper.specs.declared.row.Change.TheVariants as change
 use Rattle.book_undo.specs.Edit.{Leaf, OfCurrency, OfPut, OfGone, leaves}
@@ -7,6 +8,7 @@ use Rattle.book_undo.specs.Thing.{row_kind}
 use Rattle.book_undo.specs.declared.edit.Edit.{Edit}
 use Rattle.book_rows.specs.Row.{IsRecord}
 use Rattle.book_rows.specs.declared.head.Head.{Head}
+use Rattle.book_rows.specs.declared.record.Record.{Record}
 use Rattle.book_rows.specs.declared.record.Record.TheVariants as kept
 use Rattle.book_opening.specs.BookRows.{record_of, row_of, rows_of}
 use Rattle.book_opening.specs.State.{State}
@@ -37,3 +39,15 @@ IsSmallLeaf (OfGone kind number) = number < 2 ^ 62
 -- The changes by which rows come to be where there were none: each row of a state is written.
 abbrev pub all_put : State → List Change
 all_put state = map (λ row. change.Put row) (rows_of state)
+
+-- Each of these records is written.
+abbrev pub puts_of : List (ℕ × Record) → List Change
+puts_of entries = map (λ row. change.Put row) (map row_of entries)
+
+-- The change that writes an entry of a table whose rows have a kind, by the bytes of its values.
+abbrev pub entry_put : {T : Type 0} → ℕ → (T → List ℕ) → ℕ × T → Change
+entry_put kind bytes entry = change.Put (record { key = record { kind = kind; id = entry.0 }; body = 1 ∷ bytes entry.1 })
+
+-- Each of these records has a spelling.
+abbrev pub AreRecords : List (ℕ × Record) → Type 0
+AreRecords entries = AllByRecursion (λ entry. IsRecord entry.1) entries

@@ -1,5 +1,5 @@
-use crate::{OpenFault, changes_of, read_rows};
-use book_commodity::{Bytes, Many};
+use crate::{OpenFault, Saved, all_rows, changes_of, read_rows};
+use book_commodity::{Bytes, Many, Text};
 use book_undo::{Edit, Thing, ThingKind};
 use book_keeper::{Change, Keeper, MemKeeper, Row, RowKey};
 use book_rows::Head;
@@ -138,7 +138,11 @@ const DAMAGED: [(u8, u64, &[u8]); 14] = [
         b"\x01\0\0\0\0\0\0\0\x03\0\0\0\0\0\0\0\x04NL01\0\0\0\0\0\0\0\x02A7\0\0\0\0\0\0\0\0\x4d\x29\x01\x02",
     ),
     // A line in no state.
-    (8, 10, b"\x01\0\0\0\0\0\0\0\x03\0\0\0\0\0\0\0\x09\0\0\0\0\0\0\0\x01"),
+    (
+        8,
+        10,
+        b"\x01\0\0\0\0\0\0\0\x03\0\0\0\0\0\0\0\x09\0\0\0\0\0\0\0\x01",
+    ),
     // A binding with a byte behind it.
     (9, 11, b"\x01\0\0\0\0\0\0\0\x04NL01\0\0\0\0\0\0\0\x03\0"),
     // A reconciliation that counts more splits than it has.
@@ -183,18 +187,65 @@ fn is_bad_at(alloc: Global, keeper: &mut MemKeeper, kind: u8, id: u64) -> bool {
     }
 }
 
-// A book with a thing of each kind opens; after some changes are committed it opens as the changed book.
+/// How many prices and bindings the keeper's rows open with, and the version; None where they don't open.
+fn counted(alloc: Global, keeper: &mut MemKeeper) -> Option<(usize, usize, u64)> {
+    match read_rows(alloc, keeper) {
+        Ok(Some(saved)) => Some((
+            saved.plain.prices.len(),
+            saved.plain.bindings.len(),
+            saved.version,
+        )),
+        _ => None,
+    }
+}
+
+// A book with a thing of each kind opens, and all its rows put anew are as many.
 #[test]
 fn rows_of_each_kind(rt: HostRuntime) -> Result<(), Fail> {
     let alloc = rt.alloc();
     let mut keeper = kept(alloc)?;
-    let Ok(Some(saved)) = read_rows(alloc, &mut keeper) else {
-        return Err(Fail::from("not opened"));
+    let mut again = MemKeeper::new(Many::new(alloc), Many::new(alloc));
+    assert!(rt; counted(alloc, &mut again).is_none());
+    if let Ok(Some(saved)) = read_rows(alloc, &mut keeper) {
+        assert!(rt; saved.next == 13 && saved.position == 3 && saved.plain.currency == 1);
+        let anew = Saved {
+            plain: saved.plain,
+            next: 13,
+            version: 3,
+            position: 3,
+        };
+        let _ = again.commit(all_rows(alloc, &anew)?.as_slice());
+    }
+    assert_eq!(rt; again.rows().len(), 10);
+    assert!(rt; counted(alloc, &mut again) == Some((1, 1, 3)));
+    Ok(())
+}
+
+// After the changes of a step are committed, the rows open as the changed book.
+#[test]
+fn changed_rows(rt: HostRuntime) -> Result<(), Fail> {
+    let alloc = rt.alloc();
+    let mut keeper = kept(alloc)?;
+    let mut text = String::new(alloc);
+    text.push_str("NL02")?;
+    let binding = Binding {
+        text: Text::of(text),
+        account: 3,
     };
-    assert_eq!(rt; (saved.next, saved.version, saved.position, saved.plain.currency), (13, 3, 3, 1));
-    assert_eq!(rt; (saved.plain.commodities.len(), saved.plain.accounts.len(), saved.plain.transactions.len()), (1, 1, 1));
-    assert_eq!(rt; (saved.plain.prices.len(), saved.plain.schedules.len(), saved.plain.statements.len()), (1, 1, 1));
-    assert_eq!(rt; (saved.plain.lines.len(), saved.plain.bindings.len(), saved.plain.reconciliations.len()), (1, 1, 1));
+    let mut parts = Many::new(alloc);
+    parts.push(Edit::Gone(ThingKind::Price, 7))?;
+    parts.push(Edit::Put(13, Thing::Binding(binding)))?;
+    let head = Head {
+        next: 14,
+        version: 4,
+        position: 4,
+        past: 0,
+        later: 0,
+        currency: 1,
+    };
+    let _ = keeper.commit(changes_of(alloc, head, &Edit::All(parts))?.as_slice());
+    assert_eq!(rt; keeper.rows().len(), 10);
+    assert!(rt; counted(alloc, &mut keeper) == Some((0, 2, 4)));
     Ok(())
 }
 
