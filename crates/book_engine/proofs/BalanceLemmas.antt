@@ -1,5 +1,5 @@
 -- The transaction that stands under a number after an edit which puts one there.
-use Rattle.std.proofs.Common.{◌≡◌, ℕ, ℤ, ◌≤◌, ◌==◌, Bool, true, false, if◌then◌else◌, List, [], ◌∷◌, ◌++◌, flat_map}
+use Rattle.std.proofs.Common.{◌≡◌, ℕ, ℤ, ◌==◌, Bool, true, false, if◌then◌else◌, List, [], ◌∷◌, ◌++◌, flat_map}
 use Rattle.std.proofs.Common.{Option, Some, None, is_some, option_map, inr, refl, Bor, ap, subst, ◌∙◌, sym, arith}
 use Rattle.std.specs.Option.{option_copied, option_or}
 use Rattle.std.proofs.lemmas.Bool.{eqb-true}

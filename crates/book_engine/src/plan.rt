@@ -12,9 +12,13 @@ pub struct Plan {
 }
 
 impl Model for Plan {
+    ghost use Rattle.std.specs.Coded.{codes};
+    ghost use Rattle.book_undo.specs.contracts.edit.Edit as e;
     ghost use Rattle.book_engine.specs.Planned.{Planned, planned_by};
 
     ghost Value = { Planned };
+
+    ghost coded = { Prim.hlevel (codes, e.the_row.coded) };
 
     ghost view = { planned_by };
 }

@@ -5,7 +5,8 @@ use Rattle.std.proofs.Common.{refl, sym, ap, subst, ◌∙◌, eq-eqb, arith}
 use Rattle.std.specs.List.{list_all, list_any}
 use Rattle.std.specs.Option.{option_and_then}
 use Rattle.std.specs.Ordering.{int_eq}
-use Rattle.std.proofs.lemmas.Bool.{and_from, and_parts, eqb-true, ne_eqb, not_from_false, or_from, or_left, or_parts, or_right}
+use Rattle.std.proofs.lemmas.Bool.{and_from, and_parts, eqb-true, ne_eqb, not_from_false, or_from, or_left, or_parts}
+use Rattle.std.proofs.lemmas.Bool.{or_right}
 use Rattle.std.proofs.lemmas.Bool.Decides.{Decides-int_eq}
 use Rattle.std.proofs.lemmas.List.Elements.{All-cons, All-head, All-nil, All-tail}
 use Rattle.std.proofs.lemmas.List.Folds.{list_any-append}
@@ -114,13 +115,23 @@ one_other id next splits before (Some n) given (Some s) is among less known same
 kept_right :
     (reconciliations : List (ℕ × Recon)) (split : Split) (given : GivenSplit)
     → is_rightly_marked reconciliations split ≡ true → keeps_mark split given.account given.quantity ≡ true
-    → is_rightly_marked reconciliations (record split
-    { account = given.account; memo = given.memo; action = given.action; value = given.value; quantity =
-    given.quantity }) ≡ true
+    → is_rightly_marked reconciliations (record split {
+      account = given.account;
+      memo = given.memo;
+      action = given.action;
+      value = given.value;
+      quantity =
+          given.quantity;
+    }) ≡ true
 kept_right reconciliations split given right keeps =
-    let new : Split = record split
-    { account = given.account; memo = given.memo; action = given.action; value = given.value; quantity =
-    given.quantity } in
+    let new : Split = record split {
+      account = given.account;
+      memo = given.memo;
+      action = given.action;
+      value = given.value;
+      quantity =
+          given.quantity;
+    } in
     let Marked : Bool → Type 0 = λ b. is_reconciled split.mark ≡ b
     → (not b || ((given.account == split.account) && int_eq given.quantity split.quantity)) ≡ true
     → is_rightly_marked reconciliations new ≡ true in

@@ -9,7 +9,8 @@ use Rattle.book_splits.specs.SplitCount.{splits_in}
 use Rattle.book_splits.specs.declared.transaction.Txn.{Txn}
 use Rattle.book_splits.proofs.CountLemmas.{splits-with, splits-without}
 use Rattle.book_undo.specs.Book.{Book}
-use Rattle.book_step.specs.Editing.{book_with, drawn_by, edit_answer, edit_of, edit_rules, edited_transaction, number_rules}
+use Rattle.book_step.specs.Editing.{book_with, drawn_by, edit_answer, edit_of, edit_rules, edited_transaction}
+use Rattle.book_step.specs.Editing.{number_rules}
 use Rattle.book_step.specs.Editing.{reconciled, too_many_after}
 use Rattle.book_step.specs.Outcome.{Broken, Outcome, StepsTo, changing, leaving}
 use Rattle.book_step.specs.Posting.{broken_by}

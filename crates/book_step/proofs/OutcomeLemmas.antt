@@ -1,19 +1,17 @@
 -- What a step comes to, from what a check of its rules reports.
-use Rattle.std.proofs.Common.{◌≡◌, ℕ, ◌+◌, Bool, true, false, if◌then◌else◌, List, [], ◌∷◌, Option, Some, None}
-use Rattle.std.proofs.Common.{Result, Ok, Err, sym, ap, subst, ◌∙◌}
+use Rattle.std.proofs.Common.{◌≡◌, ℕ, Bool, true, false, if◌then◌else◌, List, [], ◌∷◌, Option, Some, None}
+use Rattle.std.proofs.Common.{Result, Ok, Err, sym, ap, subst}
 use Rattle.std.specs.Result.{IsErrAnd}
 use Rattle.book_commodity.specs.Rules.{first_broken}
 use Rattle.book_commodity.proofs.RuleLemmas.{first-here, first-past}
 use Rattle.book_undo.specs.Book.{Book}
-use Rattle.book_undo.specs.Edit.{edited, is_nothing}
-use Rattle.book_undo.specs.Exact.{IsExact}
 use Rattle.book_undo.specs.declared.edit.Edit.{Edit, All}
 use Rattle.book_undo.proofs.ExactLaws.{exact_nothing}
 use Rattle.book_sound.specs.Soundness.{IsSoundBook}
 use Rattle.book_sound.proofs.SoundFacts.{tables_rise}
 use Rattle.book_step.specs.AnswerBalances.{without_balances}
-use Rattle.book_step.specs.Outcome.{Outcome, Broken, Done, StepsTo, after, but_balances, changing, leaving, numbers}
-use Rattle.book_step.specs.Outcome.{changed, unless_broken, version_after}
+use Rattle.book_step.specs.Outcome.{Outcome, Broken, Done, StepsTo, changing, leaving, numbers}
+use Rattle.book_step.specs.Outcome.{changed, unless_broken}
 use Rattle.book_step.specs.State.{State}
 use Rattle.book_command.specs.declared.answer.Answer.{Answer}
 use Rattle.book_command.specs.declared.refusal.Refusal.{Refusal}
@@ -29,30 +27,6 @@ pub refused :
     → StepsTo state outcome result
 refused state outcome rule (Ok step) h e = absurd h
 refused state outcome rule (Err error) h e = subst (λ (error : Refusal). StepsTo state outcome (Err error)) (sym h) e
-
--- a change that keeps the limit of numbers is done
-pub done-changing :
-    (state : State) (edit : Edit) (drawn : ℕ) (whole answer : Answer)
-    → first_broken (numbers state drawn ∷ []) ≡ None
-    → without_balances whole ≡ answer → is_nothing edit ≡ false
-    → but_balances (changing state [] (edited edit state.book) drawn whole)
-    ≡ Done (after state (record { edit = edit; next = state.next + drawn; answer = answer })) answer
-done-changing state edit drawn whole answer e same changes =
-    let book : Book = edited edit state.book in
-    let new : ℕ → State = λ v. record { book = book; next = state.next + drawn; version = v } in
-    ap (λ (broken : Option Rule). but_balances (unless_broken broken (Done (changed state book drawn) whole))) e
-    ∙ ap (λ (b : Bool). Done (new (version_after b state.version)) (without_balances whole)) (sym changes)
-    ∙ ap (λ (a : Answer). Done (new (version_after (is_nothing edit) state.version)) a) same
-
--- and is a step
-pub step-changing :
-    (state : State) (edit : Edit) (drawn : ℕ) (whole answer : Answer)
-    → first_broken (numbers state drawn ∷ []) ≡ None
-    → without_balances whole ≡ answer → is_nothing edit ≡ false → IsExact state.book edit
-    → StepsTo state (changing state [] (edited edit state.book) drawn whole)
-    (Ok (record { edit = edit; next = state.next + drawn; answer = answer }))
-step-changing state edit drawn whole answer e same changes exact =
-    record { leads = done-changing state edit drawn whole answer e same changes; exact = exact }
 
 -- a command that leaves the book is a step that changes nothing
 pub step-leaving :
@@ -150,11 +124,3 @@ pub either-changed :
 either-changed state true rules book drawn left made result e other h = absurd cc
 either-changed state false rules book drawn left made result e other h =
     past-changing state rules book drawn made result e h
-
--- the limit of numbers is the last rule of a change
-pub broken-numbers :
-    (state : State) (book : Book) (drawn : ℕ) (answer : Answer) (rule : Rule)
-    → first_broken (numbers state drawn ∷ []) ≡ Some rule
-    → changing state [] book drawn answer ≡ Broken rule
-broken-numbers state book drawn answer rule e =
-    ap (λ (broken : Option Rule). unless_broken broken (Done (changed state book drawn) answer)) e

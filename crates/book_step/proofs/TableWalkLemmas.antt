@@ -40,7 +40,8 @@ named-here {T} kind names es i n x still there is number =
     let here = find_here (λ (e : ℕ × T). e.0) (λ (e : ℕ × T). names e.1) es i n
     (tested (λ (e : ℕ × T). e.1) names (slice_get es i) x true there is) number in
     ap (λ (rule : Option Rule). first_broken (rule ∷ []))
-    (ap (option_map (λ (e : ℕ × T). InUse kind e.0)) (sym still) ∙ ruled kind (find (λ e. names e.1) (drop i es)) n here)
+    (ap (option_map (λ (e : ℕ × T). InUse kind e.0)) (sym still)
+    ∙ ruled kind (find (λ e. names e.1) (drop i es)) n here)
 
 pub named-past :
     {T : Type 0} (names : T → Bool) (es : List (ℕ × T)) (i : ℕ) (x : T)
@@ -51,14 +52,6 @@ named-past {T} names es i x still there other =
     sym (find_skips (λ (e : ℕ × T). names e.1) es i
     (tested (λ (e : ℕ × T). e.1) names (slice_get es i) x false there other))
     ∙ still
-
-pub named-end :
-    {T : Type 0} (kind : Kind) (names : T → Bool) (es : List (ℕ × T)) (i : ℕ) → length es ≤ i
-    → find (λ e. names e.1) (drop i es) ≡ find (λ e. names e.1) es
-    → first_broken (in_use_by kind names es ∷ []) ≡ None
-named-end {T} kind names es i past still =
-    ap (λ (found : Option (ℕ × T)). first_broken (option_map (λ e. InUse kind e.0) found ∷ []))
-    (sym still ∙ ap (find (λ (e : ℕ × T). names e.1)) (drop_all i es past))
 
 -- ---- the lines that lose their splits
 

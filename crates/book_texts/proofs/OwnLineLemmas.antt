@@ -8,7 +8,7 @@ use Rattle.book_command.specs.declared.answer.Answer.{Answer}
 use Rattle.book_command.specs.declared.answer.Answer.TheVariants.{AccountAdd, AccountDrop, AccountEdit}
 use Rattle.book_command.specs.declared.answer.Answer.TheVariants.{BookCurrency, CommodityAdd, Post, Edit, Drop}
 use Rattle.book_command.specs.declared.rule.Rule.{Rule}
-use Rattle.book_command.specs.declared.rule.Rule.TheVariants.{Basis, BasisShape, Cycle, FractionShape, Limit}
+use Rattle.book_command.specs.declared.rule.Rule.TheVariants.{Basis, BasisShape, Cycle, FractionShape, InUse, Limit}
 use Rattle.book_command.specs.declared.rule.Rule.TheVariants.{NameTaken, NotEmpty, ParentKind, Placeholder, Root}
 use Rattle.book_command.specs.declared.rule.Rule.TheVariants.{Reconciled, SplitCount, Stale, Unbalanced, Unknown}
 use Rattle.book_command.specs.declared.rule.Rule.TheVariants.{ValueNotQuantity, WrongCurrency}

@@ -1,6 +1,6 @@
 -- The line that answers a command which would break a rule.
 use Rattle.std.specs.Prelude.{ℕ, List, [], ◌∷◌, codes}
-use Rattle.serde_json.specs.Data.{Members}
+use Rattle.serde_json.specs.Data.{Data, Members}
 use Rattle.book_commodity.specs.declared.kind.Kind.{Kind}
 use Rattle.book_command.specs.declared.rule.Rule.{Rule}
 use Rattle.book_command.specs.declared.rule.Rule.TheVariants.{Stale, Unknown, NameTaken, Cycle, ParentKind, Root}
@@ -12,7 +12,7 @@ use Rattle.book_texts.specs.Shown.{number_data, sum_data}
 use Rattle.book_texts.specs.Words.{kind_data, limit_data}
 
 -- A thing by its kind and its number.
-abbrev pub named_by : Kind → ℕ → Members
+abbrev pub named_by : Kind → ℕ → List (List ℕ × Data)
 named_by kind id = (codes "kind", kind_data kind) ∷ (codes "id", number_data id) ∷ []
 
 -- Each rule by its name and its own fields, with the version, which stays.

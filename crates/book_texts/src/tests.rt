@@ -7,7 +7,7 @@ use std::alloc::Global;
 /// A rule, the version that stands with it, and the line.
 type Row = (Rule, u64, &'static str);
 
-static RULES: [Row; 17] = [
+static RULES: [Row; 18] = [
     (
         Rule::Stale { now: 42 },
         42,
@@ -42,6 +42,14 @@ static RULES: [Row; 17] = [
         Rule::NotEmpty { account: 7 },
         51,
         r#"{"account":7,"broken":"NotEmpty","version":51}"#,
+    ),
+    (
+        Rule::InUse {
+            kind: Kind::Line,
+            id: 8,
+        },
+        52,
+        r#"{"broken":"InUse","id":8,"kind":"line","version":52}"#,
     ),
     (
         Rule::FractionShape,

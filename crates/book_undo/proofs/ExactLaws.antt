@@ -148,18 +148,19 @@ exact_of b e r allowed change =
       allowed = allowed;
       things = λ k m. (
         λ has same.
-        leaf_shows k m b (key_at 0 0) (leaves e) b r refl up kept.0 change has (ap (thing_at k m) (sym after) ∙ same),
+            leaf_shows k m b (key_at 0 0) (leaves e) b r refl up kept.0 change has
+            (ap (thing_at k m) (sym after) ∙ same),
         λ differs.
-        true_of (any_touches k m (leaves e))
-        (λ none. differs (ap (thing_at k m) after ∙ untouched k m (leaves e) b r none)),
+            true_of (any_touches k m (leaves e))
+            (λ none. differs (ap (thing_at k m) after ∙ untouched k m (leaves e) b r none)),
       );
       currency = (
         λ has same.
-        currency_shows b (key_at 0 0) (leaves e) b refl up change has
-        (ap (λ (c : Book). c.currency) (sym after) ∙ same),
+            currency_shows b (key_at 0 0) (leaves e) b refl up change has
+            (ap (λ (c : Book). c.currency) (sym after) ∙ same),
         λ differs.
-        true_of (has_currency (leaves e))
-        (λ none. differs (ap (λ (c : Book). c.currency) after ∙ currency_untouched (leaves e) b none)),
+            true_of (has_currency (leaves e))
+            (λ none. differs (ap (λ (c : Book). c.currency) after ∙ currency_untouched (leaves e) b none)),
       );
     }
 
