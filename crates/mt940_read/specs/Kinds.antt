@@ -52,13 +52,13 @@ is_named name text = pointwise nat_eq text name
 -- The tags that say something (SWIFT, MT940); 20 is no name here, since it begins a message.
 unfoldable pub tag_of : List ℕ → Option Tag
 tag_of name =
-    if is_named (codes "61") name then Some tag.Line
-    else (if is_named (codes "86") name then Some tag.Text
-    else (if is_named (codes "21") name then Some tag.Related
+    if is_named (codes "21") name then Some tag.Related
     else (if is_named (codes "25") name || is_named (codes "25P") name then Some tag.Account
     else (if is_named (codes "28") name || is_named (codes "28C") name then Some tag.Number
     else (if is_named (codes "60F") name then Some (tag.Opening false)
     else (if is_named (codes "60M") name then Some (tag.Opening true)
+    else (if is_named (codes "61") name then Some tag.Line
+    else (if is_named (codes "86") name then Some tag.Text
     else (if is_named (codes "62F") name then Some (tag.Closing false)
     else (if is_named (codes "62M") name then Some (tag.Closing true)
     else (if is_named (codes "64") name then Some tag.Available

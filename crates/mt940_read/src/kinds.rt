@@ -63,11 +63,7 @@ fn byte_at(line: &[u8], place: usize) -> u8
 fn tag_of(name: &[u8]) -> Option<Tag>
     ensures { result ≡ tag_of name.now }
 {
-    if name == b"61".as_slice() {
-        Some(Tag::Line)
-    } else if name == b"86".as_slice() {
-        Some(Tag::Text)
-    } else if name == b"21".as_slice() {
+    if name == b"21".as_slice() {
         Some(Tag::Related)
     } else if name == b"25".as_slice() || name == b"25P".as_slice() {
         Some(Tag::Account)
@@ -77,6 +73,10 @@ fn tag_of(name: &[u8]) -> Option<Tag>
         Some(Tag::Opening { goes_on: false })
     } else if name == b"60M".as_slice() {
         Some(Tag::Opening { goes_on: true })
+    } else if name == b"61".as_slice() {
+        Some(Tag::Line)
+    } else if name == b"86".as_slice() {
+        Some(Tag::Text)
     } else if name == b"62F".as_slice() {
         Some(Tag::Closing { goes_on: false })
     } else if name == b"62M".as_slice() {
