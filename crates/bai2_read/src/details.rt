@@ -3,7 +3,7 @@ ghost use Rattle.bai2_read.specs.Details.{bank_reference, customer_reference, de
 ghost use Rattle.bai2_read.specs.Details.{funds_part, is_type, line_of, own_text};
 
 use crate::amounts::{amount, line_amount};
-use crate::fields::{after_fields, field, field_text, text_after};
+use crate::fields::{after_fields, field, field_text, first_field, text_after};
 use crate::funds::{further, value_day};
 use crate::texts::copy_of;
 use book_commodity::{Day, Many, OutOfMemory, Text};
@@ -25,31 +25,19 @@ pub fn full_count(body: &[u8]) -> usize
     5 + further(funds_part(body))
 }
 
-/// The bank reference of a detail with so many fields up to its customer reference.
-#[tactic(auto, unfolding(crate::specs::Details::bank_reference, crate::specs::Details::full_count))]
-fn bank_reference(body: &str, full: usize) -> &str
+/// What stands behind the funds type of a detail with so many fields up to its customer reference: its bank reference,
+/// its customer reference, and its text.
+#[tactic(auto, unfolding(crate::specs::Details::bank_reference, crate::specs::Details::full_count, crate::specs::Fields::field))]
+fn last_parts(body: &str, full: usize) -> (&str, &str, &str)
     requires { full ≡ full_count body.now }
-    ensures { result.now ≡ bank_reference body.now }
+    ensures bank { result.0.now ≡ bank_reference body.now }
+    ensures customer { result.1.now ≡ customer_reference body.now }
+    ensures text { result.2.now ≡ own_text body.now }
 {
-    field_text(body, full - 2)
-}
-
-/// The customer reference of a detail with so many fields up to it.
-#[tactic(auto, unfolding(crate::specs::Details::customer_reference, crate::specs::Details::full_count))]
-fn customer_reference(body: &str, full: usize) -> &str
-    requires { full ≡ full_count body.now }
-    ensures { result.now ≡ customer_reference body.now }
-{
-    field_text(body, full - 1)
-}
-
-/// The text of a detail behind its customer reference, up to which it has so many fields.
-#[tactic(auto, unfolding(crate::specs::Details::own_text))]
-fn own_text(body: &str, full: usize) -> &str
-    requires { full ≡ full_count body.now }
-    ensures { result.now ≡ own_text body.now }
-{
-    text_after(body, full)
+    let from_bank = text_after(body, full - 2);
+    let from_customer = text_after(from_bank, 0);
+    let text = text_after(from_customer, 0);
+    (first_field(from_bank), first_field(from_customer), text)
 }
 
 /// Whether the text is a detail type: three digits.
@@ -82,16 +70,16 @@ pub fn line_of(
 ) -> Result<StatementLine, OutOfMemory>
     ensures { IfOk result (λ line. line ≡ line_of day body.now more.now given) }
 {
-    let full = full_count(body.as_bytes());
-    let mut text = copy_of(alloc, own_text(body, full))?;
+    let (bank, customer, own) = last_parts(body, full_count(body.as_bytes()));
+    let mut text = copy_of(alloc, own)?;
     add_piece(alloc, &mut text, more)?;
     Ok(StatementLine {
         day,
         value_day: value_day(day, funds_part(body.as_bytes())),
         amount: given,
         kind: copy_of(alloc, field_text(body, 0))?,
-        ref_own: copy_of(alloc, customer_reference(body, full))?,
-        ref_bank: copy_of(alloc, bank_reference(body, full))?,
+        ref_own: copy_of(alloc, customer)?,
+        ref_bank: copy_of(alloc, bank)?,
         text,
         category: Text::new(alloc),
         parts: Many::new(alloc),

@@ -1,6 +1,6 @@
 ghost use Rattle.std.specs.Prelude.{◌≡◌, ◌<◌, ◌≤◌, ◌==◌, nat_le, drop, length, slice_index};
 ghost use Rattle.std.specs.List.{position_or_len};
-ghost use Rattle.bai2_read.specs.Fields.{after_fields, field, field_count};
+ghost use Rattle.bai2_read.specs.Fields.{after_fields, field, field_count, up_to_comma};
 
 use book_statement::{text_before, text_behind};
 
@@ -73,12 +73,18 @@ pub fn text_after(body: &str, fields: usize) -> &str
 pub fn field_text(body: &str, place: usize) -> &str
     ensures { result.now ≡ field place body.now }
 {
-    let behind = text_after(body, place);
-    let comma = comma_in(behind.as_bytes());
-    if comma == behind.len() {
-        return behind;
+    first_field(text_after(body, place))
+}
+
+/// What stands before the first comma.
+pub fn first_field(text: &str) -> &str
+    ensures { result.now ≡ up_to_comma text.now }
+{
+    let comma = comma_in(text.as_bytes());
+    if comma == text.len() {
+        return text;
     }
-    text_before(behind, comma)
+    text_before(text, comma)
 }
 
 /// How many fields there are.
