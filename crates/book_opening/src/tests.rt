@@ -191,10 +191,11 @@ fn rows_of_each_kind(rt: HostRuntime) -> Result<(), Fail> {
     let Ok(Some(saved)) = read_rows(alloc, &mut keeper) else {
         return Err(Fail::from("not opened"));
     };
-    assert_eq!(rt; (saved.next, saved.version, saved.position, saved.plain.currency), (13, 3, 3, 1));
-    assert_eq!(rt; (saved.plain.commodities.len(), saved.plain.accounts.len(), saved.plain.transactions.len()), (1, 1, 1));
-    assert_eq!(rt; (saved.plain.prices.len(), saved.plain.schedules.len(), saved.plain.statements.len()), (1, 1, 1));
-    assert_eq!(rt; (saved.plain.lines.len(), saved.plain.bindings.len(), saved.plain.reconciliations.len()), (1, 1, 1));
+    let plain = &saved.plain;
+    assert_eq!(rt; (saved.next, saved.version, saved.position, plain.currency), (13, 3, 3, 1));
+    assert_eq!(rt; (plain.commodities.len(), plain.accounts.len(), plain.transactions.len()), (1, 1, 1));
+    assert_eq!(rt; (plain.prices.len(), plain.schedules.len(), plain.statements.len()), (1, 1, 1));
+    assert_eq!(rt; (plain.lines.len(), plain.bindings.len(), plain.reconciliations.len()), (1, 1, 1));
     Ok(())
 }
 

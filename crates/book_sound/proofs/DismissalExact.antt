@@ -1,25 +1,25 @@
 -- An edit of a transaction, together with those that dismiss the lines which lose their splits, is exact.
-use Rattle.std.proofs.Common.{◌≡◌, ◌≢◌, ℕ, ◌+◌, ◌-◌, ◌^◌, ◌<◌, ◌==◌, nat_lt, max, min, Bool, true, false, List, []}
+use Rattle.std.proofs.Common.{◌≡◌, ◌≢◌, ℕ, ◌-◌, ◌^◌, ◌<◌, nat_lt, max, min, Bool, true, false, List, []}
 use Rattle.std.proofs.Common.{◌∷◌, ◌++◌, if◌then◌else◌, flat_map, map, Option, Some, None, option_map, refl, sym, ap}
 use Rattle.std.proofs.Common.{subst, ◌∙◌, arith}
 use Rattle.std.proofs.lemmas.Bool.Decides.{nat_tests}
-use Rattle.book_commodity.specs.Rules.{broken_where, first_broken}
+use Rattle.book_commodity.specs.Rules.{broken_where}
 use Rattle.book_commodity.specs.Table.{AllAbove, Rises, value_of}
 use Rattle.book_splits.specs.declared.split.Split.{Split}
 use Rattle.book_statement.specs.declared.line.Line.{Line}
 use Rattle.book_statement.specs.declared.line_state.LineState.{LineState}
-use Rattle.book_statement.specs.declared.line_state.LineState.TheVariants.{Open, Matched, Dismissed}
-use Rattle.book_undo.specs.Book.{Book, IsRising, thing_at}
-use Rattle.book_undo.specs.Edit.{Key, Leaf, OfPut, depth, deepest, edited, edited_all, is_nothing, key_at, key_of, leaves}
+use Rattle.book_statement.specs.declared.line_state.LineState.TheVariants.{Open, Dismissed}
+use Rattle.book_undo.specs.Book.{Book, IsRising}
+use Rattle.book_undo.specs.Edit.{Key, Leaf, OfPut, depth, deepest, edited, edited_all, is_nothing, key_at, key_of}
+use Rattle.book_undo.specs.Edit.{leaves}
 use Rattle.book_undo.specs.Edit.{together}
 use Rattle.book_undo.specs.EditRules.{first_missing, first_unordered, out_of_order}
 use Rattle.book_undo.specs.Exact.{IsExact}
-use Rattle.book_undo.specs.declared.edit.Edit.{Edit, All, Put}
+use Rattle.book_undo.specs.declared.edit.Edit.{Edit, Put}
 use Rattle.book_undo.specs.declared.rule.EditRule.{EditRule}
 use Rattle.book_undo.specs.declared.rule.EditRule.TheVariants.{OutOfOrder, TooDeep}
 use Rattle.book_undo.specs.declared.thing.Thing.{Thing}
 use Rattle.book_undo.specs.declared.thing.Thing.TheVariants as thing
-use Rattle.book_undo.specs.declared.thing.ThingKind.TheVariants as kind
 use Rattle.book_undo.proofs.ExactLaws.{AllChange, Changes, exact_of, something_of_some}
 use Rattle.book_undo.proofs.PartLaws.{depth_of_all, edited_of_all, leaves_of_all, missing-later}
 use Rattle.book_undo.proofs.ThreeRules.{three_none}

@@ -21,7 +21,8 @@ use Rattle.book_step.specs.Outcome.{Outcome, Broken, Done, but_balances, changed
 use Rattle.book_step.specs.Outcome.{unless_broken}
 use Rattle.book_step.specs.Posting.{new_transaction, post_answer, post_rules}
 use Rattle.book_step.specs.Editing as editing
-use Rattle.book_step.specs.Editing.{book_with, book_without, drop_at, drawn_by, edit_answer, edit_at, edited_transaction, reconciled}
+use Rattle.book_step.specs.Editing.{book_with, book_without, drop_at, drawn_by, edit_answer, edit_at}
+use Rattle.book_step.specs.Editing.{edited_transaction, reconciled}
 use Rattle.book_step.specs.SameTransaction.{same_transaction}
 use Rattle.book_step.specs.Soundness.{IsSound}
 use Rattle.book_splits.proofs.ReplacedLemmas.{with_there}
@@ -100,7 +101,8 @@ drop_answered : (state : State) (n : ℕ) (found : Option Account) (new : State)
     → account_drop_of state n found ≡ Done new reply → HasBalances state new reply
 drop_answered state n None new reply e = absurd cc
 drop_answered state n (Some old) new reply e =
-    changing_answered state (drop_rules state.book n old) (without_thing kind.Account n state.book) 0 answer.AccountDrop new reply tt e
+    changing_answered state (drop_rules state.book n old) (without_thing kind.Account n state.book) 0 answer.AccountDrop
+    new reply tt e
 
 given_answered :
     (state : State) (n : ℕ) (force : Bool) (day : ℤ) (given : GivenTxn) (found : Option Txn) (new : State)

@@ -40,7 +40,8 @@ named-here {T} kind names es i n x still there is number =
     let here = find_here (λ (e : ℕ × T). e.0) (λ (e : ℕ × T). names e.1) es i n
     (tested (λ (e : ℕ × T). e.1) names (slice_get es i) x true there is) number in
     ap (λ (rule : Option Rule). first_broken (rule ∷ []))
-    (ap (option_map (λ (e : ℕ × T). InUse kind e.0)) (sym still) ∙ ruled kind (find (λ e. names e.1) (drop i es)) n here)
+    (ap (option_map (λ (e : ℕ × T). InUse kind e.0)) (sym still)
+    ∙ ruled kind (find (λ e. names e.1) (drop i es)) n here)
 
 pub named-past :
     {T : Type 0} (names : T → Bool) (es : List (ℕ × T)) (i : ℕ) (x : T)

@@ -1,6 +1,7 @@
 use Rattle.std.proofs.Common.{[], ◌∷◌, ◌∙◌}
 use Rattle.book_commodity.proofs.RuleLemmas.{first-past, reports-past}
-use Rattle.book_step.specs.Accounts.{becomes_placeholder, moved_rule, placeholder_rules, root_stays, unknown_given_account}
+use Rattle.book_step.specs.Accounts.{becomes_placeholder, moved_rule, placeholder_rules, root_stays}
+use Rattle.book_step.specs.Accounts.{unknown_given_account}
 use Rattle.book_step.proofs.account_edit.check_edit.Goals as goal
 
 pub returns : goal.returns
