@@ -2,7 +2,7 @@
 use Rattle.std.proofs.Common.{◌≡◌, ℕ, List, [], Option, Some, None, Result, Ok, Err, OnOk, refl, sym, subst}
 use Rattle.book_commodity.specs.Table.{Rises, value_of}
 use Rattle.book_commodity.proofs.ListLemmas.{mapped_some}
-use Rattle.book_accounts.specs.Rules.{IsAnswer, add_rule, move_rule}
+use Rattle.book_accounts.specs.Rules.{Reports, add_rule, move_rule}
 use Rattle.book_accounts.specs.Soundness.{CanBeAdded, CanBeMoved, CanBeTaken}
 use Rattle.book_accounts.specs.Tree.{children_of}
 use Rattle.book_accounts.specs.declared.account.Account.{Account}
@@ -13,7 +13,7 @@ use Rattle.book_accounts.proofs.RootLemmas.{rooted_of}
 
 -- where a check answers Ok, its rule is kept
 pub on_kept :
-    {T : Type 0} (P : Type 0) (rule : Option TreeRule) (r : Result T TreeRule) → IsAnswer rule r → (rule ≡ None → P)
+    {T : Type 0} (P : Type 0) (rule : Option TreeRule) (r : Result T TreeRule) → Reports rule r → (rule ≡ None → P)
     → OnOk r P
 on_kept P rule (Ok x) answer go = go answer
 on_kept P rule (Err broken) answer go = tt

@@ -68,7 +68,7 @@ move_rule tree number name parent =
     first_broken (unknown_account tree number ∷ unknown_account tree parent ∷ name_taken tree (Some number) parent name
     ∷ cycle tree number parent ∷ parent_kind (kind_at tree number) (kind_at tree parent) ∷ [])
 
--- What a check answers: the rule that is broken, and Ok exactly where none is.
-abbrev pub IsAnswer : {T : Type 0} → Option TreeRule → Result T TreeRule → Type 0
-IsAnswer rule (Ok _) = rule ≡ None
-IsAnswer rule (Err broken) = rule ≡ Some broken
+-- What a check of one rule reports: the rule that is broken, and Ok exactly where none is.
+abbrev pub Reports : {T : Type 0} → Option TreeRule → Result T TreeRule → Type 0
+Reports rule (Ok _) = rule ≡ None
+Reports rule (Err broken) = rule ≡ Some broken

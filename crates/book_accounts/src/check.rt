@@ -1,7 +1,7 @@
 ghost use Rattle.std.specs.Prelude.{◌≡◌, ◌<◌, [], length, Some, OnOk, MatchBool, IfOk, option_map, slice_get};
 ghost use Rattle.std.specs.Bool.{OnFalse};
 ghost use Rattle.book_commodity.specs.Table.{Rises, value_of};
-ghost use Rattle.book_accounts.specs.Rules.{IsAnswer, add_rule, is_within, is_namesake, move_rule, name_taken};
+ghost use Rattle.book_accounts.specs.Rules.{Reports, add_rule, is_within, is_namesake, move_rule, name_taken};
 ghost use Rattle.book_accounts.specs.Rules.{namesake, parent_kind, unknown_account};
 ghost use Rattle.book_accounts.specs.Soundness.{CanBeAdded, CanBeMoved, CanBeTaken};
 ghost use Rattle.book_accounts.specs.Tree.{IsRooted, children_of};
@@ -13,7 +13,7 @@ impl Tree {
     /// The first rule of the tree that adding the account would break: its parent isn't there, a sibling has its name,
     /// or its parent is of another group. An account without a parent, whatever its name, breaks the rule of kinds.
     pub fn check_add(&self, account: &Account) -> Result<(), TreeRule>
-        ensures first_rule { IsAnswer (add_rule self.now.entries account.now) result }
+        ensures first_rule { Reports (add_rule self.now.entries account.now) result }
         ensures keeps { OnOk result (CanBeAdded self.now.entries account.now) }
     {
         let Some(parent) = account.parent else {
@@ -29,7 +29,7 @@ impl Tree {
     /// parent is of another group.
     pub fn check_move(&self, number: u64, name: &Text, parent: u64) -> Result<(), TreeRule>
         requires { IsRooted self.now.entries }
-        ensures first_rule { IsAnswer (move_rule self.now.entries number name.now parent) result }
+        ensures first_rule { Reports (move_rule self.now.entries number name.now parent) result }
         ensures keeps { OnOk result (CanBeMoved self.now.entries number name.now parent) }
     {
         let account = self.known(number)?;
@@ -58,7 +58,7 @@ impl Tree {
     /// The account with this number, which has to be there.
     fn known(&self, number: u64) -> Result<&Account, TreeRule>
         ensures there { IfOk result (λ account. value_of number self.now.entries ≡ Some account.now) }
-        ensures unknown { IsAnswer (unknown_account self.now.entries number) result }
+        ensures unknown { Reports (unknown_account self.now.entries number) result }
         ensures rises { Rises self.now.entries }
     {
         match self.accounts.find(number) {
@@ -69,7 +69,7 @@ impl Tree {
 
     /// No account under the parent may have the name; one account is set apart.
     fn check_name(&self, apart: Option<u64>, parent: u64, name: &Text) -> Result<(), TreeRule>
-        ensures { IsAnswer (name_taken self.now.entries apart parent name.now) result }
+        ensures { Reports (name_taken self.now.entries apart parent name.now) result }
     {
         match self.namesake(apart, parent, name) {
             Some(id) => Err(TreeRule::NameTaken { id }),
@@ -115,7 +115,7 @@ impl Tree {
 
 /// An account of the first kind may stand under one of the second.
 fn check_kind(kind: AccountKind, above: AccountKind) -> Result<(), TreeRule>
-    ensures { IsAnswer (parent_kind (Some kind) (Some above)) result }
+    ensures { Reports (parent_kind (Some kind) (Some above)) result }
 {
     if kind.fits_under(above) {
         Ok(())

@@ -1,6 +1,7 @@
 -- A number that is drawn is above all numbers before, so nothing stands under it, and what is put there comes behind
 -- all.
-use Rattle.std.proofs.Common.{◌≡◌, ◌≢◌, ◌⊎◌, inl, inr, ◌==◌, nat_lt, true, false, ℕ, ◌<◌, ◌≤◌, ◌+◌, All, List, [], ◌∷◌, ◌++◌}
+use Rattle.std.proofs.Common.{◌≡◌, ◌≢◌, ◌⊎◌, inl, inr, ◌==◌, nat_lt, true, false, ℕ, ◌<◌, ◌≤◌, ◌+◌, All, List, [], ◌∷◌}
+use Rattle.std.proofs.Common.{◌++◌}
 use Rattle.std.proofs.Common.{length, is_none, is_some, if◌then◌else◌, Bool, Option, Some, None, refl, sym, ap, ◌∙◌}
 use Rattle.std.proofs.Common.{arith}
 use Rattle.std.proofs.lemmas.Bool.Decides.{nat_tests}

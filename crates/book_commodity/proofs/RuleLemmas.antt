@@ -26,7 +26,7 @@ first-here [] ys rule e = absurd cc
 first-here (None ∷ xs) ys rule e = first-here xs ys rule e
 first-here (Some other ∷ xs) ys rule e = e
 
--- what is told of the rules behind unbroken ones is told of all
+-- what is reported of the rules behind unbroken ones is reported of all
 pub reports-past :
     {T R : Type 0} (xs ys : List (Option R)) (result : Result T R) → first_broken xs ≡ None → ReportsFirst ys result
     → ReportsFirst (xs ++ ys) result

@@ -67,7 +67,7 @@ pub rises_without : {T : Type 0} (n : ℕ) (es : List (ℕ × T)) → Rises es �
 rises_without n [] r = tt
 rises_without n (e ∷ es) r = rises_without_by n e es (n == e.0) r (rises_without n es r.1)
 
--- rising entries that tell the same values are the same entries
+-- rising entries with the same values under all numbers are the same entries
 same_first :
     {T : Type 0} (m n : ℕ) (x y : T) (ds es : List (ℕ × T)) → AllAbove m ds → AllAbove n es
     → ((k : ℕ) → value_of k ((m, x) ∷ ds) ≡ value_of k ((n, y) ∷ es)) → (m ≡ n) × (x ≡ y)
@@ -200,7 +200,7 @@ gap_without n es zero h = above_without_entry n es h
 gap_without n [] (suc place) h = absurd h
 gap_without n (e ∷ es) (suc place) h = grind (arith, nat_tests, h.0, gap_without n es place h.1)
 
--- what a place tells of the values and of the entries with a value put or taken
+-- what a place says of the values and of the entries with a value put or taken
 pub ruleset places = (
   at_below,
   at_number,

@@ -158,7 +158,7 @@ pub first_at_front : (rows : List Row) → first_row rows ≡ slice_get rows 0
 first_at_front [] = refl
 first_at_front (r ∷ rows) = refl
 
--- what a place tells of the rows with one put or taken, and of the first row behind a key
+-- what a place says of the rows with one put or taken, and of the first row behind a key
 pub ruleset places = (
   at_below,
   at_with,

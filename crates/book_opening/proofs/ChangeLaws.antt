@@ -1,5 +1,5 @@
 -- What an edit of a book changes in its rows: the rows of the edited book are those before with these changes made.
-use Rattle.std.proofs.Common.{◌≡◌, ℕ, zero, suc, ◌+◌, ◌*◌, ◌^◌, ◌<◌, ◌≤◌, max, nat_lt, ◌==◌, Bool, true, false}
+use Rattle.std.proofs.Common.{◌≡◌, ℕ, suc, ◌+◌, ◌*◌, ◌^◌, ◌<◌, ◌≤◌, max, nat_lt, ◌==◌, Bool, true, false}
 use Rattle.std.proofs.Common.{if◌then◌else◌, List, [], ◌∷◌, ◌++◌, map, Option, Some, None, option_map}
 use Rattle.std.proofs.Common.{refl, sym, ap, ◌∙◌, subst, append_assoc, arith}
 use Rattle.std.proofs.lemmas.Bool.Decides.{nat_tests}
@@ -8,9 +8,10 @@ use Rattle.std.specs.List.{AllByRecursion, flat_map}
 use Rattle.book_keeper.specs.declared.row.RowKey.{RowKey}
 use Rattle.book_keeper.specs.declared.row.Row.{Row}
 use Rattle.book_keeper.specs.declared.row.Change.{Change}
-use Rattle.book_keeper.specs.Rows.{AreRising, AreRisingFrom, after_change, after_changes, rank, with_row, without_row}
+use Rattle.book_keeper.specs.Rows.{AreRising, AreRisingFrom, after_changes, rank, with_row, without_row}
+use Rattle.book_commodity.proofs.ListLemmas.{mapped_none}
 use Rattle.book_undo.specs.Book.{Book, with_currency, with_thing, without_thing}
-use Rattle.book_undo.specs.Edit.{Leaf, OfCurrency, OfPut, OfGone, leaves, edited, Key, key_at, key_of}
+use Rattle.book_undo.specs.Edit.{Leaf, OfCurrency, OfPut, OfGone, leaves, edited, key_at}
 use Rattle.book_undo.specs.EditRules.{is_above, first_unordered, out_of_order}
 use Rattle.book_undo.specs.Thing.{row_kind, kind_of as thing_kind}
 use Rattle.book_undo.specs.declared.edit.Edit.{Edit}
@@ -18,12 +19,12 @@ use Rattle.book_undo.specs.declared.thing.Thing.{Thing}
 use Rattle.book_undo.specs.declared.thing.Thing.TheVariants as thing
 use Rattle.book_undo.specs.declared.thing.ThingKind.{ThingKind}
 use Rattle.book_undo.specs.declared.thing.ThingKind.TheVariants as kind
-use Rattle.book_undo.proofs.EditLaws.{after_leaf, after_leaves, edited-leaves}
-use Rattle.book_rows.specs.Row.{IsRecord, IsWithin, kind_of}
+use Rattle.book_undo.proofs.EditLaws.{after_leaves, edited-leaves}
+use Rattle.book_rows.specs.Row.{IsRecord, kind_of}
 use Rattle.book_rows.specs.declared.head.Head.{Head}
 use Rattle.book_rows.specs.declared.record.Record.{Record}
 use Rattle.book_rows.specs.declared.record.Record.TheVariants as kept
-use Rattle.book_opening.specs.BookRows.{behind_head, record_of, records_of, row_of, rows_of, things_of}
+use Rattle.book_opening.specs.BookRows.{behind_head, record_of, row_of, things_of}
 use Rattle.book_opening.specs.Changes.{LeafFits, IsSmallLeaf, changes_of, leaf_changes}
 use Rattle.book_opening.specs.Opening.{CanBeRow, HasNoSteps, OpenAs}
 use Rattle.book_opening.specs.State.{State, head_of}
@@ -235,23 +236,21 @@ rise_from j m (OfPut k t ∷ ls) n e small low le =
     )
 rise_from j m (OfGone t k ∷ ls) n e small low le =
     let least = kind_least t in
-    let both = ordered_by (is_above (key_at (row_kind t) k) (key_at j m)) (first_unordered (key_at (row_kind t) k) ls) e in
-    let above = above_rank (row_kind t) k j m both.0 (omega arith) in (
+    let both = ordered_by (is_above (key_at (row_kind t) k) (key_at j m))
+        (first_unordered (key_at (row_kind t) k) ls) e in
+    let above = above_rank (row_kind t) k j m both.0 (omega arith) in
+    (
       omega (arith, above, least),
       small.0,
       rise_from (row_kind t) k ls (row_kind t * 2 ^ 64 + k + 1) both.1 small.1 small.0 (omega arith),
     )
-
-none_mapped : {X Y : Type 0} (f : X → Y) (o : Option X) → option_map f o ≡ None → o ≡ None
-none_mapped f None e = refl
-none_mapped f (Some x) e = absurd cc
 
 -- The changes of an edit whose leaves have rising keys have rising keys, as a commit wants it.
 pub changes_rise :
     (head : Head) (edit : Edit) → out_of_order (leaves edit) ≡ None → AllByRecursion IsSmallLeaf (leaves edit)
     → AreRising (changes_of head edit)
 changes_rise head edit e small =
-    let order = none_mapped _ (first_unordered (key_at 0 0) (leaves edit)) e in
+    let order = mapped_none _ (first_unordered (key_at 0 0) (leaves edit)) e in
     (omega arith, omega arith, rise_from 0 0 (leaves edit) (1 * 2 ^ 64 + 0 + 1) order small (omega arith) (omega arith))
 
 -- ---- the leaves of some edits, edit by edit

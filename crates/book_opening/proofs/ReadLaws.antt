@@ -20,7 +20,8 @@ use Rattle.book_opening.specs.declared.fault.OpenFault.TheVariants as fault
 use Rattle.book_opening.proofs.Ranked.{all_weak}
 use Rattle.book_opening.proofs.ThingRecords.{IsSmall}
 use Rattle.book_opening.proofs.ChangeLaws.{all_with, put_row}
-use Rattle.book_opening.proofs.UpTo.{up_to, up_to_next, up_to_end, up_to_first, good_rows, bad_next, bad_first, bad_head}
+use Rattle.book_opening.proofs.UpTo.{up_to, up_to_next, up_to_end, up_to_first, good_rows, bad_next, bad_first}
+use Rattle.book_opening.proofs.UpTo.{bad_head}
 use Rattle.book_opening.proofs.UpTo.{IsGood}
 
 small_records : (es : List (ℕ × Record)) → AllByRecursion IsOnlyRecord es → AllByRecursion IsSmall es

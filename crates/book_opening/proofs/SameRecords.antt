@@ -1,13 +1,12 @@
 -- Books with the same records are the same: each table is what its kind has among the records.
 use Rattle.std.proofs.Common.{◌≡◌, ℕ, List, [], ◌∷◌, ◌++◌, map, Option, Some, None, refl, sym, ap, ◌∙◌, append-nil}
-use Rattle.std.specs.List.{flat_map}
 use Rattle.book_undo.specs.Book.{Book}
 use Rattle.book_undo.specs.declared.thing.Thing.{Thing}
 use Rattle.book_undo.specs.declared.thing.Thing.TheVariants as thing
 use Rattle.book_rows.specs.declared.head.Head.{Head}
 use Rattle.book_rows.specs.declared.record.Record.{Record}
 use Rattle.book_rows.specs.declared.record.Record.TheVariants as kept
-use Rattle.book_opening.specs.BookRows.{behind_head, record_of, records_in, records_of, tables_of, things_of}
+use Rattle.book_opening.specs.BookRows.{record_of, records_in, records_of, tables_of, things_of}
 use Rattle.book_opening.specs.State.{State, head_of}
 use Rattle.book_opening.proofs.Ranked.{joined}
 use Rattle.book_commodity.specs.declared.commodity.Commodity.{Commodity}
@@ -15,6 +14,7 @@ use Rattle.book_accounts.specs.declared.account.Account.{Account}
 use Rattle.book_splits.specs.declared.transaction.Txn.{Txn}
 use Rattle.book_prices.specs.declared.price.Price.{Price}
 use Rattle.book_undo.specs.declared.schedule.Schedule.{Schedule}
+use Rattle.book_undo.proofs.BookLaws.{made_is}
 use Rattle.book_statement.specs.declared.held.Held.{Held}
 use Rattle.book_statement.specs.declared.line.Line.{Line}
 use Rattle.book_statement.specs.declared.binding.Binding.{Binding}
@@ -235,25 +235,7 @@ reconciliations_in b =
     (own (pick-own as_recon (λ it. thing.Recon it) (λ _. refl) b.reconciliations)
     refl))))))))
 
-made : List (ℕ × Commodity) → List (ℕ × Account) → List (ℕ × Txn) → List (ℕ × Price) → List (ℕ × Schedule) → List (ℕ × Held) → List (ℕ × Line) → List (ℕ × Binding) → List (ℕ × Recon) → ℕ → Book
-made t0 t1 t2 t3 t4 t5 t6 t7 t8 currency = record {
-  commodities = t0;
-  accounts = t1;
-  transactions = t2;
-  prices = t3;
-  schedules = t4;
-  statements = t5;
-  lines = t6;
-  bindings = t7;
-  reconciliations = t8;
-  currency = currency;
-}
-
-made_is : (b : Book) → made b.commodities b.accounts b.transactions b.prices b.schedules b.statements b.lines b.bindings b.reconciliations b.currency ≡ b
-unfolding made
-made_is b = refl
-
--- the records of its things and its currency tell a book
+-- books with the same records of things and the same currency are the same
 pub same_things : (b c : Book) → things_of b ≡ things_of c → b.currency ≡ c.currency → b ≡ c
 same_things b c same currency =
     let commodities : b.commodities ≡ c.commodities =
@@ -284,7 +266,7 @@ state_made_is : (s : State) → state_made s.book s.next s.version s.position �
 unfolding state_made
 state_made_is s = refl
 
--- the records of a state tell it
+-- states with the same records are the same
 pub same_state : (s t : State) → records_of s ≡ records_of t → s ≡ t
 same_state s t same =
     let first : ◌≡◌ {A = ℕ × Record} (0, kept.Head (head_of s)) (0, kept.Head (head_of t)) = cc in

@@ -1,5 +1,6 @@
 -- What rows open as: the state whose rows they are, or a key at which they are bad.
-use Rattle.std.specs.Prelude.{ℕ, ◌≡◌, ◌≤◌, ◌<◌, ◌⊎◌, ⊤, Bool, IsTrue, List, [], ◌∷◌, Option, Some, None, Result, Ok, Err, OnOk, IfErr}
+use Rattle.std.specs.Prelude.{ℕ, ◌≡◌, ◌≤◌, ◌<◌, ◌⊎◌, ⊤, Bool, IsTrue, List, [], ◌∷◌, Option, Some, None, Result, Ok}
+use Rattle.std.specs.Prelude.{Err, OnOk, IfErr}
 use Rattle.std.specs.List.{AllByRecursion}
 use Rattle.book_keeper.specs.Faults.{Rose}
 use Rattle.book_keeper.specs.Rows.{rank, first_row}

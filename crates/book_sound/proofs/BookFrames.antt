@@ -17,7 +17,7 @@
 -- that the kinds stay, and that it takes splits as that did where it is in use; a new transaction asks that its splits
 -- have numbers of their own; and where a transaction changes or goes, the lines that lose their splits are dismissed.
 -- What is put into the other tables stands in BookChanges, and what only marks splits in MarkFrames.
-use Rattle.std.proofs.Common.{◌≡◌, ℕ, ◌+◌, ◌<◌, ◌≤◌, true, false, All, List, [], ◌++◌, length, Some, None, IsTrue}
+use Rattle.std.proofs.Common.{◌≡◌, ℕ, ◌+◌, ◌≤◌, true, false, List, [], length, Some, None, IsTrue}
 use Rattle.std.proofs.Common.{is_some, find, refl, ap, ◌∙◌, arith}
 use Rattle.std.proofs.Math.ListN.{length-append}
 use Rattle.std.proofs.lemmas.Bool.{not-true, or_left, or_right}
@@ -26,7 +26,7 @@ use Rattle.book_commodity.specs.Currency.{is_currency_of}
 use Rattle.book_commodity.specs.Table.{value_of, with_entry, without_entry}
 use Rattle.book_commodity.specs.declared.commodity.Commodity.{Commodity}
 use Rattle.book_commodity.proofs.CommodityRuleLemmas.{commodities_with, currency_stays}
-use Rattle.book_commodity.proofs.DrawnLemmas.{drawn_free, length_drawn, length_left, stays_with, value_here, with_last}
+use Rattle.book_commodity.proofs.DrawnLemmas.{drawn_free, length_drawn, length_left, stays_with, value_here}
 use Rattle.book_commodity.proofs.TableLemmas.{rises_with, rises_without}
 use Rattle.book_accounts.specs.AccountRules.{is_root}
 use Rattle.book_accounts.specs.Tree.{children_of}
@@ -37,7 +37,7 @@ use Rattle.book_accounts.proofs.RootLemmas.{rooted_of}
 use Rattle.book_splits.specs.Balance.{has_splits, splits_of}
 use Rattle.book_splits.specs.TransactionRules.{numbers_of}
 use Rattle.book_splits.specs.declared.transaction.Txn.{Txn}
-use Rattle.book_splits.proofs.BalanceLemmas.{splits_of-added}
+use Rattle.book_splits.proofs.BalanceLemmas.{splits_last}
 use Rattle.book_splits.proofs.CountLemmas.{splits-without}
 use Rattle.book_splits.proofs.SuitsLemmas.{suits_stays}
 use Rattle.book_splits.proofs.TransactionRuleLemmas.{Suits, TakesAs}
@@ -243,12 +243,6 @@ account_taken book n old there other none unused is =
     }
 
 -- ---- a transaction under a drawn number
-
--- its splits stand behind all others
-pub splits_last :
-    (n : ℕ) (new : Txn) (ts : List (ℕ × Txn)) → All (λ (e : ℕ × Txn). e.0 < n) ts
-    → splits_of (with_entry n new ts) ≡ splits_of ts ++ new.splits
-splits_last n new ts below = ap splits_of (with_last n new ts below) ∙ splits_of-added ts (n, new)
 
 pub transaction_put :
     (book : Book) (n : ℕ) (new : Txn) → AreDrawn book n

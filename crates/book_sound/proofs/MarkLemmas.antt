@@ -3,20 +3,15 @@ use Rattle.std.proofs.Common.{◌≡◌, ℕ, ◌==◌, true, false, List, Optio
 use Rattle.std.proofs.Common.{ℤ, refl, sym, ap, subst, ◌∙◌, eq-eqb}
 use Rattle.std.specs.List.{list_all, list_any}
 use Rattle.std.proofs.lemmas.Bool.{and_from, and_parts, eqb-true}
-use Rattle.book_commodity.specs.Rules.{IsSoundTable}
 use Rattle.book_commodity.specs.Table.{value_of}
-use Rattle.book_commodity.specs.declared.commodity.Commodity.{Commodity}
-use Rattle.book_accounts.specs.declared.account.Account.{Account}
-use Rattle.book_splits.specs.TransactionRules.{is_new, is_unmarked, transaction_rules}
+use Rattle.book_splits.specs.TransactionRules.{is_new, is_unmarked}
 use Rattle.book_splits.specs.declared.reconciliation.Recon.{Recon}
 use Rattle.book_splits.specs.declared.split.Mark.{Mark}
 use Rattle.book_splits.specs.declared.split.Mark.TheVariants.{New, Cleared, Reconciled}
 use Rattle.book_splits.specs.declared.split.Split.{Split}
-use Rattle.book_splits.specs.declared.transaction.Txn.{Txn}
 use Rattle.book_sound.specs.MarkedTransactionRules.{fits_mark, has_marked, is_marked_as, is_named_rightly}
 use Rattle.book_sound.specs.MarkedTransactionRules.{is_reconciled, is_rightly_marked}
-use Rattle.book_sound.specs.MarkedTransactionRules.{marked_transaction_rules}
-use Rattle.book_sound.proofs.TableFrames.{all_still, sound_still}
+use Rattle.book_sound.proofs.TableFrames.{all_still}
 
 -- A split that isn't reconciled and names no reconciliation is rightly marked.
 pub unreconciled_is_right :
@@ -62,18 +57,6 @@ right_still reconciliations old new same is =
     let by_mark = subst (λ (m : Mark). Right (record with_account { mark = m })) same.mark by_account in
     let by_recon = subst (λ (r : Option ℕ). Right (record with_mark { recon = r })) same.recon by_mark in
     subst (λ (q : ℤ). Right (record with_recon { quantity = q })) same.quantity by_recon
-
--- Transactions that keep the rules of unmarked ones keep those of marked ones.
-pub unmarked_are_sound :
-    (commodities : List (ℕ × Commodity)) (accounts : List (ℕ × Account)) (reconciliations : List (ℕ × Recon))
-    (most : ℕ) (ts : List (ℕ × Txn)) → IsSoundTable (transaction_rules commodities accounts ts) most ts
-    → IsSoundTable (marked_transaction_rules commodities accounts reconciliations ts) most ts
-unmarked_are_sound commodities accounts reconciliations most ts =
-    sound_still (transaction_rules commodities accounts ts)
-    (marked_transaction_rules commodities accounts reconciliations ts) most ts
-    (λ k t there kept.
-    let marks = unmarked_are_right reconciliations t.splits kept.1.1.1.0 in
-    (kept.0, (kept.1.0, (kept.1.1.0, (marks, tt)))))
 
 -- A reconciled split is rightly marked where the reconciliation that it names is there, is of its account, and lists it
 -- with its quantity.

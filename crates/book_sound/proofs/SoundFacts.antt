@@ -144,7 +144,7 @@ once_of (e ∷ prices) r each = (
   once_of prices r.1 (λ k x there. (apart_from_first e prices k x r there each).1),
 )
 
--- The prices of a sound book are those of which rates are told.
+-- The prices of a sound book are those from which rates are reckoned.
 pub prices_are_kept :
     (commodities : List (ℕ × Commodity)) (most : ℕ) (prices : List (ℕ × Price))
     → IsSoundTable (price_rules commodities prices) most prices → AreKept prices

@@ -1,39 +1,20 @@
 -- Splits of one transaction among the splits of all.
 use Rattle.std.proofs.Common.{◌≡◌, ℕ, ◌<◌, ◌==◌, ◌&&◌, ◌||◌, nat_lt, Bool, true, false, cond, if◌then◌else◌, All, List}
 use Rattle.std.proofs.Common.{[], ◌∷◌, ◌++◌, Some, find, refl, sym, ap, subst, ◌∙◌, arith}
-use Rattle.std.specs.List.{list_any}
 use Rattle.std.specs.Option.{option_or}
-use Rattle.std.proofs.lemmas.Bool.{eqb-true, or_left, or_parts, or_right}
+use Rattle.std.proofs.lemmas.Bool.{eqb-true, or_parts}
 use Rattle.std.proofs.lemmas.Bool.Decides.{nat_tests}
 use Rattle.std.proofs.lemmas.List.Elements.{All-head, All-tail}
-use Rattle.std.proofs.lemmas.List.Folds.{find-append, list_any-append}
+use Rattle.std.proofs.lemmas.List.Folds.{find-append}
 use Rattle.book_commodity.specs.Rules.{stands_before}
 use Rattle.book_commodity.specs.Table.{AllAbove, Rises, value_of, with_entry, without_entry}
 use Rattle.book_commodity.proofs.TableLemmas.{above_less, gap_without}
-use Rattle.book_splits.specs.Balance.{has_splits, splits_of}
+use Rattle.book_splits.specs.Balance.{splits_of}
 use Rattle.book_splits.specs.TransactionRules.{is_among, numbers_of, share_numbers}
 use Rattle.book_splits.specs.declared.split.Split.{Split}
 use Rattle.book_splits.specs.declared.transaction.Txn.{Txn}
 use Rattle.book_splits.proofs.ReplacedLemmas.{fails_among, with_there}
 use Rattle.book_sound.specs.LineRules.{split_among, split_at}
-use Rattle.book_sound.specs.Naming.{is_on_some}
-
--- an account with a split of a transaction has one of all
-pub has_of_one :
-    (k account : ℕ) (t : Txn) (ts : List (ℕ × Txn)) → value_of k ts ≡ Some t → is_on_some account t.splits ≡ true
-    → has_splits ts account ≡ true
-has_of_one k account t [] there has = absurd cc
-has_of_one k account t (e ∷ ts) there has =
-    let on = λ (split : Split). split.account == account in
-    let both = list_any-append on e.1.splits (splits_of ts) in
-    let Here : Bool → Type 0 = λ b. (if b then Some e.1 else value_of k ts) ≡ Some t
-    → has_splits (e ∷ ts) account ≡ true in
-    elim (k == e.0) as Here [
-      | true ↦ λ same.
-          let one : e.1 ≡ t = cc in
-          both ∙ or_left (list_any on e.1.splits) _ (ap (λ (x : Txn). list_any on x.splits) one ∙ has)
-      | false ↦ λ rest. both ∙ or_right (list_any on e.1.splits) _ (has_of_one k account t ts rest has)
-    ] there
 
 -- ---- the split with a number
 

@@ -8,6 +8,7 @@ use Rattle.book_commodity.specs.Table.{Rises, value_of, with_entry, without_entr
 use Rattle.book_commodity.proofs.DrawnLemmas.{value_beside, value_here, value_left}
 use Rattle.book_commodity.proofs.RuleLemmas.{each_still}
 use Rattle.book_accounts.specs.declared.account.Account.{Account}
+use Rattle.book_splits.proofs.SuitsLemmas.{takes_as_itself}
 use Rattle.book_splits.proofs.TransactionRuleLemmas.{Suits, TakesAs}
 use Rattle.book_sound.specs.Naming.{has_thing}
 
@@ -44,9 +45,6 @@ all_still test later (x ∷ xs) follows all =
     and_from (later x) _ (follows x parts.0) (all_still test later xs follows parts.1)
 
 -- ---- accounts that are named by others
-
-takes_as_itself : (account : Account) → TakesAs account account
-takes_as_itself account = record { kind = refl; commodity = refl; basis = refl; placeholder = λ still. still }
 
 -- where another account stands in the place of one, and takes splits as that did, if it is named
 pub suits_edited :

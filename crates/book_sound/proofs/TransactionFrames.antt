@@ -19,13 +19,12 @@ use Rattle.book_splits.specs.declared.reconciliation.Recon.{Recon}
 use Rattle.book_splits.specs.declared.split.Split.{Split}
 use Rattle.book_splits.specs.declared.transaction.Txn.{Txn}
 use Rattle.book_splits.proofs.ReplacedLemmas.{IsFrom, all_of_one, none_shared_by, numbers_below, shares_none}
-use Rattle.book_splits.proofs.TransactionRuleLemmas.{Suits}
+use Rattle.book_splits.proofs.TransactionRuleLemmas.{Suits, has_of_one}
 use Rattle.book_sound.specs.MarkedTransactionRules.{fits_mark, has_marked, is_named_rightly, is_reconciled}
 use Rattle.book_sound.specs.MarkedTransactionRules.{is_rightly_marked, marked_transaction_rules}
 use Rattle.book_sound.specs.Naming.{is_on_some}
 use Rattle.book_sound.specs.Tests.{passes_check}
 use Rattle.book_sound.proofs.CheckFrames.{check_beside, check_on}
-use Rattle.book_sound.proofs.SplitFrames.{has_of_one}
 use Rattle.book_sound.proofs.TableFrames.{all_still, sound_still}
 
 -- Transactions stay sound where commodities are added.

@@ -1,10 +1,10 @@
 -- The split that a number names: the first of some splits that has it.
-use Rattle.std.proofs.Common.{◌≡◌, ℕ, ◌==◌, ◌&&◌, ◌||◌, Bool, true, false, if◌then◌else◌, find, All, List, [], ◌∷◌}
+use Rattle.std.proofs.Common.{◌≡◌, ℕ, ◌==◌, ◌||◌, Bool, true, false, if◌then◌else◌, find, All, List, [], ◌∷◌}
 use Rattle.std.proofs.Common.{Option, Some, refl, ap, subst, eq-eqb}
 use Rattle.std.specs.List.{list_all, list_any}
-use Rattle.std.proofs.lemmas.Bool.{eqb-true, or_left, or_right}
+use Rattle.std.proofs.lemmas.Bool.{eqb-true, or_left, or_right, and_parts}
 use Rattle.std.proofs.lemmas.List.Elements.{All-head, All-tail}
-use Rattle.book_splits.specs.TransactionRules.{is_among, is_unmarked, numbers_of}
+use Rattle.book_splits.specs.TransactionRules.{is_among, numbers_of}
 use Rattle.book_splits.specs.declared.split.Split.{Split}
 
 -- The split with a number.
@@ -44,22 +44,18 @@ named_among id (x ∷ splits) s there =
       | false ↦ λ more. or_right (x.id == s.id) _ (named_among id splits s more)
     ] there
 
--- what is unmarked in all splits is in it
-pub named_unmarked :
-    (id : ℕ) (splits : List Split) (s : Split) → list_all is_unmarked splits ≡ true → named id splits ≡ Some s
-    → is_unmarked s ≡ true
-named_unmarked id [] s all there = absurd cc
-named_unmarked id (x ∷ splits) s all there =
-    let Here : Bool → Type 0 = λ b. (if b then Some x else named id splits) ≡ Some s → is_unmarked s ≡ true in
-    let First : Bool → Type 0 = λ b. is_unmarked x ≡ b → (b && list_all is_unmarked splits) ≡ true
-    → is_unmarked s ≡ true in
-    elim (is_unmarked x) as First [
-      | true ↦ λ marked rest. elim (x.id == id) as Here [
-        | true ↦ λ same. let one : x ≡ s = cc in subst (λ (y : Split). is_unmarked y ≡ true) one marked
-        | false ↦ λ more. named_unmarked id splits s rest more
-      ] there
-      | false ↦ λ marked rest. absurd cc
-    ] refl all
+-- what all splits pass, it does
+pub named_passes :
+    (test : Split → Bool) (id : ℕ) (splits : List Split) (s : Split) → list_all test splits ≡ true
+    → named id splits ≡ Some s → test s ≡ true
+named_passes test id [] s all there = absurd cc
+named_passes test id (x ∷ splits) s all there =
+    let Here : Bool → Type 0 = λ b. (if b then Some x else named id splits) ≡ Some s → test s ≡ true in
+    let parts = and_parts (test x) (list_all test splits) all in
+    elim (x.id == id) as Here [
+      | true ↦ λ same. let one : x ≡ s = cc in subst (λ (y : Split). test y ≡ true) one parts.0
+      | false ↦ λ more. named_passes test id splits s parts.1 more
+    ] there
 
 -- a number is one of the splits' where a split has it
 pub among-numbers :

@@ -1,23 +1,16 @@
--- How the rules of transactions stay where a transaction is taken, and where another stands in the place of one.
-use Rattle.std.proofs.Common.{◌≡◌, ℕ, ◌<◌, ◌≤◌, ◌==◌, nat_lt, ◌&&◌, ◌||◌, ◌⊎◌}
+-- The splits and their numbers where a transaction is put or taken, and where another stands in the place of one.
+use Rattle.std.proofs.Common.{◌≡◌, ℕ, ◌<◌, ◌≤◌, ◌==◌, nat_lt, ◌||◌, ◌⊎◌}
 use Rattle.std.proofs.Common.{inl, inr, Bool, true, false, All, List, [], ◌∷◌}
-use Rattle.std.proofs.Common.{Some, None, is_none, if◌then◌else◌, refl, sym, ap, subst, ◌∙◌, arith}
-use Rattle.std.specs.List.{list_all, list_any}
-use Rattle.std.proofs.lemmas.Bool.{eqb-true, ne_eqb, not-true, not_from_false, or_from, or_parts}
+use Rattle.std.proofs.Common.{Some, if◌then◌else◌, refl, sym, ap, subst, ◌∙◌, arith}
+use Rattle.std.specs.List.{list_any}
+use Rattle.std.proofs.lemmas.Bool.{eqb-true, ne_eqb, or_from, or_parts}
 use Rattle.std.proofs.lemmas.Bool.Decides.{nat_tests}
 use Rattle.std.proofs.lemmas.List.Elements.{All-append, All-nil, All-cons, All-head, All-tail}
-use Rattle.book_commodity.specs.Rules.{EachKeeps, first_broken, stands_before}
 use Rattle.book_commodity.specs.Table.{Rises, value_of, with_entry, without_entry}
-use Rattle.book_commodity.specs.declared.commodity.Commodity.{Commodity}
-use Rattle.book_commodity.proofs.DrawnLemmas.{value_without}
 use Rattle.book_commodity.proofs.ListLemmas.{all_back, all_front}
-use Rattle.book_commodity.proofs.RuleLemmas.{each_with, fails_before, none_before_with, none_before_without}
 use Rattle.book_commodity.proofs.TableLemmas.{above_less, above_value}
-use Rattle.book_accounts.specs.declared.account.Account.{Account}
 use Rattle.book_splits.specs.Balance.{splits_of}
-use Rattle.book_splits.specs.Check.{txn_rules}
-use Rattle.book_splits.specs.TransactionRules.{are_once, is_among, is_unmarked, numbers_of, share_numbers}
-use Rattle.book_splits.specs.TransactionRules.{transaction_rules}
+use Rattle.book_splits.specs.TransactionRules.{is_among, numbers_of}
 use Rattle.book_splits.specs.declared.split.Split.{Split}
 use Rattle.book_splits.specs.declared.transaction.Txn.{Txn}
 
@@ -68,19 +61,6 @@ all_splits_with P n new (e ∷ ts) own all =
         | false ↦ All-append P e.1.splits (splits_of (with_entry n new ts)) front later
       ]
     ]
-
--- ---- a transaction that is taken
-
-pub transactions_without :
-    (commodities : List (ℕ × Commodity)) (accounts : List (ℕ × Account)) (n : ℕ) (ts : List (ℕ × Txn)) → Rises ts
-    → EachKeeps (transaction_rules commodities accounts ts) ts
-    → EachKeeps (transaction_rules commodities accounts (without_entry n ts)) (without_entry n ts)
-transactions_without commodities accounts n ts r keep = record {
-  each = λ k t left.
-      let kept = keep.each k t (value_without k n t ts r left) in
-      let alone = none_before_without (share_numbers t) k n ts (not-true _ kept.1.1.0) in
-      (kept.0, (kept.1.0, (not_from_false _ alone, kept.1.1.1)));
-}
 
 -- ---- a transaction in the place of one
 
@@ -154,58 +134,6 @@ numbers_below limit [] below = All-nil (λ (m : ℕ). m < limit)
 numbers_below limit (s ∷ splits) below =
     All-cons (λ (m : ℕ). m < limit) s.id (numbers_of splits) (All-head (λ (x : Split). x.id < limit) s splits below)
     (numbers_below limit splits (All-tail (λ (x : Split). x.id < limit) s splits below))
-
-still_free :
-    (k limit : ℕ) (old new : Txn) (ts : List (ℕ × Txn))
-    → All (IsFrom limit (numbers_of old.splits)) (numbers_of new.splits)
-    → All (λ (s : Split). s.id < limit) (splits_of ts) → stands_before (share_numbers old) k ts ≡ false
-    → stands_before (share_numbers new) k ts ≡ false
-still_free k limit old new [] from below none = refl
-still_free k limit old new (e ∷ ts) from below none =
-    let Below : Split → Type 0 = λ s. s.id < limit in
-    let parts = or_parts (nat_lt e.0 k && share_numbers old e.1) (stands_before (share_numbers old) k ts) none in
-    let numbers = numbers_below limit e.1.splits (all_front Below e.1.splits (splits_of ts) below) in
-    let first : (nat_lt e.0 k && share_numbers new e.1) ≡ false =
-    (elim (nat_lt e.0 k) as
-    (λ (b : Bool). (b && share_numbers old e.1) ≡ false → (b && share_numbers new e.1) ≡ false) [
-      | true ↦ λ free. none_shared_by limit (numbers_of old.splits) (numbers_of new.splits) (numbers_of e.1.splits)
-          numbers from free
-      | false ↦ λ free. refl
-    ]) parts.0 in
-    or_from (nat_lt e.0 k && share_numbers new e.1) _ first
-    (still_free k limit old new ts from (all_back Below e.1.splits (splits_of ts) below) parts.1)
-
--- What a transaction brings that stands in the place of one: it breaks no rule, its splits have numbers of their own,
--- which are those of splits that were there or drawn from the limit on, and they are unmarked.
-pub record IsReplacement (commodities : List (ℕ × Commodity)) (accounts : List (ℕ × Account)) (limit : ℕ)
-    (old new : Txn) : Type 0 where
-  pub check : first_broken (txn_rules commodities accounts new) ≡ None
-  pub once : are_once (numbers_of new.splits) ≡ true
-  pub from : All (IsFrom limit (numbers_of old.splits)) (numbers_of new.splits)
-  pub marks : list_all is_unmarked new.splits ≡ true
-
-pub transactions_replaced :
-    (commodities : List (ℕ × Commodity)) (accounts : List (ℕ × Account)) (limit n : ℕ) (old new : Txn)
-    (ts : List (ℕ × Txn))
-    → value_of n ts ≡ Some old → All (λ (s : Split). s.id < limit) (splits_of ts)
-    → IsReplacement commodities accounts limit old new
-    → EachKeeps (transaction_rules commodities accounts ts) ts
-    → EachKeeps (transaction_rules commodities accounts (with_entry n new ts)) (with_entry n new ts)
-transactions_replaced commodities accounts limit n old new ts there below is keep =
-    let later = with_entry n new ts in
-    let Below : Split → Type 0 = λ s. s.id < limit in
-    let was = keep.each n old there in
-    let own = none_before_with (share_numbers new) n n new ts (λ before. absurd (omega (arith, before)))
-    (still_free n limit old new ts is.from below (not-true _ was.1.1.0)) in
-    each_with (transaction_rules commodities accounts ts) (transaction_rules commodities accounts later) n new ts
-    (ap is_none is.check, (is.once, (not_from_false _ own, (is.marks, tt))))
-    (λ k t other found kept.
-    let free = not-true _ kept.1.1.0 in
-    let numbers = numbers_below limit t.splits (all_of_one Below k t ts found below) in
-    let once = none_before_with (share_numbers t) k n new ts
-    (λ before. shares_none limit (numbers_of old.splits) (numbers_of new.splits) (numbers_of t.splits) numbers is.from
-    (fails_before (share_numbers t) k n old ts free before there)) free in
-    (kept.0, (kept.1.0, (not_from_false _ once, kept.1.1.1)))) keep
 
 -- what is put where it stands already changes nothing
 pub with_there :

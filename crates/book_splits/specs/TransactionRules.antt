@@ -1,10 +1,7 @@
--- The rules that each transaction of a book keeps.
+-- What the rules that each transaction of a book keeps say of its splits: the numbers that they have, and whether they
+-- are unmarked.
 use Rattle.std.specs.Prelude.{ℕ, ◌==◌, not, Bool, true, false, ◌&&◌, List, [], ◌∷◌, map, is_none}
-use Rattle.std.specs.List.{list_all, list_any}
-use Rattle.book_commodity.specs.Rules.{first_broken, stands_before}
-use Rattle.book_commodity.specs.declared.commodity.Commodity.{Commodity}
-use Rattle.book_accounts.specs.declared.account.Account.{Account}
-use Rattle.book_splits.specs.Check.{txn_rules}
+use Rattle.std.specs.List.{list_any}
 use Rattle.book_splits.specs.declared.split.Mark.{Mark}
 use Rattle.book_splits.specs.declared.split.Mark.TheVariants.{New}
 use Rattle.book_splits.specs.declared.split.Split.{Split}
@@ -32,18 +29,6 @@ abbrev pub is_new : Mark → Bool
 is_new New = true
 is_new _ = false
 
--- Whether a split is unmarked: it is new, and names no reconciliation (GnuCash Manual, reconciling). No command marks
--- a split yet.
+-- Whether a split is unmarked: it is new, and names no reconciliation (GnuCash Manual, reconciling).
 abbrev pub is_unmarked : Split → Bool
 is_unmarked split = is_new split.mark && is_none split.recon
-
--- The rules of a transaction: it passes the check of transactions among the commodities and the accounts of the book;
--- each of its splits has a number that no other of them has, and none of a transaction before it; and they are
--- unmarked.
-abbrev pub transaction_rules : List (ℕ × Commodity) → List (ℕ × Account) → List (ℕ × Txn) → ℕ → Txn → List Bool
-transaction_rules commodities accounts transactions number transaction =
-    is_none (first_broken (txn_rules commodities accounts transaction))
-    ∷ are_once (numbers_of transaction.splits)
-    ∷ not (stands_before (share_numbers transaction) number transactions)
-    ∷ list_all is_unmarked transaction.splits
-    ∷ []

@@ -31,7 +31,7 @@ use Rattle.std.specs.Option.{option_or}
 use Rattle.book_commodity.specs.Table.{with_entry}
 use Rattle.book_commodity.specs.declared.commodity.Commodity.{Commodity}
 use Rattle.book_statement.specs.Currencies.{fraction_if, fraction_of, is_currency_named, IsFraction, HaveFractions}
-use Rattle.book_statement.proofs.ListLemmas.{drop_at, mapped_some}
+use Rattle.book_commodity.proofs.ListLemmas.{drop_at, mapped_some}
 
 -- from a place on, the commodity there is asked first
 pub fraction_of-step : (code : List ℕ) (es : List (ℕ × Commodity)) (i : ℕ) (found : Option ℕ)

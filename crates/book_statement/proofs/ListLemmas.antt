@@ -1,31 +1,5 @@
 -- Laws of what items give with those before them, and of neighbours that belong together.
-use Rattle.std.proofs.Common.{
-  ◌≡◌,
-  ℕ,
-  zero,
-  suc,
-  ◌+◌,
-  drop,
-  Option,
-  Some,
-  None,
-  option_map,
-  slice_get,
-  add-one,
-  Bool,
-  true,
-  false,
-  cond,
-  List,
-  [],
-  ◌∷◌,
-  ◌++◌,
-  refl,
-  sym,
-  ap,
-  ◌∙◌,
-  append_assoc,
-}
+use Rattle.std.proofs.Common.{◌≡◌, ◌+◌, Bool, true, false, cond, List, [], ◌∷◌, ◌++◌, refl, sym, ap, ◌∙◌, append_assoc}
 use Rattle.std.proofs.lemmas.List.{append-nil}
 use Rattle.book_statement.specs.Lists.{each_after, in_front, grouped, on_last}
 
@@ -102,18 +76,3 @@ module _ {X Y : Type 0} (alone : X → Y) (onto : X → Y → Y) (grow : Y → X
       ap (in_front onto alone (joins z w) z) (grouped-push joins (w ∷ ws) x y)
       ∙ in_front-pushed (joins z w) (joins x y) z y (grouped joins alone onto (w ∷ (ws ++ x ∷ [])))
       (grouped-some joins alone onto w (ws ++ x ∷ []))
-
--- what is left of a list from a place on begins with the item there
-pub drop_at : {X : Type 0} (xs : List X) (i : ℕ) (x : X) → slice_get xs i ≡ Some x → drop i xs ≡ x ∷ drop (i + 1) xs
-drop_at xs i x e = from_suc xs i x e ∙ ap (λ (k : ℕ). x ∷ drop k xs) (sym (add-one i))
-  where
-    from_suc : {X : Type 0} (xs : List X) (i : ℕ) (x : X) → slice_get xs i ≡ Some x → drop i xs ≡ x ∷ drop (suc i) xs
-    from_suc [] i x e = absurd cc
-    from_suc (y ∷ xs) zero x e = let same : y ≡ x = cc in ap (λ z. z ∷ xs) same
-    from_suc (y ∷ xs) (suc i) x e = from_suc xs i x e
-
--- the item of which a function gives a value
-pub mapped_some : {X Y : Type 0} (f : X → Y) (o : Option X) (y : Y) → option_map f o ≡ Some y → (x : X)
-    × (o ≡ Some x) × (f x ≡ y)
-mapped_some f None y e = absurd cc
-mapped_some f (Some x) y e = (x, refl, cc)

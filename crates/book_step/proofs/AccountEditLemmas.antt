@@ -32,9 +32,8 @@ pub edit-left :
     → StepsTo state (account_edit_of state number given old) result
 edit-left state number given old result unbroken same h =
     either-left state (stays old given).is (edit_rules state.book number given.parent old (with_given old given))
-    (with_thing number (thing.Account (with_given old given)) state.book) 0 answer.AccountEdit answer.AccountEdit result
-    unbroken
-    same h
+    (with_thing number (thing.Account (with_given old given)) state.book) 0 answer.AccountEdit answer.AccountEdit
+    result unbroken same h
 
 -- one that becomes another account changes it
 pub edit-changed :
@@ -46,6 +45,5 @@ pub edit-changed :
     → StepsTo state (account_edit_of state number given old) result
 edit-changed state number given old result unbroken other h =
     either-changed state (stays old given).is (edit_rules state.book number given.parent old (with_given old given))
-    (with_thing number (thing.Account (with_given old given)) state.book) 0 answer.AccountEdit answer.AccountEdit result
-    unbroken
-    other h
+    (with_thing number (thing.Account (with_given old given)) state.book) 0 answer.AccountEdit answer.AccountEdit
+    result unbroken other h

@@ -101,8 +101,8 @@ drop_answered : (state : State) (n : ℕ) (found : Option Account) (new : State)
     → account_drop_of state n found ≡ Done new reply → HasBalances state new reply
 drop_answered state n None new reply e = absurd cc
 drop_answered state n (Some old) new reply e =
-    changing_answered state (drop_rules state.book n old) (without_thing kind.Account n state.book) 0
-    answer.AccountDrop new reply tt e
+    changing_answered state (drop_rules state.book n old) (without_thing kind.Account n state.book) 0 answer.AccountDrop
+    new reply tt e
 
 given_answered :
     (state : State) (n : ℕ) (force : Bool) (day : ℤ) (given : GivenTxn) (found : Option Txn) (new : State)

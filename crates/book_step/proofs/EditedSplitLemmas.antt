@@ -1,12 +1,13 @@
 -- The splits that an edit gives, and the rules of their numbers.
-use Rattle.std.proofs.Common.{◌≡◌, ◌≤◌, ◌<◌, ℕ, ◌+◌, ◌==◌, ◌||◌, Bool, true, false, List, [], ◌∷◌, ◌++◌, length}
+use Rattle.std.proofs.Common.{◌≡◌, ◌≤◌, ◌<◌, ℕ, ◌+◌, ◌==◌, ◌||◌, List, [], ◌∷◌, ◌++◌, length}
 use Rattle.std.proofs.Common.{take, drop, get_or, Option, Some, None, refl, ap, sym, ◌∙◌}
 use Rattle.std.proofs.Common.{arith, append_assoc}
 use Rattle.std.specs.List.{list_any}
+use Rattle.std.proofs.lemmas.List.Folds.{list_any-append}
 use Rattle.book_commodity.specs.Rules.{first_broken}
 use Rattle.book_commodity.proofs.RuleLemmas.{first-here, first-past}
 use Rattle.book_commodity.proofs.ListLemmas.{from-item, take-item}
-use Rattle.book_splits.specs.TransactionRules.{is_among, numbers_of}
+use Rattle.book_splits.specs.TransactionRules.{is_among}
 use Rattle.book_splits.specs.declared.split.Split.{Split}
 use Rattle.book_step.specs.Editing.{drawn_by, drawn_for, edited_split, edited_splits, kept_by, number_given}
 use Rattle.book_step.specs.Editing.{number_rules, numbers_given, unknown_split}
@@ -86,24 +87,11 @@ number-past splits given i x below is kept =
     ∙ first-past (unknown_split splits (numbers_given (take i given)) x.id ∷ [])
     (number_rules splits (numbers_given (take (i + 1) given)) (drop (i + 1) given)) kept
 
--- a number is one of the splits' where a split has it
-pub among-numbers :
-    (splits : List Split) (id : ℕ) → is_among (numbers_of splits) id ≡ list_any (λ split. split.id == id) splits
-among-numbers [] id = refl
-among-numbers (x ∷ splits) id = ap (λ t. (x.id == id) || t) (among-numbers splits id)
-
-any-append :
-    {X : Type 0} (p : X → Bool) (xs ys : List X) → list_any p (xs ++ ys) ≡ list_any p xs || list_any p ys
-any-append p [] ys = refl
-any-append p (x ∷ xs) ys =
-    let P : Bool → Type 0 = λ t. t || list_any p (xs ++ ys) ≡ (t || list_any p xs) || list_any p ys in
-    elim (p x) as P [ true ↦ refl | false ↦ any-append p xs ys ]
-
 -- a number is among those given where one of the splits given has it
 pub among-given :
     (given : List GivenSplit) (id : ℕ)
     → is_among (numbers_given given) id ≡ list_any (λ split. is_among (number_given split.id) id) given
 among-given [] id = refl
 among-given (x ∷ given) id =
-    any-append (λ other. other == id) (number_given x.id) (numbers_given given)
+    list_any-append (λ other. other == id) (number_given x.id) (numbers_given given)
     ∙ ap (λ t. is_among (number_given x.id) id || t) (among-given given id)

@@ -1,14 +1,14 @@
 -- The splits of a transaction that is edited: the numbers that they have, and their marks.
 use Rattle.std.proofs.Common.{◌≡◌, ℕ, ◌+◌, ◌<◌, ◌≤◌, ◌==◌, not, inl, inr, Bool, true, false, All, List, [], ◌∷◌, ◌++◌}
-use Rattle.std.proofs.Common.{Option, Some, None, if◌then◌else◌, ◌&&◌, ◌||◌, find}
-use Rattle.std.proofs.Common.{refl, sym, ap, subst, ◌∙◌, eq-eqb, arith}
+use Rattle.std.proofs.Common.{Option, Some, None, if◌then◌else◌, ◌&&◌, ◌||◌}
+use Rattle.std.proofs.Common.{refl, sym, ap, ◌∙◌, eq-eqb, arith}
 use Rattle.std.specs.List.{list_all, list_any}
 use Rattle.std.specs.Option.{option_and_then}
 use Rattle.std.specs.Ordering.{int_eq}
 use Rattle.std.proofs.lemmas.Bool.{and_from, and_parts, eqb-true, ne_eqb, not_from_false, or_from, or_left, or_parts}
 use Rattle.std.proofs.lemmas.Bool.{or_right}
 use Rattle.std.proofs.lemmas.Bool.Decides.{Decides-int_eq}
-use Rattle.std.proofs.lemmas.List.Elements.{All-cons, All-head, All-nil, All-tail}
+use Rattle.std.proofs.lemmas.List.Elements.{All-cons, All-nil}
 use Rattle.std.proofs.lemmas.List.Folds.{list_any-append}
 use Rattle.book_commodity.specs.Rules.{AllKept}
 use Rattle.book_commodity.proofs.RuleLemmas.{not-broken}
@@ -16,64 +16,13 @@ use Rattle.book_splits.specs.TransactionRules.{are_once, is_among, numbers_of}
 use Rattle.book_splits.specs.declared.reconciliation.Recon.{Recon}
 use Rattle.book_splits.specs.declared.split.Mark.TheVariants.{New}
 use Rattle.book_splits.specs.declared.split.Split.{Split}
+use Rattle.book_splits.proofs.NamedLemmas.{named, named_among, named_holds, named_number, named_passes}
 use Rattle.book_splits.proofs.ReplacedLemmas.{IsFrom, none_from_limit, not_among_from, numbers_below}
 use Rattle.book_sound.specs.MarkedTransactionRules.{is_reconciled, is_rightly_marked}
 use Rattle.book_sound.proofs.MarkLemmas.{right_still, unreconciled_is_right, unreconciled_names_none}
 use Rattle.book_command.specs.declared.command.GivenSplit.{GivenSplit}
 use Rattle.book_step.specs.Editing.{drawn_by, drawn_for, edited_split, edited_splits, keeps_mark, kept_by, number_given}
 use Rattle.book_step.specs.Editing.{number_rules, unknown_split}
-
--- ---- the split that a number names
-
--- the split with a number
-abbrev named : ℕ → List Split → Option Split
-named id splits = find (λ split. split.id == id) splits
-
--- what holds of all splits holds of it
-named_holds :
-    (P : Split → Type 0) (id : ℕ) (splits : List Split) (s : Split) → All P splits → named id splits ≡ Some s → P s
-named_holds P id [] s all there = absurd cc
-named_holds P id (x ∷ splits) s all there =
-    let Here : Bool → Type 0 = λ b. (if b then Some x else named id splits) ≡ Some s → P s in
-    elim (x.id == id) as Here [
-      | true ↦ λ same. let one : x ≡ s = cc in subst P one (All-head P x splits all)
-      | false ↦ λ more. named_holds P id splits s (All-tail P x splits all) more
-    ] there
-
--- it has that number
-named_number : (id : ℕ) (splits : List Split) (s : Split) → named id splits ≡ Some s → s.id ≡ id
-named_number id [] s there = absurd cc
-named_number id (x ∷ splits) s there =
-    let Here : Bool → Type 0 = λ b. (x.id == id) ≡ b → (if b then Some x else named id splits) ≡ Some s → s.id ≡ id in
-    elim (x.id == id) as Here [
-      | true ↦ λ same found. let one : x ≡ s = cc in subst (λ (y : Split). y.id ≡ id) one (eqb-true x.id id same)
-      | false ↦ λ other more. named_number id splits s more
-    ] refl there
-
--- and is one of the splits
-named_among :
-    (id : ℕ) (splits : List Split) (s : Split) → named id splits ≡ Some s → is_among (numbers_of splits) s.id ≡ true
-named_among id [] s there = absurd cc
-named_among id (x ∷ splits) s there =
-    let Here : Bool → Type 0 = λ b. (if b then Some x else named id splits) ≡ Some s
-    → is_among (x.id ∷ numbers_of splits) s.id ≡ true in
-    elim (x.id == id) as Here [
-      | true ↦ λ same. let one : x ≡ s = cc in or_left _ _ (eq-eqb x.id s.id (ap (λ (y : Split). y.id) one))
-      | false ↦ λ more. or_right (x.id == s.id) _ (named_among id splits s more)
-    ] there
-
--- what all splits pass, it does
-named_passes :
-    (test : Split → Bool) (id : ℕ) (splits : List Split) (s : Split) → list_all test splits ≡ true
-    → named id splits ≡ Some s → test s ≡ true
-named_passes test id [] s all there = absurd cc
-named_passes test id (x ∷ splits) s all there =
-    let Here : Bool → Type 0 = λ b. (if b then Some x else named id splits) ≡ Some s → test s ≡ true in
-    let parts = and_parts (test x) (list_all test splits) all in
-    elim (x.id == id) as Here [
-      | true ↦ λ same. let one : x ≡ s = cc in subst (λ (y : Split). test y ≡ true) one parts.0
-      | false ↦ λ more. named_passes test id splits s parts.1 more
-    ] there
 
 -- ---- one split of an edit
 

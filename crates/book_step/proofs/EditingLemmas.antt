@@ -1,5 +1,5 @@
 -- What an edit of a transaction comes to, from what the checks of its rules report.
-use Rattle.std.proofs.Common.{◌≡◌, ◌≤◌, ℕ, ◌+◌, ◌-◌, ℤ, Bool, true, false, if◌then◌else◌, List, [], ◌∷◌, length}
+use Rattle.std.proofs.Common.{◌≡◌, ℕ, ◌+◌, ◌-◌, ℤ, Bool, true, false, if◌then◌else◌, List, [], ◌∷◌, length}
 use Rattle.std.proofs.Common.{Option, Some, None, Result, subst, ◌∙◌, arith}
 use Rattle.book_commodity.specs.Rules.{first_broken}
 use Rattle.book_commodity.specs.Table.{value_of, with_entry}
@@ -7,7 +7,7 @@ use Rattle.book_commodity.proofs.RuleLemmas.{first-here, first-past}
 use Rattle.book_splits.specs.Balance.{splits_of}
 use Rattle.book_splits.specs.SplitCount.{splits_in}
 use Rattle.book_splits.specs.declared.transaction.Txn.{Txn}
-use Rattle.book_splits.proofs.CountLemmas.{splits-with, splits-without}
+use Rattle.book_splits.proofs.CountLemmas.{splits-with, splits-within}
 use Rattle.book_undo.specs.Book.{Book}
 use Rattle.book_step.specs.Editing.{book_with, drawn_by, edit_answer, edit_of, edit_rules, edited_transaction}
 use Rattle.book_step.specs.Editing.{number_rules}
@@ -25,10 +25,6 @@ use Rattle.book_step.specs.declared.step.Step.{Step}
 use Rattle.book_step.proofs.OutcomeLemmas.{either-broken, either-changed, either-left}
 
 -- ---- the count of splits
-
--- the splits of a transaction are among those of all
-pub splits-within : (number : ℕ) (ts : List (ℕ × Txn)) → splits_in (value_of number ts) ≤ length (splits_of ts)
-splits-within number ts = omega (arith, splits-without number ts)
 
 -- the splits after an edit are the others and those of the new transaction
 pub splits-after :

@@ -6,7 +6,6 @@ pub mod EditingLemmas
 pub mod ExactLemmas
 pub mod OutcomeLemmas
 pub mod PostingLemmas
-pub mod SameSplitLemmas
 pub mod SoundAccounts
 pub mod SoundCommodities
 pub mod SoundEditing

@@ -27,8 +27,8 @@ use Rattle.book_undo.specs.Book.{Book, with_thing, without_thing}
 use Rattle.book_command.specs.Lifted.{of_tree_rule}
 use Rattle.book_step.specs.Accounts.{add_rules, edit_rules, moved_rule, not_empty, root_stays, account_add}
 use Rattle.book_step.specs.Accounts.{account_drop, account_drop_of, account_edit, account_edit_at, account_edit_of}
-use Rattle.book_step.specs.Accounts.{stays, with_given, basis_shape, becomes_placeholder, drop_rules}
-use Rattle.book_step.specs.Accounts.{placeholder_rules, too_many_accounts}
+use Rattle.book_step.specs.Accounts.{stays, with_given, basis_shape, becomes_placeholder, drop_rules, placeholder_rules}
+use Rattle.book_step.specs.Accounts.{too_many_accounts}
 use Rattle.book_step.specs.Accounts.{unknown_given_account, unknown_given_commodity}
 use Rattle.book_step.specs.Commodities.{unknown_commodity}
 use Rattle.book_step.specs.Soundness.{IsSoundBook, AreDrawn, IsSound}
@@ -202,8 +202,8 @@ pub account_add-sound :
 account_add-sound state account new answered is e =
     let book = state.book in
     let new_book = with_thing state.next (thing.Account account) book in
-    let change = changing_done state (add_rules book account) new_book 1 (answer.AccountAdd state.next) new answered
-    e in
+    let reply = answer.AccountAdd state.next in
+    let change = changing_done state (add_rules book account) new_book 1 reply new answered e in
     let later = drawn_later book state.next (state.next + 1) (omega arith) is.drawn in
     sound_after state (add_rules book account) new_book 1 new change
     (account_added book state.next account is.drawn change.kept is.book)

@@ -22,8 +22,8 @@ use Rattle.book_command.specs.Lifted.{of_txn_rule}
 use Rattle.book_command.specs.declared.answer.Answer.{Answer}
 use Rattle.book_command.specs.declared.answer.Answer.TheVariants as answer
 use Rattle.book_command.specs.declared.command.GivenTxn.{GivenTxn}
-use Rattle.book_step.specs.Editing.{book_with, book_without, drop_at, drop_transaction, drawn_by, edit_answer}
-use Rattle.book_step.specs.Editing.{edit_at, edit_of, edit_rules}
+use Rattle.book_step.specs.Editing.{book_with, book_without, drop_at, drop_transaction, drawn_by, edit_answer, edit_at}
+use Rattle.book_step.specs.Editing.{edit_of, edit_rules}
 use Rattle.book_step.specs.Editing.{edit_transaction, edited_transaction, number_rules, reconciled, too_many_after}
 use Rattle.book_step.specs.Outcome.{Done}
 use Rattle.book_step.specs.Posting.{broken_by}

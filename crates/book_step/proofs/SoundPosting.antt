@@ -102,8 +102,8 @@ post-sound state day given new answered is e =
     let new_book = with_thing state.next (thing.Txn transaction) book in
     let rules = post_rules book transaction in
     let drawn = 1 + length transaction.splits in
-    let change = changing_done state rules new_book drawn (post_answer new_book state.next transaction) new answered e
-    in
+    let reply = post_answer new_book state.next transaction in
+    let change = changing_done state rules new_book drawn reply new answered e in
     sound_after state rules new_book drawn new change (posted book state.next day given is.drawn change.kept is.book)
     (transaction_drawn book state.next (state.next + drawn) transaction (omega arith)
     (new_below (state.next + 1) (state.next + drawn) given.splits (omega arith))

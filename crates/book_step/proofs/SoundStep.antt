@@ -1,10 +1,9 @@
 -- Every step from a sound state leads to a sound state, and the fresh state is sound.
-use Rattle.std.proofs.Common.{◌≡◌, ℕ, ◌<◌, ◌≤◌, Bool, All, List, [], ◌∷◌, Some, inl, inr, refl, sym, subst, arith}
+use Rattle.std.proofs.Common.{◌≡◌, ℕ, ◌<◌, ◌≤◌, Bool, All, List, [], ◌∷◌, refl, sym, subst, arith}
 use Rattle.std.proofs.lemmas.List.Elements.{All-nil, All-cons}
 use Rattle.book_commodity.specs.CommodityRules.{commodity_rules}
 use Rattle.book_commodity.specs.Rules.{AllHold, IsSoundTable}
-use Rattle.book_commodity.specs.Table.{value_of}
-use Rattle.book_commodity.proofs.DrawnLemmas.{value_with}
+use Rattle.book_commodity.proofs.DrawnLemmas.{value_alone}
 use Rattle.book_accounts.specs.AccountRules.{account_rules}
 use Rattle.book_splits.specs.declared.reconciliation.MarkedSplit.{MarkedSplit}
 use Rattle.book_splits.specs.declared.reconciliation.Recon.{Recon}
@@ -63,10 +62,6 @@ step-sound state command new answer is e =
 
 -- ---- the fresh state
 
--- what stands in a table of one thing
-only : {T : Type 0} (n k : ℕ) (x v : T) → value_of k ((n, v) ∷ []) ≡ Some x → (k ≡ n) × (v ≡ x)
-only n k x v there = elim (value_with k n v x [] there) [ inl here ↦ here | inr old ↦ absurd (let none = old.1 in cc) ]
-
 -- A table of one thing is sound where that keeps its rules.
 sound_alone :
     {T : Type 0} (rules : ℕ → T → List Bool) (most n : ℕ) (v : T) → 1 ≤ most → AllHold (rules n v)
@@ -75,7 +70,7 @@ sound_alone {T} rules most n v room kept = record {
   rise = (tt, tt);
   keep = record {
     each = λ k x there.
-        let is = only n k x v there in
+        let is = value_alone n k x v there in
         subst (λ (m : ℕ). AllHold (rules m x)) (sym is.0) (subst (λ (y : T). AllHold (rules n y)) is.1 kept);
   };
   few = omega (arith, room);

@@ -107,6 +107,7 @@ same_fields old new =
     (both (same_text new.note old.note)
     (both (same_flag new.hidden old.hidden) (same_flag new.placeholder old.placeholder)))))
 
+-- An account that has the same fields with what is given is the same account.
 pub same_account : (old : Account) (given : GivenAccount) → HasSameFields old (with_given old given)
     → with_given old given ≡ old
 same_account old given same i = record {

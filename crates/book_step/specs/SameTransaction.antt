@@ -27,6 +27,7 @@ is_mark Cleared Cleared = true
 is_mark Reconciled Reconciled = true
 is_mark _ _ = false
 
+-- Marks of which the test says that they are the same are the same.
 pub mark_is : (m n : Mark) → is_mark m n ≡ true → m ≡ n
 mark_is New New e = refl
 mark_is New Cleared e = absurd cc
@@ -38,6 +39,7 @@ mark_is Reconciled New e = absurd cc
 mark_is Reconciled Cleared e = absurd cc
 mark_is Reconciled Reconciled e = refl
 
+-- A mark is the same as itself.
 pub mark_itself : (m : Mark) → is_mark m m ≡ true
 mark_itself New = refl
 mark_itself Cleared = refl
@@ -60,6 +62,7 @@ HasSameParts old new =
     × ((new.mark ≡ old.mark)
     × ((new.recon ≡ old.recon) × ((new.value ≡ old.value) × (new.quantity ≡ old.quantity)))))))
 
+-- A split that has what another has is the same split.
 pub same_parts : (old new : Split) → HasSameParts old new → new ≡ old
 same_parts old new same i = record {
   id = same.0 i;
@@ -115,6 +118,7 @@ HasSameTerms old new =
     × ((new.day ≡ old.day)
     × ((new.num ≡ old.num) × ((new.description ≡ old.description) × (new.splits ≡ old.splits))))
 
+-- A transaction that has what another has is the same transaction.
 pub same_terms : (old new : Txn) → HasSameTerms old new → new ≡ old
 same_terms old new same i = record {
   currency = same.0 i;

@@ -505,7 +505,8 @@ value-reconciliations None (Some y) e = absurd cc
 value-reconciliations (Some x) None e = absurd cc
 value-reconciliations (Some x) (Some y) e = cc
 
-made :
+-- The book of these tables and this currency.
+pub made :
     List (ℕ × Commodity) → List (ℕ × Account) → List (ℕ × Txn) → List (ℕ × Price)
     → List (ℕ × Schedule) → List (ℕ × Held) → List (ℕ × Line) → List (ℕ × Binding) → List (ℕ × Recon) → ℕ → Book
 made cs ac ts ps ss hs ls bs rs currency = record {
@@ -521,7 +522,8 @@ made cs ac ts ps ss hs ls bs rs currency = record {
   currency = currency;
 }
 
-made_is :
+-- each book is one
+pub made_is :
     (b : Book)
     → made b.commodities b.accounts b.transactions b.prices b.schedules
     b.statements b.lines b.bindings b.reconciliations b.currency

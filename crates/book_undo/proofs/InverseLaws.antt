@@ -131,7 +131,8 @@ there_back b before (OfGone k n ∷ ls) now r up there =
     restoring_there (after_leaves ls next) k n (thing_at k n b) (map (leaf_back b) ls) rest
     (λ none. absurd (let is = ap is_none none in let gone = both.0 in cc))
 
--- the place of the first leaf out of order, where the first leaf is in order, and those behind it tell this place
+-- the place of the first leaf out of order, from whether the first leaf is in order and from the place among those
+-- behind it
 abbrev from : Bool → Option ℕ → Option ℕ
 from above behind = if above then option_map (λ place. suc place) behind else Some 0
 

@@ -15,6 +15,7 @@ abbrev mutual
   edited (Gone kind number) book = without_thing kind number book
   edited (All' shape parts) book = edited_row parts book
 
+  -- The book after the parts of a list, one after another.
   pub edited_row : {count : _} → Row_of-Edit count → Book → Book
   edited_row end_of-Edit book = book
   edited_row (more_of-Edit part more) book = edited_row more (edited part book)
@@ -55,6 +56,7 @@ abbrev mutual
   leaves (Gone kind number) = OfGone kind number ∷ []
   leaves (All' shape parts) = leaves_row parts
 
+  -- The leaves of the parts of a list, in order.
   pub leaves_row : {count : _} → Row_of-Edit count → List Leaf
   leaves_row end_of-Edit = []
   leaves_row (more_of-Edit part more) = leaves part ++ leaves_row more
@@ -67,6 +69,7 @@ abbrev mutual
   depth (Gone kind number) = 0
   depth (All' shape parts) = 1 + depth_row parts
 
+  -- The depth of the deepest of the parts of a list.
   pub depth_row : {count : _} → Row_of-Edit count → ℕ
   depth_row end_of-Edit = 0
   depth_row (more_of-Edit part more) = max (depth part) (depth_row more)
@@ -91,12 +94,13 @@ key_of (OfCurrency currency) = key_at 1 0
 key_of (OfPut number thing) = key_at (row_kind (kind_of thing)) number
 key_of (OfGone kind number) = key_at (row_kind kind) number
 
--- The form of an edit: where its lists begin and end, and the keys between.
+-- A sign in the form of an edit: where a list begins or ends, or the key of a leaf.
 pub data Sign : Type 0 where
   Begins : Sign
   Ends : Sign
   At : Key → Sign
 
+-- The form of an edit as a row of signs: a leaf is its key, and a list begins, has the signs of its parts, and ends.
 abbrev mutual
   pub outline : Edit → List Sign
   outline (Currency currency) = At (key_at 1 0) ∷ []
@@ -104,6 +108,7 @@ abbrev mutual
   outline (Gone kind number) = At (key_at (row_kind kind) number) ∷ []
   outline (All' shape parts) = Begins ∷ outline_row parts ++ Ends ∷ []
 
+  -- The signs of the parts of a list, in order.
   pub outline_row : {count : _} → Row_of-Edit count → List Sign
   outline_row end_of-Edit = []
   outline_row (more_of-Edit part more) = outline part ++ outline_row more

@@ -45,8 +45,7 @@ returns c =
     ∙ sym c.is_same.ensures ∙ c.if-is_same.false in
     let changed = subst (λ (new : Account). StepsTo state
     (changing state [] (with_thing c.args.number (thing.Account new) state.book) 0 answer.AccountEdit)
-    c.changing.result)
-    c.in_ok-new.ensures (c.changing.ensures answer.AccountEdit refl) in
+    c.changing.result) c.in_ok-new.ensures (c.changing.ensures answer.AccountEdit refl) in
     edit-changed state c.args.number c.args.given c.args.old.now c.changing.result kept other changed
 
 pub changing-requires-clause-exact : goal.changing-requires-clause-exact

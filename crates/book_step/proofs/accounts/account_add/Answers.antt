@@ -24,9 +24,8 @@ returns-in_err-check_new c =
 pub returns : goal.returns
 returns c =
     past-drawing c.args.present.now c.present.inside.next (add_rules c.args.present.now.book c.args.account)
-    (λ n. with_thing n (thing.Account c.args.account) c.args.present.now.book) 1
-    (λ n. answer.AccountAdd n) c.changing.result
-    (ap (λ (state : State). state.next) c.present.view_is) c.in_ok-check_new.ensures
+    (λ n. with_thing n (thing.Account c.args.account) c.args.present.now.book) 1 (λ n. answer.AccountAdd n)
+    c.changing.result (ap (λ (state : State). state.next) c.present.view_is) c.in_ok-check_new.ensures
     (c.changing.ensures (answer.AccountAdd c.present.inside.next) refl)
 
 pub changing-requires-clause-exact : goal.changing-requires-clause-exact

@@ -13,9 +13,8 @@ use Rattle.book_step.proofs.commodities.commodity_add.Goals as goal
 pub returns : goal.returns
 returns c =
     past-drawing c.args.present.now c.present.inside.next (add_rules c.args.present.now.book c.args.commodity)
-    (λ n. with_thing n (thing.Commodity c.args.commodity) c.args.present.now.book) 1
-    (λ n. answer.CommodityAdd n) c.changing.result
-    (ap (λ (state : State). state.next) c.present.view_is) c.in_ok-check_new.ensures
+    (λ n. with_thing n (thing.Commodity c.args.commodity) c.args.present.now.book) 1 (λ n. answer.CommodityAdd n)
+    c.changing.result (ap (λ (state : State). state.next) c.present.view_is) c.in_ok-check_new.ensures
     (c.changing.ensures (answer.CommodityAdd c.present.inside.next) refl)
 
 pub changing-requires-clause-exact : goal.changing-requires-clause-exact

@@ -1,7 +1,7 @@
 use Rattle.std.proofs.Common.{◌≡◌, ◌==◌, true, false, sym, ◌∙◌, arith}
 use Rattle.std.proofs.lemmas.Bool.Decides.{nat_tests}
 use Rattle.book_commodity.proofs.ListLemmas.{any-here, any-later, any-end}
-use Rattle.book_step.proofs.EditedSplitLemmas.{among-numbers}
+use Rattle.book_splits.proofs.NamedLemmas.{among-numbers}
 use Rattle.book_step.proofs.edited_splits.has_split.Goals as goal
 
 pub returns-then-split-id : goal.returns-then-split-id

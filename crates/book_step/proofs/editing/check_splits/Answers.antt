@@ -2,9 +2,10 @@ use Rattle.std.proofs.Common.{◌<◌, ◌≤◌, length, ap, subst, arith}
 use Rattle.std.proofs.lemmas.Bool.Decides.{nat_tests}
 use Rattle.book_commodity.specs.Table.{with_entry}
 use Rattle.book_splits.specs.Balance.{splits_of}
+use Rattle.book_splits.proofs.CountLemmas.{splits-within}
 use Rattle.book_step.specs.Soundness.{IsSound}
 use Rattle.book_step.specs.State.{State}
-use Rattle.book_step.proofs.EditingLemmas.{splits-after, splits-within}
+use Rattle.book_step.proofs.EditingLemmas.{splits-after}
 use Rattle.book_step.proofs.editing.check_splits.Goals as goal
 
 pub overflow_sub-others : goal.overflow_sub-others

@@ -38,9 +38,8 @@ returns c =
     ∙ ap (λ (n : ℕ). answer.Post n (map (λ split. split.id) c.as_slice.result.now) []) next
     ∙ ap (λ (splits : List Split). answer.Post state.next (map (λ split. split.id) splits) []) c.as_slice.ensures in
     let changed = subst (λ (n : ℕ). StepsTo state
-    (changing state [] (with_thing n (thing.Txn transaction) state.book) (1 + c.len.result) whole)
-    c.changing.result) next
-    (c.changing.ensures whole (sym short)) in
+    (changing state [] (with_thing n (thing.Txn transaction) state.book) (1 + c.len.result) whole) c.changing.result)
+    next (c.changing.ensures whole (sym short)) in
     subst (λ (t : Txn). StepsTo state (post_of state t) c.changing.result) made
     (post-changed state transaction (1 + c.len.result) c.changing.result c.in_ok-check_post.ensures.rules
     (ap (λ (n : ℕ). 1 + n) c.len.ensures) changed)

@@ -1,6 +1,6 @@
 use Rattle.std.proofs.Common.{sym, ◌∙◌}
 use Rattle.book_step.specs.SameTransaction.{same_split}
-use Rattle.book_step.proofs.SameSplitLemmas.{pairs-end, pairs-other, pairs-same}
+use Rattle.book_commodity.proofs.PairLemmas.{pairs-end, pairs-other, pairs-same}
 use Rattle.book_step.proofs.same_transaction.are_same.Goals as goal
 
 pub returns-then-not-is_same_split : goal.returns-then-not-is_same_split

@@ -9,7 +9,8 @@ returns-in_default c =
     let other : (c.loop-current.current == c.args.upper) ≡ false = grind (arith, nat_tests, c.loop-current-test.true) in
     let top : parent_of c.args.self.now.entries c.loop-current.current ≡ None = sym c.parent_of.ensures.parent
     ∙ c.in_default.is in
-    sym (sym c.loop-current.invariant ∙ within_top c.args.self.now.entries c.args.upper c.loop-current.current top other)
+    sym (sym c.loop-current.invariant
+    ∙ within_top c.args.self.now.entries c.args.upper c.loop-current.current top other)
 
 pub loop-current-smaller : goal.loop-current-smaller
 loop-current-smaller c =
