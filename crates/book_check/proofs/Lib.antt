@@ -1,1 +1,3 @@
 pub mod Unsound
+pub mod WalkLemmas
+pub mod Worked

@@ -230,15 +230,16 @@ sound_where_none book next rise none =
     let statements = no_key 7 (first_of_table (statement_rules book.accounts book.statements) 100000 book.statements) kept.1.1.1.1.1.1.0 in
     let lines = no_key 8 (first_of_table (line_rules book.accounts book.statements book.transactions book.lines) 1000000 book.lines) kept.1.1.1.1.1.1.1.0 in
     let bindings = no_key 9 (first_of_table (binding_rules book.accounts book.bindings) 10000 book.bindings) kept.1.1.1.1.1.1.1.1.0 in
-    let reconciliations = no_key 10 (first_of_table (reconciliation_rules book.accounts) 100000 book.reconciliations) kept.1.1.1.1.1.1.1.1.1.0 in
-    (
+    let reconciliations = no_key 10 (first_of_table (reconciliation_rules book.accounts) 100000 book.reconciliations) kept.1.1.1.1.1.1.1.1.1.0 in (
       record {
         commodities = table_sound (commodity_rules book.commodities) 10000 book.commodities rise.commodities commodities;
         accounts = table_sound (account_rules book.commodities book.accounts) 10000 book.accounts rise.accounts accounts;
         transactions = record {
           rise = rise.transactions;
-          keep = record { each = each_of (marked_transaction_rules book.commodities book.accounts book.reconciliations book.transactions)
-              book.transactions fine.keep };
+          keep = record {
+            each = each_of (marked_transaction_rules book.commodities book.accounts book.reconciliations book.transactions)
+                book.transactions fine.keep;
+          };
           few = (let few = fine.few in omega (arith, few));
         };
         prices = table_sound (price_rules book.commodities book.prices) 1000000 book.prices rise.prices prices;
@@ -281,25 +282,51 @@ pub none_where_sound :
 none_where_sound book next sound drawn =
     let head : AllHold (head_rules book next) = (
       sound.currency,
-      (sound.root,
-      (true_is _ (below_entries next book.commodities drawn.commodities),
-      (true_is _ (below_entries next book.accounts drawn.accounts),
-      (true_is _ (below_entries next book.transactions drawn.transactions),
-      (true_is _ (below_entries next book.prices drawn.prices),
-      (true_is _ (below_entries next book.schedules drawn.schedules),
-      (true_is _ (below_entries next book.statements drawn.statements),
-      (true_is _ (below_entries next book.lines drawn.lines),
-      (true_is _ (below_entries next book.bindings drawn.bindings),
-      (true_is _ (below_entries next book.reconciliations drawn.reconciliations),
-      (true_is _ (of_all (λ (x : Split). nat_lt x.id next) (λ (x : Split). x.id < next) (λ x t. of_below x.id next t)
-      (splits_of book.transactions) drawn.splits),
-      (true_is _ (of_all (λ (e : ℕ × Recon). list_all (λ (m : MarkedSplit). nat_lt m.split next) e.1.marked)
-      (λ (e : ℕ × Recon). All (λ (m : MarkedSplit). m.split < next) e.1.marked)
-      (λ e t. of_all (λ (m : MarkedSplit). nat_lt m.split next) (λ (m : MarkedSplit). m.split < next)
-      (λ m u. of_below m.split next u) e.1.marked t) book.reconciliations drawn.marked),
-      (true_is _ (of_all (λ (e : ℕ × Schedule). nat_lt e.1.timing.made next)
-      (λ (e : ℕ × Schedule). e.1.timing.made < next) (λ e t. of_below e.1.timing.made next t) book.schedules drawn.made),
-      tt))))))))))))),
+      (
+        sound.root,
+        (
+          true_is _ (below_entries next book.commodities drawn.commodities),
+          (
+            true_is _ (below_entries next book.accounts drawn.accounts),
+            (
+              true_is _ (below_entries next book.transactions drawn.transactions),
+              (
+                true_is _ (below_entries next book.prices drawn.prices),
+                (
+                  true_is _ (below_entries next book.schedules drawn.schedules),
+                  (
+                    true_is _ (below_entries next book.statements drawn.statements),
+                    (
+                      true_is _ (below_entries next book.lines drawn.lines),
+                      (
+                        true_is _ (below_entries next book.bindings drawn.bindings),
+                        (
+                          true_is _ (below_entries next book.reconciliations drawn.reconciliations),
+                          (
+                            true_is _ (of_all (λ (x : Split). nat_lt x.id next) (λ (x : Split). x.id < next) (λ x t. of_below x.id next t)
+                                (splits_of book.transactions) drawn.splits),
+                            (
+                              true_is _ (of_all (λ (e : ℕ × Recon). list_all (λ (m : MarkedSplit). nat_lt m.split next) e.1.marked)
+                                  (λ (e : ℕ × Recon). All (λ (m : MarkedSplit). m.split < next) e.1.marked)
+                                  (λ e t. of_all (λ (m : MarkedSplit). nat_lt m.split next) (λ (m : MarkedSplit). m.split < next)
+                                  (λ m u. of_below m.split next u) e.1.marked t) book.reconciliations drawn.marked),
+                              (
+                                true_is _ (of_all (λ (e : ℕ × Schedule). nat_lt e.1.timing.made next)
+                                    (λ (e : ℕ × Schedule). e.1.timing.made < next) (λ e t. of_below e.1.timing.made next t) book.schedules drawn.made),
+                                tt,
+                              ),
+                            ),
+                          ),
+                        ),
+                      ),
+                    ),
+                  ),
+                ),
+              ),
+            ),
+          ),
+        ),
+      ),
     ) in
     let txns = sound.transactions in
     let few_txns = txns.few in
@@ -307,17 +334,35 @@ none_where_sound book next sound drawn =
     let weigh = splits_weigh book.transactions in
     none_broken (unsound_keys book next) (
       ap (λ (t : Bool). broken_where (not t) (record { kind = 1; id = 0 })) (of_hold (head_rules book next) head),
-      (key_none 2 _ (table_none (commodity_rules book.commodities) 10000 book.commodities sound.commodities),
-      (key_none 3 _ (table_none (account_rules book.commodities book.accounts) 10000 book.accounts sound.accounts),
-      (key_none 4 _ (none_of (marked_transaction_rules book.commodities book.accounts book.reconciliations book.transactions)
-      200000 splits_in 1000000 0 0 book.transactions (omega (arith, few_txns)) (omega (arith, few_splits, weigh))
-      (keep_of (marked_transaction_rules book.commodities book.accounts book.reconciliations book.transactions)
-      book.transactions txns.rise txns.keep.each)),
-      (key_none 5 _ (table_none (price_rules book.commodities book.prices) 1000000 book.prices sound.prices),
-      (key_none 6 _ (table_none (schedule_rules book.commodities book.accounts) 1000 book.schedules sound.schedules),
-      (key_none 7 _ (table_none (statement_rules book.accounts book.statements) 100000 book.statements sound.statements),
-      (key_none 8 _ (table_none (line_rules book.accounts book.statements book.transactions book.lines) 1000000 book.lines sound.lines),
-      (key_none 9 _ (table_none (binding_rules book.accounts book.bindings) 10000 book.bindings sound.bindings),
-      (key_none 10 _ (table_none (reconciliation_rules book.accounts) 100000 book.reconciliations sound.reconciliations),
-      tt))))))))),
+      (
+        key_none 2 _ (table_none (commodity_rules book.commodities) 10000 book.commodities sound.commodities),
+        (
+          key_none 3 _ (table_none (account_rules book.commodities book.accounts) 10000 book.accounts sound.accounts),
+          (
+            key_none 4 _ (none_of (marked_transaction_rules book.commodities book.accounts book.reconciliations book.transactions)
+                200000 splits_in 1000000 0 0 book.transactions (omega (arith, few_txns)) (omega (arith, few_splits, weigh))
+                (keep_of (marked_transaction_rules book.commodities book.accounts book.reconciliations book.transactions)
+                book.transactions txns.rise txns.keep.each)),
+            (
+              key_none 5 _ (table_none (price_rules book.commodities book.prices) 1000000 book.prices sound.prices),
+              (
+                key_none 6 _ (table_none (schedule_rules book.commodities book.accounts) 1000 book.schedules sound.schedules),
+                (
+                  key_none 7 _ (table_none (statement_rules book.accounts book.statements) 100000 book.statements sound.statements),
+                  (
+                    key_none 8 _ (table_none (line_rules book.accounts book.statements book.transactions book.lines) 1000000 book.lines sound.lines),
+                    (
+                      key_none 9 _ (table_none (binding_rules book.accounts book.bindings) 10000 book.bindings sound.bindings),
+                      (
+                        key_none 10 _ (table_none (reconciliation_rules book.accounts) 100000 book.reconciliations sound.reconciliations),
+                        tt,
+                      ),
+                    ),
+                  ),
+                ),
+              ),
+            ),
+          ),
+        ),
+      ),
     )

@@ -1,4 +1,16 @@
 //! Which key of a book is the first at which it is not sound: the rules are those of `book_sound`, asked key by key.
-//! Here stand the definition and its proofs alone: a book has no such key exactly where it is sound and all its numbers
-//! are drawn. No call is made of them yet.
+//! A book has no such key exactly where it is sound and all its numbers are drawn. So far the commodities, prices,
+//! statements and bindings are asked.
 #![tactic(auto)]
+
+mod bindings;
+mod commodities;
+mod prices;
+mod statements;
+#[cfg(test)]
+mod tests;
+
+pub use bindings::first_binding;
+pub use commodities::first_commodity;
+pub use prices::first_price;
+pub use statements::first_statement;
