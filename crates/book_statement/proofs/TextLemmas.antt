@@ -42,7 +42,8 @@ use Rattle.std.specs.Prelude.{◌==◌, if◌then◌else◌, nat_eq}
 use lib.Pointwise.{bytes_decides}
 use Rattle.std.specs.List.{position_or_len, starts_with}
 use Rattle.memchr.specs.Find.{IsFirstByte, is_byte}
-use Rattle.std.proofs.lemmas.Bool.{ne_eqb, eqb-true, cases_lt, lt-ltb, le-ltb, cond-true, cond-false, false_from_ne_true}
+use Rattle.std.proofs.lemmas.Bool.{ne_eqb, eqb-true, cases_lt, lt-ltb, le-ltb, cond-true, cond-false}
+use Rattle.std.proofs.lemmas.Bool.{false_from_ne_true}
 use Rattle.std.proofs.lemmas.List.{take_more, append-nil, take-append-drop}
 use Rattle.std.proofs.lemmas.List.Sums.{position_or_len_is}
 use Rattle.std.proofs.lemmas.List.Quantifiers.{position-Some}
@@ -169,7 +170,8 @@ pub found_feed : (text : List ℕ) (found : Option ℕ) → IsFirstByte (is_byte
 found_feed text None none =
     let size = position_or_len is_line_feed text in
     let place = position_or_len_is is_line_feed text (length text) 0 (omega arith)
-    (λ k lt. false_from_ne_true (is_line_feed (get_or text k 0)) (none k (omega arith) lt)) (λ lt. absurd (omega arith)) in
+    (λ k lt. false_from_ne_true (is_line_feed (get_or text k 0)) (none k (omega arith) lt))
+    (λ lt. absurd (omega arith)) in
     sym (ap (λ t. cond t (Some size) None) (le-ltb size (length text) (omega (arith, place))))
 found_feed text (Some end) (found, feed) =
     let size = position_or_len is_line_feed text in
