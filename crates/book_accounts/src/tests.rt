@@ -1,4 +1,4 @@
-ghost use Rattle.std.specs.Prelude.{◌≡◌, IfOk, IfSome, OnSome};
+ghost use Rattle.std.specs.Prelude.{◌≡◌, Some, IfOk, IfSome, OnSome};
 ghost use Rattle.book_accounts.specs.Tree.{IsRooted};
 
 use crate::{Account, AccountKind, Tree, TreeRule};
@@ -41,18 +41,17 @@ fn tree_of_root(alloc: Global) -> Option<Tree>
     Some(tree)
 }
 
-/// Adds an account; `None` where the rules of the tree or memory refuse it.
-fn add(tree: &mut Tree, number: u64, account: Account) -> Option<()>
-    requires { IsRooted tree.old.entries }
+/// Adds an account under a parent; `None` where the rules of the tree or memory refuse it.
+#[tactic(auto, using(crate::proofs::TreeLaws::rooted_added))]
+fn add(tree: &mut Tree, number: u64, account: Account, parent: u64) -> Option<()>
+    requires up { IsRooted tree.old.entries }
+    requires under { account.parent ≡ Some parent }
     ensures { OnSome result (IsRooted tree.new.entries) }
 {
-    if tree.reserve(1).is_err() {
+    if tree.reserve(1).is_err() || tree.check_add(&account).is_err() {
         return None;
     }
-    if tree.find(number).is_some() {
-        return None;
-    }
-    if tree.check_add(&account).is_err() {
+    if tree.find(number).is_some() || tree.find(parent).is_none() {
         return None;
     }
     tree.put(number, account);
@@ -64,26 +63,14 @@ fn tree_of_assets(alloc: Global) -> Option<Tree>
     ensures { IfSome result (λ tree. IsRooted tree.entries) }
 {
     let mut tree = tree_of_root(alloc)?;
-    add(
-        &mut tree,
-        9,
-        account(alloc, "Assets", AccountKind::Asset, Some(2)).ok()?,
-    )?;
-    add(
-        &mut tree,
-        7,
-        account(alloc, "Cash", AccountKind::Cash, Some(9)).ok()?,
-    )?;
-    add(
-        &mut tree,
-        3,
-        account(alloc, "Bank", AccountKind::Bank, Some(9)).ok()?,
-    )?;
-    add(
-        &mut tree,
-        5,
-        account(alloc, "Safe", AccountKind::Cash, Some(7)).ok()?,
-    )?;
+    let assets = account(alloc, "Assets", AccountKind::Asset, Some(2)).ok()?;
+    add(&mut tree, 9, assets, 2)?;
+    let cash = account(alloc, "Cash", AccountKind::Cash, Some(9)).ok()?;
+    add(&mut tree, 7, cash, 9)?;
+    let bank = account(alloc, "Bank", AccountKind::Bank, Some(9)).ok()?;
+    add(&mut tree, 3, bank, 9)?;
+    let safe = account(alloc, "Safe", AccountKind::Cash, Some(7)).ok()?;
+    add(&mut tree, 5, safe, 7)?;
     Some(tree)
 }
 
