@@ -9,6 +9,8 @@ mod changes;
 #[cfg(test)]
 mod faults;
 #[cfg(test)]
+mod flushed;
+#[cfg(test)]
 mod hidden;
 #[cfg(test)]
 mod long;
