@@ -213,7 +213,7 @@ fn check_later_currency(known: &Commodities, message: &Message, text: &[u8]) -> 
     ensures { Tells (later_currency_checks known.now.entries message.now text.now)
         (balance message.now.fraction text.now) result }
 {
-    if !is_known(known, message, text) {
+    if !is_known(known, text) {
         return Err(Bad::UnknownCurrency);
     }
     if !has_currency(message, text) {
@@ -229,12 +229,11 @@ fn has_currency(message: &Message, text: &[u8]) -> bool
     balance_currency(text) == message.currency.as_str().as_bytes()
 }
 
-/// Whether a balance has the currency of the message, which was asked at its 60, or another one of the book's.
-fn is_known(known: &Commodities, message: &Message, text: &[u8]) -> bool
-    ensures { result ≡ (same_text (balance_currency text.now) message.now.currency || is_some
-        (fraction_of (balance_currency text.now) known.now.entries)) }
+/// Whether a balance has one of the book's currencies.
+fn is_known(known: &Commodities, text: &[u8]) -> bool
+    ensures { result ≡ is_some (fraction_of (balance_currency text.now) known.now.entries) }
 {
-    has_currency(message, text) || fraction_of(balance_currency(text), known).is_some()
+    fraction_of(balance_currency(text), known).is_some()
 }
 
 /// The checks of a 62.
