@@ -27,11 +27,7 @@ pub fn full_count(body: &[u8]) -> usize
 
 /// What stands behind the funds type of a detail with so many fields up to its customer reference: its bank reference,
 /// its customer reference, and its text.
-#[tactic(auto, unfolding(
-    crate::specs::Details::bank_reference,
-    crate::specs::Details::full_count,
-    crate::specs::Fields::field,
-))]
+#[tactic(auto, unfolding(crate::specs::Details::bank_reference, crate::specs::Details::full_count, crate::specs::Fields::field))]
 fn last_parts(body: &str, full: usize) -> (&str, &str, &str)
     requires { full ≡ full_count body.now }
     ensures bank { result.0.now ≡ bank_reference body.now }
