@@ -100,9 +100,20 @@ pub fn fraction_in(known: &Commodities, code: &[u8]) -> Fraction
     requires { HaveFractions known.now.entries }
     ensures { result ≡ fraction_in known.now.entries code.now }
 {
-    match fraction_of(code, known) {
-        Some(number) => Fraction::of(number),
+    match given_fraction(code, known) {
+        Some(fraction) => fraction,
         None => Fraction::of(1),
+    }
+}
+
+/// The fraction of the currency with this code; `None` where the book has no such currency.
+fn given_fraction(code: &[u8], known: &Commodities) -> Option<Fraction>
+    requires { HaveFractions known.now.entries }
+    ensures { result ≡ fraction_of code.now known.now.entries }
+{
+    match fraction_of(code, known) {
+        Some(number) => Some(Fraction::of(number)),
+        None => None,
     }
 }
 
@@ -140,12 +151,12 @@ fn check_opening_currency(
         (balance (fraction_in known.now.entries (balance_currency text.now)) text.now) result }
 {
     let currency = balance_currency(text);
-    if fraction_of(currency, known).is_none() {
-        return Err(Bad::UnknownCurrency);
-    }
-    match balance(text, fraction_in(known, currency)) {
-        Err(bad) => Err(bad),
-        Ok(opening) => check_page(page, statements, message, goes_on, currency, opening),
+    match given_fraction(currency, known) {
+        None => Err(Bad::UnknownCurrency),
+        Some(fraction) => match balance(text, fraction) {
+            Err(bad) => Err(bad),
+            Ok(opening) => check_page(page, statements, message, goes_on, currency, opening),
+        },
     }
 }
 
