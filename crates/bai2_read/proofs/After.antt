@@ -5,7 +5,7 @@ use Rattle.book_statement.specs.declared.level.Level.{Level}
 use Rattle.book_statement.specs.declared.level.Level.TheVariants.{Account, Group, File}
 use Rattle.book_statement.specs.declared.statement.Statement.{Statement}
 use Rattle.book_statement.specs.declared.statement_line.StatementLine.{StatementLine}
-use Rattle.bai2_read.specs.Kinds.{begins, is_account_header, is_account_trailer, is_file_header, is_group_header}
+use Rattle.bai2_read.specs.Kinds.{counts_anew, is_account_header, is_account_trailer, is_file_header, is_group_header}
 use Rattle.bai2_read.specs.Records.{Record}
 use Rattle.bai2_read.specs.Said.{Said, Sums, amount_in, lines_in, part_in}
 use Rattle.bai2_read.specs.Statements.{currency_in, day_in, number_in, statement_with}
@@ -22,13 +22,13 @@ added sums total parts records =
 -- the sums of a level, which begin anew where the record begins a new account, group or file
 abbrev pub next_sums : Level → Sums → Record → Sums
 next_sums level sums r =
-    added (if begins level r.kind then no_sums else sums)
+    added (if counts_anew level r.kind then no_sums else sums)
     (amount_in level r.kind r.body) (part_in level r.kind) r.lines
 
 -- the lines of the account that goes on
 abbrev pub next_lines : Said → Record → List StatementLine
 next_lines before r =
-    if begins Account r.kind then [] else before.lines ++ lines_in before.day r.kind r.body r.text
+    if counts_anew Account r.kind then [] else before.lines ++ lines_in before.day r.kind r.body r.text
 
 -- the statement that the record completes
 abbrev pub next_statements : Said → Record → List Statement

@@ -14,7 +14,7 @@ use Rattle.book_statement.specs.declared.statement.Statement.{Statement}
 use Rattle.book_statement.proofs.CheckLemmas.{first_fault-here, first_fault-past}
 use Rattle.book_statement.proofs.ListLemmas.{each_after-append, each_after-push}
 use Rattle.bai2_read.specs.Kept.{Keeps, Leads, done_at, goes_on, last_at, said_in, sums_in, with_last}
-use Rattle.bai2_read.specs.Kinds.{begins, is_account_header, is_account_trailer, is_file_header, is_group_header}
+use Rattle.bai2_read.specs.Kinds.{counts_anew, is_account_header, is_account_trailer, is_file_header, is_group_header}
 use Rattle.bai2_read.specs.Reading.{Known, end_place, places, record_place, result_of}
 use Rattle.bai2_read.specs.Records.{Record, whole}
 use Rattle.bai2_read.specs.Said.{Said, Sums, amount_in, last_kind, lines_in, part_in, said_by, statements_of, sums_of}
@@ -35,17 +35,17 @@ pub tally_more :
       parts = start.parts + parts;
       records = start.records + records;
     } in more)
-    → sums_in start ≡ cond (begins level r.kind) no_sums (sums_in tally)
+    → sums_in start ≡ cond (counts_anew level r.kind) no_sums (sums_in tally)
     → total ≡ amount_in level r.kind r.body → parts ≡ part_in level r.kind → records ≡ r.lines
     → (before : List Record) → sums_in tally ≡ sums_of level before
     → sums_in sums ≡ sums_of level (before ++ r ∷ [])
 tally_more level tally start sums r total parts records is start_is total_is parts_is records_is before said =
     ap sums_in is
     ∙ ap (λ (s : Sums). added s total parts records) start_is
-    ∙ ap (λ (z : ℤ). added (cond (begins level r.kind) no_sums (sums_in tally)) z parts records) total_is
-    ∙ ap (λ (n : ℕ). added (cond (begins level r.kind) no_sums (sums_in tally)) (amount_in level r.kind r.body) n
+    ∙ ap (λ (z : ℤ). added (cond (counts_anew level r.kind) no_sums (sums_in tally)) z parts records) total_is
+    ∙ ap (λ (n : ℕ). added (cond (counts_anew level r.kind) no_sums (sums_in tally)) (amount_in level r.kind r.body) n
     records) parts_is
-    ∙ ap (λ (n : ℕ). added (cond (begins level r.kind) no_sums (sums_in tally)) (amount_in level r.kind r.body)
+    ∙ ap (λ (n : ℕ). added (cond (counts_anew level r.kind) no_sums (sums_in tally)) (amount_in level r.kind r.body)
     (part_in level r.kind) n) records_is
     ∙ ap (λ (s : Sums). next_sums level s r) said
     ∙ sym (sums_of_push level before r)
@@ -66,7 +66,7 @@ pub tally_next :
       parts = start.parts + parts;
       records = start.records + records;
     } in more))
-    → sums_in start ≡ cond (begins level r.kind) no_sums (sums_in tally)
+    → sums_in start ≡ cond (counts_anew level r.kind) no_sums (sums_in tally)
     → total ≡ amount_in level r.kind r.body → parts ≡ part_in level r.kind → records ≡ r.lines
     → IfOk result (λ sums. (before : List Record) → sums_in tally ≡ sums_of level before
     → sums_in sums ≡ sums_of level (before ++ r ∷ []))
@@ -83,7 +83,7 @@ context_with old r = record old {
   day = if is_group_header r.kind then day_in r.body else old.day;
   currency = if is_group_header r.kind then currency_in r.body else old.currency;
   account = if is_account_header r.kind then r.body else old.account;
-  lines = if begins Account r.kind then [] else old.lines ++ lines_in old.day r.kind r.body r.text;
+  lines = if counts_anew Account r.kind then [] else old.lines ++ lines_in old.day r.kind r.body r.text;
   statements =
       old.statements
       ++ (if is_account_trailer r.kind

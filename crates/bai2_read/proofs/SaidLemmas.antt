@@ -10,7 +10,7 @@ use Rattle.std.proofs.lemmas.List.Sums.{sum_by_push}
 use Rattle.book_statement.specs.declared.level.Level.{Level}
 use Rattle.book_statement.specs.declared.level.Level.TheVariants.{Account, Group, File}
 use Rattle.book_statement.proofs.ListLemmas.{each_after-push}
-use Rattle.bai2_read.specs.Kinds.{begins, is_account_header, is_file_header, is_group_header}
+use Rattle.bai2_read.specs.Kinds.{counts_anew, is_account_header, is_file_header, is_group_header}
 use Rattle.bai2_read.specs.Records.{Record}
 use Rattle.bai2_read.specs.Said.{account_of, amount_in, currency_of, day_of, from_last, last_kind, last_said, lines_in}
 use Rattle.bai2_read.specs.Said.{lines_of, lines_on, number_of, part_in, said_by, section, statements_at}
@@ -60,8 +60,8 @@ sums_push level records r false =
 pub sums_of_push : (level : Level) (records : List Record) (r : Record)
     → sums_of level (records ++ r ∷ []) ≡ next_sums level (sums_of level records) r
 sums_of_push level records r =
-    ap (sums_over level) (from_last_push (λ s. begins level s.kind) records r)
-    ∙ sums_push level (section level records) r (begins level r.kind)
+    ap (sums_over level) (from_last_push (λ s. counts_anew level s.kind) records r)
+    ∙ sums_push level (section level records) r (counts_anew level r.kind)
 
 -- what the last record says that passes the test
 picked : {X : Type 0} (passes : Bool) (said : Record → X) (none : X) (r : Record) (others : Option Record)
@@ -78,12 +78,13 @@ last_said_push test said none records r =
     ∙ picked (test r.kind) said none r (find (λ (s : Record). test s.kind) (reverse records))
 
 -- a record with which an account begins or ends gives no line
-no_line : (kind : Kind) (day : ℤ) (body text : List ℕ) → begins Account kind ≡ true → lines_in day kind body text ≡ []
+no_line : (kind : Kind) (day : ℤ) (body text : List ℕ) → counts_anew Account kind ≡ true
+    → lines_in day kind body text ≡ []
 no_line Detail day body text anew = absurd cc
 no_line _ day body text anew = refl
 
 -- and the day changes only with such a record
-same_day : (kind : Kind) → begins Account kind ≡ false → is_group_header kind ≡ false
+same_day : (kind : Kind) → counts_anew Account kind ≡ false → is_group_header kind ≡ false
 same_day GroupHeader goes = absurd cc
 same_day _ goes = refl
 
@@ -93,11 +94,11 @@ flat_push f (y ∷ ys) x = ap (λ l. f y ++ l) (flat_push f ys x) ∙ sym (appen
 
 lines_push : (records : List Record) (r : Record) → lines_of (records ++ r ∷ []) ≡ next_lines (said_by records) r
 lines_push records r =
-    let part = from_last_push (λ (s : Record). begins Account s.kind) records r in
+    let part = from_last_push (λ (s : Record). counts_anew Account s.kind) records r in
     let day : day_of (records ++ r ∷ []) ≡ cond (is_group_header r.kind) (day_in r.body) (day_of records) =
     last_said_push is_group_header (λ (s : Record). day_in s.body) (pos 0) records r in
     ap (lines_on (day_of (records ++ r ∷ []))) part
-    ∙ elim (cases_Bool (begins Account r.kind)) [
+    ∙ elim (cases_Bool (counts_anew Account r.kind)) [
       | inl anew ↦ rw anew (append-nil (lines_in (day_of (records ++ r ∷ [])) r.kind r.body r.text)
           ∙ no_line r.kind (day_of (records ++ r ∷ [])) r.body r.text anew)
       | inr goes ↦ rw goes

@@ -95,15 +95,15 @@ continues Detail = true
 continues Continuation = true
 continues _ = false
 
--- A file, a group or an account begins with its header, and with each higher header too. An account goes on up to its
--- trailer: what stands from there on is none of its records.
-abbrev pub begins : Level → Kind → Bool
-begins _ FileHeader = true
-begins Account GroupHeader = true
-begins Group GroupHeader = true
-begins Account AccountHeader = true
-begins Account AccountTrailer = true
-begins _ _ = false
+-- The records of a file, a group or an account are counted from its header on, and anew from each higher header on. An
+-- account goes on up to its trailer: what stands from there on is none of its records.
+abbrev pub counts_anew : Level → Kind → Bool
+counts_anew _ FileHeader = true
+counts_anew Account GroupHeader = true
+counts_anew Group GroupHeader = true
+counts_anew Account AccountHeader = true
+counts_anew Account AccountTrailer = true
+counts_anew _ _ = false
 
 -- A group stands behind the file's header or another group.
 abbrev pub ends_group : Kind → Bool

@@ -14,7 +14,7 @@ use Rattle.book_statement.specs.declared.statement_line.StatementLine.{Statement
 use Rattle.bai2_read.specs.Amounts.{amount, total}
 use Rattle.bai2_read.specs.Details.{lines_of_detail}
 use Rattle.bai2_read.specs.Fields.{field}
-use Rattle.bai2_read.specs.Kinds.{begins, is_account_header, is_account_trailer, is_file_header, is_group_header}
+use Rattle.bai2_read.specs.Kinds.{counts_anew, is_account_header, is_account_trailer, is_file_header, is_group_header}
 use Rattle.bai2_read.specs.Records.{Record}
 use Rattle.bai2_read.specs.Statements.{currency_in, day_in, number_in, statement_with}
 use Rattle.bai2_read.specs.Summaries.{items, sum_of_items}
@@ -52,7 +52,7 @@ from_last test (x ∷ xs) = if list_any test xs then from_last test xs else x �
 
 -- The records of the account, the group or the file that goes on at the end of the records.
 abbrev pub section : Level → List Record → List Record
-section level records = from_last (λ r. begins level r.kind) records
+section level records = from_last (λ r. counts_anew level r.kind) records
 
 -- What a record adds to the control total of a level: to an account's the amounts of its header and its details, to a
 -- group's the totals that its accounts' trailers say, and to the file's those that its groups' trailers say (BAI2,

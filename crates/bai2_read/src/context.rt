@@ -37,7 +37,7 @@ impl Context {
     ghost use Rattle.book_statement.specs.declared.level.Level.TheVariants.{Account};
     ghost use Rattle.bai2_read.specs.Details.{lines_of_detail};
     ghost use Rattle.bai2_read.specs.Kept.{said_in};
-    ghost use Rattle.bai2_read.specs.Kinds.{begins, is_account_header, is_account_trailer, is_file_header};
+    ghost use Rattle.bai2_read.specs.Kinds.{counts_anew, is_account_header, is_account_trailer, is_file_header};
     ghost use Rattle.bai2_read.specs.Kinds.{is_group_header};
     ghost use Rattle.bai2_read.specs.Records.{Record};
     ghost use Rattle.bai2_read.specs.Said.{lines_in, said_by};
@@ -84,7 +84,7 @@ impl Context {
           day = if is_group_header entry.kind then day_in entry.body else self.old.day;
           currency = if is_group_header entry.kind then currency_in entry.body else self.old.currency;
           account = if is_account_header entry.kind then entry.body else self.old.account;
-          lines = if begins Account entry.kind
+          lines = if counts_anew Account entry.kind
               then []
               else self.old.lines ++ lines_in self.old.day entry.kind entry.body entry.text;
           statements = self.old.statements

@@ -149,7 +149,7 @@ fn balance(body: &[u8], item_type: &[u8]) -> Option<i64>
     ensures { result ≡ balance item_type.now (items body.now) }
 {
     let mut rest = after_fields(body, 2);
-    'items: while !rest.is_empty() {
+    while !rest.is_empty() {
         if field(rest, 0) == item_type {
             return given_amount(rest);
         }

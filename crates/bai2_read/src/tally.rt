@@ -1,6 +1,6 @@
 ghost use Rattle.std.specs.Prelude.{◌≡◌, ◌+◌, List, [], ◌∷◌, ◌++◌, pos, ◌+ℤ◌, IfOk, if◌then◌else◌};
 ghost use Rattle.bai2_read.specs.Kept.{sums_in};
-ghost use Rattle.bai2_read.specs.Kinds.{begins};
+ghost use Rattle.bai2_read.specs.Kinds.{counts_anew};
 ghost use Rattle.bai2_read.specs.Records.{Record};
 ghost use Rattle.bai2_read.specs.Said.{amount_in, part_in, sums_of};
 
@@ -56,7 +56,7 @@ impl Tally {
     {
         let kind = entry.kind();
         let total = amount_in(level, kind, entry.body().as_bytes());
-        let start = self.empty_if(begins(level, kind));
+        let start = self.empty_if(counts_anew(level, kind));
         start.with(total, part_in(level, kind), entry.lines())
     }
 
@@ -68,9 +68,9 @@ impl Tally {
     }
 }
 
-/// Whether a record of this kind begins a new account, group or file.
-fn begins(level: Level, kind: Kind) -> bool
-    ensures { result ≡ begins level kind }
+/// Whether the records of an account, a group or a file are counted anew from a record of this kind on.
+fn counts_anew(level: Level, kind: Kind) -> bool
+    ensures { result ≡ counts_anew level kind }
 {
     match level {
         Level::Account => matches!(

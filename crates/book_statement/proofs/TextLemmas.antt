@@ -44,13 +44,14 @@ use Rattle.std.specs.List.{position_or_len, starts_with}
 use Rattle.memchr.specs.Find.{IsFirstByte, is_byte}
 use Rattle.std.proofs.lemmas.Bool.{ne_eqb, eqb-true, cases_lt, lt-ltb, le-ltb, cond-true, cond-false}
 use Rattle.std.proofs.lemmas.Bool.{false_from_ne_true}
-use Rattle.std.proofs.lemmas.List.{take_more, append-nil, take-append-drop}
+use Rattle.std.proofs.lemmas.List.{take_more, append-nil, drop_all, take-append-drop}
 use Rattle.std.proofs.lemmas.List.Sums.{position_or_len_is}
 use Rattle.std.proofs.lemmas.List.Quantifiers.{position-Some}
 use Rattle.std.proofs.lemmas.Str.{encodes-append, IsUtf8-from_is_utf8, is_utf8-from_IsUtf8}
 use Rattle.std.specs.Str.{IsUtf8, is_utf8}
 use Rattle.book_statement.specs.Pieces.{after_chars, past_continuations}
 use Rattle.book_statement.specs.Texts.{
+  behind_line,
   raw_lines,
   onto_first,
   without_spaces,
@@ -136,6 +137,7 @@ ends_here line (suc n) within stop =
 pub record FirstLine (text : List ℕ) (end : ℕ) : Type 0 where
   pub within : end < length text
   pub feed : get_or text end 0 ≡ 10
+  pub rest : drop (end + 1) text ≡ behind_line text
   pub lines : raw_lines text ≡ take end text ∷ raw_lines (drop (end + 1) text)
 
 pub first_line : (text : List ℕ) (end : ℕ) → position is_line_feed text ≡ Some end → FirstLine text end
@@ -146,23 +148,31 @@ first_line text end e =
     record {
       within = found.0;
       feed = eqb-true (get_or text end 0) 10 found.1;
+      rest = ap (λ n. drop (n + 1) text) (sym place);
       lines =
           raw_lines-at text (omega (arith, found.0, place))
           ∙ ap (λ n. take n text ∷ raw_lines (drop (suc n) text)) place
           ∙ ap (λ n. take end text ∷ raw_lines (drop n text)) (sym (add-one end));
     }
 
-pub only_line : (text : List ℕ) → 0 < length text → position is_line_feed text ≡ None → raw_lines text ≡ text ∷ []
-only_line text some e =
-    raw_lines-alone text some
-    (elim (cases_lt (position_or_len is_line_feed text) (length text)) [
+no_feed : (text : List ℕ) → position is_line_feed text ≡ None → length text ≤ position_or_len is_line_feed text
+no_feed text e =
+    elim (cases_lt (position_or_len is_line_feed text) (length text)) [
       | inl lt ↦ absurd (some_none (sym
           (ap (λ t. cond t (Some (position_or_len is_line_feed text)) None) (lt-ltb _ _ lt)) ∙ e))
       | inr ge ↦ ge
-    ])
+    ]
   where
     some_none : {n : ℕ} → Some n ≡ None → ⊥
     some_none p = absurd cc
+
+pub only_line : (text : List ℕ) → 0 < length text → position is_line_feed text ≡ None → raw_lines text ≡ text ∷ []
+only_line text some e = raw_lines-alone text some (no_feed text e)
+
+-- and nothing stands behind it
+pub nothing_behind : (text : List ℕ) → position is_line_feed text ≡ None → [] ≡ behind_line text
+nothing_behind text e =
+    sym (drop_all (position_or_len is_line_feed text + 1) text (omega (arith, no_feed text e)))
 
 -- a search for a line feed finds the place of the first
 pub found_feed : (text : List ℕ) (found : Option ℕ) → IsFirstByte (is_byte 10) text found

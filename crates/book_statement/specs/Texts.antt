@@ -1,6 +1,7 @@
 -- The text of a statement file: what its bytes say, and its lines.
 use Rattle.std.specs.Prelude.{
   ℕ,
+  ◌+◌,
   ◌==◌,
   nat_eq,
   Bool,
@@ -15,7 +16,7 @@ use Rattle.std.specs.Prelude.{
   if◌then◌else◌,
   encode_utf8_all,
 }
-use Rattle.std.specs.List.{starts_with}
+use Rattle.std.specs.List.{position_or_len, starts_with}
 use Rattle.std.specs.Str.{is_utf8}
 use Rattle.std.specs.Str.Lines.{strip_carriage_return}
 
@@ -45,6 +46,10 @@ onto_first b (line ∷ lines) = (b ∷ line) ∷ lines
 abbrev pub raw_lines : List ℕ → List (List ℕ)
 raw_lines [] = []
 raw_lines (b ∷ bs) = if b == 10 then [] ∷ raw_lines bs else onto_first b (raw_lines bs)
+
+-- the text behind its first line feed; empty where it has none
+abbrev pub behind_line : List ℕ → List ℕ
+behind_line text = drop (position_or_len (λ b. b == 10) text + 1) text
 
 -- a line without the spaces at its end
 abbrev pub without_spaces : List ℕ → List ℕ

@@ -1,15 +1,16 @@
 ghost use Rattle.std.specs.Prelude.{◌≡◌, ◌<◌, ◌≤◌, ◌==◌, take, slice_index, ◌∷◌, length, position};
 ghost use Rattle.std.specs.Str.{IsUtf8};
 ghost use Rattle.std.specs.Str.Lines.{strip_carriage_return};
-ghost use Rattle.book_statement.specs.Texts.{lines_of, without_spaces, trimmed};
+ghost use Rattle.book_statement.specs.Texts.{behind_line, lines_of, without_spaces, trimmed};
 
 use crate::pieces::{text_before, text_behind};
 use memchr::memchr;
 
-/// The first line of a text, trimmed, and what stands behind its line feed.
+/// The first line of a text, trimmed, and what stands behind its line feed; nothing where it has none.
 pub fn next_line(text: &str) -> (&str, &str)
     requires { 0 < length text.now }
     ensures lines { lines_of text.now ≡ result.0.now ∷ lines_of result.1.now }
+    ensures rest { result.1.now ≡ behind_line text.now }
     ensures shorter { length result.1.now < length text.now }
     ensures utf8 { IsUtf8 result.1.now }
 {

@@ -99,18 +99,17 @@ page_right page statements m goes_on currency z a b =
     TooMany ∷ [])) a
     ∙ ap (λ t. first_bad (check t TooMany ∷ [])) b
 
-abbrev known_code : List (ℕ × Commodity) → Message → List ℕ → Bool
-known_code known m text = same_text (balance_currency text) m.currency || is_some
-    (fraction_of (balance_currency text) known)
+abbrev known_code : List (ℕ × Commodity) → List ℕ → Bool
+known_code known text = is_some (fraction_of (balance_currency text) known)
 
-pub later_unknown : (known : List (ℕ × Commodity)) (m : Message) (text : List ℕ) → known_code known m text ≡ false
+pub later_unknown : (known : List (ℕ × Commodity)) (m : Message) (text : List ℕ) → known_code known text ≡ false
     → first_bad (later_currency_checks known m text) ≡ Some UnknownCurrency
 unfolding later_currency_checks
 later_unknown known m text a =
     ap (λ t. first_bad (check t UnknownCurrency ∷ check (same_text (balance_currency text) m.currency)
     CurrencyDiffers ∷ amount_checks m.fraction (balance_amount text))) a
 
-pub later_differs : (known : List (ℕ × Commodity)) (m : Message) (text : List ℕ) → known_code known m text ≡ true
+pub later_differs : (known : List (ℕ × Commodity)) (m : Message) (text : List ℕ) → known_code known text ≡ true
     → same_text (balance_currency text) m.currency ≡ false
     → first_bad (later_currency_checks known m text) ≡ Some CurrencyDiffers
 unfolding later_currency_checks
@@ -120,12 +119,12 @@ later_differs known m text a b =
     ∙ ap (λ t. first_bad (check t CurrencyDiffers ∷ amount_checks m.fraction (balance_amount text))) b
 
 pub later_tells : (known : List (ℕ × Commodity)) (m : Message) (text : List ℕ) (v : ℤ) (r : Result ℤ Bad)
-    → known_code known m text ≡ true
+    → known_code known text ≡ true
     → same_text (balance_currency text) m.currency ≡ true
     → Tells (amount_checks m.fraction (balance_amount text)) v r → Tells (later_currency_checks known m text) v r
 unfolding later_currency_checks
 later_tells known m text v r a b h =
-    let front : List Check = check (known_code known m text) UnknownCurrency ∷ check
+    let front : List Check = check (known_code known text) UnknownCurrency ∷ check
     (same_text (balance_currency text) m.currency) CurrencyDiffers ∷ [] in
     let holds : first_bad front ≡ None =
     ap (λ t. first_bad (check t UnknownCurrency ∷ check (same_text (balance_currency text) m.currency)

@@ -44,7 +44,7 @@ pub record SoFar (known : List (ℕ × Commodity)) (text : List ℕ) (k : Reader
   pub few : count + length rest ≤ length text
 
 pub first : (known : List (ℕ × Commodity)) (text : List ℕ) (k : Reader)
-    → k ≡ record { done = []; page = None; message = values known []; goes = false }
+    → k ≡ record { done = []; page = None; message = values known []; text_goes_on = false }
     → SoFar known text k 0 text
 first known text k e = record {
   tree = Between [];
@@ -52,7 +52,7 @@ first known text k e = record {
     done_is = ap (λ (r : Reader). r.done) e;
     page_is = ap (λ (r : Reader). r.page) e;
     message_is = ap (λ (r : Reader). r.message) e;
-    goes_is = ap (λ (r : Reader). r.goes) e;
+    goes_is = ap (λ (r : Reader). r.text_goes_on) e;
     sound = refl;
   };
   whole = refl;

@@ -136,7 +136,7 @@ end_none known k without = (
     done = with_message k.page k.message k.done;
     page = Some (page_of k.message);
     message = values known [];
-    goes = false;
+    text_goes_on = false;
   }) k) without),
 )
 
@@ -155,7 +155,7 @@ pub end_whole : (known : List (ℕ × Commodity)) (k : Reader) → is_within k �
       page = Some (page_of k.message);
       message = values known
           [];
-      goes = false;
+      text_goes_on = false;
     } ≡ ended known k)
 end_whole known k within closed = (
   ap (λ t. first_bad (cond t (check (is_some k.message.closing) CutOff ∷ []) [])) within
@@ -164,7 +164,7 @@ end_whole known k within closed = (
     done = with_message k.page k.message k.done;
     page = Some (page_of k.message);
     message = values known [];
-    goes = false;
+    text_goes_on = false;
   }) k) within),
 )
 
@@ -235,4 +235,4 @@ answer_some (s ∷ ss) some = refl
 
 -- a reader for which no further lines belong to a line
 abbrev pub at_rest : Reader → Reader
-at_rest k = record k { goes = false }
+at_rest k = record k { text_goes_on = false }

@@ -102,7 +102,7 @@ pub record IsBetween (known : List (ℕ × Commodity)) (k : Reader) (done : List
   pub done_is : k.done ≡ statements_of known done
   pub page_is : k.page ≡ last_page known done
   pub message_is : k.message ≡ values known []
-  pub goes_is : k.goes ≡ false
+  pub goes_is : k.text_goes_on ≡ false
   pub sound : first_fault (file_places known done) ≡ None
 
 pub record IsWithin (known : List (ℕ × Commodity)) (k : Reader) (done : List MessageLines) (fs : List FieldLines)
@@ -110,7 +110,7 @@ pub record IsWithin (known : List (ℕ × Commodity)) (k : Reader) (done : List 
   pub done_is : k.done ≡ statements_of known done
   pub page_is : k.page ≡ last_page known done
   pub message_is : k.message ≡ values known (with_last fs last)
-  pub goes_is : k.goes ≡ goes_of fs last
+  pub goes_is : k.text_goes_on ≡ goes_of fs last
   pub begun : is_some (last_tag (with_last fs last)) ≡ true
   pub sound : first_fault (places known done (with_last fs last)) ≡ None
 
@@ -261,7 +261,7 @@ ended_is known k done fs last n w holds =
       done = with_message k.page k.message k.done;
       page = Some (page_of k.message);
       message = values known [];
-      goes = false;
+      text_goes_on = false;
     } in
     let same : ended known k ≡ whole = ap (λ t. cond t whole k) (inside known k done fs last w) in
     let kept : IsBetween known whole (done ++ message gs n ∷ []) = record {
@@ -288,7 +288,7 @@ not_ended known k done b =
       page = Some (page_of k.message);
       message =
           values known [];
-      goes = false;
+      text_goes_on = false;
     }) k)
     (outside known k done b)
 
@@ -331,7 +331,7 @@ field_is known k done fs last n tag line w holds =
     subst (λ r. IsWithin known r done gs (Open tag (n + 1) text [])) (sym same) kept
   where
     with_field : Reader → Message → Bool → Reader
-    with_field k m goes = record k { message = m; goes = goes }
+    with_field k m goes = record k { message = m; text_goes_on = goes }
 
 -- a further line more
 more_is : (known : List (ℕ × Commodity)) (k : Reader) (done : List MessageLines) (fs : List FieldLines) (tag : Tag)
@@ -390,7 +390,7 @@ kept_ok known n line (Field tag) k (Between done) b holds =
     taken : Reader → Reader
     taken k = record k {
       message = after known k.message tag (field_text line);
-      goes = is_line tag || (is_text tag
+      text_goes_on = is_line tag || (is_text tag
           && ends_in_line k.message.last);
     }
 kept_ok known n line (Field tag) k (Within done fs last) w holds = field_is known k done fs last n tag line w holds

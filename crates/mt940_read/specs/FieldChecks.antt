@@ -78,12 +78,10 @@ unfoldable pub opening_checks : List (ℕ × Commodity) → Option Page → ℕ 
 opening_checks known page statements m goes_on text =
     balance_form text ++ opening_currency_checks known page statements m goes_on text
 
--- Fields 62, 64 and 65 behind their form: the currency is that of the 60, which was asked there, or else at least one
--- of the book's.
+-- Fields 62, 64 and 65 behind their form: the currency is one of the book's, and that of the 60.
 unfoldable pub later_currency_checks : List (ℕ × Commodity) → Message → List ℕ → List Check
 later_currency_checks known m text =
-    check (same_text (balance_currency text) m.currency || is_some (fraction_of (balance_currency text) known))
-    UnknownCurrency
+    check (is_some (fraction_of (balance_currency text) known)) UnknownCurrency
     ∷ check (same_text (balance_currency text) m.currency) CurrencyDiffers ∷ amount_checks m.fraction
     (balance_amount text)
 

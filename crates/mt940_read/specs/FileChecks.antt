@@ -83,12 +83,11 @@ opening_checks_of known messages before opens text =
     ++ page_checks_of known messages (account_of before) opens (balance_currency text)
     (balance (fraction_in known (balance_currency text)) text))
 
--- Fields 62, 64 and 65: a balance in the currency of the 60, or else at least in one of the book's.
+-- Fields 62, 64 and 65: a balance in one of the book's currencies, which is that of the 60.
 abbrev pub later_checks_of : List (ℕ × Commodity) → List FieldLines → List ℕ → List Check
 later_checks_of known before text =
     balance_form text
-    ++ check (same_text (balance_currency text) (currency_of before)
-    || is_some (fraction_of (balance_currency text) known)) UnknownCurrency
+    ++ check (is_some (fraction_of (balance_currency text) known)) UnknownCurrency
     ∷ check (same_text (balance_currency text) (currency_of before)) CurrencyDiffers
     ∷ amount_checks (fraction_behind known before) (balance_amount text)
 

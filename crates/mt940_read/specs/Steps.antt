@@ -55,7 +55,7 @@ ended known k =
       done = with_message k.page k.message k.done;
       page = Some (page_of k.message);
       message = values known [];
-      goes = false;
+      text_goes_on = false;
     } else k
 
 -- The reader behind the field 20 that begins a message.
@@ -68,11 +68,11 @@ next known Begins line k = begun (ended known k)
 next known (Field tag) line k =
     if is_within k then record k {
       message = after known k.message tag (field_text line);
-      goes = is_line tag || (is_text tag && ends_in_line k.message.last);
+      text_goes_on = is_line tag || (is_text tag && ends_in_line k.message.last);
     } else k
-next known Passed line k = record k { goes = false }
+next known Passed line k = record k { text_goes_on = false }
 next known Ends line k = ended known k
-next known More line k = if k.goes then record k { message = after_more k.message line } else k
+next known More line k = if k.text_goes_on then record k { message = after_more k.message line } else k
 
 -- The checks that the end of a message brings.
 abbrev pub end_checks : Reader → List Check

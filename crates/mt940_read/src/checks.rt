@@ -100,9 +100,20 @@ pub fn fraction_in(known: &Commodities, code: &[u8]) -> Fraction
     requires { HaveFractions known.now.entries }
     ensures { result ≡ fraction_in known.now.entries code.now }
 {
-    match fraction_of(code, known) {
-        Some(number) => Fraction::of(number),
+    match given_fraction(code, known) {
+        Some(fraction) => fraction,
         None => Fraction::of(1),
+    }
+}
+
+/// The fraction of the currency with this code; `None` where the book has no such currency.
+fn given_fraction(code: &[u8], known: &Commodities) -> Option<Fraction>
+    requires { HaveFractions known.now.entries }
+    ensures { result ≡ fraction_of code.now known.now.entries }
+{
+    match fraction_of(code, known) {
+        Some(number) => Some(Fraction::of(number)),
+        None => None,
     }
 }
 
@@ -140,12 +151,12 @@ fn check_opening_currency(
         (balance (fraction_in known.now.entries (balance_currency text.now)) text.now) result }
 {
     let currency = balance_currency(text);
-    if fraction_of(currency, known).is_none() {
-        return Err(Bad::UnknownCurrency);
-    }
-    match balance(text, fraction_in(known, currency)) {
-        Err(bad) => Err(bad),
-        Ok(opening) => check_page(page, statements, message, goes_on, currency, opening),
+    match given_fraction(currency, known) {
+        None => Err(Bad::UnknownCurrency),
+        Some(fraction) => match balance(text, fraction) {
+            Err(bad) => Err(bad),
+            Ok(opening) => check_page(page, statements, message, goes_on, currency, opening),
+        },
     }
 }
 
@@ -213,7 +224,7 @@ fn check_later_currency(known: &Commodities, message: &Message, text: &[u8]) -> 
     ensures { Tells (later_currency_checks known.now.entries message.now text.now)
         (balance message.now.fraction text.now) result }
 {
-    if !is_known(known, message, text) {
+    if !is_known(known, text) {
         return Err(Bad::UnknownCurrency);
     }
     if !has_currency(message, text) {
@@ -229,12 +240,11 @@ fn has_currency(message: &Message, text: &[u8]) -> bool
     balance_currency(text) == message.currency.as_str().as_bytes()
 }
 
-/// Whether a balance has the currency of the message, which was asked at its 60, or another one of the book's.
-fn is_known(known: &Commodities, message: &Message, text: &[u8]) -> bool
-    ensures { result ≡ (same_text (balance_currency text.now) message.now.currency || is_some
-        (fraction_of (balance_currency text.now) known.now.entries)) }
+/// Whether a balance has one of the book's currencies.
+fn is_known(known: &Commodities, text: &[u8]) -> bool
+    ensures { result ≡ is_some (fraction_of (balance_currency text.now) known.now.entries) }
 {
-    has_currency(message, text) || fraction_of(balance_currency(text), known).is_some()
+    fraction_of(balance_currency(text), known).is_some()
 }
 
 /// The checks of a 62.

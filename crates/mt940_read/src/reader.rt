@@ -17,13 +17,13 @@ use std::alloc::Global;
 use std::mem;
 
 /// What is kept of the lines that were read: the statements, the message before, and the values of the message that is
-/// read. `goes` says whether further lines belong to the text of the last line.
+/// read. `text_goes_on` says whether further lines belong to the text of the last line.
 #[derive(Drop)]
 pub struct Reader {
     pub done: Statements,
     pub page: Option<Page>,
     pub message: Message,
-    pub goes: bool,
+    pub text_goes_on: bool,
 }
 
 impl Reader {
@@ -48,13 +48,13 @@ impl Reader {
     /// The reader of no lines.
     pub fn new(alloc: Global) -> Reader
         ensures { (known : List (ℕ × Commodity))
-            → result ≡ record { done = []; page = None; message = values known []; goes = false } }
+            → result ≡ record { done = []; page = None; message = values known []; text_goes_on = false } }
     {
         Reader {
             done: Statements::new(alloc),
             page: None,
             message: Message::new(alloc),
-            goes: false,
+            text_goes_on: false,
         }
     }
 
@@ -76,7 +76,7 @@ impl Reader {
             Kind::Begins => self.begin(alloc, before),
             Kind::Field(tag) => self.field(alloc, known, before, tag, line),
             Kind::Passed => {
-                self.goes = false;
+                self.text_goes_on = false;
                 Ok(())
             }
             Kind::Ends => self.end(alloc, before),
@@ -123,7 +123,7 @@ impl Reader {
         };
         let last_line = ends_in_line(self.message.last);
         self.message.add(alloc, known, tag, text, amount)?;
-        self.goes = matches!(tag, Tag::Line) || (matches!(tag, Tag::Text) && last_line);
+        self.text_goes_on = matches!(tag, Tag::Line) || (matches!(tag, Tag::Text) && last_line);
         Ok(())
     }
 
@@ -150,7 +150,7 @@ impl Reader {
     fn more(&mut self, alloc: Global, line: &str) -> Result<(), ReadError>
         ensures { (known : List (ℕ × Commodity)) → Steps 0 [] (next known More line.now self.old) result self.new }
     {
-        if self.goes {
+        if self.text_goes_on {
             self.message.lines.add_text(alloc, line)?;
         }
         Ok(())
@@ -170,7 +170,7 @@ impl Reader {
         let joined = self.message.joins(&self.page);
         let message = mem::replace(&mut self.message, Message::new(alloc));
         self.keep(alloc, joined, message)?;
-        self.goes = false;
+        self.text_goes_on = false;
         Ok(())
     }
 

@@ -113,21 +113,6 @@ fn amounts_of_three_decimals(rt: HostRuntime) -> Result<(), Fail> {
     Ok(())
 }
 
-#[test]
-fn a_file_of_many_lines(rt: HostRuntime) -> Result<(), Fail> {
-    let statements = read(rt.alloc(), DateOrder::DayMonth, 100, files::MANY_LINES)??;
-    let (mut lines, mut parts, mut sum) = (0u64, 0u64, 0i128);
-    for statement in statements.as_slice() {
-        for line in statement.lines.as_slice() {
-            lines = lines.wrapping_add(1);
-            parts = parts.wrapping_add(line.parts.len() as u64);
-            sum = sum.wrapping_add(i128::from(line.amount));
-        }
-    }
-    assert!(rt; (lines, parts, sum) == (61, 26, 1675430));
-    Ok(())
-}
-
 /// A text with a piece repeated so many times behind a header.
 fn repeated(alloc: Global, header: &str, piece: &str, count: u64) -> Result<String, Fail> {
     let mut text = String::from_str(alloc, header)?;

@@ -4,7 +4,7 @@ use crate::DateOrder;
 use book_statement::Bad;
 
 /// Files, and for each its statements as text.
-pub(super) const FILES: [(DateOrder, &str, &str); 11] = [
+pub(super) const FILES: [(DateOrder, &str, &str); 12] = [
     // Three parts that sum to the amount.
     (
         DateOrder::DayMonth,
@@ -141,10 +141,81 @@ pub(super) const FILES: [(DateOrder, &str, &str); 11] = [
             LFood\nLHome\nSA\nEc\nEd\n$1\n$7\nSB\n$2\n$6\nEe\nEf\n^\n",
         " None 2024-01-02\n2024-01-02 300 first|one a|Food|A c 100|B e 200\n",
     ),
+    // Every form of date and amount.
+    (
+        DateOrder::DayMonth,
+        "!Account\nNACC7\nTBank\n^\n!Type:Oth A\nD18/ 2'24\nU7.30\nNR16\nMa b\nLFood\n^\n\
+            D 5/ 2'24\nT-4747.25\nNN1\n^\nD25/2/24\nU6.43\n^\nD27/3'24\nU3,784.39\nMmemo\n^\n\
+            D 6/ 1'24\nT2875.47\nPCOFFEE\n^\nD 4/ 2/2024\nU318.14\n^\nD4/2/2024\nT318.14\n\
+            POpening Balance\nMa b\nLFood\n^\nD5/2/24\nU-3.05\nPü\nMmemo\n^\nD14/ 3/24\nT-0.10\n\
+            NRENT\nCX\n^\nD21/02/2024\nT-7.79\nSFood\nEpart\n$-3.88\nSGifts\n$-3.91\nCX\n^\nD12/2'24\n\
+            U-4.21\nNRENT\nPOpening Balance\nCX\n^\nD13/2'24\nU-4.24\nNRENT\nPCOFFEE\n^\nD 5/ 2'24\n\
+            T2739.88\nPOpening Balance\n^\nD15/03'24\nT-1402.75\nNRENT\nMa b\n^\nD2/2/24\nT318.14\n\
+            NRENT\nLFood\nSFood\nEpart\n$-3.57\nSGifts\n$321.71\n^\nD16/ 1/24\nT0.62\nNN1\nMa b\n^\n\
+            D5/2'24\nU318.14\nNN1\nPOpening Balance\nL[Other]\nCX\n^\nD 3/ 3/2024\nT481.04\nNRENT\n\
+            POpening Balance\nMa b\nLFood:Out\n^\nD13/2/24\nT3.56\nLFood\nSFood\nEpart\n$-0.47\n\
+            SGifts\n$4.03\n^\nD07/03'24\nT-0.92\nNNONREF\n^\nD 9/ 2/24\nT4977.98\nNNONREF\nPü\nMmemo\n\
+            ^\nD25/02/24\nT4130.60\nNR16\nPShop\n^\nD25/02/2024\nT4130.60\nNR16\nPShop\n^\n\
+            D23/02/2024\nU-2.57\nPOpening Balance\nMa b\nSFood\nEpart\n$-2.62\nSGifts\n$0.05\n^\n\
+            D15/1/2024\nU-0.04\nNNONREF\nLFood:Out\n^\nD12/2'24\nT-0.26\nNNONREF\nPOpening Balance\n\
+            Mmemo\n^\nD 5/ 2/2024\nT318.14\nNN1\nMa b\nL[Other]\n^\nD08/02'24\nT-0.16\n\
+            POpening Balance\n^\nD5/2/2024\nT3.49\nNNONREF\nPOpening Balance\nLFood:Out\n^\nD15/2/24\n\
+            T-1.16\nNR1\nPCOFFEE\nMa b\n^\nD13/03'24\nU-1359.57\nNRENT\nPü\nLFood\n^\nD26/01'24\n\
+            T-4440.38\nNRENT\nMa b\nSFood\nEpart\n$-3.36\nSGifts\n$-4437.02\nCX\n^\nD 6/ 3/2024\n\
+            U0.35\nNR3\nMa b\nL[Other]\n^\nD24/02'24\nT1.05\nMa b\n^\nD24/02/24\nT1.05\nPCOFFEE\n^\n\
+            D05/02'24\nU318.14\nNRENT\nPOpening Balance\nMa b\n^\nD19/ 2/2024\nT6.69\nNRENT\nMa b\n\
+            SFood\nEpart\n$2.38\nSGifts\n$4.31\n^\nD 7/ 1'24\nT558.14\nNN1\nPShop\nMmemo\nLFood:Out\n\
+            ^\nD 6/ 2'24\nT318.14\nNR18\nMmemo\n^\nD06/02'24\nT318.14\nNR18\nMa b\nCX\n^\nD11/ 3'24\n\
+            T3,982.45\nPShop\nMmemo\nLFood\n^\nD14/ 2/2024\nT-1229.09\nNN1\nPü\nMmemo\n^\nD26/02'24\n\
+            T1.73\n1NN1\nPShop\nMa b\n^\nD4/2'24\nT318.14\nNNONREF\nMmemo\n^\nD17/03/24\nU-3236.70\n\
+            NRENT\nPShop\nLFood\n^\nD13/ 2'24\nT-524.67\nNN1\nMa b\n^\nD3/3/24\nT-0.46\nNR16\n\
+            PCOFFEE\nMmemo\n^\nD06/02'24\nT4.83\nMmemo\n^\nD21/03'24\nU0.60\nNN1\nPOpening Balance\n\
+            LFood:Out\n^\nD 3/ 2/2024\nT318.14\nNN1\nPOpening Balance\nMa b\nL[Other]\nSFood\nEpart\n\
+            $1.03\nSGifts\n$317.11\n^\nD28/ 2/24\nU-5.58\nNN1\nPCOFFEE\nMmemo\nLFood:Out\nSFood\n\
+            Epart\n$-0.13\nSGifts\n$-5.45\n^\nD10/2'24\nU-8.22\nNNONREF\nMmemo\nLFood:Out\nSFood\n\
+            Epart\n$-0.26\nSGifts\n$-7.96\n^\nD10/02'24\nT-8.22\nNNONREF\nPOpening Balance\nMa b\n\
+            LFood:Out\n^\nD3/2'24\nT318.14\nNN1\nPü\nLFood:Out\n^\nD15/02'24\nU-3.08\nPShop\nLFood\n\
+            SFood\nEpart\n$-0.45\nSGifts\n$-2.63\n^\nD27/2'24\nT2.00\nPOpening Balance\n^\nD25/ 2'24\n\
+            U5.68\nPShop\nLFood\nSFood\nEpart\n$0.36\nSGifts\n$5.32\nCX\n^\nD25/2/2024\nT5.68\n\
+            L[Other]\nSFood\nEpart\n$-3.08\nSGifts\n$8.76\n^\nD16/ 1'24\nU2527.38\nNN1\nPü\nMa b\n\
+            L[Other]\nSFood\nEpart\n$-2.36\nSGifts\n$2,529.74\n^\nD27/2'24\nU3.12\nNR12\nLFood\n^\n\
+            D27/ 2'24\nU3.12\nNR12\nMmemo\nLFood\n^\n",
+        "ACC7 None 2024-03-27\n2024-02-18 730 \x5216|a b|Food\n2024-02-05 -474725 N1||\n\
+            2024-02-25 643 ||\n2024-03-27 378439 |memo|\n2024-01-06 287547 |COFFEE|\n2024-02-04 31814 ||\n\
+            2024-02-04 31814 |Opening Balance a b|Food\n2024-02-05 -305 |ü memo|\n2024-03-14 -10 RENT||\n\
+            2024-02-21 -779 |||Food part -388|Gifts  -391\n2024-02-12 -421 RENT|Opening Balance|\n\
+            2024-02-13 -424 RENT|COFFEE|\n2024-02-05 273988 |Opening Balance|\n\
+            2024-03-15 -140275 RENT|a b|\n2024-02-02 31814 RENT||Food|Food part -357|Gifts  32171\n\
+            2024-01-16 62 N1|a b|\n2024-02-05 31814 N1|Opening Balance|[Other]\n\
+            2024-03-03 48104 RENT|Opening Balance a b|Food:Out\n\
+            2024-02-13 356 ||Food|Food part -47|Gifts  403\n2024-03-07 -92 NONREF||\n\
+            2024-02-09 497798 NONREF|ü memo|\n2024-02-25 413060 \x5216|Shop|\n\
+            2024-02-25 413060 \x5216|Shop|\n2024-02-23 -257 |Opening Balance a b||Food part -262|Gifts  5\n\
+            2024-01-15 -4 NONREF||Food:Out\n2024-02-12 -26 NONREF|Opening Balance memo|\n\
+            2024-02-05 31814 N1|a b|[Other]\n2024-02-08 -16 |Opening Balance|\n\
+            2024-02-05 349 NONREF|Opening Balance|Food:Out\n2024-02-15 -116 \x521|COFFEE a b|\n\
+            2024-03-13 -135957 RENT|ü|Food\n2024-01-26 -444038 RENT|a b||Food part -336|Gifts  -443702\n\
+            2024-03-06 35 \x523|a b|[Other]\n2024-02-24 105 |a b|\n2024-02-24 105 |COFFEE|\n\
+            2024-02-05 31814 RENT|Opening Balance a b|\n2024-02-19 669 RENT|a b||Food part 238|Gifts  431\n\
+            2024-01-07 55814 N1|Shop memo|Food:Out\n2024-02-06 31814 \x5218|memo|\n\
+            2024-02-06 31814 \x5218|a b|\n2024-03-11 398245 |Shop memo|Food\n2024-02-14 -122909 N1|ü memo|\n\
+            2024-02-26 173 |Shop a b|\n2024-02-04 31814 NONREF|memo|\n2024-03-17 -323670 RENT|Shop|Food\n\
+            2024-02-13 -52467 N1|a b|\n2024-03-03 -46 \x5216|COFFEE memo|\n2024-02-06 483 |memo|\n\
+            2024-03-21 60 N1|Opening Balance|Food:Out\n\
+            2024-02-03 31814 N1|Opening Balance a b|[Other]|Food part 103|Gifts  31711\n\
+            2024-02-28 -558 N1|COFFEE memo|Food:Out|Food part -13|Gifts  -545\n\
+            2024-02-10 -822 NONREF|memo|Food:Out|Food part -26|Gifts  -796\n\
+            2024-02-10 -822 NONREF|Opening Balance a b|Food:Out\n2024-02-03 31814 N1|ü|Food:Out\n\
+            2024-02-15 -308 |Shop|Food|Food part -45|Gifts  -263\n2024-02-27 200 |Opening Balance|\n\
+            2024-02-25 568 |Shop|Food|Food part 36|Gifts  532\n\
+            2024-02-25 568 ||[Other]|Food part -308|Gifts  876\n\
+            2024-01-16 252738 N1|ü a b|[Other]|Food part -236|Gifts  252974\n2024-02-27 312 \x5212||Food\n\
+            2024-02-27 312 \x5212|memo|Food\n",
+    ),
 ];
 
 /// Files with a fault, and for each the line of the fault and the fault.
-pub(super) const FAULTS: [(DateOrder, &str, u64, Bad); 22] = [
+pub(super) const FAULTS: [(DateOrder, &str, u64, Bad); 25] = [
     (DateOrder::MonthDay, "!Type:Bank\nD1/15/24", 2, Bad::CutOff),
     (
         DateOrder::MonthDay,
@@ -214,6 +285,18 @@ pub(super) const FAULTS: [(DateOrder, &str, u64, Bad); 22] = [
     ),
     (
         DateOrder::MonthDay,
+        "!Type:Cash\nD1/1/24\nT1\nSa\n$x\n^\n",
+        5,
+        Bad::AmountForm,
+    ),
+    (
+        DateOrder::MonthDay,
+        "!Type:Cash\nD1/1/24\nT1\nSa\n$0.001\n^\n",
+        5,
+        Bad::TooManyDecimals,
+    ),
+    (
+        DateOrder::MonthDay,
         "!Type:Cash\nD1/1/24\nT1\nSa\nEb\n^\n",
         6,
         Bad::FieldForm,
@@ -227,6 +310,13 @@ pub(super) const FAULTS: [(DateOrder, &str, u64, Bad); 22] = [
     (
         DateOrder::MonthDay,
         "!Account\nNa\n!Type:Bank\nCx\n^\n",
+        2,
+        Bad::CutOff,
+    ),
+    // The first of two that are broken off counts.
+    (
+        DateOrder::MonthDay,
+        "!Account\nNa\n!Account\nNb\n!Type:Bank\nCx\n^\n",
         2,
         Bad::CutOff,
     ),
@@ -276,42 +366,3 @@ pub(super) const FAULTS: [(DateOrder, &str, u64, Bad); 22] = [
         Bad::FieldForm,
     ),
 ];
-
-/// 61 lines of an account, with every form of date and amount.
-pub(super) const MANY_LINES: &str =
-    "!Account\nNACC7\nTBank\n^\n!Type:Oth A\nD18/ 2'24\nU7.30\nNR16\nMa b\nLFood\n^\n\
-    D 5/ 2'24\nT-4747.25\nNN1\n^\nD25/2/24\nU6.43\n^\nD27/3'24\nU3,784.39\nMmemo\n^\n\
-    D 6/ 1'24\nT2875.47\nPCOFFEE\n^\nD 4/ 2/2024\nU318.14\n^\nD4/2/2024\nT318.14\n\
-    POpening Balance\nMa b\nLFood\n^\nD5/2/24\nU-3.05\nPü\nMmemo\n^\nD14/ 3/24\nT-0.10\n\
-    NRENT\nCX\n^\nD21/02/2024\nT-7.79\nSFood\nEpart\n$-3.88\nSGifts\n$-3.91\nCX\n^\nD12/2'24\n\
-    U-4.21\nNRENT\nPOpening Balance\nCX\n^\nD13/2'24\nU-4.24\nNRENT\nPCOFFEE\n^\nD 5/ 2'24\n\
-    T2739.88\nPOpening Balance\n^\nD15/03'24\nT-1402.75\nNRENT\nMa b\n^\nD2/2/24\nT318.14\n\
-    NRENT\nLFood\nSFood\nEpart\n$-3.57\nSGifts\n$321.71\n^\nD16/ 1/24\nT0.62\nNN1\nMa b\n^\n\
-    D5/2'24\nU318.14\nNN1\nPOpening Balance\nL[Other]\nCX\n^\nD 3/ 3/2024\nT481.04\nNRENT\n\
-    POpening Balance\nMa b\nLFood:Out\n^\nD13/2/24\nT3.56\nLFood\nSFood\nEpart\n$-0.47\n\
-    SGifts\n$4.03\n^\nD07/03'24\nT-0.92\nNNONREF\n^\nD 9/ 2/24\nT4977.98\nNNONREF\nPü\nMmemo\n\
-    ^\nD25/02/24\nT4130.60\nNR16\nPShop\n^\nD25/02/2024\nT4130.60\nNR16\nPShop\n^\n\
-    D23/02/2024\nU-2.57\nPOpening Balance\nMa b\nSFood\nEpart\n$-2.62\nSGifts\n$0.05\n^\n\
-    D15/1/2024\nU-0.04\nNNONREF\nLFood:Out\n^\nD12/2'24\nT-0.26\nNNONREF\nPOpening Balance\n\
-    Mmemo\n^\nD 5/ 2/2024\nT318.14\nNN1\nMa b\nL[Other]\n^\nD08/02'24\nT-0.16\n\
-    POpening Balance\n^\nD5/2/2024\nT3.49\nNNONREF\nPOpening Balance\nLFood:Out\n^\nD15/2/24\n\
-    T-1.16\nNR1\nPCOFFEE\nMa b\n^\nD13/03'24\nU-1359.57\nNRENT\nPü\nLFood\n^\nD26/01'24\n\
-    T-4440.38\nNRENT\nMa b\nSFood\nEpart\n$-3.36\nSGifts\n$-4437.02\nCX\n^\nD 6/ 3/2024\n\
-    U0.35\nNR3\nMa b\nL[Other]\n^\nD24/02'24\nT1.05\nMa b\n^\nD24/02/24\nT1.05\nPCOFFEE\n^\n\
-    D05/02'24\nU318.14\nNRENT\nPOpening Balance\nMa b\n^\nD19/ 2/2024\nT6.69\nNRENT\nMa b\n\
-    SFood\nEpart\n$2.38\nSGifts\n$4.31\n^\nD 7/ 1'24\nT558.14\nNN1\nPShop\nMmemo\nLFood:Out\n\
-    ^\nD 6/ 2'24\nT318.14\nNR18\nMmemo\n^\nD06/02'24\nT318.14\nNR18\nMa b\nCX\n^\nD11/ 3'24\n\
-    T3,982.45\nPShop\nMmemo\nLFood\n^\nD14/ 2/2024\nT-1229.09\nNN1\nPü\nMmemo\n^\nD26/02'24\n\
-    T1.73\n1NN1\nPShop\nMa b\n^\nD4/2'24\nT318.14\nNNONREF\nMmemo\n^\nD17/03/24\nU-3236.70\n\
-    NRENT\nPShop\nLFood\n^\nD13/ 2'24\nT-524.67\nNN1\nMa b\n^\nD3/3/24\nT-0.46\nNR16\n\
-    PCOFFEE\nMmemo\n^\nD06/02'24\nT4.83\nMmemo\n^\nD21/03'24\nU0.60\nNN1\nPOpening Balance\n\
-    LFood:Out\n^\nD 3/ 2/2024\nT318.14\nNN1\nPOpening Balance\nMa b\nL[Other]\nSFood\nEpart\n\
-    $1.03\nSGifts\n$317.11\n^\nD28/ 2/24\nU-5.58\nNN1\nPCOFFEE\nMmemo\nLFood:Out\nSFood\n\
-    Epart\n$-0.13\nSGifts\n$-5.45\n^\nD10/2'24\nU-8.22\nNNONREF\nMmemo\nLFood:Out\nSFood\n\
-    Epart\n$-0.26\nSGifts\n$-7.96\n^\nD10/02'24\nT-8.22\nNNONREF\nPOpening Balance\nMa b\n\
-    LFood:Out\n^\nD3/2'24\nT318.14\nNN1\nPü\nLFood:Out\n^\nD15/02'24\nU-3.08\nPShop\nLFood\n\
-    SFood\nEpart\n$-0.45\nSGifts\n$-2.63\n^\nD27/2'24\nT2.00\nPOpening Balance\n^\nD25/ 2'24\n\
-    U5.68\nPShop\nLFood\nSFood\nEpart\n$0.36\nSGifts\n$5.32\nCX\n^\nD25/2/2024\nT5.68\n\
-    L[Other]\nSFood\nEpart\n$-3.08\nSGifts\n$8.76\n^\nD16/ 1'24\nU2527.38\nNN1\nPü\nMa b\n\
-    L[Other]\nSFood\nEpart\n$-2.36\nSGifts\n$2,529.74\n^\nD27/2'24\nU3.12\nNR12\nLFood\n^\n\
-    D27/ 2'24\nU3.12\nNR12\nMmemo\nLFood\n^\n";

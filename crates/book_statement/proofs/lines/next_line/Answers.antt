@@ -2,7 +2,7 @@ use Rattle.std.proofs.Common.{◌≡◌, ◌∷◌, [], ◌+◌, Some, None, dro
 use Rattle.std.specs.Prelude.{map}
 use Rattle.std.proofs.lemmas.Str.{IsUtf8-nil}
 use Rattle.book_statement.specs.Texts.{trimmed, lines_of}
-use Rattle.book_statement.proofs.TextLemmas.{is_line_feed, first_line, only_line}
+use Rattle.book_statement.proofs.TextLemmas.{is_line_feed, first_line, nothing_behind, only_line}
 use Rattle.book_statement.proofs.lines.next_line.Goals as goal
 
 pub text_before-requires-clause-ascii : goal.text_before-requires-clause-ascii
@@ -33,6 +33,17 @@ returns-in-None-clause-lines c =
     let found : position is_line_feed c.args.text.now ≡ None =
     ap (λ l. position is_line_feed l) (sym c.as_bytes.ensures.value) ∙ sym c.line_feed.ensures ∙ c.in-None.is in
     ap (map trimmed) (only_line c.args.text.now c.requires found) ∙ ap (λ l. l ∷ []) (sym c.trimmed-in-None.ensures)
+
+pub returns-in-Some-clause-rest : goal.returns-in-Some-clause-rest
+returns-in-Some-clause-rest c =
+    let found : position is_line_feed c.args.text.now ≡ Some c.in-Some.end =
+    ap (λ l. position is_line_feed l) (sym c.as_bytes.ensures.value) ∙ sym c.line_feed.ensures ∙ c.in-Some.is in
+    let first = first_line c.args.text.now c.in-Some.end found in c.text_behind.ensures ∙ first.rest
+
+pub returns-in-None-clause-rest : goal.returns-in-None-clause-rest
+returns-in-None-clause-rest c =
+    nothing_behind c.args.text.now (ap (λ l. position is_line_feed l) (sym c.as_bytes.ensures.value)
+    ∙ sym c.line_feed.ensures ∙ c.in-None.is)
 
 pub returns-in-Some-clause-utf8 : goal.returns-in-Some-clause-utf8
 returns-in-Some-clause-utf8 c = c.text_behind.utf8

@@ -2,7 +2,7 @@ use Rattle.std.proofs.Common.{◌≡◌, cond, ℕ, List, Bool, ap, ◌∙◌, t
 use mir.Syntax.{w128}
 use Rattle.std.proofs.lemmas.Int.{ints}
 use Rattle.bai2_read.specs.Kept.{sums_in}
-use Rattle.bai2_read.specs.Kinds.{begins}
+use Rattle.bai2_read.specs.Kinds.{counts_anew}
 use Rattle.bai2_read.specs.Said.{amount_in, part_in}
 use Rattle.bai2_read.specs.declared.kind.Kind.{Kind}
 use Rattle.bai2_read.proofs.After.{no_sums}
@@ -23,9 +23,9 @@ returns c =
     ∙ ap (λ (b : List ℕ). amount_in level r.kind b) body in
     let parts : c.part_in.result ≡ part_in level r.kind =
     c.part_in.ensures ∙ ap (λ (k : Kind). part_in level k) kind in
-    let start : sums_in c.empty_if-start.result ≡ cond (begins level r.kind) no_sums (sums_in c.args.self) =
-    emptied c.args.self c.empty_if-start.result c.begins.result c.empty_if-start.ensures
+    let start : sums_in c.empty_if-start.result ≡ cond (counts_anew level r.kind) no_sums (sums_in c.args.self) =
+    emptied c.args.self c.empty_if-start.result c.counts_anew.result c.empty_if-start.ensures
     ∙ ap (λ (anew : Bool). cond anew no_sums (sums_in c.args.self))
-    (c.begins.ensures ∙ ap (λ (k : Kind). begins level k) kind) in
+    (c.counts_anew.ensures ∙ ap (λ (k : Kind). counts_anew level k) kind) in
     tally_next level c.args.self c.empty_if-start.result r (to_z w128 (of_z w128 c.amount_in-total.result))
     c.part_in.result c.lines.result c.with.result c.with.ensures start total parts c.lines.ensures

@@ -13,7 +13,7 @@ returns c known =
             done = with_message self.page (c.replace-message.ensures.value i) self.done;
             page = Some (page_of (c.replace-message.ensures.value i));
             message = (c.replace-message.ensures.after ∙ c.new.ensures known) i;
-            goes = false;
+            text_goes_on = false;
           })
           ∙ whole.1,
     )
