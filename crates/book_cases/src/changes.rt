@@ -1,60 +1,16 @@
-use crate::texts::{LAST_PAIR, PAIR, add_post, last_answer, repeated, two_thousand_posts};
+use crate::texts::{
+    LAST_PAIR, PAIR, add_post, all_answers, last_answer, repeated, two_thousand_posts,
+};
 use book_commodity::OutOfMemory;
 use std::alloc::Global;
 use std::test::Fail;
 
-/// Lines, and the answer to the last of them.
+/// A line, and its answer.
 type Row = (&'static str, &'static str);
 
-// After two thousand posts, a transaction is edited, left as it is, and deleted.
-static PAST_ALL: [Row; 4] = [
-    (
-        concat!(
-            r#"{"do":"edit","transaction":5,"day":"2024-01-06","currency":1,"splits":"#,
-            r#"[{"account":3,"value":9,"id":6},{"account":4,"value":-9}]}"#
-        ),
-        r#"{"balances":["8005","-8005"],"ok":"edit","splits":[6,12005],"version":2003}"#,
-    ),
-    (
-        concat!(
-            r#"{"do":"edit","transaction":5,"day":"2024-01-05","currency":1,"description":"Pay","splits":"#,
-            r#"[{"account":3,"value":4,"id":6},{"account":4,"value":-1,"id":7},{"account":4,"value":-1,"id":8},"#,
-            r#"{"account":4,"value":-1,"id":9},{"account":4,"value":-1,"id":10}]}"#
-        ),
-        concat!(
-            r#"{"balances":["8000","-8000","-8000","-8000","-8000"],"ok":"edit","#,
-            r#""splits":[6,7,8,9,10],"version":2002}"#
-        ),
-    ),
-    (
-        r#"{"do":"drop","transaction":11999}"#,
-        r#"{"ok":"drop","version":2003}"#,
-    ),
-    (
-        concat!(
-            r#"{"do":"drop","transaction":5}"#,
-            "\n",
-            r#"{"do":"edit","transaction":11,"day":"2024-01-05","currency":1,"splits":"#,
-            r#"[{"account":3,"value":4,"id":12},{"account":4,"value":-4,"id":13}]}"#
-        ),
-        r#"{"balances":["7996","-7996"],"ok":"edit","splits":[12,13],"version":2004}"#,
-    ),
-];
-
-#[test]
-fn behind_two_thousand_posts(rt: HostRuntime) -> Result<(), Fail> {
-    let posts = two_thousand_posts(rt.alloc())?;
-    for (line, answer) in PAST_ALL {
-        let mut lines = String::from_str(rt.alloc(), posts.as_str())?;
-        lines.push_str(line)?;
-        let last = last_answer(rt.alloc(), lines.as_str())?;
-        assert_eq!(rt; last.as_str(), answer);
-    }
-    Ok(())
-}
-
-// After two thousand posts, the rules that an edit or a drop breaks.
-static PAST_RULES: [Row; 5] = [
+// After two thousand posts: the rules that an edit or a drop breaks; then a transaction is left as it is, one is
+// deleted, one gets a new split, and after its deletion another is edited.
+static BEHIND_POSTS: [Row; 10] = [
     (
         r#"{"do":"edit","transaction":7,"day":"2024-01-05","currency":1,"splits":[]}"#,
         r#"{"broken":"Unknown","id":7,"kind":"transaction","version":2002}"#,
@@ -75,17 +31,53 @@ static PAST_RULES: [Row; 5] = [
         r#"{"do":"drop","transaction":12}"#,
         r#"{"broken":"Unknown","id":12,"kind":"transaction","version":2002}"#,
     ),
+    (
+        concat!(
+            r#"{"do":"edit","transaction":5,"day":"2024-01-05","currency":1,"description":"Pay","splits":"#,
+            r#"[{"account":3,"value":4,"id":6},{"account":4,"value":-1,"id":7},{"account":4,"value":-1,"id":8},"#,
+            r#"{"account":4,"value":-1,"id":9},{"account":4,"value":-1,"id":10}]}"#
+        ),
+        concat!(
+            r#"{"balances":["8000","-8000","-8000","-8000","-8000"],"ok":"edit","#,
+            r#""splits":[6,7,8,9,10],"version":2002}"#
+        ),
+    ),
+    (
+        r#"{"do":"drop","transaction":11999}"#,
+        r#"{"ok":"drop","version":2003}"#,
+    ),
+    (
+        concat!(
+            r#"{"do":"edit","transaction":5,"day":"2024-01-06","currency":1,"splits":"#,
+            r#"[{"account":3,"value":9,"id":6},{"account":4,"value":-9}]}"#
+        ),
+        r#"{"balances":["8001","-8001"],"ok":"edit","splits":[6,12005],"version":2004}"#,
+    ),
+    (
+        r#"{"do":"drop","transaction":5}"#,
+        r#"{"ok":"drop","version":2005}"#,
+    ),
+    (
+        concat!(
+            r#"{"do":"edit","transaction":11,"day":"2024-01-05","currency":1,"splits":"#,
+            r#"[{"account":3,"value":4,"id":12},{"account":4,"value":-4,"id":13}]}"#
+        ),
+        r#"{"balances":["7992","-7992"],"ok":"edit","splits":[12,13],"version":2006}"#,
+    ),
 ];
 
 #[test]
-fn rules_behind_two_thousand_posts(rt: HostRuntime) -> Result<(), Fail> {
-    let posts = two_thousand_posts(rt.alloc())?;
-    for (line, answer) in PAST_RULES {
-        let mut lines = String::from_str(rt.alloc(), posts.as_str())?;
+fn behind_two_thousand_posts(rt: HostRuntime) -> Result<(), Fail> {
+    let mut lines = two_thousand_posts(rt.alloc())?;
+    let mut expected = String::new(rt.alloc());
+    for (line, answer) in BEHIND_POSTS {
         lines.push_str(line)?;
-        let last = last_answer(rt.alloc(), lines.as_str())?;
-        assert_eq!(rt; last.as_str(), answer);
+        lines.push('\n')?;
+        expected.push_str(answer)?;
+        expected.push('\n')?;
     }
+    let answers = all_answers(rt.alloc(), lines.as_str())?;
+    assert!(rt; answers.as_str().ends_with(expected.as_str()));
     Ok(())
 }
 

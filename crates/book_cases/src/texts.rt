@@ -16,8 +16,8 @@ const FIVE: &str = concat!(
     r#"{"account":4,"value":-1},{"account":4,"value":-1}"#
 );
 
-/// Runs the lines behind those of the two accounts, and gives the last answer.
-pub(crate) fn last_answer(alloc: Global, lines: &str) -> Result<String, Fail> {
+/// Runs the lines behind those of the two accounts, and gives all answers.
+pub(crate) fn all_answers(alloc: Global, lines: &str) -> Result<String, Fail> {
     let mut input = String::from_str(alloc, ACCOUNTS)?;
     input.push_str(lines)?;
     let ended = ran(
@@ -32,7 +32,13 @@ pub(crate) fn last_answer(alloc: Global, lines: &str) -> Result<String, Fail> {
         Err("the run did not end by Done")?;
     }
     let answers = str::from_utf8(ended.output.written()).map_err(|_| "no text")?;
-    let last = answers.lines().last().ok_or("no answer")?;
+    Ok(String::from_str(alloc, answers)?)
+}
+
+/// Runs the lines behind those of the two accounts, and gives the last answer.
+pub(crate) fn last_answer(alloc: Global, lines: &str) -> Result<String, Fail> {
+    let answers = all_answers(alloc, lines)?;
+    let last = answers.as_str().lines().last().ok_or("no answer")?;
     Ok(String::from_str(alloc, last)?)
 }
 

@@ -1,5 +1,6 @@
 -- A book has no first unsound key exactly where it is sound and its numbers are drawn.
-use Rattle.std.proofs.Common.{◌≡◌, ℕ, ◌+◌, ◌<◌, ◌≤◌, nat_lt, ◌==◌, not, Bool, true, false, ◌&&◌, if◌then◌else◌, List, []}
+use Rattle.std.proofs.Common.{◌≡◌, ℕ, ◌+◌, ◌<◌, ◌≤◌, nat_lt, ◌==◌, not, Bool, true, false, ◌&&◌, if◌then◌else◌}
+use Rattle.std.proofs.Common.{List, []}
 use Rattle.std.proofs.Common.{◌∷◌, ◌++◌, length, Option, Some, None, option_map, refl, sym, ap, ◌∙◌, subst, arith, All}
 use Rattle.std.specs.Prelude.{IsTrue, is_some}
 use Rattle.std.specs.List.{AllByRecursion, list_all}
@@ -92,7 +93,8 @@ fine_of rules most weight heaviest count sum (x ∷ es) low light e =
     let second = and_both (not past) here first.1 in
     let less = below_of count most first.0 in
     let lighter : sum + weight x.1 ≤ heaviest = (let test = second.0 in grind (arith, nat_tests)) in
-    let rest = fine_of rules most weight heaviest (count + 1) (sum + weight x.1) es (omega (arith, less)) lighter step.1 in
+    let rest = fine_of rules most weight heaviest (count + 1) (sum + weight x.1) es
+    (omega (arith, less)) lighter step.1 in
     record {
       few = (let few = rest.few in omega (arith, few));
       light = (let sum_is = rest.light in omega (arith, sum_is));
@@ -108,12 +110,14 @@ none_of rules most weight heaviest count sum (x ∷ es) few light keep =
     let here = all_hold (rules x.0 x.1) in
     let past = nat_lt heaviest (sum + weight x.1) in
     let a = of_below count most (omega (arith, few)) in
-    let b : not past ≡ true = (let low : sum + weight x.1 ≤ heaviest = omega (arith, light) in grind (arith, nat_tests)) in
+    let b : not past
+    ≡ true = (let low : sum + weight x.1 ≤ heaviest = omega (arith, light) in grind (arith, nat_tests)) in
     let c = of_hold (rules x.0 x.1) keep.0 in
     let rest = first_in rules most weight heaviest (count + 1) (sum + weight x.1) es in
     ap (λ (t : Bool). if t then rest else Some x.0)
     (both_true (nat_lt count most) (not past && here) a (both_true (not past) here b c))
-    ∙ none_of rules most weight heaviest (count + 1) (sum + weight x.1) es (omega (arith, few)) (omega (arith, light)) keep.1
+    ∙ none_of rules most weight heaviest (count + 1) (sum + weight x.1) es (omega (arith, few))
+    (omega (arith, light)) keep.1
 
 each_by :
     {T : Type 0} (rules : ℕ → T → List Bool) (y : ℕ × T) (es : List (ℕ × T)) (n : ℕ) (x : T) (t : Bool)
@@ -218,37 +222,55 @@ pub sound_where_none :
     (book : Book) (next : ℕ) → IsRising book → first_unsound book next ≡ None → IsSoundBook book × AreDrawn book next
 sound_where_none book next rise none =
     let kept = kept_of (unsound_keys book next) none in
-    let head = hold_of (head_rules book next) (not_kept (all_hold (head_rules book next)) (record { kind = 1; id = 0 }) kept.0) in
+    let head = hold_of (head_rules book next)
+    (not_kept (all_hold (head_rules book next)) (record { kind = 1; id = 0 }) kept.0) in
     let commodities = no_key 2 (first_of_table (commodity_rules book.commodities) 10000 book.commodities) kept.1.0 in
-    let accounts = no_key 3 (first_of_table (account_rules book.commodities book.accounts) 10000 book.accounts) kept.1.1.0 in
-    let transactions = no_key 4 (first_in (marked_transaction_rules book.commodities book.accounts book.reconciliations book.transactions)
+    let accounts = no_key 3 (first_of_table (account_rules book.commodities book.accounts) 10000 book.accounts)
+    kept.1.1.0 in
+    let transactions = no_key 4
+    (first_in (marked_transaction_rules book.commodities book.accounts book.reconciliations book.transactions)
     200000 splits_in 1000000 0 0 book.transactions) kept.1.1.1.0 in
     let fine = fine_of (marked_transaction_rules book.commodities book.accounts book.reconciliations book.transactions)
     200000 splits_in 1000000 0 0 book.transactions (omega arith) (omega arith) transactions in
-    let prices = no_key 5 (first_of_table (price_rules book.commodities book.prices) 1000000 book.prices) kept.1.1.1.1.0 in
-    let schedules = no_key 6 (first_of_table (schedule_rules book.commodities book.accounts) 1000 book.schedules) kept.1.1.1.1.1.0 in
-    let statements = no_key 7 (first_of_table (statement_rules book.accounts book.statements) 100000 book.statements) kept.1.1.1.1.1.1.0 in
-    let lines = no_key 8 (first_of_table (line_rules book.accounts book.statements book.transactions book.lines) 1000000 book.lines) kept.1.1.1.1.1.1.1.0 in
-    let bindings = no_key 9 (first_of_table (binding_rules book.accounts book.bindings) 10000 book.bindings) kept.1.1.1.1.1.1.1.1.0 in
-    let reconciliations = no_key 10 (first_of_table (reconciliation_rules book.accounts) 100000 book.reconciliations) kept.1.1.1.1.1.1.1.1.1.0 in (
+    let prices = no_key 5
+    (first_of_table (price_rules book.commodities book.prices) 1000000 book.prices) kept.1.1.1.1.0 in
+    let schedules = no_key 6 (first_of_table (schedule_rules book.commodities book.accounts) 1000 book.schedules)
+    kept.1.1.1.1.1.0 in
+    let statements = no_key 7
+    (first_of_table (statement_rules book.accounts book.statements) 100000 book.statements) kept.1.1.1.1.1.1.0 in
+    let lines = no_key 8
+    (first_of_table (line_rules book.accounts book.statements book.transactions book.lines) 1000000 book.lines)
+    kept.1.1.1.1.1.1.1.0 in
+    let bindings = no_key 9 (first_of_table (binding_rules book.accounts book.bindings) 10000 book.bindings)
+    kept.1.1.1.1.1.1.1.1.0 in
+    let reconciliations = no_key 10
+    (first_of_table (reconciliation_rules book.accounts) 100000 book.reconciliations) kept.1.1.1.1.1.1.1.1.1.0 in (
       record {
-        commodities = table_sound (commodity_rules book.commodities) 10000 book.commodities rise.commodities commodities;
-        accounts = table_sound (account_rules book.commodities book.accounts) 10000 book.accounts rise.accounts accounts;
+        commodities = table_sound
+            (commodity_rules book.commodities) 10000 book.commodities rise.commodities commodities;
+        accounts = table_sound (account_rules book.commodities book.accounts) 10000 book.accounts rise.accounts
+            accounts;
         transactions = record {
           rise = rise.transactions;
           keep = record {
-            each = each_of (marked_transaction_rules book.commodities book.accounts book.reconciliations book.transactions)
+            each = each_of
+                (marked_transaction_rules book.commodities book.accounts book.reconciliations book.transactions)
                 book.transactions fine.keep;
           };
           few = (let few = fine.few in omega (arith, few));
         };
         prices = table_sound (price_rules book.commodities book.prices) 1000000 book.prices rise.prices prices;
-        schedules = table_sound (schedule_rules book.commodities book.accounts) 1000 book.schedules rise.schedules schedules;
-        statements = table_sound (statement_rules book.accounts book.statements) 100000 book.statements rise.statements statements;
-        lines = table_sound (line_rules book.accounts book.statements book.transactions book.lines) 1000000 book.lines rise.lines lines;
+        schedules = table_sound (schedule_rules book.commodities book.accounts) 1000 book.schedules rise.schedules
+            schedules;
+        statements = table_sound
+            (statement_rules book.accounts book.statements) 100000 book.statements rise.statements statements;
+        lines = table_sound
+            (line_rules book.accounts book.statements book.transactions book.lines) 1000000 book.lines rise.lines lines;
         bindings = table_sound (binding_rules book.accounts book.bindings) 10000 book.bindings rise.bindings bindings;
-        reconciliations = table_sound (reconciliation_rules book.accounts) 100000 book.reconciliations rise.reconciliations reconciliations;
-        few_splits = (let light = fine.light in let weigh = splits_weigh book.transactions in omega (arith, light, weigh));
+        reconciliations = table_sound
+            (reconciliation_rules book.accounts) 100000 book.reconciliations rise.reconciliations reconciliations;
+        few_splits = (let light = fine.light in let weigh = splits_weigh book.transactions in omega
+            (arith, light, weigh));
         root = head.1.0;
         currency = head.0;
       },
@@ -267,7 +289,8 @@ sound_where_none book next rise none =
         marked = all_of (λ (e : ℕ × Recon). list_all (λ (m : MarkedSplit). nat_lt m.split next) e.1.marked)
             (λ (e : ℕ × Recon). All (λ (m : MarkedSplit). m.split < next) e.1.marked)
             (λ e t. all_of (λ (m : MarkedSplit). nat_lt m.split next) (λ (m : MarkedSplit). m.split < next)
-            (λ m u. below_of m.split next u) e.1.marked t) book.reconciliations (true_of _ head.1.1.1.1.1.1.1.1.1.1.1.1.0);
+            (λ m u. below_of m.split next u) e.1.marked t) book.reconciliations
+            (true_of _ head.1.1.1.1.1.1.1.1.1.1.1.1.0);
         made = all_of (λ (e : ℕ × Schedule). nat_lt e.1.timing.made next) (λ (e : ℕ × Schedule). e.1.timing.made < next)
             (λ e t. below_of e.1.timing.made next t) book.schedules (true_of _ head.1.1.1.1.1.1.1.1.1.1.1.1.1.0);
       },
@@ -303,16 +326,21 @@ none_where_sound book next sound drawn =
                         (
                           true_is _ (below_entries next book.reconciliations drawn.reconciliations),
                           (
-                            true_is _ (of_all (λ (x : Split). nat_lt x.id next) (λ (x : Split). x.id < next) (λ x t. of_below x.id next t)
+                            true_is _ (of_all (λ (x : Split). nat_lt x.id next) (λ (x : Split). x.id < next)
+                                (λ x t. of_below x.id next t)
                                 (splits_of book.transactions) drawn.splits),
                             (
-                              true_is _ (of_all (λ (e : ℕ × Recon). list_all (λ (m : MarkedSplit). nat_lt m.split next) e.1.marked)
+                              true_is _
+                                  (of_all
+                                  (λ (e : ℕ × Recon). list_all (λ (m : MarkedSplit). nat_lt m.split next) e.1.marked)
                                   (λ (e : ℕ × Recon). All (λ (m : MarkedSplit). m.split < next) e.1.marked)
-                                  (λ e t. of_all (λ (m : MarkedSplit). nat_lt m.split next) (λ (m : MarkedSplit). m.split < next)
+                                  (λ e t. of_all (λ (m : MarkedSplit). nat_lt m.split next)
+                                  (λ (m : MarkedSplit). m.split < next)
                                   (λ m u. of_below m.split next u) e.1.marked t) book.reconciliations drawn.marked),
                               (
                                 true_is _ (of_all (λ (e : ℕ × Schedule). nat_lt e.1.timing.made next)
-                                    (λ (e : ℕ × Schedule). e.1.timing.made < next) (λ e t. of_below e.1.timing.made next t) book.schedules drawn.made),
+                                    (λ (e : ℕ × Schedule). e.1.timing.made < next)
+                                    (λ e t. of_below e.1.timing.made next t) book.schedules drawn.made),
                                 tt,
                               ),
                             ),
@@ -339,22 +367,33 @@ none_where_sound book next sound drawn =
         (
           key_none 3 _ (table_none (account_rules book.commodities book.accounts) 10000 book.accounts sound.accounts),
           (
-            key_none 4 _ (none_of (marked_transaction_rules book.commodities book.accounts book.reconciliations book.transactions)
-                200000 splits_in 1000000 0 0 book.transactions (omega (arith, few_txns)) (omega (arith, few_splits, weigh))
-                (keep_of (marked_transaction_rules book.commodities book.accounts book.reconciliations book.transactions)
+            key_none 4 _
+                (none_of (marked_transaction_rules book.commodities book.accounts book.reconciliations book.transactions)
+                200000 splits_in 1000000 0 0 book.transactions (omega (arith, few_txns))
+                (omega (arith, few_splits, weigh))
+                (keep_of
+                (marked_transaction_rules book.commodities book.accounts book.reconciliations book.transactions)
                 book.transactions txns.rise txns.keep.each)),
             (
               key_none 5 _ (table_none (price_rules book.commodities book.prices) 1000000 book.prices sound.prices),
               (
-                key_none 6 _ (table_none (schedule_rules book.commodities book.accounts) 1000 book.schedules sound.schedules),
+                key_none 6 _
+                    (table_none (schedule_rules book.commodities book.accounts) 1000 book.schedules sound.schedules),
                 (
-                  key_none 7 _ (table_none (statement_rules book.accounts book.statements) 100000 book.statements sound.statements),
+                  key_none 7 _
+                      (table_none (statement_rules book.accounts book.statements) 100000 book.statements sound.statements),
                   (
-                    key_none 8 _ (table_none (line_rules book.accounts book.statements book.transactions book.lines) 1000000 book.lines sound.lines),
+                    key_none 8 _
+                        (table_none
+                        (line_rules book.accounts book.statements book.transactions book.lines) 1000000 book.lines
+                        sound.lines),
                     (
-                      key_none 9 _ (table_none (binding_rules book.accounts book.bindings) 10000 book.bindings sound.bindings),
+                      key_none 9 _
+                          (table_none (binding_rules book.accounts book.bindings) 10000 book.bindings sound.bindings),
                       (
-                        key_none 10 _ (table_none (reconciliation_rules book.accounts) 100000 book.reconciliations sound.reconciliations),
+                        key_none 10 _
+                            (table_none
+                            (reconciliation_rules book.accounts) 100000 book.reconciliations sound.reconciliations),
                         tt,
                       ),
                     ),

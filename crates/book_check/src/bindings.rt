@@ -13,7 +13,8 @@ const MOST: usize = 10_000;
 
 /// The first number at which a binding breaks a rule of its kind, or is one too many.
 pub fn first_binding(accounts: &Tree, bindings: &Table<Binding>) -> Option<u64>
-    ensures { result ≡ first_of_table (binding_rules accounts.now.entries bindings.now.entries) 10000 bindings.now.entries }
+    ensures { result ≡ first_of_table (binding_rules accounts.now.entries bindings.now.entries)
+        10000 bindings.now.entries }
 {
     for place in 0..bindings.len() {
         if place >= MOST {
@@ -29,7 +30,8 @@ pub fn first_binding(accounts: &Tree, bindings: &Table<Binding>) -> Option<u64>
 /// Whether the binding at the place keeps its rules.
 fn keeps_at(accounts: &Tree, bindings: &Table<Binding>, place: usize) -> bool
     requires { place < length bindings.now.entries }
-    ensures { option_map (keeps (binding_rules accounts.now.entries bindings.now.entries)) (slice_get bindings.now.entries place) ≡ Some result }
+    ensures { option_map (keeps (binding_rules accounts.now.entries bindings.now.entries))
+        (slice_get bindings.now.entries place) ≡ Some result }
 {
     keeps_rules(
         accounts,

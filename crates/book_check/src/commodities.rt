@@ -26,7 +26,8 @@ pub fn first_commodity(commodities: &Commodities) -> Option<u64>
 /// Whether the commodity at the place keeps its rules.
 fn keeps_at(commodities: &Commodities, place: usize) -> bool
     requires { place < length commodities.now.entries }
-    ensures { option_map (keeps (commodity_rules commodities.now.entries)) (slice_get commodities.now.entries place) ≡ Some result }
+    ensures { option_map (keeps (commodity_rules commodities.now.entries)) (slice_get commodities.now.entries place)
+        ≡ Some result }
 {
     keeps_rules(
         commodities,

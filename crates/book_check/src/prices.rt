@@ -14,7 +14,8 @@ const MOST: usize = 1_000_000;
 
 /// The first number at which a price breaks a rule of its kind, or is one too many.
 pub fn first_price(commodities: &Commodities, prices: &Prices) -> Option<u64>
-    ensures { result ≡ first_of_table (price_rules commodities.now.entries prices.now.entries) 1000000 prices.now.entries }
+    ensures { result ≡ first_of_table (price_rules commodities.now.entries prices.now.entries)
+        1000000 prices.now.entries }
 {
     for place in 0..prices.len() {
         if place >= MOST {
@@ -30,7 +31,8 @@ pub fn first_price(commodities: &Commodities, prices: &Prices) -> Option<u64>
 /// Whether the price at the place keeps its rules.
 fn keeps_at(commodities: &Commodities, prices: &Prices, place: usize) -> bool
     requires { place < length prices.now.entries }
-    ensures { option_map (keeps (price_rules commodities.now.entries prices.now.entries)) (slice_get prices.now.entries place) ≡ Some result }
+    ensures { option_map (keeps (price_rules commodities.now.entries prices.now.entries))
+        (slice_get prices.now.entries place) ≡ Some result }
 {
     keeps_rules(
         commodities,

@@ -12,7 +12,8 @@ const MOST: usize = 100_000;
 
 /// The first number at which a statement breaks a rule of its kind, or is one too many.
 pub fn first_statement(accounts: &Tree, statements: &Table<Held>) -> Option<u64>
-    ensures { result ≡ first_of_table (statement_rules accounts.now.entries statements.now.entries) 100000 statements.now.entries }
+    ensures { result ≡ first_of_table (statement_rules accounts.now.entries statements.now.entries)
+        100000 statements.now.entries }
 {
     for place in 0..statements.len() {
         if place >= MOST {
@@ -28,7 +29,8 @@ pub fn first_statement(accounts: &Tree, statements: &Table<Held>) -> Option<u64>
 /// Whether the statement at the place keeps its rules.
 fn keeps_at(accounts: &Tree, statements: &Table<Held>, place: usize) -> bool
     requires { place < length statements.now.entries }
-    ensures { option_map (keeps (statement_rules accounts.now.entries statements.now.entries)) (slice_get statements.now.entries place) ≡ Some result }
+    ensures { option_map (keeps (statement_rules accounts.now.entries statements.now.entries))
+        (slice_get statements.now.entries place) ≡ Some result }
 {
     keeps_rules(
         accounts,

@@ -1,10 +1,9 @@
 -- The rows of a state: their keys rise, each stands once, and where there were no rows, putting all of them gives them.
-use Rattle.std.proofs.Common.{◌≡◌, ℕ, ◌+◌, ◌*◌, ◌^◌, ◌<◌, ◌≤◌, nat_lt, ◌==◌, List, [], ◌∷◌, ◌++◌, map, refl, sym, ap}
+use Rattle.std.proofs.Common.{◌≡◌, ℕ, ◌+◌, ◌*◌, ◌^◌, ◌<◌, List, [], ◌∷◌, ◌++◌, map, refl, sym, ap}
 use Rattle.std.proofs.Common.{◌∙◌, subst, append_assoc, append-nil, arith}
 use Rattle.std.proofs.lemmas.Bool.Decides.{nat_tests}
 use Rattle.std.specs.List.{AllByRecursion}
 use Rattle.book_keeper.specs.declared.row.Row.{Row}
-use Rattle.book_keeper.specs.declared.row.Change.{Change}
 use Rattle.book_keeper.specs.declared.row.Change.TheVariants as change
 use Rattle.book_keeper.specs.Rows.{AllAbove, AreRising, AreRisingFrom, Rises, after_changes, rank, with_row}
 use Rattle.book_undo.specs.Book.{IsRising}
@@ -70,7 +69,8 @@ put_rise n [] rise above small = tt
 put_rise n (e ∷ es) rise above small =
     (above.0, small.0, put_rise (rank_of e + 1) es rise.1 (past (rank_of e) es rise.0) small.1)
   where
-    past : (m : ℕ) (es : List (ℕ × Record)) → AllAbove m (map row_of es) → AllByRecursion (λ e. m + 1 < rank_of e + 1) es
+    past : (m : ℕ) (es : List (ℕ × Record)) → AllAbove m (map row_of es)
+        → AllByRecursion (λ e. m + 1 < rank_of e + 1) es
     past m [] a = tt
     past m (e ∷ es) a = ((let first = a.0 in omega (arith, first)), past m es a.1)
 

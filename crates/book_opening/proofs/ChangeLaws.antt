@@ -237,9 +237,8 @@ rise_from j m (OfPut k t ∷ ls) n e small low le =
 rise_from j m (OfGone t k ∷ ls) n e small low le =
     let least = kind_least t in
     let both = ordered_by (is_above (key_at (row_kind t) k) (key_at j m))
-        (first_unordered (key_at (row_kind t) k) ls) e in
-    let above = above_rank (row_kind t) k j m both.0 (omega arith) in
-    (
+    (first_unordered (key_at (row_kind t) k) ls) e in
+    let above = above_rank (row_kind t) k j m both.0 (omega arith) in (
       omega (arith, above, least),
       small.0,
       rise_from (row_kind t) k ls (row_kind t * 2 ^ 64 + k + 1) both.1 small.1 small.0 (omega arith),

@@ -1,20 +1,18 @@
 -- What was read of all rows is what they open as.
-use Rattle.std.proofs.Common.{◌≡◌, ℕ, List, [], ◌∷◌, map, Option, Some, None, Result, Ok, Err, inl, inr, refl, sym, ap}
-use Rattle.std.proofs.Common.{◌∙◌, subst, ◌⊎◌}
+use Rattle.std.proofs.Common.{◌≡◌, ℕ, List, [], ◌∷◌, map, Err, inl, inr, refl, sym, ap}
+use Rattle.std.proofs.Common.{◌∙◌, subst}
 use Rattle.std.specs.List.{AllByRecursion}
 use Rattle.book_keeper.specs.declared.row.Row.{Row}
 use Rattle.book_keeper.specs.declared.row.RowKey.{RowKey}
 use Rattle.book_undo.specs.Book.{Book}
 use Rattle.book_rows.specs.declared.head.Head.{Head}
 use Rattle.book_rows.specs.declared.record.Record.{Record}
-use Rattle.book_rows.specs.declared.record.Record.TheVariants as kept
-use Rattle.book_opening.specs.BookRows.{behind_head, records_of, row_of, rows_of, things_of}
-use Rattle.book_opening.specs.Opening.{Answers, CanBeRow, IsBad, IsBadFor, IsLeastBad, IsNoRecord, IsOnlyRecord}
+use Rattle.book_opening.specs.BookRows.{behind_head, records_of, row_of}
+use Rattle.book_opening.specs.Opening.{Answers, CanBeRow, IsBad, IsBadFor, IsOnlyRecord}
 use Rattle.book_opening.specs.Opening.{IsOpened, OpenAs, SomeRow, head_key}
-use Rattle.book_opening.specs.State.{State, head_of, state_of}
+use Rattle.book_opening.specs.State.{State, head_of}
 use Rattle.book_opening.specs.declared.fault.OpenFault.{OpenFault}
 use Rattle.book_opening.specs.declared.fault.OpenFault.TheVariants as fault
-use Rattle.book_opening.specs.declared.saved.Saved.{Saved}
 use Rattle.book_opening.proofs.Ranked.{all_weak}
 use Rattle.book_opening.proofs.SameRecords.{same_state}
 use Rattle.book_opening.proofs.UpTo.{IsBadAt, only_records}

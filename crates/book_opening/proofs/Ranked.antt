@@ -1,6 +1,6 @@
 -- Lists in rising order of a rank, cut into pieces: what is put in or taken out changes one piece.
 use Rattle.std.proofs.Common.{◌≡◌, ℕ, zero, suc, ◌+◌, ◌<◌, ◌≤◌, nat_lt, ◌==◌, Bool, true, false, if◌then◌else◌}
-use Rattle.std.proofs.Common.{List, [], ◌∷◌, ◌++◌, map, length, refl, sym, ap, ◌∙◌, subst, arith}
+use Rattle.std.proofs.Common.{List, [], ◌∷◌, ◌++◌, map, length, refl, ap, ◌∙◌, subst, arith}
 use Rattle.std.proofs.lemmas.Bool.Decides.{nat_tests}
 use Rattle.std.specs.List.{AllByRecursion, flat_map}
 use Rattle.book_commodity.specs.Table.{AllAbove, Rises, with_entry, without_entry}
@@ -248,7 +248,8 @@ pub rises_joined :
 rises_joined r edge up k [] o h = tt
 rises_joined {X} r edge up k (s ∷ ss) o h =
     rises_both r s (joined ss) h.0 (rises_joined r edge up (suc k) ss o.1 h.1)
-    (all_weak (λ (x : X). (edge k ≤ r x) × (r x < edge (suc k))) (λ (x : X). AllByRecursion (λ (y : X). r x < r y) (joined ss))
+    (all_weak (λ (x : X). (edge k ≤ r x) × (r x < edge (suc k)))
+    (λ (x : X). AllByRecursion (λ (y : X). r x < r y) (joined ss))
     (λ x within. above_edge r edge up (suc k) ss o.1 (r x) within.1) s o.0)
 
 above_entries :

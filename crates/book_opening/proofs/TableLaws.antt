@@ -1,8 +1,7 @@
 -- The changes that put the entries of tables, table by table.
-use Rattle.std.proofs.Common.{◌≡◌, ℕ, ◌+◌, ◌<◌, List, [], ◌∷◌, ◌++◌, map, drop, length, Option, Some, None, option_map}
-use Rattle.std.proofs.Common.{slice_get, get_or, refl, sym, ap, ◌∙◌, subst, append_assoc, append-nil}
+use Rattle.std.proofs.Common.{◌≡◌, ℕ, ◌+◌, List, [], ◌∷◌, ◌++◌, map, drop, Some, option_map}
+use Rattle.std.proofs.Common.{slice_get, refl, sym, ap, ◌∙◌, subst, append_assoc, append-nil}
 use Rattle.std.specs.List.{AllByRecursion}
-use Rattle.book_keeper.specs.declared.row.Row.{Row}
 use Rattle.book_keeper.specs.declared.row.Change.{Change}
 use Rattle.book_keeper.specs.declared.row.Change.TheVariants as change
 use Rattle.book_undo.specs.Book.{Book}
@@ -13,7 +12,7 @@ use Rattle.book_rows.specs.declared.record.Record.{Record}
 use Rattle.book_opening.specs.BookRows.{record_of, records_in, row_of, tables_of, things_of}
 use Rattle.book_opening.specs.Changes.{AreRecords, entry_put, puts_of}
 use Rattle.book_opening.proofs.Ranked.{all_both, joined}
-use Rattle.book_commodity.proofs.ListLemmas.{drop_at, from-item, mapped_some}
+use Rattle.book_commodity.proofs.ListLemmas.{drop_at, mapped_some}
 
 -- one entry more is put
 pub entry_added :
@@ -52,7 +51,11 @@ table_puts {T} kind bytes of same spelled (e ∷ es) =
     ap (λ (l : List Change). entry_put kind bytes e ∷ l) (table_puts kind bytes of same spelled es)
     ∙ ap (λ (k : ℕ). change.Put (record { key = record { kind = k; id = e.0 }; body = 1 ∷ bytes e.1 })
     ∷ puts_of (records_in of es)) (sym (same e.1))
-    ∙ ap (λ (b : List ℕ). change.Put (record { key = record { kind = kind_of (record_of (of e.1)); id = e.0 }; body = 1 ∷ b })
+    ∙ ap
+    (λ (b : List ℕ). change.Put (record {
+      key = record { kind = kind_of (record_of (of e.1)); id = e.0 };
+      body = 1 ∷ b;
+    })
     ∷ puts_of (records_in of es)) (sym (spelled e.1))
 
 pub table_fit :

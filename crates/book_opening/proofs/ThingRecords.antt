@@ -1,7 +1,7 @@
 -- The records of a book by kind: what a thing that is put or deleted changes of them.
-use Rattle.std.proofs.Common.{◌≡◌, ℕ, zero, suc, ◌+◌, ◌*◌, ◌^◌, ◌<◌, ◌≤◌, List, [], ◌∷◌, ◌++◌, map, length, refl}
+use Rattle.std.proofs.Common.{◌≡◌, ℕ, suc, ◌+◌, ◌*◌, ◌^◌, ◌<◌, ◌≤◌, List, [], ◌∷◌, refl}
 use Rattle.std.proofs.Common.{sym, ap, ◌∙◌, subst, arith}
-use Rattle.std.specs.List.{AllByRecursion, flat_map}
+use Rattle.std.specs.List.{AllByRecursion}
 use Rattle.book_commodity.specs.Table.{Rises, with_entry, without_entry}
 use Rattle.book_undo.specs.Book.{Book, IsRising, with_thing, without_thing}
 use Rattle.book_undo.specs.Thing.{row_kind}

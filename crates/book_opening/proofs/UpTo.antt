@@ -1,5 +1,5 @@
 -- Rows that are read one after another: those up to a rank, the next one, and whether one is bad.
-use Rattle.std.proofs.Common.{◌≡◌, ℕ, ◌+◌, ◌*◌, ◌^◌, ◌<◌, ◌≤◌, nat_lt, ◌==◌, Bool, true, false, if◌then◌else◌, List, []}
+use Rattle.std.proofs.Common.{◌≡◌, ℕ, ◌<◌, ◌≤◌, nat_lt, Bool, true, false, if◌then◌else◌, List, []}
 use Rattle.std.proofs.Common.{◌∷◌, map, Option, Some, None, IfSome, inl, inr, ◌⊎◌, refl, sym, ap, ◌∙◌, subst, arith}
 use Rattle.std.proofs.lemmas.Bool.Decides.{nat_tests}
 use Rattle.std.specs.List.{AllByRecursion}
@@ -9,7 +9,7 @@ use Rattle.book_keeper.specs.Rows.{AllAbove, Rises, rank, with_row, first_above,
 use Rattle.book_keeper.proofs.RowLemmas.{first_is_above}
 use Rattle.book_rows.specs.declared.record.Record.{Record}
 use Rattle.book_opening.specs.BookRows.{row_of}
-use Rattle.book_opening.specs.Opening.{CanBeRow, IsBad, IsLeastBad, IsNoRecord, IsOnlyRecord, LacksHead, OpensAs}
+use Rattle.book_opening.specs.Opening.{CanBeRow, IsLeastBad, IsNoRecord, IsOnlyRecord, LacksHead, OpensAs}
 use Rattle.book_opening.specs.Opening.{SomeRow, head_key}
 
 -- The rows whose keys are at most at a rank.

@@ -46,7 +46,10 @@ puts_of entries = map (λ row. change.Put row) (map row_of entries)
 
 -- The change that writes an entry of a table whose rows have a kind, by the bytes of its values.
 abbrev pub entry_put : {T : Type 0} → ℕ → (T → List ℕ) → ℕ × T → Change
-entry_put kind bytes entry = change.Put (record { key = record { kind = kind; id = entry.0 }; body = 1 ∷ bytes entry.1 })
+entry_put kind bytes entry = change.Put (record {
+  key = record { kind = kind; id = entry.0 };
+  body = 1 ∷ bytes entry.1;
+})
 
 -- Each of these records has a spelling.
 abbrev pub AreRecords : List (ℕ × Record) → Type 0

@@ -6,9 +6,9 @@ ghost use Rattle.book_opening.specs.Changes.{LeafFits, changes_of, leaf_changes}
 
 use crate::thing_row::{head_row, kind_byte, thing_row};
 use book_commodity::{Many, OutOfMemory};
-use book_undo::Edit;
 use book_keeper::{Change, RowKey};
 use book_rows::{Head, Record};
+use book_undo::Edit;
 use std::alloc::Global;
 
 /// The changes of rows that an edit and a new head come to: the head is written, and what each leaf of the edit puts,

@@ -1,6 +1,7 @@
 //! The rows of a book: what a keeper holds for a state, and the state as which rows open. `read_rows` asks a keeper for
 //! its rows one by one and gives exactly the state whose rows they are, or the least key at which they are bad;
-//! `changes_of` gives the changes of rows that a step comes to, and `all_rows` all rows of a state, for the first commit.
+//! `changes_of` gives the changes of rows that a step comes to, and `all_rows` all rows of a state, for its first
+//! commit.
 #![tactic(auto)]
 
 mod changes;

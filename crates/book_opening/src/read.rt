@@ -11,9 +11,9 @@ ghost use Rattle.book_opening.specs.State.{State, state_of, head_of};
 
 use crate::{OpenFault, Saved};
 use book_commodity::OutOfMemory;
-use book_undo::{Edit, Plain, Thing};
 use book_keeper::{KeepError, Keeper, Row, RowKey};
 use book_rows::{Head, Record, RowError, read_row};
+use book_undo::{Edit, Plain, Thing};
 use std::alloc::Global;
 
 /// The state as which the rows of the keeper open; None exactly where it holds none. Each row is asked for and read

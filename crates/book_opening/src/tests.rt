@@ -1,9 +1,9 @@
 use crate::{OpenFault, Saved, all_rows, changes_of, read_rows};
 use book_commodity::{Bytes, Many, Text};
-use book_undo::{Edit, Thing, ThingKind};
 use book_keeper::{Change, Keeper, MemKeeper, Row, RowKey};
 use book_rows::Head;
 use book_statement::Binding;
+use book_undo::{Edit, Thing, ThingKind};
 use std::alloc::Global;
 use std::test::Fail;
 

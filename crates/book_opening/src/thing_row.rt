@@ -6,12 +6,12 @@ ghost use Rattle.book_opening.specs.BookRows.{record_of, row_of};
 use book_accounts::Account;
 use book_codec::write_whole;
 use book_commodity::{Bytes, Commodity, OutOfMemory};
-use book_undo::{Schedule, Thing, ThingKind};
 use book_keeper::{Row, RowKey};
 use book_prices::Price;
 use book_rows::{Head, Record, Rows, write_row};
 use book_splits::{Recon, Txn};
 use book_statement::{Binding, Held, Line};
+use book_undo::{Schedule, Thing, ThingKind};
 use std::alloc::Global;
 
 /// The row of a head.

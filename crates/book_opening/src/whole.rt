@@ -14,12 +14,12 @@ use crate::thing_row::head_row;
 use book_accounts::{Account, Tree};
 use book_codec::{Field, write_whole};
 use book_commodity::{Commodity, Many, OutOfMemory};
-use book_undo::{Plain, Schedule};
 use book_keeper::{Change, Row, RowKey};
 use book_prices::{Price, Prices};
 use book_rows::{Head, Rows};
 use book_splits::{Recon, Txn};
 use book_statement::{Binding, Held, Line};
+use book_undo::{Plain, Schedule};
 use std::alloc::Global;
 
 /// The changes by which the rows of a state come to be where there were none: each of its rows is put.

@@ -9,14 +9,16 @@ pub returns-then-place-ge-MOST : goal.returns-then-place-ge-MOST
 returns-then-place-ge-MOST c =
     let past : 10000 ≤ c.loop-place.place = omega arith in
     sym (c.loop-place.invariant
-    ∙ first_past (binding_rules c.args.accounts.now.entries c.args.bindings.now.entries) 10000 c.loop-place.place c.number_at.result c.args.bindings.now.entries
+    ∙ first_past (binding_rules c.args.accounts.now.entries c.args.bindings.now.entries) 10000 c.loop-place.place
+    c.number_at.result c.args.bindings.now.entries
     c.number_at.ensures past)
 
 pub returns-then-not-keeps_at : goal.returns-then-not-keeps_at
 returns-then-not-keeps_at c =
     let fails : c.keeps_at.result ≡ false = (let test = c.if-not-keeps_at.true in grind (arith, nat_tests, test)) in
     sym (c.loop-place.invariant
-    ∙ first_fails (binding_rules c.args.accounts.now.entries c.args.bindings.now.entries) 10000 c.loop-place.place c.number_at-then-not-keeps_at.result c.args.bindings.now.entries
+    ∙ first_fails (binding_rules c.args.accounts.now.entries c.args.bindings.now.entries) 10000 c.loop-place.place
+    c.number_at-then-not-keeps_at.result c.args.bindings.now.entries
     c.number_at-then-not-keeps_at.ensures (c.keeps_at.ensures ∙ ap (λ (b : Bool). Some b) fails))
 
 pub loop-place-preserved : goal.loop-place-preserved
@@ -24,5 +26,6 @@ loop-place-preserved c =
     let keeps : c.keeps_at.result ≡ true = (let test = c.if-not-keeps_at.false in grind (arith, nat_tests, test)) in
     let low : c.loop-place.place < 10000 = omega arith in
     c.loop-place.invariant
-    ∙ first_keeps (binding_rules c.args.accounts.now.entries c.args.bindings.now.entries) 10000 c.loop-place.place c.args.bindings.now.entries
+    ∙ first_keeps (binding_rules c.args.accounts.now.entries c.args.bindings.now.entries) 10000 c.loop-place.place
+    c.args.bindings.now.entries
     (c.keeps_at.ensures ∙ ap (λ (b : Bool). Some b) keeps) low

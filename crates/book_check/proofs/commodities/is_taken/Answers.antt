@@ -8,11 +8,13 @@ use Rattle.book_check.proofs.commodities.is_taken.Goals as goal
 pub returns-then-is_taken_at : goal.returns-then-is_taken_at
 returns-then-is_taken_at c =
     sym (c.loop-place.invariant
-    ∙ any_found (is_before (has_same_pair c.args.commodity.now) c.args.number) c.args.commodities.now.entries c.loop-place.place
+    ∙ any_found (is_before (has_same_pair c.args.commodity.now) c.args.number) c.args.commodities.now.entries
+    c.loop-place.place
     (c.is_taken_at.ensures ∙ ap (λ (b : Bool). Some b) c.if-is_taken_at.true))
 
 pub loop-place-preserved : goal.loop-place-preserved
 loop-place-preserved c =
     c.loop-place.invariant
-    ∙ any_skips (is_before (has_same_pair c.args.commodity.now) c.args.number) c.args.commodities.now.entries c.loop-place.place
+    ∙ any_skips (is_before (has_same_pair c.args.commodity.now) c.args.number) c.args.commodities.now.entries
+    c.loop-place.place
     (c.is_taken_at.ensures ∙ ap (λ (b : Bool). Some b) c.if-is_taken_at.false)

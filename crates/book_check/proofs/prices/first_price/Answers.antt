@@ -9,14 +9,16 @@ pub returns-then-place-ge-MOST : goal.returns-then-place-ge-MOST
 returns-then-place-ge-MOST c =
     let past : 1000000 ≤ c.loop-place.place = omega arith in
     sym (c.loop-place.invariant
-    ∙ first_past (price_rules c.args.commodities.now.entries c.args.prices.now.entries) 1000000 c.loop-place.place c.number_at.result c.args.prices.now.entries
+    ∙ first_past (price_rules c.args.commodities.now.entries c.args.prices.now.entries) 1000000 c.loop-place.place
+    c.number_at.result c.args.prices.now.entries
     c.number_at.ensures past)
 
 pub returns-then-not-keeps_at : goal.returns-then-not-keeps_at
 returns-then-not-keeps_at c =
     let fails : c.keeps_at.result ≡ false = (let test = c.if-not-keeps_at.true in grind (arith, nat_tests, test)) in
     sym (c.loop-place.invariant
-    ∙ first_fails (price_rules c.args.commodities.now.entries c.args.prices.now.entries) 1000000 c.loop-place.place c.number_at-then-not-keeps_at.result c.args.prices.now.entries
+    ∙ first_fails (price_rules c.args.commodities.now.entries c.args.prices.now.entries) 1000000 c.loop-place.place
+    c.number_at-then-not-keeps_at.result c.args.prices.now.entries
     c.number_at-then-not-keeps_at.ensures (c.keeps_at.ensures ∙ ap (λ (b : Bool). Some b) fails))
 
 pub loop-place-preserved : goal.loop-place-preserved
@@ -24,5 +26,6 @@ loop-place-preserved c =
     let keeps : c.keeps_at.result ≡ true = (let test = c.if-not-keeps_at.false in grind (arith, nat_tests, test)) in
     let low : c.loop-place.place < 1000000 = omega arith in
     c.loop-place.invariant
-    ∙ first_keeps (price_rules c.args.commodities.now.entries c.args.prices.now.entries) 1000000 c.loop-place.place c.args.prices.now.entries
+    ∙ first_keeps (price_rules c.args.commodities.now.entries c.args.prices.now.entries) 1000000 c.loop-place.place
+    c.args.prices.now.entries
     (c.keeps_at.ensures ∙ ap (λ (b : Bool). Some b) keeps) low

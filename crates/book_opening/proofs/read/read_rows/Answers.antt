@@ -1,5 +1,5 @@
 -- What was read of the rows is what they open as.
-use Rattle.std.proofs.Common.{◌≡◌, List, Some, None, ap, sym, ◌∙◌, refl}
+use Rattle.std.proofs.Common.{Some, ap, sym, ◌∙◌}
 use Rattle.book_keeper.specs.declared.row.Row.{Row}
 use Rattle.book_undo.specs.Book.{book_of}
 use Rattle.book_opening.specs.State.{state_of}

@@ -1,8 +1,7 @@
 -- One row more is read, or there is none; a row that can't be opened is the least bad one.
-use Rattle.std.proofs.Common.{◌≡◌, ◌≤◌, ◌<◌, List, Some, None, ap, sym, ◌∙◌, refl, arith}
-use Rattle.book_keeper.specs.Rows.{rank, first_above}
+use Rattle.std.proofs.Common.{ap, sym, ◌∙◌, refl, arith}
+use Rattle.book_keeper.specs.Rows.{rank}
 use Rattle.book_undo.specs.Book.{Book, book_of}
-use Rattle.book_opening.specs.Opening.{head_key}
 use Rattle.book_opening.proofs.ReadLaws.{bad_row, last_rows, next_currency, next_read, next_rows, read_more, read_none}
 use Rattle.book_opening.proofs.ReadLaws.{start_read, start_rows}
 use Rattle.book_opening.proofs.read.read_things.Goals as goal

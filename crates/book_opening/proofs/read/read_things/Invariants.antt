@@ -1,5 +1,5 @@
 -- The book so far has exactly the things of the rows up to the last one that was read.
-use Rattle.std.proofs.Common.{◌≡◌, List, IsTrue, map, ℕ, ◌-◌, ◌*◌, ◌^◌, ◌≤◌}
+use Rattle.std.proofs.Common.{◌≡◌, List, IsTrue, map, ◌-◌, ◌*◌, ◌^◌, ◌≤◌}
 use Rattle.std.specs.List.{AllByRecursion}
 use Rattle.book_keeper.specs.Rows.{rank}
 use Rattle.book_keeper.specs.declared.row.Row.{Row}

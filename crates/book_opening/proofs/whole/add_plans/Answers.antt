@@ -1,5 +1,5 @@
 -- Three tables, each behind what was there.
-use Rattle.std.proofs.Common.{List, refl}
+use Rattle.std.proofs.Common.{refl}
 use Rattle.book_undo.specs.declared.thing.Thing.TheVariants as thing
 use Rattle.book_rows.specs.PriceBytes.{price_bytes, IsPrice}
 use Rattle.book_rows.specs.ScheduleBytes.{schedule_bytes, IsSchedule}
@@ -19,22 +19,27 @@ returns-clause-added c =
     c.put_prices.new.changes c.put_entries.new.changes c.put_entries-2.new.changes
     (table_added 5 price_bytes (λ it. thing.Price it) (λ _. refl) (λ _. refl) plain.prices.entries plain.prices.entries
     c.args.changes.now c.put_prices.new.changes refl c.in_ok-put_prices.ensures.added)
-    (table_added 6 schedule_bytes (λ it. thing.Schedule it) (λ _. refl) (λ _. refl) plain.schedules.entries c.as_slice.result.now
+    (table_added 6 schedule_bytes (λ it. thing.Schedule it) (λ _. refl)
+    (λ _. refl) plain.schedules.entries c.as_slice.result.now
     c.put_prices.new.changes c.put_entries.new.changes c.as_slice.ensures c.in_ok-put_entries.ensures.added)
-    (table_added 7 held_bytes (λ it. thing.Held it) (λ _. refl) (λ _. refl) plain.statements.entries c.as_slice-2.result.now
+    (table_added 7 held_bytes (λ it. thing.Held it) (λ _. refl)
+    (λ _. refl) plain.statements.entries c.as_slice-2.result.now
     c.put_entries.new.changes c.put_entries-2.new.changes c.as_slice-2.ensures c.in_ok-put_entries-2.ensures.added)
 
 pub returns-clause-prices : goal.returns-clause-prices
 returns-clause-prices c =
-    slice_fit IsPrice (λ it. thing.Price it) (λ _ fits. fits) c.args.plain.now.prices.entries c.args.plain.now.prices.entries refl
+    slice_fit IsPrice (λ it. thing.Price it)
+    (λ _ fits. fits) c.args.plain.now.prices.entries c.args.plain.now.prices.entries refl
     c.in_ok-put_prices.ensures.fit
 
 pub returns-clause-schedules : goal.returns-clause-schedules
 returns-clause-schedules c =
-    slice_fit IsSchedule (λ it. thing.Schedule it) (λ _ fits. fits) c.args.plain.now.schedules.entries c.as_slice.result.now c.as_slice.ensures
+    slice_fit IsSchedule (λ it. thing.Schedule it)
+    (λ _ fits. fits) c.args.plain.now.schedules.entries c.as_slice.result.now c.as_slice.ensures
     c.in_ok-put_entries.ensures.fit
 
 pub returns-clause-statements : goal.returns-clause-statements
 returns-clause-statements c =
-    slice_fit IsHeld (λ it. thing.Held it) (λ _ fits. fits) c.args.plain.now.statements.entries c.as_slice-2.result.now c.as_slice-2.ensures
+    slice_fit IsHeld (λ it. thing.Held it)
+    (λ _ fits. fits) c.args.plain.now.statements.entries c.as_slice-2.result.now c.as_slice-2.ensures
     c.in_ok-put_entries-2.ensures.fit

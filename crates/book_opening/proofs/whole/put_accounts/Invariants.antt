@@ -1,5 +1,5 @@
 -- What is left is put behind what was.
-use Rattle.std.proofs.Common.{◌≡◌, ℕ, ◌++◌, map, drop}
+use Rattle.std.proofs.Common.{◌≡◌, ◌++◌, map, drop}
 use Rattle.std.specs.List.{AllByRecursion}
 use Rattle.book_rows.specs.AccountBytes.{account_bytes, IsAccount}
 use Rattle.book_opening.specs.Changes.{entry_put}

@@ -1,5 +1,5 @@
 -- One entry more is put.
-use Rattle.std.proofs.Common.{◌≡◌, ℕ, ◌+◌, List, [], ◌∷◌, ◌++◌, ap, ◌∙◌, drop}
+use Rattle.std.proofs.Common.{◌+◌, [], ◌∷◌, ◌++◌, ap, ◌∙◌, drop}
 use Rattle.book_keeper.specs.declared.row.Change.{Change}
 use Rattle.book_rows.specs.PriceBytes.{price_bytes, IsPrice}
 use Rattle.book_opening.proofs.TableLaws.{entry_added, entry_at, entry_fit}
