@@ -17,11 +17,11 @@ use crate::{Head, Rows};
 use book_accounts::Account;
 use book_codec::{DecodeError, read_whole, write_whole};
 use book_commodity::{Bytes, Commodity, OutOfMemory};
-use book_undo::Schedule;
 use book_keeper::RowKey;
 use book_prices::Price;
 use book_splits::{Recon, Txn};
 use book_statement::{Binding, Held, Line};
+use book_undo::Schedule;
 use std::alloc::Global;
 
 /// The bound of ids and of the numbers of a head, 2^62.

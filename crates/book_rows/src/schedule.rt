@@ -9,9 +9,9 @@ ghost use Rattle.book_rows.specs.ScheduleBytes.{place_of_recurrence_kind, place_
 use crate::Rows;
 use book_codec::{DecodeError, Field};
 use book_commodity::{Day, Many, OutOfMemory, Text};
-use book_undo::Schedule;
 use book_schedule::{Adjust, End, Recurrence, RecurrenceKind, Timing};
 use book_splits::Txn;
+use book_undo::Schedule;
 use std::alloc::Global;
 
 /// A kind of recurrence as one byte: its place in the list of them, from 1.
