@@ -10,11 +10,7 @@ use std::alloc::Global;
 
 /// The first key at which the book is not sound, or a number is not below the next; `None` where the book is sound and
 /// all its numbers are drawn.
-pub fn first_unsound(
-    alloc: Global,
-    plain: &Plain,
-    next: u64,
-) -> Result<Option<RowKey>, OutOfMemory>
+pub fn first_unsound(alloc: Global, plain: &Plain, next: u64) -> Result<Option<RowKey>, OutOfMemory>
     ensures found { IfOk result (λ found. found ≡ first_unsound (book_of plain.now) next) }
     ensures sound { IfOk result
         (λ found. found ≡ None → IsSoundBook (book_of plain.now) × AreDrawn (book_of plain.now) next) }
