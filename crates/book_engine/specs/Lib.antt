@@ -1,3 +1,6 @@
+pub mod Acting
 pub mod Balances
 pub mod Kept
+pub mod Opening
 pub mod Planned
+pub mod Standing
