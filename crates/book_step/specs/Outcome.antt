@@ -70,10 +70,11 @@ pub record IsStepTo (state : State) (outcome : Outcome) (step : Step) : Type 0 w
   pub leads : but_balances outcome ≡ Done (after state step) step.answer
   pub exact : IsExact state.book step.edit
 
--- What a call makes of an outcome: its step, or the broken rule. Out of memory needs no cause.
+-- What a call makes of an outcome: its step, or the broken rule. No keeper is asked. Out of memory needs no cause.
 abbrev pub StepsTo : State → Outcome → Result Step Refusal → Type 0
 StepsTo state outcome (Ok step) = IsStepTo state outcome step
 StepsTo state outcome (Err (refusal.Broken rule)) = outcome ≡ Broken rule
+StepsTo state outcome (Err refusal.Keeper) = ⊥
 StepsTo state outcome (Err refusal.OutOfMemory) = ⊤
 
 -- What a call makes of a command that breaks no rule and changes the book by an edit, whose answer is this one but for
