@@ -3,7 +3,7 @@ ghost use Rattle.std.specs.List.{AllByRecursion};
 ghost use Rattle.book_keeper.specs.Rows.{rank};
 ghost use Rattle.book_keeper.specs.declared.row.Row.{Row as HeldRow};
 ghost use Rattle.book_undo.specs.Book.{book_of, with_thing};
-ghost use Rattle.book_rows.specs.Row.{kind_of};
+ghost use Rattle.book_rows.specs.Row.{IsWithin, kind_of};
 ghost use Rattle.book_opening.specs.BookRows.{behind_head, record_of, row_of};
 ghost use Rattle.book_opening.specs.Opening.{Answers, Begins, HasOpenCause, IsBadFor, IsBadHead, IsBadThing};
 ghost use Rattle.book_opening.specs.Opening.{IsOnlyRecord, IsOpened, OpenAs, WasRead, head_key};
@@ -17,7 +17,7 @@ use book_undo::{Edit, Plain, Thing};
 use std::alloc::Global;
 
 /// The state as which the rows of the keeper open; None exactly where it holds none. Each row is asked for and read
-/// once.
+/// once. Whether the keeper knows its rows or not, the numbers of the state's head are those that a row can hold.
 /// Keeper: the keeper failed, and its count of faults rose in this call.
 /// BadRows: the least key whose row can't be opened or, of the head, is missing.
 pub fn read_rows<K: Keeper>(alloc: Global, keeper: &mut K) -> Result<Option<Saved>, OpenFault>
@@ -26,6 +26,7 @@ pub fn read_rows<K: Keeper>(alloc: Global, keeper: &mut K) -> Result<Option<Save
         → Answers rows result }
     ensures again { IsTrue (K.sure keeper.new) → (rows : List HeldRow) → K.holds keeper.old rows
         → (state : State) → OpenAs rows state → IsOpened state result }
+    ensures within { IfOk result (λ found. IfSome found (λ saved. IsWithin (head_of (state_of saved)))) }
     ensures cause { HasOpenCause (K.faults keeper.old) (K.faults keeper.new) result }
 {
     let row = match keeper.next_row(None) {

@@ -1,7 +1,8 @@
 -- What was read of the rows is what they open as.
-use Rattle.std.proofs.Common.{Some, ap, sym, ◌∙◌}
+use Rattle.std.proofs.Common.{Some, ap, sym, ◌∙◌, arith}
 use Rattle.book_keeper.specs.declared.row.Row.{Row}
 use Rattle.book_undo.specs.Book.{book_of}
+use Rattle.book_rows.specs.Row.{IsWithin}
 use Rattle.book_opening.specs.State.{state_of}
 use Rattle.book_opening.proofs.ReadLaws.{bad_start}
 use Rattle.book_opening.proofs.OpenLaws.{bad_answers, bad_opens, only_state, opened}
@@ -46,6 +47,17 @@ returns-in-Ok-read_things-clause-again g c = λ known rows held state opens.
     c.saved_of.ensures.position c.in-Ok-read_things.ensures.read
     (c.in-Ok-read_things.ensures.rows known rows (c.in-Ok-Some.ensures.rows still rows held)
     (first ∙ ap (λ (r : Row). Some r) c.in-Ok.ensures.found)) opens
+
+-- the head that was read has numbers of a row
+pub returns-in-Ok-read_things-clause-within : goal.returns-in-Ok-read_things-clause-within
+returns-in-Ok-read_things-clause-within g c =
+    let within : IsWithin c.in-Ok.head = c.in-Ok.ensures.read.0.0.1.1 in
+    let next = c.saved_of.ensures.next in
+    let version = c.saved_of.ensures.version in
+    let position = c.saved_of.ensures.position in (
+      omega (arith, within.0, next),
+      (omega (arith, within.1.0, version), omega (arith, within.1.1, position)),
+    )
 
 pub returns-clause-again : goal.returns-clause-again
 returns-clause-again g c = λ known rows held state opens.
