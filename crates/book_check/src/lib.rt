@@ -4,6 +4,7 @@
 #![tactic(auto)]
 
 mod bindings;
+mod book;
 mod commodities;
 mod prices;
 mod statements;
@@ -11,6 +12,7 @@ mod statements;
 mod tests;
 
 pub use bindings::first_binding;
+pub use book::first_unsound;
 pub use commodities::first_commodity;
 pub use prices::first_price;
 pub use statements::first_statement;
