@@ -1,25 +1,31 @@
-ghost use Rattle.std.specs.Prelude.{◌≡◌, IfOk, IfErr};
-ghost use Rattle.book_step.specs.Soundness.{IsSound};
-ghost use Rattle.book_step.specs.State.{fresh_state};
-ghost use Rattle.book_step.specs.Step.{step as step_from};
-ghost use Rattle.book_undo.specs.Exact.{IsExact};
+ghost use Rattle.std.specs.Prelude.{◌≡◌, ◌+◌, ◌||◌, List, IfOk, IfErr, OnOk, OnErr, IsTrue};
+ghost use Rattle.book_keeper.specs.Keeping.{HasKeepCause};
+ghost use Rattle.book_keeper.specs.declared.row.Row.{Row as HeldRow};
 ghost use Rattle.book_undo.specs.Room.{HasRoom};
-ghost use Rattle.book_engine.specs.Planned.{after, IsPlanFor, IsRefusal, IsStepOf};
+ghost use Rattle.book_step.specs.Outcome.{Done};
+ghost use Rattle.book_step.specs.Soundness.{IsSound};
+ghost use Rattle.book_step.specs.Step.{step as step_from};
+ghost use Rattle.book_opening.specs.Opening.{OpenAs, WasRead};
+ghost use Rattle.book_opening.specs.State.{State as SavedState};
+ghost use Rattle.book_engine.specs.Acting.{HasActCause, IsUnchanged};
+ghost use Rattle.book_engine.specs.Opening.{HasOpenCause, IsOpenedAs, Opened};
+ghost use Rattle.book_engine.specs.Planned.{after, commits, IsPlanFor, IsPlanOf, IsRefusal};
+ghost use Rattle.book_engine.specs.Standing.{Stands};
 
-use crate::Plan;
-use crate::balances::with_balances;
-use crate::fresh::{FIRST_NUMBER, fresh_book};
-use crate::state::State;
-use book_commodity::OutOfMemory;
-use book_step::{Answer, Command, Refusal, Step, step_of};
+use crate::{OpenError, Plan};
+use book_keeper::{KeepError, Keeper};
+use book_opening::Saved;
+use book_step::{Answer, Command, Refusal};
+use book_undo::Plain;
 use std::alloc::Global;
 use std::marker::Model;
 
-/// A machine with the state of a whole book.
+/// A machine with the state of a whole book, whose rows a keeper holds.
 #[derive(Drop)]
 pub struct Engine {
-    alloc: Global,
-    state: State,
+    pub(crate) alloc: Global,
+    pub(crate) state: Saved,
+    pub(crate) saved: bool,
 }
 
 impl Model for Engine {
@@ -33,16 +39,21 @@ impl Model for Engine {
 }
 
 impl Engine {
-    /// The state in which each run begins: the fresh book, before any change.
-    pub fn begin(alloc: Global) -> Result<Engine, OutOfMemory>
-        ensures { IfOk result (λ engine. engine.state ≡ fresh_state) }
+    /// The engine with the state as which the rows of the keeper open. Without rows it is the fresh state, whose rows
+    /// the first change writes. The keeper's rows stay, and stand for the engine's state.
+    /// Keeper: the keeper failed, and its count of faults rose in this call.
+    /// BadRows: the least key whose body is no spelling, or that is needed and missing.
+    /// UnsoundBook: where all rows are spellings, the first key at which the rule of its kind is broken.
+    pub fn open<K: Keeper>(alloc: Global, keeper: &mut K) -> Result<Engine, OpenError>
+        ensures keeper { WasRead K.path_given K.sure K.holds keeper.old keeper.new }
+        ensures opened { IsTrue (K.sure keeper.new) → (rows : List HeldRow) → K.holds keeper.old rows
+            → Opened rows result }
+        ensures again { IsTrue (K.sure keeper.new) → (rows : List HeldRow) → K.holds keeper.old rows
+            → (state : SavedState) → OpenAs rows state → IsOpenedAs state result }
+        ensures sound { IfOk result (λ engine. IsSound engine.state) }
+        ensures cause { HasOpenCause (K.faults keeper.old) (K.faults keeper.new) result }
     {
-        let state = State {
-            plain: fresh_book(alloc)?,
-            next: FIRST_NUMBER,
-            version: 0,
-        };
-        Ok(Engine { alloc, state })
+        Err(OpenError::OutOfMemory)
     }
 
     /// The count of the changes so far.
@@ -52,40 +63,101 @@ impl Engine {
         self.state.version
     }
 
-    /// Tries all rules of the command, takes all memory that it needs and makes the whole answer. The state stays as
-    /// it is. Refused by the first rule that the command breaks, or out of memory.
-    pub fn prepare(&mut self, command: Command) -> Result<Plan, Refusal>
-        ensures planned { IfOk result (IsStepOf self.old.state command) }
-        ensures exact { IfOk result (λ plan. IsExact self.old.state.book plan.edit) }
-        ensures room { IfOk result (λ plan. HasRoom self.new.plain plan.edit) }
-        ensures refused { IfErr result (IsRefusal (step_from self.old.state command)) }
-        ensures unchanged { self.new.state ≡ self.old.state }
+    /// The present book.
+    pub fn plain(&self) -> &Plain
+        ensures { result.now ≡ self.now.plain }
     {
-        let State {
-            plain,
-            next,
-            version,
-        } = &mut self.state;
-        let step = step_of(self.alloc, plain, *next, *version, command)?;
-        let step = with_balances(self.alloc, plain, step)?;
-        plain.reserve_for(&step.edit)?;
-        let version = step.version_after(*version);
-        Ok(Plan { step, version })
+        &self.state.plain
     }
 
-    /// Makes the change that was prepared and hands out its answer. It can't fail and takes no memory.
-    pub fn finish(&mut self, plan: Plan) -> Answer
-        requires made { IsPlanFor self.old.state plan }
+    /// Tries all rules of the command, takes all memory that it needs, and makes the whole answer and the changes of
+    /// the rows. The state stays as it is. Refused by the first rule that the command breaks, or out of memory.
+    pub fn prepare(&mut self, command: Command) -> Result<Plan, Refusal>
+        ensures planned { IfOk result (IsPlanOf self.old.state self.old.position self.old.saved command) }
+        ensures room { IfOk result (λ plan. HasRoom self.new.plain plan.edit) }
+        ensures refused { IfErr result (IsRefusal (step_from self.old.state command)) }
+        ensures unchanged { IsUnchanged self.old self.new }
+        ensures sound { IsSound self.new.state }
+    {
+        self.sound();
+        Err(Refusal::OutOfMemory)
+    }
+
+    /// Finishes what was prepared and hands out its answer: where the plan commits, the keeper makes its changes of
+    /// rows, and then the state is changed, which can't fail and takes no memory. An error is that of the commit, and
+    /// then all is as before.
+    pub fn finish<K: Keeper>(&mut self, keeper: &mut K, plan: Plan) -> Result<Answer, KeepError>
+        requires made { IsPlanFor self.old.state self.old.position self.old.saved plan }
+        requires room { HasRoom self.old.plain plan.edit }
+        ensures state { OnOk result (self.new.state ≡ after self.old.state plan) }
+        ensures position { OnOk result (self.new.position ≡ plan.position) }
+        ensures saved { OnOk result (self.new.saved ≡ (self.old.saved || commits plan)) }
+        ensures answer { IfOk result (λ answer. answer ≡ plan.answer) }
+        ensures unchanged { OnErr result (IsUnchanged self.old self.new) }
+        ensures commits { OnErr result (IsTrue (commits plan)) }
+        ensures sound { IsSound self.new.state }
+        ensures path { K.path_given keeper.new ≡ K.path_given keeper.old }
+        ensures sure { IsTrue (K.sure keeper.new) → IsTrue (K.sure keeper.old) }
+        ensures stands { Stands K.sure K.holds keeper.old self.old → Stands K.sure K.holds keeper.new self.new }
+        ensures cause { HasKeepCause (K.faults keeper.old) (K.faults keeper.new) result }
+    {
+        self.sound();
+        if !plan.commits() {
+            return Ok(self.apply(plan));
+        }
+        match keeper.commit(plan.changes()) {
+            Ok(()) => Ok(self.apply(plan)),
+            Err(error) => Err(error),
+        }
+    }
+
+    /// The state is sound.
+    fn sound(&self)
+        ensures { IsSound self.now.state }
+    {
+        let _ = &self.saved;
+    }
+
+    /// Makes the state that the plan leads to and hands out its answer. It can't fail and takes no memory.
+    fn apply(&mut self, plan: Plan) -> Answer
+        requires made { IsPlanFor self.old.state self.old.position self.old.saved plan }
         requires room { HasRoom self.old.plain plan.edit }
         ensures state { self.new.state ≡ after self.old.state plan }
+        ensures position { self.new.position ≡ plan.position }
+        ensures saved { self.new.saved ≡ (self.old.saved || commits plan) }
         ensures answer { result ≡ plan.answer }
         ensures sound { IsSound self.new.state }
     {
-        let Plan { step, version } = plan;
-        let Step { edit, next, answer } = step;
-        self.state.plain.apply(edit);
-        self.state.next = next;
+        let saved = self.saved || plan.commits();
+        let Plan {
+            step,
+            version,
+            position,
+            changes: _,
+        } = plan;
+        self.state.plain.apply(step.edit);
+        self.state.next = step.next;
         self.state.version = version;
-        answer
+        self.state.position = position;
+        self.saved = saved;
+        step.answer
+    }
+
+    /// Does the command: prepares it and finishes it.
+    /// Keeper: the command breaks no rule and changes the state, but the keeper failed to keep the change.
+    pub fn act<K: Keeper>(&mut self, keeper: &mut K, command: Command) -> Result<Answer, Refusal>
+        ensures done { IfOk result (λ answer. step_from self.old.state command ≡ Done self.new.state answer) }
+        ensures position { OnOk result (self.new.position + self.old.state.version
+            ≡ self.old.position + self.new.state.version) }
+        ensures unchanged { OnErr result (IsUnchanged self.old self.new) }
+        ensures sound { IsSound self.new.state }
+        ensures path { K.path_given keeper.new ≡ K.path_given keeper.old }
+        ensures sure { IsTrue (K.sure keeper.new) → IsTrue (K.sure keeper.old) }
+        ensures stands { Stands K.sure K.holds keeper.old self.old → Stands K.sure K.holds keeper.new self.new }
+        ensures cause { HasActCause self.old.state (step_from self.old.state command)
+            (K.faults keeper.old) (K.faults keeper.new) result }
+    {
+        self.sound();
+        Err(Refusal::OutOfMemory)
     }
 }

@@ -1,14 +1,17 @@
-//! The machine that keeps a whole book: it prepares a command, which tries all rules and takes all memory,
-//! and then finishes the plan, which can't fail. Between the two the answer is already there to be written out.
-//! Contracts see an engine as the state of its book, its next number and its version, and the tables that hold it.
+//! The machine that keeps a whole book, and whose rows a keeper holds. It opens from the rows. It prepares a command,
+//! which tries all rules and takes all memory, and then finishes the plan: the keeper makes the changes of rows, and
+//! then the state is changed, which can't fail. Between the two the answer is already there to be written out.
+//! Contracts see an engine as its state, its position, whether rows were given to a keeper, and the tables that hold
+//! the book.
 #![tactic(auto)]
 
 mod balances;
 mod engine;
+mod fault;
 mod fresh;
 mod plan;
-mod state;
 
 pub use book_command::{Answer, Command, GivenAccount, GivenSplit, GivenTxn, Refusal, Rule, What};
 pub use engine::Engine;
+pub use fault::OpenError;
 pub use plan::Plan;

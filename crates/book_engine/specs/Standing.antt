@@ -1,0 +1,19 @@
+-- When the rows of a keeper stand for the state of an engine.
+use Rattle.std.specs.Prelude.{◌≡◌, Bool, true, false, IsTrue, List, []}
+use Rattle.book_keeper.specs.declared.row.Row.{Row}
+use Rattle.book_opening.specs.Opening.{OpenAs}
+use Rattle.book_opening.specs.State.{State as SavedState}
+use Rattle.book_engine.specs.Kept.{Kept, state_kept}
+
+-- Rows stand for a state: they open as it. Where no rows were given to the keeper yet, there are none.
+abbrev pub StandFor : Bool → SavedState → List Row → Type 0
+StandFor true state rows = OpenAs rows state
+StandFor false state rows = rows ≡ []
+
+-- Rows stand for what an engine keeps.
+abbrev pub StandForKept : Kept → List Row → Type 0
+StandForKept kept rows = StandFor kept.saved (state_kept kept) rows
+
+-- The rows of a keeper, where it still knows them, stand for what an engine keeps.
+abbrev pub Stands : {K : Type 0} → (K → Bool) → (K → List Row → Type 0) → K → Kept → Type 0
+Stands sure holds keeper kept = IsTrue (sure keeper) → (rows : List Row) × holds keeper rows × StandForKept kept rows
