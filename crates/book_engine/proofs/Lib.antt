@@ -1,2 +1,9 @@
+pub mod ActLemmas
 pub mod BalanceLemmas
+pub mod CurrencyLemmas
+pub mod OpeningLemmas
+pub mod PlanLemmas
+pub mod SmallLemmas
 pub mod SoundPlan
+pub mod StandLemmas
+pub mod StepLemmas

@@ -1,5 +1,5 @@
 -- What rows open as, and what is answered of a keeper's rows.
-use Rattle.std.specs.Prelude.{ℕ, ◌≡◌, ◌≤◌, ◌⊎◌, ⊤, nat_lt, true, List, [], ◌∷◌, Option, Some, None, Result, Ok, Err, OnOk}
+use Rattle.std.specs.Prelude.{ℕ, ◌≡◌, ◌≤◌, ◌⊎◌, ⊤, nat_lt, true, false, List, [], ◌∷◌, Option, Some, None, Result, Ok, Err, OnOk}
 use Rattle.std.specs.Prelude.{IfErr}
 use Rattle.book_commodity.specs.Rules.{broken_where, first_broken}
 use Rattle.book_keeper.specs.Faults.{Rose}
@@ -8,6 +8,8 @@ use Rattle.book_keeper.specs.declared.row.RowKey.{RowKey}
 use Rattle.book_step.specs.State.{fresh_state}
 use Rattle.book_opening.specs.Opening.{IsLeastBad, OpenAs, head_key}
 use Rattle.book_opening.specs.State.{State as SavedState}
+use Rattle.book_opening.specs.declared.fault.OpenFault.{OpenFault}
+use Rattle.book_opening.specs.declared.fault.OpenFault.TheVariants as fault
 use Rattle.book_check.specs.FirstUnsound.{unsound_keys}
 use Rattle.book_engine.specs.Kept.{Kept, placed, state_kept}
 use Rattle.book_engine.specs.Standing.{StandForKept}
@@ -56,6 +58,20 @@ IsOpenedAs state (Err (error.BadRows kind id)) = ⊥
 IsOpenedAs state (Err (error.UnsoundBook kind id)) = unsound_at state ≡ Some (row_key kind id)
 IsOpenedAs state (Err error.Keeper) = ⊤
 IsOpenedAs state (Err error.OutOfMemory) = ⊤
+
+-- What is answered without rows: an engine that keeps the fresh state, before a keeper was given rows.
+abbrev pub IsBegun : Result Kept OpenError → Type 0
+IsBegun (Ok kept) = (state_kept kept ≡ placed fresh_state 0) × (kept.saved ≡ false)
+IsBegun (Err (error.BadRows kind id)) = ⊥
+IsBegun (Err (error.UnsoundBook kind id)) = ⊥
+IsBegun (Err error.Keeper) = ⊥
+IsBegun (Err error.OutOfMemory) = ⊤
+
+-- What is answered of rows that could not be read.
+abbrev pub open_error : OpenFault → OpenError
+open_error fault.Keeper = error.Keeper
+open_error (fault.BadRows kind id) = error.BadRows kind id
+open_error fault.OutOfMemory = error.OutOfMemory
 
 -- What is answered of a state that was read: an engine that keeps it, for which rows were given; or the first key at
 -- which it is unsound.

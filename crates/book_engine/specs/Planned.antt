@@ -1,5 +1,5 @@
 -- A plan: what finishing it makes of the state and of the rows, and the answer.
-use Rattle.std.specs.Prelude.{◌≡◌, ◌≢◌, ◌↔◌, ℕ, ⊤, not, if◌then◌else◌, Bool, true, false, IsTrue, List, []}
+use Rattle.std.specs.Prelude.{◌≡◌, ◌≢◌, ◌↔◌, ℕ, ⊤, not, if◌then◌else◌, Bool, true, IsTrue, List, []}
 use Rattle.book_keeper.specs.Rows.{AreRising, after_changes}
 use Rattle.book_keeper.specs.declared.row.Change.{Change}
 use Rattle.book_keeper.specs.declared.row.Row.{Row}
@@ -8,7 +8,7 @@ use Rattle.book_undo.specs.Exact.{IsExact}
 use Rattle.book_undo.specs.declared.edit.Edit.{Edit}
 use Rattle.book_undo.specs.Book.{Book}
 use Rattle.book_step.specs.AnswerBalances.{with_balances}
-use Rattle.book_step.specs.Outcome.{Outcome, Broken, Done, version_after}
+use Rattle.book_step.specs.Outcome.{Outcome, Broken, Done, after as after_step, version_after}
 use Rattle.book_step.specs.State.{State}
 use Rattle.book_step.specs.Step.{step}
 use Rattle.book_step.specs.declared.step.Step.{Step}
@@ -16,8 +16,8 @@ use Rattle.book_command.specs.declared.answer.Answer.{Answer}
 use Rattle.book_command.specs.declared.command.Command.{Command}
 use Rattle.book_command.specs.declared.refusal.Refusal.{Refusal}
 use Rattle.book_command.specs.declared.refusal.Refusal.TheVariants as refusal
-use Rattle.book_opening.specs.Changes.{all_put, changes_of}
-use Rattle.book_opening.specs.State.{State as SavedState, head_of}
+use Rattle.book_opening.specs.State.{State as SavedState}
+use Rattle.book_engine.specs.Changes.{changes_to}
 use Rattle.book_engine.specs.Kept.{placed}
 use Rattle.book_engine.specs.Standing.{StandFor}
 use Rattle.book_engine.specs.declared.plan.Plan.TheInside.{Inside}
@@ -59,12 +59,6 @@ commits plan = not (is_nothing plan.edit)
 abbrev pub IsStepOf : State → Command → Planned → Type 0
 IsStepOf state command plan = step state command ≡ Done (after state plan) plan.answer
 
--- The changes of rows with which those of the state before an edit become those of the state after it. Where a keeper
--- was given rows, they are the head and what the edit changes; else they are all rows.
-abbrev pub changes_to : Bool → SavedState → Edit → List Change
-changes_to true new edit = changes_of (head_of new) edit
-changes_to false new edit = all_put new
-
 -- The plan is the step of a command from this state at this position. It commits exactly where the step changes the
 -- state; then version and position rise by one, and with its changes made the rows that stand for the state before
 -- stand for the state after.
@@ -88,6 +82,11 @@ pub record IsPlanFor (state : State) (position : ℕ) (saved : Bool) (plan : Pla
 -- The step with the balances in its answer, which are those of the book that it leads to.
 abbrev pub whole_step : Book → Step → Step
 whole_step book step = record step { answer = with_balances (edited step.edit book) step.answer }
+
+-- A step is the machine's of a command from this state, with its whole answer, and its edit is exact for the book.
+pub record IsWholeStep (state : State) (command : Command) (taken : Step) : Type 0 where
+  pub done : step state command ≡ Done (after_step state taken) taken.answer
+  pub exact : IsExact state.book taken.edit
 
 -- A refusal comes where the step is that broken rule, or out of memory. No keeper is asked.
 abbrev pub IsRefusal : Outcome → Refusal → Type 0

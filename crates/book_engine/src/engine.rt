@@ -79,6 +79,7 @@ impl Engine {
         ensures unchanged { IsUnchanged self.old self.new }
         ensures sound { IsSound self.new.state }
     {
+        self.sound();
         Err(Refusal::OutOfMemory)
     }
 
@@ -100,13 +101,21 @@ impl Engine {
         ensures stands { Stands K.sure K.holds keeper.old self.old → Stands K.sure K.holds keeper.new self.new }
         ensures cause { HasKeepCause (K.faults keeper.old) (K.faults keeper.new) result }
     {
+        self.sound();
         if !plan.commits() {
             return Ok(self.apply(plan));
         }
-        match keeper.commit(plan.changes.as_slice()) {
+        match keeper.commit(plan.changes()) {
             Ok(()) => Ok(self.apply(plan)),
             Err(error) => Err(error),
         }
+    }
+
+    /// The state is sound.
+    fn sound(&self)
+        ensures { IsSound self.now.state }
+    {
+        let _ = &self.saved;
     }
 
     /// Makes the state that the plan leads to and hands out its answer. It can't fail and takes no memory.
@@ -148,6 +157,7 @@ impl Engine {
         ensures cause { HasActCause self.old.state (step_from self.old.state command)
             (K.faults keeper.old) (K.faults keeper.new) result }
     {
+        self.sound();
         Err(Refusal::OutOfMemory)
     }
 }

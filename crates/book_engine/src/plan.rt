@@ -4,6 +4,7 @@ ghost use Rattle.book_engine.specs.Planned.{commits};
 use book_commodity::Many;
 use book_keeper::Change;
 use book_step::{Answer, Step};
+use book_undo::Edit;
 use std::marker::Model;
 
 /// A command that breaks no rule, ready to be finished: its step, with the whole answer, the version and the position
@@ -50,5 +51,19 @@ impl Plan {
         ensures { result ≡ self.now.version }
     {
         self.version
+    }
+
+    /// What changes in the book.
+    pub(crate) fn edit(&self) -> &Edit
+        ensures { result.now ≡ self.now.edit }
+    {
+        &self.step.edit
+    }
+
+    /// The changes of the rows.
+    pub(crate) fn changes(&self) -> &[Change]
+        ensures { result.now ≡ self.now.changes }
+    {
+        self.changes.as_slice()
     }
 }

@@ -1,0 +1,124 @@
+-- A step that is done leaves the state as it is, or raises its version by one.
+use Rattle.std.proofs.Common.{◌≡◌, ℕ, ◌+◌, ◌==◌, ℤ, Bool, true, false, if◌then◌else◌, List, [], ◌∷◌, length}
+use Rattle.std.proofs.Common.{Option, Some, None, inl, inr, refl, sym, ap, ◌∙◌, subst, arith, ◌⊎◌}
+use Rattle.book_commodity.specs.Table.{value_of}
+use Rattle.book_accounts.specs.declared.account.Account.{Account}
+use Rattle.book_splits.specs.declared.transaction.Txn.{Txn}
+use Rattle.book_undo.specs.Book.{Book, with_currency, with_thing, without_thing}
+use Rattle.book_undo.specs.declared.thing.Thing.TheVariants as thing
+use Rattle.book_undo.specs.declared.thing.ThingKind.TheVariants as kind
+use Rattle.book_command.specs.declared.answer.Answer.{Answer}
+use Rattle.book_command.specs.declared.answer.Answer.TheVariants as answer
+use Rattle.book_command.specs.declared.command.Command.{Command}
+use Rattle.book_command.specs.declared.command.GivenAccount.{GivenAccount}
+use Rattle.book_command.specs.declared.command.GivenTxn.{GivenTxn}
+use Rattle.book_command.specs.declared.command.What.{What}
+use Rattle.book_command.specs.declared.command.What.TheVariants.{BookCurrency, CommodityAdd, AccountAdd}
+use Rattle.book_command.specs.declared.command.What.TheVariants.{AccountEdit, AccountDrop, Drop, Edit, Post}
+use Rattle.book_command.specs.declared.rule.Rule.{Rule}
+use Rattle.book_step.specs.Accounts.{account_drop_of, account_edit_at, add_rules, drop_rules, edit_rules}
+use Rattle.book_step.specs.Accounts.{stays, with_given}
+use Rattle.book_step.specs.Commodities as commodities
+use Rattle.book_step.specs.Editing as editing
+use Rattle.book_step.specs.Editing.{book_with, book_without, drop_at, drawn_by, edit_answer, edit_at}
+use Rattle.book_step.specs.Editing.{edited_transaction, reconciled}
+use Rattle.book_step.specs.Outcome.{Done, changing, leaving}
+use Rattle.book_step.specs.Posting.{new_transaction, post_answer, post_rules}
+use Rattle.book_step.specs.SameTransaction.{same_transaction}
+use Rattle.book_step.specs.State.{State}
+use Rattle.book_step.specs.Step.{outcome, stale, step}
+use Rattle.book_step.proofs.SoundOutcome.{changing_done, leaving_done, unless_done}
+
+-- The state is the same, or its version is one more.
+abbrev pub Moves : State → State → Type 0
+Moves old new = (old ≡ new) ⊎ (new.version ≡ old.version + 1)
+
+changing_moves :
+    (state : State) (rules : List (Option Rule)) (book : Book) (drawn : ℕ) (given : Answer) (new : State)
+    (answer : Answer) → changing state rules book drawn given ≡ Done new answer → Moves state new
+changing_moves state rules book drawn given new answer e =
+    let change = changing_done state rules book drawn given new answer e in
+    inr (ap (λ (s : State). s.version) (sym change.is))
+
+leaving_moves :
+    (state : State) (rules : List (Option Rule)) (given : Answer) (new : State) (answer : Answer)
+    → leaving state rules given ≡ Done new answer → Moves state new
+leaving_moves state rules given new answer e = inl (leaving_done state rules given new answer e)
+
+either_moves :
+    (stay : Bool) (state : State) (rules : List (Option Rule)) (book : Book) (drawn : ℕ) (left made : Answer)
+    (new : State) (answer : Answer)
+    → (if stay then leaving state rules left else changing state rules book drawn made) ≡ Done new answer
+    → Moves state new
+either_moves true state rules book drawn left made new answer e = leaving_moves state rules left new answer e
+either_moves false state rules book drawn left made new answer e =
+    changing_moves state rules book drawn made new answer e
+
+account_edit_moves :
+    (state : State) (n : ℕ) (given : GivenAccount) (found : Option Account) (new : State) (reply : Answer)
+    → account_edit_at state n given found ≡ Done new reply → Moves state new
+account_edit_moves state n given None new reply e = absurd cc
+account_edit_moves state n given (Some old) new reply e =
+    either_moves (stays old given).is state (edit_rules state.book n given.parent old (with_given old given))
+    (with_thing n (thing.Account (with_given old given)) state.book) 0 answer.AccountEdit answer.AccountEdit new reply e
+
+account_drop_moves :
+    (state : State) (n : ℕ) (found : Option Account) (new : State) (reply : Answer)
+    → account_drop_of state n found ≡ Done new reply → Moves state new
+account_drop_moves state n None new reply e = absurd cc
+account_drop_moves state n (Some old) new reply e =
+    changing_moves state (drop_rules state.book n old) (without_thing kind.Account n state.book) 0 answer.AccountDrop
+    new reply e
+
+edit_moves :
+    (state : State) (n : ℕ) (force : Bool) (day : ℤ) (given : GivenTxn) (found : Option Txn) (new : State)
+    (reply : Answer) → edit_at state n force day given found ≡ Done new reply → Moves state new
+edit_moves state n force day given None new reply e = absurd cc
+edit_moves state n force day given (Some old) new reply e =
+    let transaction = edited_transaction old state.next day given in
+    let book = book_with state.book n old transaction in
+    either_moves (same_transaction transaction old).is state
+    (editing.edit_rules state.book n force given old transaction) book (drawn_by old.splits given.splits)
+    (edit_answer state.book n transaction) (edit_answer book n transaction) new reply e
+
+drop_moves :
+    (state : State) (n : ℕ) (force : Bool) (found : Option Txn) (new : State) (reply : Answer)
+    → drop_at state n force found ≡ Done new reply → Moves state new
+drop_moves state n force None new reply e = absurd cc
+drop_moves state n force (Some old) new reply e =
+    changing_moves state (reconciled force old.splits [] ∷ []) (book_without state.book n old) 0 answer.Drop new
+    reply e
+
+outcome_moves :
+    (state : State) (what : What) (new : State) (reply : Answer) → outcome state what ≡ Done new reply
+    → Moves state new
+outcome_moves state (BookCurrency commodity) new reply e =
+    either_moves (commodity == state.book.currency) state (commodities.currency_rules state.book commodity)
+    (with_currency commodity state.book) 0 answer.BookCurrency answer.BookCurrency new reply e
+outcome_moves state (CommodityAdd commodity) new reply e =
+    changing_moves state (commodities.add_rules state.book commodity)
+    (with_thing state.next (thing.Commodity commodity) state.book) 1 (answer.CommodityAdd state.next) new reply e
+outcome_moves state (AccountAdd account) new reply e =
+    changing_moves state (add_rules state.book account)
+    (with_thing state.next (thing.Account account) state.book) 1 (answer.AccountAdd state.next) new reply e
+outcome_moves state (AccountEdit account given) new reply e =
+    account_edit_moves state account given (value_of account state.book.accounts) new reply e
+outcome_moves state (AccountDrop account) new reply e =
+    account_drop_moves state account (value_of account state.book.accounts) new reply e
+outcome_moves state (Post day given) new reply e =
+    let transaction = new_transaction state.next day given in
+    let book = with_thing state.next (thing.Txn transaction) state.book in
+    changing_moves state (post_rules state.book transaction) book (1 + length transaction.splits)
+    (post_answer book state.next transaction) new reply e
+outcome_moves state (Edit n force day given) new reply e =
+    edit_moves state n force day given (value_of n state.book.transactions) new reply e
+outcome_moves state (Drop n force) new reply e =
+    drop_moves state n force (value_of n state.book.transactions) new reply e
+
+-- A step that is done leaves the state as it is, or raises its version by one.
+pub step_moves :
+    (state : State) (command : Command) (new : State) (reply : Answer) → step state command ≡ Done new reply
+    → Moves state new
+step_moves state command new reply e =
+    let done = unless_done (stale state command.at) (outcome state command.what) new reply e in
+    outcome_moves state command.what new reply done.1
