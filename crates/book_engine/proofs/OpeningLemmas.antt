@@ -13,7 +13,8 @@ use Rattle.book_opening.specs.declared.fault.OpenFault.TheVariants as fault
 use Rattle.book_opening.specs.declared.saved.Saved.{Saved}
 use Rattle.book_opening.proofs.OpenLaws.{none_opens}
 use Rattle.book_engine.specs.Kept.{Kept, placed, state_kept}
-use Rattle.book_engine.specs.Opening.{HasOpenCause, IsBegun, IsChecked, IsOpenedAs, Opened, open_error, unsound_at}
+use Rattle.book_engine.specs.Opening.{HasOpenCause, IsBegun, IsChecked, IsOpenedAs, Opened, open_error}
+use Rattle.book_engine.specs.Opens.{unsound_at}
 use Rattle.book_engine.specs.Standing.{StandFor}
 use Rattle.book_engine.specs.declared.fault.OpenError.{OpenError}
 use Rattle.book_engine.specs.declared.fault.OpenError.TheVariants as error
