@@ -1,7 +1,6 @@
 -- Rows that stood for what an engine kept stand for what it keeps.
-use Rattle.std.proofs.Common.{◌≡◌, ℕ, ◌+◌, Bool, true, false, not, ◌||◌, IsTrue, List, inl, inr, refl, sym, ap}
+use Rattle.std.proofs.Common.{◌≡◌, ℕ, Bool, true, false, not, ◌||◌, List, inl, inr, refl, sym, ap}
 use Rattle.std.proofs.Common.{◌∙◌, subst, arith}
-use Rattle.book_keeper.specs.Rows.{after_changes}
 use Rattle.book_keeper.specs.declared.row.Row.{Row}
 use Rattle.book_undo.specs.Edit.{is_nothing}
 use Rattle.book_command.specs.declared.command.Command.{Command}
@@ -10,16 +9,16 @@ use Rattle.book_step.specs.State.{State}
 use Rattle.book_opening.specs.State.{State as SavedState}
 use Rattle.book_engine.specs.Acting.{IsUnchanged}
 use Rattle.book_engine.specs.Kept.{Kept, placed, state_kept}
-use Rattle.book_engine.specs.Planned.{Planned, IsPlanFor, IsPlanOf, after, commits, placed_after}
+use Rattle.book_engine.specs.Planned.{Planned, IsPlanFor, IsPlanOf, after, commits}
 use Rattle.book_engine.specs.Standing.{StandFor, Stands}
 use Rattle.book_engine.proofs.StepLemmas.{Moves, step_moves}
 
-pub same_placed :
+same_placed :
     (s t : State) (p q : ℕ) → s ≡ t → p ≡ q → placed s p ≡ placed t q
 same_placed s t p q state position =
     ap (λ (x : State). placed x p) state ∙ ap (λ (n : ℕ). placed t n) position
 
-pub stand_same :
+stand_same :
     (saved now_saved : Bool) (old new : SavedState) (rows : List Row) → saved ≡ now_saved → old ≡ new
     → StandFor saved old rows → StandFor now_saved new rows
 stand_same saved now_saved old new rows same state stand =
@@ -33,21 +32,6 @@ stands_unchanged sure holds keeper before now same stands =
     λ still. let stood = stands still in (
       stood.0,
       stood.1,
-      stand_same before.saved now.saved (state_kept before) (state_kept now) stood.0 (sym same.same_saved)
-          (same_placed before.state now.state before.position now.position (sym same.same_state) (sym same.same_position))
-          stood.2,
-    )
-
--- They do where the keeper's rows stay with it.
-pub stands_held :
-    {K : Type 0} (sure : K → Bool) (holds : K → List Row → Type 0) (old new : K) (before now : Kept)
-    → (IsTrue (sure new) → IsTrue (sure old))
-    → (IsTrue (sure new) → (rows : List Row) → holds old rows → holds new rows)
-    → IsUnchanged before now → Stands sure holds old before → Stands sure holds new now
-stands_held sure holds old new before now was held same stands =
-    λ still. let stood = stands (was still) in (
-      stood.0,
-      held still stood.0 stood.1,
       stand_same before.saved now.saved (state_kept before) (state_kept now) stood.0 (sym same.same_saved)
           (same_placed before.state now.state before.position now.position (sym same.same_state) (sym same.same_position))
           stood.2,
@@ -77,10 +61,6 @@ or_none : (saved commits : Bool) → commits ≡ false → (saved || commits) �
 or_none true commits e = refl
 or_none false commits e = e
 
-or_some : (saved commits : Bool) → IsTrue commits → (saved || commits) ≡ true
-or_some true commits e = refl
-or_some false commits e = e
-
 -- What an engine keeps after a plan.
 pub record IsAfter (before now : Kept) (plan : Planned) : Type 0 where
   pub state : now.state ≡ after before.state plan
@@ -100,21 +80,3 @@ left_unchanged before now plan is none made =
           ∙ position_stays (is_nothing plan.edit) before.position plan.position none of.position_is;
       same_saved = made.saved ∙ or_none before.saved (commits plan) none;
     }
-
--- They stand where the keeper made the changes of the plan.
-pub stands_made :
-    {K : Type 0} (sure : K → Bool) (holds : K → List Row → Type 0) (old new : K) (before now : Kept) (plan : Planned)
-    → (IsTrue (sure new) → IsTrue (sure old))
-    → (IsTrue (sure new) → (rows : List Row) → holds old rows → holds new (after_changes plan.changes rows))
-    → IsPlanFor before.state before.position before.saved plan → IsTrue (commits plan) → IsAfter before now plan
-    → Stands sure holds old before → Stands sure holds new now
-stands_made sure holds old new before now plan was held is some made stands =
-    λ still. let stood = stands (was still) in let rows = after_changes plan.changes stood.0 in (
-      rows,
-      held still stood.0 stood.1,
-      stand_same true now.saved (placed_after before.state plan) (state_kept now) rows
-          (sym (made.saved ∙ or_some before.saved (commits plan) some))
-          (same_placed (after before.state plan) now.state plan.position now.position (sym made.state)
-          (sym made.position))
-          (is.plan_of.stand stood.0 some stood.2),
-    )
