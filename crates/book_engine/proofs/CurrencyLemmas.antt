@@ -1,5 +1,5 @@
 -- The currency of a book after an edit is that of the last leaf which sets one.
-use Rattle.std.proofs.Common.{◌≡◌, ℕ, List, [], ◌∷◌, ◌++◌, flat_map, refl, sym, ap, ◌∙◌}
+use Rattle.std.proofs.Common.{◌≡◌, ℕ, List, [], ◌∷◌, ◌++◌, refl, ap, ◌∙◌}
 use Rattle.book_undo.specs.Book.{Book, with_currency, with_thing, without_thing}
 use Rattle.book_undo.specs.Edit.{Leaf, OfCurrency, OfPut, OfGone, edited, leaves}
 use Rattle.book_undo.specs.declared.edit.Edit.{Edit}

@@ -1,7 +1,5 @@
-pub mod ActLemmas
 pub mod BalanceLemmas
 pub mod CurrencyLemmas
-pub mod OpeningLemmas
 pub mod PlanLemmas
 pub mod SmallLemmas
 pub mod SoundPlan

@@ -1,7 +1,7 @@
 -- A step with its changes of rows is a plan: it commits exactly where it changes the state, and with its changes made
 -- the rows that stand for the state before stand for the state after.
-use Rattle.std.proofs.Common.{◌≡◌, ◌≢◌, ◌↔◌, ℕ, ◌+◌, ◌^◌, ◌<◌, ◌≤◌, Bool, true, false, if◌then◌else◌, not, IsTrue}
-use Rattle.std.proofs.Common.{List, [], ◌∷◌, None, inl, inr, refl, sym, ap, ◌∙◌, subst, arith, nat_lt, min, Option}
+use Rattle.std.proofs.Common.{◌≡◌, ◌≢◌, ◌↔◌, ℕ, ◌^◌, ◌<◌, Bool, true, false, if◌then◌else◌, not, IsTrue}
+use Rattle.std.proofs.Common.{List, [], None, inl, inr, refl, sym, ap, ◌∙◌, subst, arith, nat_lt, Option}
 use Rattle.std.specs.List.{AllByRecursion}
 use Rattle.book_commodity.specs.Rules.{broken_where}
 use Rattle.book_keeper.specs.Rows.{AreRising, after_changes}
@@ -28,13 +28,13 @@ use Rattle.book_opening.proofs.AllRowLaws.{all_put_rise, opens_from_none}
 use Rattle.book_opening.proofs.ChangeLaws.{changes_rise, opens_after}
 use Rattle.book_engine.specs.Changes.{HaveSpellings, changes_to}
 use Rattle.book_engine.specs.Kept.{IsWhole, placed}
-use Rattle.book_engine.specs.Planned.{Planned, IsPlanOf, IsStepOf, after, commits, placed_after}
+use Rattle.book_engine.specs.Planned.{Planned, IsPlanOf, IsStepOf, after, placed_after}
 use Rattle.book_engine.specs.Standing.{StandFor}
 use Rattle.book_engine.proofs.SmallLemmas.{can_be_rows, small_leaves}
 use Rattle.book_engine.proofs.StepLemmas.{Moves, step_moves}
 
 -- The leaves of an edit that may be applied are in order, and its lists not too deep.
-pub allowed_in_order : (book : Book) (edit : Edit) → IsAllowed book edit → out_of_order (leaves edit) ≡ None
+allowed_in_order : (book : Book) (edit : Edit) → IsAllowed book edit → out_of_order (leaves edit) ≡ None
 allowed_in_order book edit allowed =
     let deeper : Option EditRule = broken_where (nat_lt 8 (depth edit)) TooDeep in
     (three_kept (first_missing book (leaves edit)) (out_of_order (leaves edit)) deeper allowed).1
@@ -77,7 +77,7 @@ none_left true h = absurd cc
 none_left false h = refl
 
 -- What the rows become where something is changed.
-pub made_of : (nothing : Bool) (changes : List Change) → nothing ≡ false → (if nothing then [] else changes) ≡ changes
+made_of : (nothing : Bool) (changes : List Change) → nothing ≡ false → (if nothing then [] else changes) ≡ changes
 made_of true changes e = absurd cc
 made_of false changes e = refl
 

@@ -1,15 +1,14 @@
 -- A plan for a state leads from what holds of an engine to what holds of it.
-use Rattle.std.proofs.Common.{◌≡◌, ℕ, ◌+◌, ◌≤◌, Bool, true, false, not, ◌||◌, refl, sym, ap, ◌∙◌, subst, arith}
+use Rattle.std.proofs.Common.{◌≡◌, ℕ, ◌≤◌, Bool, true, false, ◌||◌, refl, sym, ◌∙◌, subst, arith}
 use Rattle.book_undo.specs.Edit.{is_nothing}
 use Rattle.book_step.specs.Outcome.{version_after}
-use Rattle.book_step.specs.Soundness.{IsSound}
-use Rattle.book_step.specs.State.{State, fresh_state}
+use Rattle.book_step.specs.State.{State}
 use Rattle.book_step.proofs.SoundStep.{step-sound}
 use Rattle.book_engine.specs.Kept.{IsWhole, Kept}
-use Rattle.book_engine.specs.Planned.{Planned, IsPlanFor, IsPlanOf, after, commits}
+use Rattle.book_engine.specs.Planned.{Planned, IsPlanFor, after, commits}
 use Rattle.book_engine.proofs.StandLemmas.{plan_leaves, position_stays}
 
-raised :
+pub raised :
     (nothing : Bool) (p q m n : ℕ) → q ≡ version_after nothing p → n ≡ version_after nothing m → p ≤ m → q ≤ n
 raised true p q m n e f le = omega (arith, e, f, le)
 raised false p q m n e f le = omega (arith, e, f, le)

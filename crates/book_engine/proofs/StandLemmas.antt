@@ -21,12 +21,12 @@ use Rattle.book_engine.specs.Opens.{Opens, OpensTo, unsound_at}
 use Rattle.book_engine.specs.Standing.{StandFor, StandForKept, Stands}
 use Rattle.book_engine.proofs.StepLemmas.{Moves, step_moves}
 
-pub same_placed :
+same_placed :
     (s t : State) (p q : ℕ) → s ≡ t → p ≡ q → placed s p ≡ placed t q
 same_placed s t p q state position =
     ap (λ (x : State). placed x p) state ∙ ap (λ (n : ℕ). placed t n) position
 
-pub stand_same :
+stand_same :
     (saved now_saved : Bool) (old new : SavedState) (rows : List Row) → saved ≡ now_saved → old ≡ new
     → StandFor saved old rows → StandFor now_saved new rows
 stand_same saved now_saved old new rows same state stand =
@@ -68,19 +68,6 @@ stands_unchanged sure holds keeper before now same stands =
       stand_kept before now stood.0 same stood.2,
     )
 
--- They do where the keeper's rows stay with it.
-pub stands_held :
-    {K : Type 0} (sure : K → Bool) (holds : K → List Row → Type 0) (old new : K) (before now : Kept)
-    → (IsTrue (sure new) → IsTrue (sure old))
-    → (IsTrue (sure new) → (rows : List Row) → holds old rows → holds new rows)
-    → IsUnchanged before now → Stands sure holds old before → Stands sure holds new now
-stands_held sure holds old new before now was held same stands =
-    λ still. let stood = stands (was still) in (
-      stood.0,
-      held still stood.0 stood.1,
-      stand_kept before now stood.0 same stood.2,
-    )
-
 stays :
     (nothing : Bool) (old new : State) → not nothing ≡ false → new.version ≡ version_after nothing old.version
     → Moves old new → new ≡ old
@@ -104,10 +91,6 @@ plan_leaves state position saved command plan is none =
 or_none : (saved commits : Bool) → commits ≡ false → (saved || commits) ≡ saved
 or_none true commits e = refl
 or_none false commits e = e
-
-or_some : (saved commits : Bool) → IsTrue commits → (saved || commits) ≡ true
-or_some true commits e = refl
-or_some false commits e = e
 
 -- What an engine keeps after a plan.
 pub record IsAfter (before now : Kept) (plan : Planned) : Type 0 where

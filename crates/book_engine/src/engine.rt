@@ -13,9 +13,12 @@ ghost use Rattle.book_engine.specs.Opening.{HasOpenCause, IsOpenedAs, Opened};
 ghost use Rattle.book_engine.specs.Planned.{after, commits, IsPlanFor, IsPlanOf, IsRefusal};
 ghost use Rattle.book_engine.specs.Standing.{Stands};
 
+use crate::opening::{begin, checked, open_error};
+use crate::planning::{answered_step, plan_of};
 use crate::{OpenError, Plan};
+use book_commodity::OutOfMemory;
 use book_keeper::{KeepError, Keeper};
-use book_opening::Saved;
+use book_opening::{Saved, read_rows};
 use book_step::{Answer, Command, Refusal};
 use book_undo::Plain;
 use std::alloc::Global;
@@ -54,7 +57,11 @@ impl Engine {
         ensures sound { IfOk result (λ engine. IsSound engine.state) }
         ensures cause { HasOpenCause (K.faults keeper.old) (K.faults keeper.new) result }
     {
-        Err(OpenError::OutOfMemory)
+        match read_rows(alloc, keeper) {
+            Ok(Some(state)) => checked(alloc, state),
+            Ok(None) => begin(alloc),
+            Err(fault) => Err(open_error(fault)),
+        }
     }
 
     /// The count of the changes so far.
@@ -80,8 +87,18 @@ impl Engine {
         ensures unchanged { IsUnchanged self.old self.new }
         ensures sound { IsSound self.new.state }
     {
-        self.sound();
-        Err(Refusal::OutOfMemory)
+        let step = match answered_step(self.alloc, &self.state, command) {
+            Ok(step) => step,
+            Err(refusal) => return Err(refusal),
+        };
+        let plan = match plan_of(self.alloc, &self.state, self.saved, step) {
+            Ok(plan) => plan,
+            Err(OutOfMemory) => return Err(Refusal::OutOfMemory),
+        };
+        match self.state.plain.reserve_for(plan.edit()) {
+            Ok(()) => Ok(plan),
+            Err(OutOfMemory) => Err(Refusal::OutOfMemory),
+        }
     }
 
     /// Finishes what was prepared and hands out its answer: where the plan commits, the keeper makes its changes of
@@ -158,7 +175,14 @@ impl Engine {
         ensures cause { HasActCause self.old.state (step_from self.old.state command)
             (K.faults keeper.old) (K.faults keeper.new) result }
     {
-        self.sound();
-        Err(Refusal::OutOfMemory)
+        let plan = match self.prepare(command) {
+            Ok(plan) => plan,
+            Err(refusal) => return Err(refusal),
+        };
+        match self.finish(keeper, plan) {
+            Ok(answer) => Ok(answer),
+            Err(KeepError::Failed) => Err(Refusal::Keeper),
+            Err(KeepError::OutOfMemory) => Err(Refusal::OutOfMemory),
+        }
     }
 }

@@ -6,10 +6,13 @@
 #![tactic(auto)]
 
 mod balances;
+mod changes;
 mod engine;
 mod fault;
 mod fresh;
+mod opening;
 mod plan;
+mod planning;
 
 pub use book_command::{Answer, Command, GivenAccount, GivenSplit, GivenTxn, Refusal, Rule, What};
 pub use engine::Engine;

@@ -1,4 +1,4 @@
-use Rattle.std.proofs.Common.{◌≡◌, Bool, true, false, not, ap, ◌∙◌, arith}
+use Rattle.std.proofs.Common.{◌≡◌, false, arith}
 use Rattle.std.proofs.lemmas.Bool.Decides.{nat_tests}
 use Rattle.book_engine.specs.Planned.{commits}
 use Rattle.book_engine.proofs.StandLemmas.{left_unchanged, stands_unchanged}
