@@ -1,90 +1,96 @@
 -- From what holds at a run's end to what holds when the program's work has ended.
-use Rattle.std.proofs.Common.{◌≡◌, ◌≢◌, ℕ, List, [], Option, refl, sym, subst, arith}
+use Rattle.std.proofs.Common.{◌≡◌, ℕ, List, [], Option, IsTrue, Err, refl, sym, subst, arith}
 use Rattle.book_keeper.proofs.StreamLemmas.{Are-some, Wrote-nil}
+use Rattle.book_keeper.specs.declared.row.Row.{Row}
 use Rattle.book_lines.specs.RunClause.{Moment, at, RunClause}
 use Rattle.book_lines.specs.declared.running.RunEnd.{RunEnd}
 use Rattle.book_lines.specs.declared.running.RunEnd.TheVariants as end
-use Rattle.book_step.specs.State.{State}
+use Rattle.book_opening.specs.State.{State as SavedState}
+use Rattle.book_engine.specs.Kept.{Kept}
+use Rattle.book_engine.specs.Opening.{Opened}
+use Rattle.book_engine.specs.Opens.{Opens}
+use Rattle.book_engine.specs.declared.fault.OpenError.{OpenError}
+use Rattle.book_engine.specs.declared.fault.OpenError.TheVariants as error
 use Rattle.book_app.specs.Machine.{answers}
-use Rattle.book_app.specs.Numbers.{status_of}
-use Rattle.book_app.specs.StatusClause.{IsBookRun, IsLineRun, StatusClause}
+use Rattle.book_app.specs.Numbers.{status_of, status_unopened}
+use Rattle.book_app.specs.StatusClause.{IsBookRun, IsLineRun, IsSession, IsUntouched, Keeping, NowOpensTo, OpenedTo}
+use Rattle.book_app.specs.StatusClause.{StatusClause}
 use Rattle.book_app.specs.declared.status.Status.{Status}
-use Rattle.book_app.specs.declared.status.Status.TheVariants.{Usage, Memory}
 
-StatusClause-end :
-    (old : Moment State) (bytes read left text : List ℕ) (new : Moment State) (ended : RunEnd)
-    → RunClause answers old bytes read left text new ended
-    → StatusClause old bytes read left text new (status_of ended)
-StatusClause-end old bytes read left text new end.Done h = h
-StatusClause-end old bytes read left text new end.InputLimit h = h
-StatusClause-end old bytes read left text new end.InputFault h = h
-StatusClause-end old bytes read left text new end.OutputFault h = h
+session_clause :
+    (keeping : Keeping) (before after : List ℕ → Type 0) (bytes read left text : List ℕ) (ended : RunEnd)
+    → IsSession keeping before after bytes read left text ended
+    → StatusClause keeping before after bytes read left text (status_of ended)
+session_clause keeping before after bytes read left text end.Done h = h
+session_clause keeping before after bytes read left text end.InputLimit h = h
+session_clause keeping before after bytes read left text end.InputFault h = h
+session_clause keeping before after bytes read left text end.OutputFault h = h
 
--- a run of lines from the first state is the program's work
-pub IsBookRun-lines :
-    (first : State) (input_before input_after : Option (List ℕ)) (output_before output_after : List ℕ → Type 0)
-    (last : State) (status : Status)
-    → IsLineRun first input_before input_after output_before output_after last status
-    → IsBookRun first input_before input_after output_before output_after status
-IsBookRun-lines first input_before input_after output_before output_after last status run =
-    let old = at first output_before 0 in
-    let new = at last output_after 0 in
+-- a run of lines, from the state as which the rows opened, is the program's work
+pub run_of_lines :
+    (keeping : Keeping) (first last : SavedState) (faults : ℕ) (input_before input_after : Option (List ℕ))
+    (output_before output_after : List ℕ → Type 0) (status : Status) → faults ≡ keeping.faults_before
+    → OpenedTo keeping (Opens first) → NowOpensTo keeping last
+    → IsLineRun (at first output_before faults) input_before input_after (at last output_after keeping.faults_after)
+    status
+    → IsBookRun keeping input_before input_after output_before output_after status
+run_of_lines keeping first last faults input_before input_after output_before output_after status same opened kept run =
+    let session : IsSession keeping output_before output_after run.bytes run.read run.left run.text run.ended =
+    record {
+      first = first;
+      last = last;
+      opened = opened;
+      run = subst
+          (λ (n : ℕ). RunClause answers (at first output_before n) run.bytes run.read run.left run.text
+          (at last output_after keeping.faults_after) run.ended) same run.clause;
+      kept = kept;
+    } in
     record {
       bytes = run.bytes;
       read = run.read;
       left = run.left;
       text = run.text;
-      last = last;
       bytes_are = run.bytes_are;
       left_are = run.left_are;
       parts = run.parts;
       few = run.few;
       wrote = run.wrote;
       clause =
-          subst (λ (s : Status). StatusClause old run.bytes run.read run.left run.text new s) (sym run.status_is)
-          (StatusClause-end old run.bytes run.read run.left run.text new run.ended run.clause);
+          subst (λ (s : Status). StatusClause keeping output_before output_after run.bytes run.read run.left run.text s)
+          (sym run.status_is)
+          (session_clause keeping output_before output_after run.bytes run.read run.left run.text run.ended session);
     }
 
--- where nothing was touched, the words or memory can be the reason
-pub IsBookRun-usage :
-    (first : State) (input : Option (List ℕ)) (output : List ℕ → Type 0)
-    → IsBookRun first input input output output Usage
-IsBookRun-usage first input output = let bytes = Are-some input in record {
+-- where nothing was touched, what belongs to the status holds of no bytes and no text
+pub run_of_nothing :
+    (keeping : Keeping) (input : Option (List ℕ)) (output : List ℕ → Type 0) (status : Status)
+    → ((bytes : List ℕ) → StatusClause keeping output output bytes [] bytes [] status)
+    → IsBookRun keeping input input output output status
+run_of_nothing keeping input output status holds = let bytes = Are-some input in record {
   bytes = bytes.0;
   read = [];
   left = bytes.0;
   text = [];
-  last = first;
   bytes_are = bytes.1;
   left_are = bytes.1;
   parts = refl;
   few = omega arith;
   wrote = Wrote-nil output;
-  clause = record { input = refl; output = refl; state = refl };
+  clause = holds bytes.0;
 }
 
-pub IsBookRun-memory :
-    (first : State) (input : Option (List ℕ)) (output : List ℕ → Type 0)
-    → IsBookRun first input input output output Memory
-IsBookRun-memory first input output = let bytes = Are-some input in record {
-  bytes = bytes.0;
-  read = [];
-  left = bytes.0;
-  text = [];
-  last = first;
-  bytes_are = bytes.1;
-  left_are = bytes.1;
-  parts = refl;
-  few = omega arith;
-  wrote = Wrote-nil output;
-  clause = record { input = refl; output = refl; state = refl };
-}
+untouched :
+    (keeping : Keeping) → (IsTrue keeping.sure → (rows : List Row) → keeping.held rows → keeping.holds rows)
+    → IsUntouched keeping [] []
+untouched keeping rows = record { input = refl; output = refl; rows = rows }
 
--- where it ends by one of these two
-pub IsBookRun-early :
-    (first : State) (input : Option (List ℕ)) (output : List ℕ → Type 0) (status : Status)
-    → (status ≢ Usage → status ≡ Memory) → IsBookRun first input input output output status
-IsBookRun-early first input output Usage is = IsBookRun-usage first input output
-IsBookRun-early first input output other is =
-    subst (λ (s : Status). IsBookRun first input input output output s) (sym (is (λ same. cc)))
-    (IsBookRun-memory first input output)
+-- where no book was opened
+pub unopened_clause :
+    (keeping : Keeping) (output : List ℕ → Type 0) (bytes : List ℕ) (why : OpenError)
+    → (IsTrue keeping.sure → (rows : List Row) → keeping.held rows → keeping.holds rows)
+    → (IsTrue keeping.sure → (rows : List Row) → keeping.held rows → Opened rows (Err why))
+    → StatusClause keeping output output bytes [] bytes [] (status_unopened why)
+unopened_clause keeping output bytes error.Keeper rows opened = untouched keeping rows
+unopened_clause keeping output bytes (error.BadRows kind id) rows opened = (untouched keeping rows, opened)
+unopened_clause keeping output bytes (error.UnsoundBook kind id) rows opened = (untouched keeping rows, opened)
+unopened_clause keeping output bytes error.OutOfMemory rows opened = untouched keeping rows

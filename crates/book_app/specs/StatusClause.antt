@@ -1,54 +1,106 @@
 -- What holds when the program's work has ended, by its status.
-use Rattle.std.specs.Prelude.{◌≡◌, ℕ, ◌+◌, ◌^◌, ◌≤◌, List, [], ◌++◌, Option, length}
+use Rattle.std.specs.Prelude.{◌≡◌, ℕ, ◌+◌, ◌^◌, ◌≤◌, ⊤, Bool, IsTrue, List, [], ◌++◌, Option, Some, Result, Ok, Err, length}
+use Rattle.std.specs.Prelude.{refl, ◌∙◌}
 use Rattle.book_keeper.specs.Stream.{Are, Wrote}
+use Rattle.book_keeper.specs.declared.row.Row.{Row}
 use Rattle.book_lines.specs.RunClause.{Moment, at, RunClause}
 use Rattle.book_lines.specs.declared.running.RunEnd.{RunEnd}
 use Rattle.book_lines.specs.declared.running.RunEnd.TheVariants as end
-use Rattle.book_step.specs.State.{State}
+use Rattle.book_opening.specs.State.{State as SavedState}
+use Rattle.book_engine.specs.Opening.{row_key}
+use Rattle.book_engine.specs.declared.fault.OpenError.{OpenError}
+use Rattle.book_engine.specs.declared.fault.OpenError.TheVariants as error
+use Rattle.book_engine.specs.Opens.{Bad, Opening, Opens, OpensTo, Unsound}
 use Rattle.book_app.specs.Machine.{answers}
 use Rattle.book_app.specs.Numbers.{status_of}
+use Rattle.book_app.specs.Words.{named_book}
 use Rattle.book_app.specs.declared.status.Status.{Status}
-use Rattle.book_app.specs.declared.status.Status.TheVariants.{Done, Usage, Memory, InputFault, OutputFault, InputLimit}
+use Rattle.book_app.specs.declared.status.Status.TheVariants.{Done, Usage, Memory, InputFault, OutputFault, KeeperFault}
+use Rattle.book_app.specs.declared.status.Status.TheVariants.{BadRows, UnsoundBook, InputLimit}
 
--- Nothing was read, nothing written, and the state is as it was.
-pub record IsUntouched (old : Moment State) (read text : List ℕ) (new : Moment State) : Type 0 where
+-- What is seen of a keeper before and after: whether it still knows its rows, which it holds, and its count of faults.
+pub record Keeping : Type 1 where
+  pub sure : Bool
+  pub held : List Row → Type 0
+  pub holds : List Row → Type 0
+  pub faults_before : ℕ
+  pub faults_after : ℕ
+
+-- What is seen of this keeper, before and after.
+abbrev pub over : {K : Type 0} → (K → Bool) → (K → List Row → Type 0) → (K → ℕ) → K → K → Keeping
+over sure holds faults before after = record {
+  sure = sure after;
+  held = holds before;
+  holds = holds after;
+  faults_before = faults before;
+  faults_after = faults after;
+}
+
+-- The rows that the keeper held before open as this, where it still knows its rows.
+abbrev pub OpenedTo : Keeping → Opening → Type 0
+OpenedTo keeping opening = IsTrue keeping.sure → (rows : List Row) → keeping.held rows → OpensTo rows opening
+
+-- A keeper that still knows its rows holds rows that open as this state.
+abbrev pub NowOpensTo : Keeping → SavedState → Type 0
+NowOpensTo keeping state = IsTrue keeping.sure → (rows : List Row) × keeping.holds rows × OpensTo rows (Opens state)
+
+-- Nothing was read, nothing written, and the keeper's rows are as they were.
+pub record IsUntouched (keeping : Keeping) (read text : List ℕ) : Type 0 where
   pub input : read ≡ []
   pub output : text ≡ []
-  pub state : new.machine ≡ old.machine
+  pub rows : IsTrue keeping.sure → (rows : List Row) → keeping.held rows → keeping.holds rows
+
+-- Lines were answered from the state as which the keeper's rows opened, and its rows open as the last state.
+pub record IsSession (keeping : Keeping) (output_before output_after : List ℕ → Type 0)
+    (bytes read left text : List ℕ) (ended : RunEnd) : Type 0 where
+  pub first : SavedState
+  pub last : SavedState
+  pub opened : OpenedTo keeping (Opens first)
+  pub run : RunClause answers (at first output_before keeping.faults_before) bytes read left text
+      (at last output_after keeping.faults_after) ended
+  pub kept : NowOpensTo keeping last
 
 -- By the status: `bytes` is what the input had left before, `read` what was read of it, `left` what it has left now,
 -- `text` what was written.
 abbrev pub StatusClause :
-    Moment State → List ℕ → List ℕ → List ℕ → List ℕ → Moment State → Status → Type 0
-StatusClause old bytes read left text new Done = RunClause answers old bytes read left text new end.Done
-StatusClause old bytes read left text new InputLimit = RunClause answers old bytes read left text new end.InputLimit
-StatusClause old bytes read left text new InputFault = RunClause answers old bytes read left text new end.InputFault
-StatusClause old bytes read left text new OutputFault = RunClause answers old bytes read left text new end.OutputFault
-StatusClause old bytes read left text new Usage = IsUntouched old read text new
-StatusClause old bytes read left text new Memory = IsUntouched old read text new
+    Keeping → (List ℕ → Type 0) → (List ℕ → Type 0) → List ℕ → List ℕ → List ℕ → List ℕ → Status → Type 0
+StatusClause keeping before after bytes read left text Done =
+    IsSession keeping before after bytes read left text end.Done
+StatusClause keeping before after bytes read left text InputLimit =
+    IsSession keeping before after bytes read left text end.InputLimit
+StatusClause keeping before after bytes read left text InputFault =
+    IsSession keeping before after bytes read left text end.InputFault
+StatusClause keeping before after bytes read left text OutputFault =
+    IsSession keeping before after bytes read left text end.OutputFault
+StatusClause keeping before after bytes read left text Usage = IsUntouched keeping read text
+StatusClause keeping before after bytes read left text Memory = IsUntouched keeping read text
+StatusClause keeping before after bytes read left text KeeperFault = IsUntouched keeping read text
+StatusClause keeping before after bytes read left text (BadRows kind id) =
+    IsUntouched keeping read text × OpenedTo keeping (Bad (row_key kind id))
+StatusClause keeping before after bytes read left text (UnsoundBook kind id) =
+    IsUntouched keeping read text × OpenedTo keeping (Unsound (row_key kind id))
 
--- A run from a state. There are the bytes that the input had left, as far as it reports them: what was read, at most
--- one byte past the limit, and then what it has left now. There are the text that the output gained, as far as it
--- reports it, and the last state. Of these holds what belongs to the status.
+-- A run of the program over a keeper. There are the bytes that the input had left, as far as it reports them: what was
+-- read, at most one byte past the limit, and then what it has left now. There is the text that the output gained, as
+-- far as it reports it. Of these holds what belongs to the status.
 pub record IsBookRun
-    (first : State) (input_before input_after : Option (List ℕ)) (output_before output_after : List ℕ → Type 0)
+    (keeping : Keeping) (input_before input_after : Option (List ℕ)) (output_before output_after : List ℕ → Type 0)
     (status : Status) : Type 0 where
   pub bytes : List ℕ
   pub read : List ℕ
   pub left : List ℕ
   pub text : List ℕ
-  pub last : State
   pub bytes_are : Are input_before bytes
   pub left_are : Are input_after left
   pub parts : bytes ≡ read ++ left
   pub few : length read ≤ 2 ^ 33 + 1
   pub wrote : Wrote output_before output_after text
-  pub clause : StatusClause (at first output_before 0) bytes read left text (at last output_after 0) status
+  pub clause : StatusClause keeping output_before output_after bytes read left text status
 
--- A run of lines from a state to a state: the same, and it ends neither by Usage nor by Memory.
+-- A run of lines from a state to a state: the same, and it ends neither by Usage nor before the first line.
 pub record IsLineRun
-    (first : State) (input_before input_after : Option (List ℕ)) (output_before output_after : List ℕ → Type 0)
-    (last : State) (status : Status) : Type 0 where
+    (before : Moment SavedState) (input_before input_after : Option (List ℕ)) (after : Moment SavedState)
+    (status : Status) : Type 0 where
   pub bytes : List ℕ
   pub read : List ℕ
   pub left : List ℕ
@@ -57,7 +109,41 @@ pub record IsLineRun
   pub left_are : Are input_after left
   pub parts : bytes ≡ read ++ left
   pub few : length read ≤ 2 ^ 33 + 1
-  pub wrote : Wrote output_before output_after text
+  pub wrote : Wrote before.written after.written text
   pub ended : RunEnd
   pub status_is : status ≡ status_of ended
-  pub clause : RunClause answers (at first output_before 0) bytes read left text (at last output_after 0) ended
+  pub clause : RunClause answers before bytes read left text after ended
+
+-- The keeper's path is the book that the words name, once it was opened: at each status but these three.
+abbrev pub HasBookPath : List (List ℕ) → List ℕ → Status → Type 0
+HasBookPath words path Usage = ⊤
+HasBookPath words path Memory = ⊤
+HasBookPath words path KeeperFault = ⊤
+HasBookPath words path other = named_book words ≡ Some path
+
+-- The keeper's path is that of the book, unless it failed or the program was out of memory before it was opened.
+abbrev pub IsOpenedAt : {T : Type 0} → List ℕ → List ℕ → Result T OpenError → Type 0
+IsOpenedAt book path (Ok engine) = path ≡ book
+IsOpenedAt book path (Err (error.BadRows kind id)) = path ≡ book
+IsOpenedAt book path (Err (error.UnsoundBook kind id)) = path ≡ book
+IsOpenedAt book path (Err error.Keeper) = ⊤
+IsOpenedAt book path (Err error.OutOfMemory) = ⊤
+
+-- A keeper after lines were answered: its path stays, and it knows its rows only if it did before.
+pub record IsLater {K : Type 0} (path : K → List ℕ) (sure : K → Bool) (before after : K) : Type 0 where
+  pub same_path : path after ≡ path before
+  pub still_sure : IsTrue (sure after) → IsTrue (sure before)
+
+-- a keeper is such a one after no line
+pub same_later :
+    {K : Type 0} (path : K → List ℕ) (sure : K → Bool) (keeper : K) → IsLater path sure keeper keeper
+same_later path sure keeper = record { same_path = refl; still_sure = λ still. still }
+
+-- and after more lines
+pub twice_later :
+    {K : Type 0} (path : K → List ℕ) (sure : K → Bool) (first second third : K) → IsLater path sure first second
+    → IsLater path sure second third → IsLater path sure first third
+twice_later path sure first second third one other = record {
+  same_path = other.same_path ∙ one.same_path;
+  still_sure = λ still. one.still_sure (other.still_sure still);
+}

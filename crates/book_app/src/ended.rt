@@ -1,18 +1,17 @@
-ghost use Rattle.std.specs.Prelude.{◌≡◌, ◌≢◌, ◌↔◌, false, OnErr, MatchResult};
+ghost use Rattle.std.specs.Prelude.{◌≡◌, ◌≢◌, ◌↔◌, None, OnErr, MatchResult};
 ghost use Rattle.std.specs.IoError.{error_kind};
 ghost use Rattle.std.specs.Process.{exit_status};
 ghost use Rattle.book_keeper.specs.Faults.{Rose};
 ghost use Rattle.book_keeper.specs.OverStd.{left_of, sink_over, source_faults, sink_faults};
 ghost use Rattle.book_keeper.specs.Written.{may_hold};
-ghost use Rattle.book_step.specs.State.{fresh_state};
 ghost use Rattle.book_app.specs.Numbers.{number_of};
-ghost use Rattle.book_app.specs.StatusClause.{IsBookRun};
-ghost use Rattle.book_app.specs.Words.{is_run};
+ghost use Rattle.book_app.specs.StatusClause.{HasBookPath, IsBookRun, over};
+ghost use Rattle.book_app.specs.Words.{named_book};
 
 use crate::main_call::book_main;
 use crate::status::Status;
 use book_commodity::Text;
-use book_keeper::{FileSource, StreamSink};
+use book_keeper::{FileSource, Keeper, StreamSink};
 use std::alloc::Global;
 use std::io;
 use std::io::{ErrorKind, Read, Write};
@@ -36,10 +35,20 @@ pub struct Ran<I, O> {
 
 /// Does what the words ask over any reader and writer of std, as `book_main` does over the source and the sink that
 /// join them: the answers of the lines that the reader has left are added to what the writer holds.
-pub fn run_over<I: Read, O: Write>(alloc: Global, words: &[Text], reader: I, writer: O) -> Ran<I, O>
-    ensures run { IsBookRun fresh_state (I.remaining reader) (left_of I.remaining result.input)
+pub fn run_over<K: Keeper, I: Read, O: Write>(
+    alloc: Global,
+    words: &[Text],
+    keeper: &mut K,
+    reader: I,
+    writer: O,
+) -> Ran<I, O>
+    ensures run { IsBookRun (over K.sure K.holds K.faults keeper.old keeper.new)
+        (I.remaining reader) (left_of I.remaining result.input)
         (may_hold O.contents (sink_over writer)) (may_hold O.contents result.output) result.ended.status }
-    ensures usage { (result.ended.status ≡ Status.Usage) ↔ (is_run words.now ≡ false) }
+    ensures path { HasBookPath words.now (K.path_given keeper.new) result.ended.status }
+    ensures usage { (result.ended.status ≡ Status.Usage) ↔ (named_book words.now ≡ None) }
+    ensures keeper_fault { result.ended.status ≡ Status.KeeperFault
+        → Rose (K.faults keeper.old) (K.faults keeper.new) }
     ensures input_fault { result.ended.status ≡ Status.InputFault → Rose 0 (source_faults result.input) }
     ensures no_input_fault { result.ended.status ≢ Status.InputFault → source_faults result.input ≡ 0 }
     ensures output_fault { result.ended.status ≡ Status.OutputFault → Rose 0 (sink_faults result.output) }
@@ -47,7 +56,7 @@ pub fn run_over<I: Read, O: Write>(alloc: Global, words: &[Text], reader: I, wri
 {
     let mut input = FileSource::new(reader);
     let mut output = StreamSink::new(writer);
-    let status = book_main(alloc, words, &mut input, &mut output);
+    let status = book_main(alloc, words, keeper, &mut input, &mut output);
     Ran {
         ended: Ended { status },
         input,
@@ -57,24 +66,28 @@ pub fn run_over<I: Read, O: Write>(alloc: Global, words: &[Text], reader: I, wri
 
 /// Does what a program's words ask, if they could be read, as `run_over` does. Where they could not, nothing is read or
 /// written, and it ends by Usage if one of them is not UTF-8, else by Memory.
-pub(crate) fn run_words<I: Read, O: Write>(
+pub(crate) fn run_words<K: Keeper, I: Read, O: Write>(
     alloc: Global,
     words: io::Result<Vec<Text>>,
+    keeper: &mut K,
     reader: I,
     writer: O,
 ) -> Ran<I, O>
-    ensures run { IsBookRun fresh_state (I.remaining reader) (left_of I.remaining result.input)
+    ensures run { IsBookRun (over K.sure K.holds K.faults keeper.old keeper.new)
+        (I.remaining reader) (left_of I.remaining result.input)
         (may_hold O.contents (sink_over writer)) (may_hold O.contents result.output) result.ended.status }
     ensures usage { (result.ended.status ≡ Status.Usage) ↔ MatchResult words
-        (λ given. is_run given.items ≡ false) (λ error. error_kind error ≡ ErrorKind.InvalidData) }
+        (λ given. named_book given.items ≡ None) (λ error. error_kind error ≡ ErrorKind.InvalidData) }
     ensures memory { OnErr words (result.ended.status ≢ Status.Usage → result.ended.status ≡ Status.Memory) }
+    ensures keeper_fault { result.ended.status ≡ Status.KeeperFault
+        → Rose (K.faults keeper.old) (K.faults keeper.new) }
     ensures input_fault { result.ended.status ≡ Status.InputFault → Rose 0 (source_faults result.input) }
     ensures no_input_fault { result.ended.status ≢ Status.InputFault → source_faults result.input ≡ 0 }
     ensures output_fault { result.ended.status ≡ Status.OutputFault → Rose 0 (sink_faults result.output) }
     ensures no_output_fault { result.ended.status ≢ Status.OutputFault → sink_faults result.output ≡ 0 }
 {
     match words {
-        Ok(words) => run_over(alloc, words.as_slice(), reader, writer),
+        Ok(words) => run_over(alloc, words.as_slice(), keeper, reader, writer),
         Err(error) => Ran {
             ended: Ended {
                 status: status_without_words(&error),

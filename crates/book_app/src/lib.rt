@@ -18,5 +18,5 @@ pub use book_lines::LineRoom;
 pub use ended::{Ended, Ran, run_over};
 pub use main_call::{book_main, run_lines};
 pub use program::run_program;
-pub use reply::{Answering, NoKeeper};
+pub use reply::Answering;
 pub use status::Status;

@@ -1,71 +1,95 @@
-ghost use Rattle.std.specs.Prelude.{◌≡◌, ◌≢◌, ℕ, ◌↔◌, false};
+ghost use Rattle.std.specs.Prelude.{◌≡◌, ◌≢◌, ◌↔◌, None, List, IfOk, IsTrue};
 ghost use Rattle.book_keeper.specs.Faults.{Rose};
-ghost use Rattle.book_step.specs.State.{fresh_state};
-ghost use Rattle.book_app.specs.StatusClause.{IsBookRun, IsLineRun};
-ghost use Rattle.book_app.specs.Words.{is_run};
+ghost use Rattle.book_keeper.specs.declared.row.Row.{Row};
+ghost use Rattle.book_lines.specs.RunClause.{at};
+ghost use Rattle.book_engine.specs.Kept.{state_kept};
+ghost use Rattle.book_engine.specs.Opening.{HasOpenCause, Opened};
+ghost use Rattle.book_engine.specs.Standing.{Stands};
+ghost use Rattle.book_app.specs.StatusClause.{HasBookPath, IsBookRun, IsLater, IsLineRun, IsOpenedAt, over};
+ghost use Rattle.book_app.specs.Words.{named_book};
 
-use crate::reply::{Answering, NoKeeper};
-use crate::status::{Status, status_after};
-use crate::words::are_run;
+use crate::reply::Answering;
+use crate::status::{Status, status_after, status_unopened};
+use crate::words::named_book;
 use book_commodity::Text;
-use book_engine::Engine;
-use book_keeper::{Sink, Source};
+use book_engine::{Engine, OpenError};
+use book_keeper::{KeepError, Keeper, Sink, Source};
 use book_lines::{LineRoom, run};
 use std::alloc::Global;
 
-/// Answers the lines of the input on the output, from the engine's state on. It ends by Done, InputLimit,
-/// InputFault or OutputFault alone. InputFault and OutputFault come exactly where the input or the output failed in
-/// this call.
-pub fn run_lines<S: Source, O: Sink>(
+/// Answers the lines of the input on the output, from the engine's state on, and keeps each change by the keeper,
+/// whose rows stand for that state, as far as it still knows them. It ends by Done, InputLimit, InputFault or
+/// OutputFault alone. InputFault and OutputFault come exactly where the input or the output failed in this call.
+pub fn run_lines<K: Keeper, S: Source, O: Sink>(
     alloc: Global,
     engine: &mut Engine,
+    keeper: &mut K,
     input: &mut S,
     output: &mut O,
     room: &mut LineRoom,
 ) -> Status
-    ensures run { IsLineRun engine.old.state (S.left input.old) (S.left input.new)
-        (O.written output.old) (O.written output.new) engine.new.state result }
+    requires stands { Stands K.sure K.holds keeper.old engine.old }
+    ensures run { IsLineRun (at (state_kept engine.old) (O.written output.old) (K.faults keeper.old))
+        (S.left input.old) (S.left input.new)
+        (at (state_kept engine.new) (O.written output.new) (K.faults keeper.new)) result }
+    ensures stands { Stands K.sure K.holds keeper.new engine.new }
+    ensures keeper { IsLater K.path_given K.sure keeper.old keeper.new }
     ensures input_fault { result ≡ Status.InputFault → Rose (S.faults input.old) (S.faults input.new) }
     ensures no_input_fault { result ≢ Status.InputFault → S.faults input.new ≡ S.faults input.old }
     ensures output_fault { result ≡ Status.OutputFault → Rose (O.faults output.old) (O.faults output.new) }
     ensures no_output_fault { result ≢ Status.OutputFault → O.faults output.new ≡ O.faults output.old }
 {
-    let mut keeper = NoKeeper;
-    status_after(run::<Answering, NoKeeper, Engine, S, O>(
-        alloc,
-        engine,
-        &mut keeper,
-        input,
-        output,
-        room,
+    status_after(run::<Answering, K, Engine, S, O>(
+        alloc, engine, keeper, input, output, room,
     ))
 }
 
-/// Does what the words ask: `run BOOK` answers the lines of the input, from the fresh book on. Usage comes
-/// exactly where the words are not these; Memory where it is out of memory before the first line. InputFault and
-/// OutputFault come exactly where the input or the output failed in this call.
-pub fn book_main<S: Source, O: Sink>(
+/// The engine with the book that the keeper has at this path.
+/// Keeper: the keeper failed, and its count of faults rose. The others are those of `Engine::open`.
+fn open_book<K: Keeper>(alloc: Global, keeper: &mut K, book: &str) -> Result<Engine, OpenError>
+    ensures rows { IsTrue (K.sure keeper.new) → (rows : List Row) → K.holds keeper.old rows → K.holds keeper.new rows }
+    ensures opened { IsTrue (K.sure keeper.new) → (rows : List Row) → K.holds keeper.old rows → Opened rows result }
+    ensures stands { IfOk result (λ engine. Stands K.sure K.holds keeper.new engine) }
+    ensures path { IsOpenedAt book.now (K.path_given keeper.new) result }
+    ensures cause { HasOpenCause (K.faults keeper.old) (K.faults keeper.new) result }
+{
+    match keeper.open(book) {
+        Ok(()) => Engine::open(alloc, keeper),
+        Err(KeepError::Failed) => Err(OpenError::Keeper),
+        Err(KeepError::OutOfMemory) => Err(OpenError::OutOfMemory),
+    }
+}
+
+/// Does what the words ask: `run BOOK` opens the keeper at BOOK and answers the lines of the input, from the state as
+/// which its rows open on. Usage comes exactly where the words are not these; Memory where it is out of memory before
+/// the first line; KeeperFault where the keeper failed before it, and its count of faults rose; BadRows and UnsoundBook
+/// exactly where the rows are no rows of a sound book. InputFault and OutputFault come exactly where the input or the
+/// output failed in this call.
+pub fn book_main<K: Keeper, S: Source, O: Sink>(
     alloc: Global,
     words: &[Text],
+    keeper: &mut K,
     input: &mut S,
     output: &mut O,
 ) -> Status
-    ensures run { IsBookRun fresh_state (S.left input.old) (S.left input.new)
+    ensures run { IsBookRun (over K.sure K.holds K.faults keeper.old keeper.new) (S.left input.old) (S.left input.new)
         (O.written output.old) (O.written output.new) result }
-    ensures usage { (result ≡ Status.Usage) ↔ (is_run words.now ≡ false) }
+    ensures path { HasBookPath words.now (K.path_given keeper.new) result }
+    ensures usage { (result ≡ Status.Usage) ↔ (named_book words.now ≡ None) }
+    ensures keeper_fault { result ≡ Status.KeeperFault → Rose (K.faults keeper.old) (K.faults keeper.new) }
     ensures input_fault { result ≡ Status.InputFault → Rose (S.faults input.old) (S.faults input.new) }
     ensures no_input_fault { result ≢ Status.InputFault → S.faults input.new ≡ S.faults input.old }
     ensures output_fault { result ≡ Status.OutputFault → Rose (O.faults output.old) (O.faults output.new) }
     ensures no_output_fault { result ≢ Status.OutputFault → O.faults output.new ≡ O.faults output.old }
 {
-    if !are_run(words) {
+    let Some(book) = named_book(words) else {
         return Status::Usage;
-    }
+    };
     let Ok(mut room) = LineRoom::new(alloc) else {
         return Status::Memory;
     };
-    let Ok(mut engine) = Engine::begin(alloc) else {
-        return Status::Memory;
-    };
-    run_lines(alloc, &mut engine, input, output, &mut room)
+    match open_book(alloc, keeper, book) {
+        Ok(mut engine) => run_lines(alloc, &mut engine, keeper, input, output, &mut room),
+        Err(error) => status_unopened(error),
+    }
 }

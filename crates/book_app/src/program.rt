@@ -1,14 +1,17 @@
 use crate::ended::{Ended, run_words};
-use book_commodity::Text;
+use book_commodity::{Many, Text};
+use book_keeper::MemKeeper;
 use std::env::Env;
 use std::io::{Input, Print};
 use std::{env, io};
 
-/// Does what the program's words ask, over its standard streams: `run_words` with the host's words, reader and writer,
-/// which has all clauses. This call has none, since std says nothing of what a host's words are and of what its streams
+/// Does what the program's words ask, over its standard streams and a keeper in memory that holds no rows yet:
+/// `run_words` with the host's words, reader and writer, which has all clauses. This call has none, since std says nothing of what a host's words are and of what its streams
 /// hold.
 pub fn run_program<R: Env + Input + Print + AllocGlobal>(rt: &R) -> Ended {
-    run_words(rt.alloc(), words(rt), rt.reader(), io::writer(rt)).ended
+    let alloc = rt.alloc();
+    let mut keeper = MemKeeper::new(Many::new(alloc), Many::new(alloc));
+    run_words(alloc, words(rt), &mut keeper, rt.reader(), io::writer(rt)).ended
 }
 
 /// The words behind the program's name.

@@ -1,11 +1,19 @@
-ghost use Rattle.std.specs.Prelude.{◌≡◌, ℕ, ◌^◌, ◌<◌, ◌≤◌, List, length, Err, IfOk, OnErr};
+ghost use Rattle.std.specs.Prelude.{◌≡◌, ℕ, ◌^◌, ◌<◌, ◌≤◌, Ok, Err, List, length, IfOk, IfErr, OnOk, OnErr, IsTrue};
 ghost use Rattle.book_keeper.specs.Faults.{Rose};
-ghost use Rattle.book_lines.specs.Marks.{Mark, Answered, Memory, Keeper, IsAnswer, memory_answer, keeper_answer};
+ghost use Rattle.book_lines.specs.Marks.{Answered, Memory, Keeper as NotKept, IsAnswer, memory_answer, keeper_answer};
 ghost use Rattle.book_step.specs.Step.{step};
-ghost use Rattle.book_app.specs.Machine.{IsOutcome, Replies};
+ghost use Rattle.book_engine.specs.Acting.{IsChange, IsUnchanged};
+ghost use Rattle.book_engine.specs.Kept.{state_kept};
+ghost use Rattle.book_engine.specs.Planned.{IsPlanFor, after, commits};
+ghost use Rattle.book_engine.specs.Standing.{Stands};
+ghost use Rattle.book_undo.specs.Room.{HasRoom};
+ghost use Rattle.book_texts.specs.AnswerText.{answer_bytes};
+ghost use Rattle.book_app.specs.Machine.{Changes, IsOutcome, Replies};
+ghost use Rattle.book_app.specs.StatusClause.{IsLater};
 
 use book_commodity::{Bytes, OutOfMemory};
-use book_engine::Engine;
+use book_engine::{Engine, Plan};
+use book_keeper::{KeepError, Keeper};
 use book_lines::{Machine, Unanswered};
 use book_step::{Command, Refusal};
 use book_texts::{answer_text, rule_text, too_long_text, wire_text};
@@ -16,59 +24,123 @@ use std::alloc::Global;
 #[derive(Clone, Copy, Debug)]
 pub struct Answering;
 
-/// Nothing is kept outside of memory.
-#[derive(Clone, Copy, Debug)]
-pub struct NoKeeper;
+/// A text, if there was memory for it.
+fn answered(text: Result<Bytes, OutOfMemory>) -> Result<Bytes, Unanswered>
+    ensures text { IfOk result (λ bytes. text ≡ Ok bytes) }
+    ensures memory { IfErr result (λ why. why ≡ Unanswered.Memory) }
+{
+    match text {
+        Ok(bytes) => Ok(bytes),
+        Err(OutOfMemory) => Err(Unanswered::Memory),
+    }
+}
 
-/// The text of a command's outcome. The text is made before the change, so that no answered change is lost for memory.
-fn reply(alloc: Global, engine: &mut Engine, command: Command) -> Result<Bytes, OutOfMemory>
+/// The text of the answer of a plan, which is finished. The text is made before that, so that no answered change is
+/// lost for memory.
+/// Keeper: the plan commits, and the keeper failed.
+fn finished<K: Keeper>(
+    alloc: Global,
+    engine: &mut Engine,
+    keeper: &mut K,
+    plan: Plan,
+) -> Result<Bytes, Unanswered>
+    requires made { IsPlanFor engine.old.state engine.old.position engine.old.saved plan }
+    requires room { HasRoom engine.old.plain plan.edit }
+    ensures text { IfOk result (λ text. text ≡ answer_bytes plan.answer plan.version) }
+    ensures state { OnOk result (engine.new.state ≡ after engine.old.state plan) }
+    ensures position { OnOk result (engine.new.position ≡ plan.position) }
+    ensures kept { OnErr result (IsUnchanged engine.old engine.new) }
+    ensures commits { result ≡ Err Unanswered.Keeper → IsTrue (commits plan) }
+    ensures failed { result ≡ Err Unanswered.Keeper → Rose (K.faults keeper.old) (K.faults keeper.new) }
+    ensures later { K.faults keeper.old ≤ K.faults keeper.new }
+    ensures stands { Stands K.sure K.holds keeper.old engine.old → Stands K.sure K.holds keeper.new engine.new }
+    ensures follows { IsLater K.path_given K.sure keeper.old keeper.new }
+{
+    let Ok(text) = answer_text(alloc, plan.answer(), plan.version()) else {
+        return Err(Unanswered::Memory);
+    };
+    match engine.finish(keeper, plan) {
+        Ok(_) => Ok(text),
+        Err(KeepError::Failed) => Err(Unanswered::Keeper),
+        Err(KeepError::OutOfMemory) => Err(Unanswered::Memory),
+    }
+}
+
+/// The text of a command's outcome.
+/// Keeper: the command changes the state, and the keeper failed to keep the change.
+fn reply<K: Keeper>(
+    alloc: Global,
+    engine: &mut Engine,
+    keeper: &mut K,
+    command: Command,
+) -> Result<Bytes, Unanswered>
     ensures answered { IfOk result (λ text. IsAnswer text
-        × IsOutcome (step engine.old.state command) engine.old.state text engine.new.state) }
-    ensures kept { OnErr result (engine.new.state ≡ engine.old.state) }
+        × IsOutcome (step engine.old.state command) (state_kept engine.old) text (state_kept engine.new)) }
+    ensures kept { OnErr result (state_kept engine.new ≡ state_kept engine.old) }
+    ensures changes { result ≡ Err Unanswered.Keeper → IsChange engine.old.state (step engine.old.state command) }
+    ensures failed { result ≡ Err Unanswered.Keeper → Rose (K.faults keeper.old) (K.faults keeper.new) }
+    ensures later { K.faults keeper.old ≤ K.faults keeper.new }
+    ensures stands { Stands K.sure K.holds keeper.old engine.old → Stands K.sure K.holds keeper.new engine.new }
+    ensures follows { IsLater K.path_given K.sure keeper.old keeper.new }
 {
     match engine.prepare(command) {
-        Ok(plan) => {
-            let text = answer_text(alloc, plan.answer(), plan.version())?;
-            let _ = engine.finish(plan);
-            Ok(text)
-        }
-        Err(Refusal::Broken(rule)) => rule_text(alloc, &rule, engine.version()),
-        Err(Refusal::OutOfMemory) => Err(OutOfMemory),
+        Ok(plan) => finished(alloc, engine, keeper, plan),
+        Err(Refusal::Broken(rule)) => answered(rule_text(alloc, &rule, engine.version())),
+        Err(Refusal::Keeper | Refusal::OutOfMemory) => Err(Unanswered::Memory),
     }
 }
 
 /// The answer to a line, whatever its bytes are.
-fn answer_to(alloc: Global, engine: &mut Engine, line: &[u8]) -> Result<Bytes, OutOfMemory>
-    ensures answered { IfOk result (λ text. IsAnswer text × Replies engine.old.state line.now text engine.new.state) }
-    ensures kept { OnErr result (engine.new.state ≡ engine.old.state) }
+/// Keeper: the line changes the state, and the keeper failed to keep the change.
+fn answer_to<K: Keeper>(
+    alloc: Global,
+    engine: &mut Engine,
+    keeper: &mut K,
+    line: &[u8],
+) -> Result<Bytes, Unanswered>
+    ensures answered { IfOk result (λ text. IsAnswer text
+        × Replies (state_kept engine.old) line.now text (state_kept engine.new)) }
+    ensures kept { OnErr result (state_kept engine.new ≡ state_kept engine.old) }
+    ensures changes { result ≡ Err Unanswered.Keeper → Changes (state_kept engine.old) line.now }
+    ensures failed { result ≡ Err Unanswered.Keeper → Rose (K.faults keeper.old) (K.faults keeper.new) }
+    ensures later { K.faults keeper.old ≤ K.faults keeper.new }
+    ensures stands { Stands K.sure K.holds keeper.old engine.old → Stands K.sure K.holds keeper.new engine.new }
+    ensures follows { IsLater K.path_given K.sure keeper.old keeper.new }
 {
     match command_of(alloc, line) {
-        Ok(command) => reply(alloc, engine, command),
-        Err(WireError::OutOfMemory) => Err(OutOfMemory),
-        Err(fault) => wire_text(alloc, &fault),
+        Ok(command) => reply(alloc, engine, keeper, command),
+        Err(WireError::OutOfMemory) => Err(Unanswered::Memory),
+        Err(fault) => answered(wire_text(alloc, &fault)),
     }
 }
 
-impl Machine<Answering, NoKeeper> for Engine {
-    ghost use Rattle.std.specs.Prelude.{ℕ};
+impl<K: Keeper> Machine<Answering, K> for Engine {
+    ghost use Rattle.std.specs.Prelude.{ℕ, refl};
+    ghost use Rattle.book_engine.specs.Kept.{state_kept};
+    ghost use Rattle.book_engine.specs.Standing.{Stands};
     ghost use Rattle.book_app.specs.Machine.{answers as line_answers};
+    ghost use Rattle.book_app.specs.StatusClause.{IsLater, same_later, twice_later};
 
-    ghost answers = { λ old line mark text new. line_answers old.state line mark text new.state };
+    ghost answers = { λ old line mark text new. line_answers (state_kept old) line mark text (state_kept new) };
 
-    ghost stands = { λ _ _. Unit {0} };
+    ghost stands = { λ engine keeper. Stands K.sure K.holds keeper engine };
 
-    ghost faults = { λ _. 0 };
+    ghost follows = { λ old new. IsLater K.path_given K.sure old new };
+
+    ghost faults = { λ keeper. K.faults keeper };
+
+    ghost follows_itself = { λ keeper. same_later K.path_given K.sure keeper };
+
+    ghost follows_through = { λ first second third one other.
+        twice_later K.path_given K.sure first second third one other };
 
     fn answer(
         &mut self,
         alloc: Global,
-        _keeper: &mut NoKeeper,
+        keeper: &mut K,
         line: &[u8],
     ) -> Result<Bytes, Unanswered> {
-        match answer_to(alloc, self, line) {
-            Ok(text) => Ok(text),
-            Err(OutOfMemory) => Err(Unanswered::Memory),
-        }
+        answer_to(alloc, self, keeper, line)
     }
 
     fn too_long(&self, alloc: Global, size: u64) -> Result<Bytes, OutOfMemory> {

@@ -1,6 +1,7 @@
 ghost use Rattle.std.specs.Prelude.{◌≡◌};
-ghost use Rattle.book_app.specs.Numbers.{number_of, message_of, status_of};
+ghost use Rattle.book_app.specs.Numbers.{number_of, message_of, status_of, status_unopened};
 
+use book_engine::OpenError;
 use book_lines::RunEnd;
 
 /// How the program's work ended.
@@ -16,6 +17,12 @@ pub enum Status {
     InputFault,
     /// The output failed.
     OutputFault,
+    /// The keeper failed before the first line.
+    KeeperFault,
+    /// The keeper holds rows that are no rows of a book: this key is the first whose row can't be read or is missing.
+    BadRows { kind: u8, id: u64 },
+    /// The keeper holds the rows of a book that is not sound: this key is the first that breaks a rule.
+    UnsoundBook { kind: u8, id: u64 },
     /// A byte follows 1,000,000 lines or 2^33 bytes.
     InputLimit,
 }
@@ -31,6 +38,8 @@ impl Status {
             Status::Memory => 3,
             Status::InputFault => 4,
             Status::OutputFault => 5,
+            Status::KeeperFault => 6,
+            Status::BadRows { .. } | Status::UnsoundBook { .. } => 7,
             Status::InputLimit => 9,
         }
     }
@@ -45,6 +54,8 @@ impl Status {
             Status::Memory => "book: out of memory",
             Status::InputFault => "book: the input failed",
             Status::OutputFault => "book: the output failed",
+            Status::KeeperFault => "book: the book file failed",
+            Status::BadRows { .. } | Status::UnsoundBook { .. } => "book: the book is damaged",
             Status::InputLimit => "book: the input is too long",
         }
     }
@@ -59,5 +70,17 @@ pub(crate) fn status_after(end: RunEnd) -> Status
         RunEnd::InputLimit => Status::InputLimit,
         RunEnd::InputFault => Status::InputFault,
         RunEnd::OutputFault => Status::OutputFault,
+    }
+}
+
+/// The status where no book was opened.
+pub(crate) fn status_unopened(error: OpenError) -> Status
+    ensures { result ≡ status_unopened error }
+{
+    match error {
+        OpenError::Keeper => Status::KeeperFault,
+        OpenError::BadRows { kind, id } => Status::BadRows { kind, id },
+        OpenError::UnsoundBook { kind, id } => Status::UnsoundBook { kind, id },
+        OpenError::OutOfMemory => Status::Memory,
     }
 }

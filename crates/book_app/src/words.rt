@@ -1,5 +1,5 @@
-ghost use Rattle.std.specs.Prelude.{◌≡◌};
-ghost use Rattle.book_app.specs.Words.{is_book, is_run};
+ghost use Rattle.std.specs.Prelude.{◌≡◌, option_map};
+ghost use Rattle.book_app.specs.Words.{is_book, named_book};
 
 use book_commodity::Text;
 
@@ -13,12 +13,12 @@ fn names_book(word: &str) -> bool
     }
 }
 
-/// Whether the words are `run` and the name of a book.
-pub(crate) fn are_run(words: &[Text]) -> bool
-    ensures { result ≡ is_run words.now }
+/// The book that the words name, where they are `run` and the name of a book.
+pub(crate) fn named_book(words: &[Text]) -> Option<&str>
+    ensures { option_map (λ book. book.now) result ≡ named_book words.now }
 {
     match words {
-        [word, book] => word.as_str() == "run" && names_book(book.as_str()),
-        _ => false,
+        [word, book] if word.as_str() == "run" && names_book(book.as_str()) => Some(book.as_str()),
+        _ => None,
     }
 }
