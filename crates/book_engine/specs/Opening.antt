@@ -1,41 +1,17 @@
--- What rows open as, and what is answered of a keeper's rows.
-use Rattle.std.specs.Prelude.{ℕ, ◌≡◌, ◌≤◌, ◌⊎◌, ⊤, nat_lt, true, false, List, [], ◌∷◌, Option, Some, None, Result, Ok, Err, OnOk}
-use Rattle.std.specs.Prelude.{IfErr}
-use Rattle.book_commodity.specs.Rules.{broken_where, first_broken}
+-- What is answered of a keeper's rows.
+use Rattle.std.specs.Prelude.{ℕ, ◌≡◌, ◌≤◌, ⊤, true, false, List, Some, None, Result, Ok, Err, OnOk, IfErr}
 use Rattle.book_keeper.specs.Faults.{Rose}
 use Rattle.book_keeper.specs.declared.row.Row.{Row}
 use Rattle.book_keeper.specs.declared.row.RowKey.{RowKey}
 use Rattle.book_step.specs.State.{fresh_state}
-use Rattle.book_opening.specs.Opening.{IsLeastBad, OpenAs, head_key}
 use Rattle.book_opening.specs.State.{State as SavedState}
 use Rattle.book_opening.specs.declared.fault.OpenFault.{OpenFault}
 use Rattle.book_opening.specs.declared.fault.OpenFault.TheVariants as fault
-use Rattle.book_check.specs.FirstUnsound.{unsound_keys}
 use Rattle.book_engine.specs.Kept.{Kept, placed, state_kept}
+use Rattle.book_engine.specs.Opens.{Bad, OpensTo, Unsound, unsound_at}
 use Rattle.book_engine.specs.Standing.{StandForKept}
 use Rattle.book_engine.specs.declared.fault.OpenError.{OpenError}
 use Rattle.book_engine.specs.declared.fault.OpenError.TheVariants as error
-
--- Rows are bad at a key, or unsound at a key, or those of a state.
-pub data Opening : Type 0 where
-  Bad : RowKey → Opening
-  Unsound : RowKey → Opening
-  Opens : SavedState → Opening
-
--- The first key at which a state breaks the rule of its kind. That of the head has a position of at most the version.
-abbrev pub unsound_at : SavedState → Option RowKey
-unsound_at state =
-    first_broken
-    (broken_where (nat_lt state.version state.position) head_key ∷ unsound_keys state.book state.next)
-
--- What rows open as. Without rows it is the fresh state. They are bad at the least key whose body is no spelling, or
--- that is needed and missing; else they are unsound at the first key that breaks its rule; else they are those of a
--- state.
-abbrev pub OpensTo : List Row → Opening → Type 0
-OpensTo rows (Bad key) = IsLeastBad rows key
-OpensTo rows (Unsound key) = (state : SavedState) × OpenAs rows state × (unsound_at state ≡ Some key)
-OpensTo rows (Opens state) =
-    ((rows ≡ []) × (state ≡ placed fresh_state 0)) ⊎ (OpenAs rows state × (unsound_at state ≡ None))
 
 -- The key of a kind and a number.
 abbrev pub row_key : ℕ → ℕ → RowKey
@@ -44,7 +20,7 @@ row_key kind id = record { kind = kind; id = id }
 -- What is answered of rows: what they open as. An engine is answered that keeps the state, and for which the rows
 -- stand. That the keeper failed, or the program is out of memory, says nothing of them.
 abbrev pub Opened : List Row → Result Kept OpenError → Type 0
-Opened rows (Ok kept) = OpensTo rows (Opens (state_kept kept)) × StandForKept kept rows
+Opened rows (Ok kept) = StandForKept kept rows
 Opened rows (Err (error.BadRows kind id)) = OpensTo rows (Bad (row_key kind id))
 Opened rows (Err (error.UnsoundBook kind id)) = OpensTo rows (Unsound (row_key kind id))
 Opened rows (Err error.Keeper) = ⊤

@@ -8,6 +8,7 @@ ghost use Rattle.book_step.specs.Step.{step as step_from};
 ghost use Rattle.book_opening.specs.Opening.{OpenAs, WasRead};
 ghost use Rattle.book_opening.specs.State.{State as SavedState};
 ghost use Rattle.book_engine.specs.Acting.{HasActCause, IsUnchanged};
+ghost use Rattle.book_engine.specs.Kept.{IsWhole};
 ghost use Rattle.book_engine.specs.Opening.{HasOpenCause, IsOpenedAs, Opened};
 ghost use Rattle.book_engine.specs.Planned.{after, commits, IsPlanFor, IsPlanOf, IsRefusal};
 ghost use Rattle.book_engine.specs.Standing.{Stands};
@@ -128,9 +129,9 @@ impl Engine {
         }
     }
 
-    /// The state is sound.
+    /// What holds of every engine holds of this one.
     fn sound(&self)
-        ensures { IsSound self.now.state }
+        ensures { IsWhole self.now.state self.now.position self.now.saved }
     {
         let _ = &self.saved;
     }
@@ -143,7 +144,7 @@ impl Engine {
         ensures position { self.new.position ≡ plan.position }
         ensures saved { self.new.saved ≡ (self.old.saved || commits plan) }
         ensures answer { result ≡ plan.answer }
-        ensures sound { IsSound self.new.state }
+        ensures whole { IsWhole self.new.state self.new.position self.new.saved }
     {
         let saved = self.saved || plan.commits();
         let Plan {

@@ -2,7 +2,6 @@ use Rattle.std.proofs.Common.{◌≡◌, Bool, not, ◌||◌, sym, subst, arith}
 use Rattle.std.proofs.lemmas.Grind.{common_steps}
 use Rattle.book_undo.specs.Book.{Book, book_of}
 use Rattle.book_undo.specs.Edit.{edited, is_nothing}
-use Rattle.book_step.specs.Soundness.{IsSound}
 use Rattle.book_step.specs.State.{State}
 use Rattle.book_engine.specs.Kept.{IsWhole, kept_by}
 use Rattle.book_engine.specs.Planned.{planned_by}
@@ -23,12 +22,5 @@ invariant_of-self c =
     subst (λ (b : Bool). IsWhole (After (book_of c.apply.new.self)) c.plan-2.inside.position b) (sym saved)
     (subst (λ (book : Book). IsWhole (After book) c.plan-2.inside.position made) (sym c.apply.ensures) whole)
 
-pub returns-clause-sound : goal.returns-clause-sound
-returns-clause-sound c =
-    let step = c.plan-2.inside.step in
-    let After : Book → State = λ book. record { book = book; next = step.next; version = c.plan-2.inside.version } in
-    let made : Bool = c.self.inside.saved || not (is_nothing step.edit) in
-    let whole : IsWhole (After (edited step.edit (book_of c.self.inside.state.plain))) c.plan-2.inside.position made =
-    inside_whole (kept_by c.self.inside) _ (planned_by c.plan-2.inside) _ c.self.view_is c.plan-2.view_is
-    c.self.invariant c.requires.made in
-    subst (λ (book : Book). IsSound (After book)) (sym c.apply.ensures) whole.sound
+pub returns-clause-whole : goal.returns-clause-whole
+returns-clause-whole c = invariant_of-self c
