@@ -68,19 +68,6 @@ stands_unchanged sure holds keeper before now same stands =
       stand_kept before now stood.0 same stood.2,
     )
 
--- They do where the keeper's rows stay with it.
-pub stands_held :
-    {K : Type 0} (sure : K → Bool) (holds : K → List Row → Type 0) (old new : K) (before now : Kept)
-    → (IsTrue (sure new) → IsTrue (sure old))
-    → (IsTrue (sure new) → (rows : List Row) → holds old rows → holds new rows)
-    → IsUnchanged before now → Stands sure holds old before → Stands sure holds new now
-stands_held sure holds old new before now was held same stands =
-    λ still. let stood = stands (was still) in (
-      stood.0,
-      held still stood.0 stood.1,
-      stand_kept before now stood.0 same stood.2,
-    )
-
 stays :
     (nothing : Bool) (old new : State) → not nothing ≡ false → new.version ≡ version_after nothing old.version
     → Moves old new → new ≡ old

@@ -2,7 +2,7 @@
 use Rattle.std.proofs.Common.{◌≡◌, ℕ, zero, suc, ◌+◌, ◌^◌, ◌<◌, ◌≤◌, nat_lt, ◌==◌, Bool, true, false, if◌then◌else◌}
 use Rattle.std.proofs.Common.{List, [], ◌∷◌, length, get_or, set, Some, None, Result, Ok, Err, IfOk, Option, IfSome}
 use Rattle.std.proofs.Common.{IfErr, slice_get, refl, sym, ap, ◌∙◌, subst, add-one, arith}
-use Rattle.std.specs.List.{insert, remove}
+use Rattle.std.specs.List.{insert, remove, list_all}
 use Rattle.std.specs.List.Sorted.{IsSearchInRange, IsBinarySearchResult, IsNonDecreasingBy}
 use Rattle.std.specs.Ordering.{nat_cmp, ordering_index}
 use Rattle.std.proofs.lemmas.Cmp.{ranked}

@@ -3,6 +3,7 @@ pub mod Faults
 pub mod KeeperInMemory
 pub mod Keeping
 pub mod OverStd
+pub mod RisingRows
 pub mod Rows
 pub mod SinkInMemory
 pub mod SourceInMemory

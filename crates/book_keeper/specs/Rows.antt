@@ -1,6 +1,7 @@
 -- Rows: bodies under keys, in rising order of the keys, and what changes make of them.
-use Rattle.std.specs.Prelude.{ℕ, zero, suc, ◌≡◌, ◌+◌, ◌*◌, ◌^◌, ◌<◌, ◌==◌, nat_lt, if◌then◌else◌, List, [], ◌∷◌}
-use Rattle.std.specs.Prelude.{Option, Some, None, ⊤}
+use Rattle.std.specs.Prelude.{ℕ, zero, suc, ◌≡◌, ◌+◌, ◌*◌, ◌^◌, ◌<◌, ◌==◌, nat_lt, Bool, true, ◌&&◌}
+use Rattle.std.specs.Prelude.{if◌then◌else◌, List, [], ◌∷◌, Option, Some, None, ⊤}
+use Rattle.std.specs.List.{list_all}
 use Rattle.book_keeper.specs.declared.row.RowKey.{RowKey}
 use Rattle.book_keeper.specs.declared.row.Row.{Row}
 use Rattle.book_keeper.specs.declared.row.Change.{Change}
@@ -20,6 +21,11 @@ AllAbove n (row ∷ rows) = (n < rank row.key) × AllAbove n rows
 abbrev pub Rises : List Row → Type 0
 Rises [] = ⊤
 Rises (row ∷ rows) = AllAbove (rank row.key) rows × Rises rows
+
+-- Whether the keys rise from row to row.
+abbrev pub do_rise : List Row → Bool
+do_rise [] = true
+do_rise (row ∷ rows) = list_all (λ other. nat_lt (rank row.key) (rank other.key)) rows && do_rise rows
 
 -- The key that a change names.
 abbrev pub changed_key : Change → RowKey

@@ -53,6 +53,9 @@ pub trait Keeper {
         ensures above { IfOk result (λ found. IfSome found (λ row. IfSome after (λ key. rank key < rank row.key))) }
         ensures cause { HasKeepCause (faults self.old) (faults self.new) result };
 
+    /// A keeper that still knows what it holds does hold rows.
+    ghost told: { (keeper : Self) → IsTrue (sure keeper) → (rows : List Row) × holds keeper rows };
+
     /// The rows that a keeper holds are in rising order of their keys.
     ghost rising: { (keeper : Self) (rows : List Row) → holds keeper rows → Rises rows };
 }

@@ -2,7 +2,7 @@ ghost use Rattle.std.specs.Prelude.{◌≡◌, ◌↔◌, ◌<◌, [], true, Lis
 ghost use Rattle.book_keeper.specs.Calls.{FailsNext};
 ghost use Rattle.book_keeper.specs.Keeping.{HasKeepCause};
 ghost use Rattle.book_keeper.specs.KeeperInMemory.{after_commit, after_refusal};
-ghost use Rattle.book_keeper.specs.Rows.{Rises, rank, after_changes, first_after};
+ghost use Rattle.book_keeper.specs.Rows.{Rises, do_rise, rank, after_changes, first_after};
 
 use crate::calls::Calls;
 use crate::mem_rows::MemRows;
@@ -22,6 +22,7 @@ pub struct MemKeeper {
 
 impl Model for MemKeeper {
     ghost use Rattle.book_keeper.specs.KeeperInMemory.{KeeperInMemory};
+    ghost use Rattle.book_keeper.specs.Rows.{Rises};
 
     ghost Value = { KeeperInMemory };
 
@@ -32,6 +33,8 @@ impl Model for MemKeeper {
       commits = k.calls.made;
       faults = k.faults;
     } };
+
+    ghost invariant = { λ k. Rises k.rows.rows };
 }
 
 impl MemKeeper {
@@ -60,6 +63,7 @@ impl MemKeeper {
     }
 
     /// Makes all the changes or, out of memory, none.
+    #[tactic(auto, using(crate::proofs::RowLemmas::rises_after_all))]
     fn make_all(&mut self, changes: &[Change]) -> Result<(), OutOfMemory>
         ensures made { OnOk result (self.new ≡ record self.old { rows = after_changes changes.now self.old.rows }) }
         ensures unchanged { OnErr result (self.new ≡ self.old) }
@@ -92,13 +96,19 @@ fn text_of(alloc: Global, path: &str) -> Result<Text, OutOfMemory>
 }
 
 impl Keeper for MemKeeper {
+    ghost use Rattle.std.specs.Prelude.{refl};
+    ghost use Rattle.book_keeper.specs.Rows.{do_rise};
+    ghost use Rattle.book_keeper.specs.RisingRows.{rises_where};
+
     ghost path_given = { λ keeper. keeper.path };
 
-    ghost sure = { λ keeper. true };
+    ghost sure = { λ keeper. do_rise keeper.rows };
 
     ghost holds = { λ keeper rows. (keeper.rows ≡ rows) × Rises rows };
 
     ghost faults = { λ keeper. keeper.faults };
+
+    ghost told = { λ keeper sure. (keeper.rows, (refl, rises_where keeper.rows sure)) };
 
     ghost rising = { λ keeper rows held. held.1 };
 
@@ -109,8 +119,8 @@ impl Keeper for MemKeeper {
         ensures fails { IfErr result (λ error. error ≡ KeepError.OutOfMemory) }
         ensures path { OnOk result (self.new.path ≡ path.now) }
         ensures path_kept { OnErr result (self.new.path ≡ self.old.path) }
-        ensures sure { IsTrue true → IsTrue true }
-        ensures rows { IsTrue true → (rows : List Row) → (self.old.rows ≡ rows) × Rises rows
+        ensures sure { IsTrue (do_rise self.new.rows) → IsTrue (do_rise self.old.rows) }
+        ensures rows { IsTrue (do_rise self.new.rows) → (rows : List Row) → (self.old.rows ≡ rows) × Rises rows
             → (self.new.rows ≡ rows) × Rises rows }
         ensures cause { HasKeepCause self.old.faults self.new.faults result }
     {
@@ -130,11 +140,11 @@ impl Keeper for MemKeeper {
         ensures done { OnOk result (self.new ≡ after_commit changes.now self.old) }
         ensures failed { IfErr result (λ error. self.new ≡ after_refusal error self.old) }
         ensures path { self.new.path ≡ self.old.path }
-        ensures sure { IsTrue true → IsTrue true }
-        ensures made { OnOk result (IsTrue true → (rows : List Row) → (self.old.rows ≡ rows) × Rises rows
-            → (self.new.rows ≡ after_changes changes.now rows) × Rises (after_changes changes.now rows)) }
-        ensures unchanged { OnErr result (IsTrue true → (rows : List Row) → (self.old.rows ≡ rows) × Rises rows
-            → (self.new.rows ≡ rows) × Rises rows) }
+        ensures sure { IsTrue (do_rise self.new.rows) → IsTrue (do_rise self.old.rows) }
+        ensures made { OnOk result (IsTrue (do_rise self.new.rows) → (rows : List Row)
+            → (self.old.rows ≡ rows) × Rises rows → (self.new.rows ≡ after_changes changes.now rows) × Rises (after_changes changes.now rows)) }
+        ensures unchanged { OnErr result (IsTrue (do_rise self.new.rows) → (rows : List Row)
+            → (self.old.rows ≡ rows) × Rises rows → (self.new.rows ≡ rows) × Rises rows) }
         ensures cause { HasKeepCause self.old.faults self.new.faults result }
     {
         if self.calls.begin() {
@@ -154,11 +164,11 @@ impl Keeper for MemKeeper {
         ensures fails { IfErr result (λ error. error ≡ KeepError.OutOfMemory) }
         ensures kept { self.new ≡ self.old }
         ensures path { self.new.path ≡ self.old.path }
-        ensures sure { IsTrue true → IsTrue true }
-        ensures rows { IsTrue true → (rows : List Row) → (self.old.rows ≡ rows) × Rises rows
+        ensures sure { IsTrue (do_rise self.new.rows) → IsTrue (do_rise self.old.rows) }
+        ensures rows { IsTrue (do_rise self.new.rows) → (rows : List Row) → (self.old.rows ≡ rows) × Rises rows
             → (self.new.rows ≡ rows) × Rises rows }
-        ensures found { IfOk result (λ found. IsTrue true → (rows : List Row) → (self.old.rows ≡ rows) × Rises rows
-            → found ≡ first_after after rows) }
+        ensures found { IfOk result (λ found. IsTrue (do_rise self.new.rows) → (rows : List Row)
+            → (self.old.rows ≡ rows) × Rises rows → found ≡ first_after after rows) }
         ensures above { IfOk result (λ found. IfSome found (λ row. IfSome after (λ key. rank key < rank row.key))) }
         ensures cause { HasKeepCause self.old.faults self.new.faults result }
     {

@@ -23,6 +23,7 @@ fn ask<W, K, M: Machine<W, K>>(
         → GaveAnswer M.answers machine.old this (answer_of result) machine.new
         (M.faults keeper.old) (M.faults keeper.new) }
     ensures stands { M.stands machine.new keeper.new }
+    ensures follows { M.follows keeper.old keeper.new }
 {
     if line.size() <= MAX_LINE as u64 {
         return machine.answer(alloc, keeper, line.bytes());
@@ -89,6 +90,7 @@ pub fn answer_line<W, K, M: Machine<W, K>, O: Sink>(
         → HasBroken M.answers before (this ∷ []) after) }
     ensures cause { HasCause (O.faults output.old) (O.faults output.new) result }
     ensures stands { M.stands machine.new keeper.new }
+    ensures follows { M.follows keeper.old keeper.new }
 {
     if line.is_blank() {
         return Ok(());

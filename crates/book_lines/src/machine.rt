@@ -39,6 +39,9 @@ pub trait Machine<W, K> {
     /// What is kept stands for the state.
     ghost stands: { Self → K → Type 0 };
 
+    /// What is kept may be this after it was that, whatever lines were answered between.
+    ghost follows: { K → K → Type 0 };
+
     /// The count of faults of what is kept.
     ghost faults: { K → ℕ };
 
@@ -53,7 +56,8 @@ pub trait Machine<W, K> {
             → answers self.old line.now Keeper keeper_answer self.new
             × Rose (faults keeper.old) (faults keeper.new) }
         ensures later { faults keeper.old ≤ faults keeper.new }
-        ensures stands { stands self.new keeper.new };
+        ensures stands { stands self.new keeper.new }
+        ensures follows { follows keeper.old keeper.new };
 
     /// Answers a line of more than 8 MiB, of which only the length is known. The state stays.
     fn too_long(&self, alloc: Global, size: u64) -> Result<Bytes, OutOfMemory>
@@ -62,4 +66,11 @@ pub trait Machine<W, K> {
             → answers self.now line Answered text self.now)) }
         ensures memory { OnErr result ((line : List ℕ) → length line ≡ size → 2 ^ 23 < length line
             → answers self.now line Memory memory_answer self.now) };
+
+    /// Where no line was answered, what is kept is as it was.
+    ghost follows_itself: { (keeper : K) → follows keeper keeper };
+
+    /// What follows on what followed on the first follows on the first.
+    ghost follows_through: { (first second third : K) → follows first second → follows second third
+        → follows first third };
 }

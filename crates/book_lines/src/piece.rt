@@ -36,6 +36,7 @@ fn end_line<W, K, M: Machine<W, K>, O: Sink>(
         → HasBroken M.answers before (begun ∷ []) after) }
     ensures cause { HasCause (O.faults output.old) (O.faults output.new) result }
     ensures stands { M.stands machine.new keeper.new }
+    ensures follows { M.follows keeper.old keeper.new }
     ensures empty { line.new.size ≡ 0 }
 {
     *count += 1;
@@ -70,6 +71,7 @@ pub fn take_piece<W, K, M: Machine<W, K>, O: Sink>(
     ensures output_fault { result ≡ Err RunEnd.OutputFault → Rose (O.faults output.old) (O.faults output.new) }
     ensures no_output_fault { result ≢ Err RunEnd.OutputFault → O.faults output.new ≡ O.faults output.old }
     ensures stands { M.stands machine.new keeper.new }
+    ensures follows { M.follows keeper.old keeper.new }
 {
     let mut rest = piece;
     'lines: while !rest.is_empty() {

@@ -62,6 +62,7 @@ fn end_input<W, K, M: Machine<W, K>, O: Sink>(
     ensures output_fault { result ≡ RunEnd.OutputFault → Rose (O.faults output.old) (O.faults output.new) }
     ensures no_output_fault { result ≢ RunEnd.OutputFault → O.faults output.new ≡ O.faults output.old }
     ensures stands { M.stands machine.new keeper.new }
+    ensures follows { M.follows keeper.old keeper.new }
 {
     if line.size() == 0 {
         return RunEnd::Done;
@@ -92,6 +93,7 @@ fn run_pieces<W, K, M: Machine<W, K>, S: Source, O: Sink>(
     ensures output_fault { result ≡ RunEnd.OutputFault → Rose (O.faults output.old) (O.faults output.new) }
     ensures no_output_fault { result ≢ RunEnd.OutputFault → O.faults output.new ≡ O.faults output.old }
     ensures stands { M.stands machine.new keeper.new }
+    ensures follows { M.follows keeper.old keeper.new }
 {
     let mut taken: u64 = 0;
     let mut count: u64 = 0;
@@ -142,6 +144,7 @@ pub fn run<W, K, M: Machine<W, K>, S: Source, O: Sink>(
     ensures output_fault { result ≡ RunEnd.OutputFault → Rose (O.faults output.old) (O.faults output.new) }
     ensures no_output_fault { result ≢ RunEnd.OutputFault → O.faults output.new ≡ O.faults output.old }
     ensures stands { M.stands machine.new keeper.new }
+    ensures follows { M.follows keeper.old keeper.new }
 {
     room.line.clear();
     run_pieces(

@@ -42,7 +42,13 @@ impl Machine<Turns, Forgetful> for Alternating {
 
     ghost stands = { λ machine kept. Unit {0} };
 
+    ghost follows = { λ old new. Unit {0} };
+
     ghost faults = { λ kept. kept.faults };
+
+    ghost follows_itself = { λ keeper. tt };
+
+    ghost follows_through = { λ first second third before after. tt };
 
     fn answer(
         &mut self,

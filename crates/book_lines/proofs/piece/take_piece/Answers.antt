@@ -21,6 +21,7 @@ lines-init g c =
       fits = c.requires.fits;
       quiet = refl;
       stands = c.requires.stands;
+      follows = g.met.M.Machine.follows_itself c.args.keeper.now;
     }
 
 -- no line feed is left in the piece
@@ -91,4 +92,5 @@ lines-preserved g c =
       fits = fits;
       quiet = c.in-Ok.ensures.cause.done ∙ c.lines.invariant.quiet;
       stands = c.end_line.ensures.stands;
+      follows = g.met.M.Machine.follows_through _ _ _ c.lines.invariant.follows c.end_line.ensures.follows;
     }

@@ -16,6 +16,7 @@ invariant-lines g l = record {
   fits : l.line.size + length l.rest < 2 ^ 64;
   quiet : g.O.Sink.faults l.output ≡ g.O.Sink.faults l.fn.output;
   stands : g.M.Machine.stands l.machine l.keeper;
+  follows : g.M.Machine.follows l.fn.keeper l.keeper;
 }
 
 abbrev pub decreases-lines : goal.decreases-lines

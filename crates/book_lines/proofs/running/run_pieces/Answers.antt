@@ -28,6 +28,7 @@ pieces-init g c =
       input = refl;
       output = refl;
       stands = c.requires.stands;
+      follows = g.met.M.Machine.follows_itself c.args.keeper.now;
     }
 
 pub returns-in-Err-clause-run : goal.returns-in-Err-clause-run
@@ -149,4 +150,5 @@ pieces-preserved g c =
       input = c.in-Ok.ensures.cause.done ∙ c.pieces.invariant.input;
       output = c.take_piece.ensures.no_output_fault (c.in_default.not-Err OutputFault) ∙ c.pieces.invariant.output;
       stands = c.take_piece.ensures.stands;
+      follows = g.met.M.Machine.follows_through _ _ _ c.pieces.invariant.follows c.take_piece.ensures.follows;
     }

@@ -16,6 +16,7 @@ invariant-pieces g l = record {
   input : g.S.Source.faults l.input ≡ g.S.Source.faults l.fn.input;
   output : g.O.Sink.faults l.output ≡ g.O.Sink.faults l.fn.output;
   stands : g.M.Machine.stands l.machine l.keeper;
+  follows : g.M.Machine.follows l.fn.keeper l.keeper;
 }
 
 abbrev pub decreases-pieces : goal.decreases-pieces
