@@ -1,3 +1,4 @@
+pub mod HeadLemmas
 pub mod Unsound
 pub mod WalkLemmas
 pub mod Worked

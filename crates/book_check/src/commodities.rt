@@ -1,5 +1,7 @@
 ghost use Rattle.std.specs.Prelude.{◌≡◌, ◌<◌, Some, length, option_map, slice_get};
 ghost use Rattle.book_commodity.specs.Rules.{stands_before};
+ghost use Rattle.book_commodity.specs.Currency.{is_currency_of};
+ghost use Rattle.book_commodity.specs.Table.{value_of};
 ghost use Rattle.book_commodity.specs.CommodityRules.{commodity_rules, has_fraction, has_same_pair};
 ghost use Rattle.book_check.specs.FirstUnsound.{all_hold, first_of_table, is_before, keeps};
 
@@ -21,6 +23,16 @@ pub fn first_commodity(commodities: &Commodities) -> Option<u64>
         }
     }
     None
+}
+
+/// Whether the commodity is there, and is a currency.
+pub(crate) fn is_currency(commodities: &Commodities, number: u64) -> bool
+    ensures { result ≡ is_currency_of (value_of number commodities.now.entries) }
+{
+    match commodities.find(number) {
+        Some(commodity) => commodity.is_currency(),
+        None => false,
+    }
 }
 
 /// Whether the commodity at the place keeps its rules.

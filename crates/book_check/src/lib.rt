@@ -6,7 +6,10 @@
 mod bindings;
 mod book;
 mod commodities;
+mod head;
+mod passes;
 mod prices;
+mod schedules;
 mod statements;
 #[cfg(test)]
 mod tests;
@@ -14,5 +17,7 @@ mod tests;
 pub use bindings::first_binding;
 pub use book::first_unsound;
 pub use commodities::first_commodity;
+pub use head::keeps_head;
 pub use prices::first_price;
+pub use schedules::first_schedule;
 pub use statements::first_statement;
