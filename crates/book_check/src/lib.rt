@@ -6,6 +6,7 @@
 mod bindings;
 mod commodities;
 mod prices;
+mod seen;
 mod statements;
 #[cfg(test)]
 mod tests;
