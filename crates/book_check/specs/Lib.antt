@@ -1,1 +1,2 @@
 pub mod FirstUnsound
+pub mod Seen

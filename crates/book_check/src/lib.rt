@@ -9,7 +9,9 @@ mod commodities;
 mod head;
 mod passes;
 mod prices;
+mod reconciliations;
 mod schedules;
+mod seen;
 mod statements;
 #[cfg(test)]
 mod tests;
@@ -19,5 +21,6 @@ pub use book::first_unsound;
 pub use commodities::first_commodity;
 pub use head::keeps_head;
 pub use prices::first_price;
+pub use reconciliations::first_reconciliation;
 pub use schedules::first_schedule;
 pub use statements::first_statement;
