@@ -1,4 +1,5 @@
 pub mod HeadLemmas
+pub mod OnceLemmas
 pub mod Unsound
 pub mod WalkLemmas
 pub mod Worked

@@ -5,7 +5,7 @@ use Rattle.std.proofs.Common.{◌∷◌, drop, length, Option, Some, None, optio
 use Rattle.std.specs.List.{list_any}
 use Rattle.std.proofs.lemmas.Bool.Decides.{nat_tests}
 use Rattle.book_commodity.proofs.ListLemmas.{drop_at, drop_by, mapped_some}
-use Rattle.book_check.specs.FirstUnsound.{first_in, keeps}
+use Rattle.book_check.specs.FirstUnsound.{all_hold, first_in, keeps}
 
 -- an item at a place fails a test, or passes it
 pub any_skips :
@@ -39,6 +39,21 @@ test_fails place most b fails = grind (arith, nat_tests)
 
 test_keeps : (place most : ℕ) (b : Bool) → place < most → b ≡ true → (nat_lt place most && b) ≡ true
 test_keeps place most b low e = grind (arith, nat_tests)
+
+-- whether the entry at a place keeps its rules, by its number and its thing
+pub kept_at :
+    {T : Type 0} (rules : ℕ → T → List Bool) (es : List (ℕ × T)) (place n : ℕ) (x : T) (kept : Bool)
+    → option_map (λ (e : ℕ × T). e.0) (slice_get es place) ≡ Some n
+    → option_map (λ (e : ℕ × T). e.1) (slice_get es place) ≡ Some x → kept ≡ all_hold (rules n x)
+    → option_map (keeps rules) (slice_get es place) ≡ Some kept
+kept_at {T} rules es place n x kept number thing is =
+    let a = mapped_some (λ (e : ℕ × T). e.0) (slice_get es place) n number in
+    let b = mapped_some (λ (e : ℕ × T). e.1) (slice_get es place) x thing in
+    let same : b.0 ≡ a.0 = (let p = a.1 in let q = b.1 in cc) in
+    ap (option_map (keeps rules)) a.1
+    ∙ ap (λ (b : Bool). Some b)
+    (ap (λ (m : ℕ). all_hold (rules m a.0.1)) a.2
+    ∙ ap (λ (y : T). all_hold (rules n y)) (ap (λ (e : ℕ × T). e.1) (sym same) ∙ b.2) ∙ sym is)
 
 -- the entry at a place is past the limit, or breaks a rule: so it is the first
 pub first_past :
