@@ -1,3 +1,5 @@
+pub mod MarkLemmas
+pub mod SeenLemmas
 pub mod Unsound
 pub mod WalkLemmas
 pub mod Worked

@@ -1,2 +1,3 @@
 pub mod FirstUnsound
+pub mod Marks
 pub mod Seen

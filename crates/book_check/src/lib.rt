@@ -5,6 +5,7 @@
 
 mod bindings;
 mod commodities;
+mod marks;
 mod prices;
 mod seen;
 mod statements;
