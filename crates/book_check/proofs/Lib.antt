@@ -1,4 +1,5 @@
 pub mod MarkLemmas
+pub mod NumberLemmas
 pub mod SeenLemmas
 pub mod Unsound
 pub mod WalkLemmas

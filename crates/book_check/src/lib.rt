@@ -11,8 +11,10 @@ mod seen;
 mod statements;
 #[cfg(test)]
 mod tests;
+mod transactions;
 
 pub use bindings::first_binding;
 pub use commodities::first_commodity;
 pub use prices::first_price;
 pub use statements::first_statement;
+pub use transactions::first_transaction;

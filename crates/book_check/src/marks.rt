@@ -14,7 +14,10 @@ use std::alloc::Global;
 pub(crate) type MarkKey = (u64, u64, i64);
 
 /// The marks that the reconciliations have made.
-pub(crate) fn marks_of(alloc: Global, reconciliations: &Table<Recon>) -> Result<Seen<MarkKey>, OutOfMemory>
+pub(crate) fn marks_of(
+    alloc: Global,
+    reconciliations: &Table<Recon>,
+) -> Result<Seen<MarkKey>, OutOfMemory>
     ensures { IfOk result (λ marks. HasMarks marks reconciliations.now.entries) }
 {
     let mut marks = Seen::new(alloc);
@@ -26,7 +29,11 @@ pub(crate) fn marks_of(alloc: Global, reconciliations: &Table<Recon>) -> Result<
 }
 
 /// Adds the marks of one reconciliation.
-fn add_marks(marks: &mut Seen<MarkKey>, number: u64, marked: &[MarkedSplit]) -> Result<(), OutOfMemory>
+fn add_marks(
+    marks: &mut Seen<MarkKey>,
+    number: u64,
+    marked: &[MarkedSplit],
+) -> Result<(), OutOfMemory>
     ensures { OnOk result ((key : MarkKey) →
         is_seen mark_cmp marks.new key ≡ (is_made_by number marked.now key || is_seen mark_cmp marks.old key)) }
 {
@@ -51,7 +58,11 @@ fn split_key(number: u64, split: &Split) -> MarkKey
 }
 
 /// Whether each split is reconciled exactly where it names a reconciliation that has marked it.
-pub(crate) fn are_marked(reconciliations: &Table<Recon>, marks: &Seen<MarkKey>, splits: &[Split]) -> bool
+pub(crate) fn are_marked(
+    reconciliations: &Table<Recon>,
+    marks: &Seen<MarkKey>,
+    splits: &[Split],
+) -> bool
     requires { HasMarks marks.now reconciliations.now.entries }
     ensures { result ≡ list_all (is_rightly_marked reconciliations.now.entries) splits.now }
 {
@@ -86,7 +97,12 @@ fn is_named_rightly(reconciliations: &Table<Recon>, marks: &Seen<MarkKey>, split
 }
 
 /// Whether the reconciliation with the number is there, is one of the split's account, and has marked it.
-fn has_marked(reconciliations: &Table<Recon>, marks: &Seen<MarkKey>, number: u64, split: &Split) -> bool
+fn has_marked(
+    reconciliations: &Table<Recon>,
+    marks: &Seen<MarkKey>,
+    number: u64,
+    split: &Split,
+) -> bool
     requires { HasMarks marks.now reconciliations.now.entries }
     ensures { result ≡ has_marked split.now (value_of number reconciliations.now.entries) }
 {

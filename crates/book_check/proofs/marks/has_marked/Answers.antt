@@ -1,9 +1,9 @@
 -- The mark is one of the reconciliation that is there.
-use Rattle.std.proofs.Common.{◌≡◌, ◌==◌, Bool, true, refl, sym, ap, ◌∙◌, arith}
+use Rattle.std.proofs.Common.{◌≡◌, ◌==◌, true, sym, ap, ◌∙◌, arith}
 use Rattle.std.specs.Prelude.{◌&&◌}
 use Rattle.std.proofs.lemmas.Bool.Decides.{nat_tests}
 use Rattle.book_sound.specs.MarkedTransactionRules.{has_marked}
-use Rattle.book_check.specs.Marks.{MarkKey, is_listed, is_made, mark_cmp}
+use Rattle.book_check.specs.Marks.{is_listed, mark_cmp}
 use Rattle.book_check.specs.Seen.{is_seen}
 use Rattle.book_check.proofs.MarkLemmas.{made_of}
 use Rattle.book_check.proofs.marks.has_marked.Goals as goal

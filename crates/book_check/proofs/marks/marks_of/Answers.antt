@@ -1,5 +1,5 @@
 -- The marks of one reconciliation more.
-use Rattle.std.proofs.Common.{◌≡◌, ◌||◌, ℕ, List, subst}
+use Rattle.std.proofs.Common.{◌≡◌, ◌||◌, List, subst}
 use Rattle.book_splits.specs.declared.reconciliation.MarkedSplit.{MarkedSplit}
 use Rattle.book_check.specs.Marks.{MarkKey, is_made_by, mark_cmp}
 use Rattle.book_check.specs.Seen.{is_seen}
