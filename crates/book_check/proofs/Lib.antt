@@ -1,5 +1,8 @@
 pub mod HeadLemmas
-pub mod OnceLemmas
+pub mod MarkLemmas
+pub mod NumberLemmas
+pub mod ReconciliationLemmas
+pub mod SeenLemmas
 pub mod Unsound
 pub mod WalkLemmas
 pub mod Worked

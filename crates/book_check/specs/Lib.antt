@@ -1,2 +1,4 @@
 pub mod FirstUnsound
+pub mod Marks
+pub mod Numbers
 pub mod Seen

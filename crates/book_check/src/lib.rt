@@ -7,6 +7,7 @@ mod bindings;
 mod book;
 mod commodities;
 mod head;
+mod marks;
 mod passes;
 mod prices;
 mod reconciliations;
@@ -15,6 +16,7 @@ mod seen;
 mod statements;
 #[cfg(test)]
 mod tests;
+mod transactions;
 
 pub use bindings::first_binding;
 pub use book::first_unsound;
@@ -24,3 +26,4 @@ pub use prices::first_price;
 pub use reconciliations::first_reconciliation;
 pub use schedules::first_schedule;
 pub use statements::first_statement;
+pub use transactions::first_transaction;

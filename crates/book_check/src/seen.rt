@@ -38,4 +38,11 @@ impl<K: Ord + Drop> Seen<K> {
         let is_new = self.keys.insert(key)?;
         Ok(!is_new)
     }
+
+    /// Whether an equal key is there.
+    pub(crate) fn has(&self, key: &K) -> bool
+        ensures { result ≡ is_seen K.cmp self.now key.now }
+    {
+        self.keys.contains(key)
+    }
 }

@@ -3,7 +3,7 @@ use Rattle.std.proofs.Common.{◌≡◌, ◌+◌, take, get_or, pos, ap, ◌∙�
 use Rattle.std.proofs.lemmas.Int.{ints}
 use Rattle.book_sound.specs.ReconciliationRules.{marked_sum as sum_of}
 use Rattle.book_splits.specs.declared.reconciliation.MarkedSplit.{MarkedSplit}
-use Rattle.book_check.proofs.OnceLemmas.{sum_more}
+use Rattle.book_check.proofs.ReconciliationLemmas.{sum_more}
 use Rattle.book_check.proofs.reconciliations.marked_sum.Goals as goal
 
 abbrev none : MarkedSplit
