@@ -3,6 +3,7 @@ pub mod MarkLemmas
 pub mod NumberLemmas
 pub mod ReconciliationLemmas
 pub mod SeenLemmas
+pub mod SplitMapLemmas
 pub mod Unsound
 pub mod WalkLemmas
 pub mod Worked

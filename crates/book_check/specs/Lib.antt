@@ -2,3 +2,4 @@ pub mod FirstUnsound
 pub mod Marks
 pub mod Numbers
 pub mod Seen
+pub mod Splits

@@ -13,6 +13,7 @@ mod prices;
 mod reconciliations;
 mod schedules;
 mod seen;
+mod splits;
 mod statements;
 #[cfg(test)]
 mod tests;
