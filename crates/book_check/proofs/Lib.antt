@@ -1,4 +1,5 @@
 pub mod HeadLemmas
+pub mod LineLemmas
 pub mod MarkLemmas
 pub mod NumberLemmas
 pub mod ReconciliationLemmas

@@ -19,7 +19,7 @@ use Rattle.book_check.specs.Numbers.{AddsAll, HasNumbers, are_new}
 use Rattle.book_check.specs.Seen.{Adds, is_seen}
 use Rattle.book_check.proofs.SeenLemmas.{any_next, before_place}
 
-or_swap : (a b : Bool) → (a || b) ≡ (b || a)
+pub or_swap : (a b : Bool) → (a || b) ≡ (b || a)
 or_swap true true = refl
 or_swap true false = refl
 or_swap false true = refl
@@ -43,7 +43,7 @@ equal_either : (n q : ℕ) → (n == q) ≡ (q == n)
 equal_either n q = grind (arith, nat_tests)
 
 -- tests that are the same for each item
-any_same : {X : Type 0} (f g : X → Bool) (xs : List X) → ((x : X) → f x ≡ g x) → list_any f xs ≡ list_any g xs
+pub any_same : {X : Type 0} (f g : X → Bool) (xs : List X) → ((x : X) → f x ≡ g x) → list_any f xs ≡ list_any g xs
 any_same f g [] same = refl
 any_same f g (x ∷ xs) same =
     ap (λ t. t || list_any f xs) (same x) ∙ ap (λ t. g x || t) (any_same f g xs same)
@@ -56,7 +56,7 @@ any_either f g [] = refl
 any_either f g (x ∷ xs) =
     ap (λ t. (f x || g x) || t) (any_either f g xs) ∙ crossed (f x) (g x) (list_any f xs) (list_any g xs)
 
-none_of : {X : Type 0} (xs : List X) → list_any (λ x. false) xs ≡ false
+pub none_of : {X : Type 0} (xs : List X) → list_any (λ x. false) xs ≡ false
 none_of [] = refl
 none_of (x ∷ xs) = none_of xs
 

@@ -1,4 +1,5 @@
 pub mod FirstUnsound
+pub mod LineWalk
 pub mod Marks
 pub mod Numbers
 pub mod Seen
