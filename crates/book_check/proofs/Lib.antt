@@ -1,3 +1,5 @@
+pub mod AccountLemmas
+pub mod KeyLemmas
 pub mod MarkLemmas
 pub mod NumberLemmas
 pub mod SeenLemmas

@@ -1,6 +1,8 @@
 ghost use Rattle.std.specs.Prelude.{◌≡◌, ◌<◌, Some, length, option_map, slice_get};
 ghost use Rattle.book_commodity.specs.Rules.{stands_before};
 ghost use Rattle.book_commodity.specs.CommodityRules.{commodity_rules, has_fraction, has_same_pair};
+ghost use Rattle.book_commodity.specs.Currency.{is_currency_of};
+ghost use Rattle.book_commodity.specs.Table.{value_of};
 ghost use Rattle.book_check.specs.FirstUnsound.{all_hold, first_of_table, is_before, keeps};
 
 use book_commodity::{Commodities, Commodity};
@@ -41,6 +43,16 @@ fn keeps_rules(commodities: &Commodities, number: u64, commodity: &Commodity) ->
     ensures { result ≡ all_hold (commodity_rules commodities.now.entries number commodity.now) }
 {
     !is_taken(commodities, number, commodity) && has_fraction(commodity)
+}
+
+/// Whether the commodity is there, and is a currency.
+pub(crate) fn is_currency(commodities: &Commodities, number: u64) -> bool
+    ensures { result ≡ is_currency_of (value_of number commodities.now.entries) }
+{
+    match commodities.find(number) {
+        Some(commodity) => commodity.is_currency(),
+        None => false,
+    }
 }
 
 /// Whether one unit is made of 1 to 10^9 smallest units.

@@ -3,6 +3,7 @@
 //! statements and bindings are asked.
 #![tactic(auto)]
 
+mod accounts;
 mod bindings;
 mod commodities;
 mod marks;
@@ -13,6 +14,7 @@ mod statements;
 mod tests;
 mod transactions;
 
+pub use accounts::first_account;
 pub use bindings::first_binding;
 pub use commodities::first_commodity;
 pub use prices::first_price;

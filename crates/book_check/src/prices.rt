@@ -1,11 +1,10 @@
 ghost use Rattle.std.specs.Prelude.{◌≡◌, ◌<◌, Some, length, option_map, slice_get};
 ghost use Rattle.book_commodity.specs.Rules.{stands_before};
-ghost use Rattle.book_commodity.specs.Currency.{is_currency_of};
-ghost use Rattle.book_commodity.specs.Table.{value_of};
 ghost use Rattle.book_prices.specs.Rate.{is_same};
 ghost use Rattle.book_sound.specs.PriceRules.{has_pair, has_ratio, price_rules};
 ghost use Rattle.book_check.specs.FirstUnsound.{all_hold, first_of_table, is_before, keeps};
 
+use crate::commodities::is_currency;
 use book_commodity::Commodities;
 use book_prices::{Price, Prices};
 
@@ -51,16 +50,6 @@ fn keeps_rules(commodities: &Commodities, prices: &Prices, number: u64, price: &
         && has_ratio(price)
         && price.commodity != price.currency
         && !is_taken(prices, number, price)
-}
-
-/// Whether the commodity is there, and is a currency.
-fn is_currency(commodities: &Commodities, number: u64) -> bool
-    ensures { result ≡ is_currency_of (value_of number commodities.now.entries) }
-{
-    match commodities.find(number) {
-        Some(commodity) => commodity.is_currency(),
-        None => false,
-    }
 }
 
 /// Whether both numbers are from 1 to 10^9.
