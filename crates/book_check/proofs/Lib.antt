@@ -2,6 +2,7 @@ pub mod AccountLemmas
 pub mod KeyLemmas
 pub mod MarkLemmas
 pub mod NumberLemmas
+pub mod OnceLemmas
 pub mod SeenLemmas
 pub mod Unsound
 pub mod WalkLemmas

@@ -26,12 +26,12 @@ fn commodity_twice(rt: HostRuntime) -> Result<(), Fail> {
     let mut commodities = Commodities::new(alloc);
     commodities.reserve(2)?;
     let _ = commodities.put(1, currency(alloc, "EUR")?);
-    assert!(rt; first_commodity(&commodities).is_none());
+    assert!(rt; first_commodity(alloc, &commodities)?.is_none());
     let _ = commodities.put(7, currency(alloc, "EUR")?);
-    assert!(rt; first_commodity(&commodities) == Some(7));
-    assert!(rt; first_price(&commodities, &Prices::new(alloc)).is_none());
+    assert!(rt; first_commodity(alloc, &commodities)? == Some(7));
+    assert!(rt; first_price(alloc, &commodities, &Prices::new(alloc))?.is_none());
     let accounts = Tree::new(alloc);
-    assert!(rt; first_statement(&accounts, &Table::new(alloc)).is_none());
-    assert!(rt; first_binding(&accounts, &Table::new(alloc)).is_none());
+    assert!(rt; first_statement(alloc, &accounts, &Table::new(alloc))?.is_none());
+    assert!(rt; first_binding(alloc, &accounts, &Table::new(alloc))?.is_none());
     Ok(())
 }
