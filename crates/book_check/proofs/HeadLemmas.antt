@@ -1,4 +1,4 @@
--- What the head's rules ask: numbers below the next, and a root.
+-- What the rules of the head ask: numbers below the next.
 use Rattle.std.proofs.Common.{◌≡◌, ℕ, ◌+◌, ◌-◌, ◌<◌, nat_lt, Bool, true, false, ◌&&◌, List, [], ◌∷◌, length, drop}
 use Rattle.std.proofs.Common.{Option, Some, None, option_map, slice_get, cond, find, is_some, refl, sym, ap, ◌∙◌, arith}
 use Rattle.std.specs.List.{list_all}
@@ -52,26 +52,3 @@ pub all_splits :
 all_splits p [] = refl
 all_splits p (e ∷ es) =
     list_all-append p e.1.splits (splits_of es) ∙ ap (λ (t : Bool). list_all p e.1.splits && t) (all_splits p es)
-
--- the account at a place is a root, or the root is behind it
-pub root_here :
-    (es : List (ℕ × Account)) (i : ℕ) (account : Account)
-    → option_map (λ (e : ℕ × Account). e.1) (slice_get es i) ≡ Some account → is_root account.kind ≡ true
-    → is_some (root_of (drop i es)) ≡ true
-root_here es i account at root =
-    let r = drop_by (λ (e : ℕ × Account). e.1) es i account at in
-    ap (λ (l : List (ℕ × Account)). is_some (root_of l)) r.1
-    ∙ ap (λ (t : Bool). is_some (option_map (λ (e : ℕ × Account). e.0)
-    (cond t (Some r.0) (find (λ (e : ℕ × Account). is_root e.1.kind) (drop (i + 1) es)))))
-    (ap (λ (a : Account). is_root a.kind) r.2 ∙ root)
-
-pub root_skips :
-    (es : List (ℕ × Account)) (i : ℕ) (account : Account)
-    → option_map (λ (e : ℕ × Account). e.1) (slice_get es i) ≡ Some account → is_root account.kind ≡ false
-    → is_some (root_of (drop i es)) ≡ is_some (root_of (drop (i + 1) es))
-root_skips es i account at root =
-    let r = drop_by (λ (e : ℕ × Account). e.1) es i account at in
-    ap (λ (l : List (ℕ × Account)). is_some (root_of l)) r.1
-    ∙ ap (λ (t : Bool). is_some (option_map (λ (e : ℕ × Account). e.0)
-    (cond t (Some r.0) (find (λ (e : ℕ × Account). is_root e.1.kind) (drop (i + 1) es)))))
-    (ap (λ (a : Account). is_root a.kind) r.2 ∙ root)

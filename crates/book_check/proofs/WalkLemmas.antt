@@ -150,3 +150,31 @@ weighed_keeps rules most weight heaviest place sum n v es there within holds =
     ∙ if_true (nat_lt place most && (not (nat_lt heaviest (sum + weight v)) && all_hold (rules n v)))
     (first_in rules most weight heaviest (place + 1) (sum + weight v) (drop (place + 1) es)) (Some n)
     (all_pass (nat_lt place most) (not (nat_lt heaviest (sum + weight v))) (all_hold (rules n v)) within holds)
+
+-- ---- where nothing is weighed
+limit_past : (place most : ℕ) (b : Bool) → most ≤ place → (nat_lt place most && b) ≡ false
+limit_past place most b past = grind (arith, nat_tests)
+
+limit_within : (place most : ℕ) → place < most → (nat_lt place most && true) ≡ true
+limit_within place most below = grind (arith, nat_tests)
+
+pub counted_past :
+    {T : Type 0} (rules : ℕ → T → List Bool) (most place n : ℕ) (v : T) (es : List (ℕ × T))
+    → slice_get es place ≡ Some (n, v) → most ≤ place
+    → first_in rules most (λ _. 0) 0 place 0 (drop place es) ≡ Some n
+counted_past rules most place n v es there past =
+    weighed_past rules most (λ _. 0) 0 place 0 n v es there (limit_past place most true past)
+
+pub counted_fails :
+    {T : Type 0} (rules : ℕ → T → List Bool) (most place n : ℕ) (v : T) (es : List (ℕ × T))
+    → slice_get es place ≡ Some (n, v) → all_hold (rules n v) ≡ false
+    → first_in rules most (λ _. 0) 0 place 0 (drop place es) ≡ Some n
+counted_fails rules most place n v es there fails = weighed_fails rules most (λ _. 0) 0 place 0 n v es there fails
+
+pub counted_keeps :
+    {T : Type 0} (rules : ℕ → T → List Bool) (most place n : ℕ) (v : T) (es : List (ℕ × T))
+    → slice_get es place ≡ Some (n, v) → place < most → all_hold (rules n v) ≡ true
+    → first_in rules most (λ _. 0) 0 place 0 (drop place es)
+    ≡ first_in rules most (λ _. 0) 0 (place + 1) 0 (drop (place + 1) es)
+counted_keeps rules most place n v es there below holds =
+    weighed_keeps rules most (λ _. 0) 0 place 0 n v es there (limit_within place most below) holds

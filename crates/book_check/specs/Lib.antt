@@ -1,4 +1,6 @@
+pub mod AccountTests
 pub mod FirstUnsound
+pub mod Keys
 pub mod LineWalk
 pub mod Marks
 pub mod Numbers

@@ -1,12 +1,12 @@
-ghost use Rattle.std.specs.Prelude.{◌≡◌, nat_lt, is_some};
+ghost use Rattle.std.specs.Prelude.{◌≡◌, nat_lt};
 ghost use Rattle.std.specs.List.{list_all};
-ghost use Rattle.book_accounts.specs.AccountRules.{is_root, root_of};
 ghost use Rattle.book_splits.specs.Balance.{splits_of};
 ghost use Rattle.book_undo.specs.Book.{book_of};
 ghost use Rattle.book_check.specs.FirstUnsound.{all_hold, are_below, head_rules};
 
+use crate::accounts::root_of;
 use crate::commodities::is_currency;
-use book_accounts::{AccountKind, Tree};
+use book_accounts::Tree;
 use book_commodity::Table;
 use book_prices::Prices;
 use book_splits::{MarkedSplit, Recon, Split, Txn, Txns};
@@ -14,11 +14,11 @@ use book_undo::{Plain, Schedule};
 
 /// Whether the head keeps its rules: the currency of the book is one, there is a root, and every number is below the
 /// next.
-pub fn keeps_head(plain: &Plain, next: u64) -> bool
+pub(crate) fn keeps_head(plain: &Plain, next: u64) -> bool
     ensures { result ≡ all_hold (head_rules (book_of plain.now) next) }
 {
     is_currency(&plain.commodities, plain.currency)
-        && has_root(&plain.accounts)
+        && root_of(&plain.accounts).is_some()
         && are_below(&plain.commodities, next)
         && are_accounts_below(&plain.accounts, next)
         && are_transactions_below(&plain.transactions, next)
@@ -31,25 +31,6 @@ pub fn keeps_head(plain: &Plain, next: u64) -> bool
         && are_splits_below(&plain.transactions, next)
         && are_marked_below(&plain.reconciliations, next)
         && are_made_below(&plain.schedules, next)
-}
-
-/// Whether one of the accounts is of the kind of the root.
-fn has_root(accounts: &Tree) -> bool
-    ensures { result ≡ is_some (root_of accounts.now.entries) }
-{
-    for place in 0..accounts.len() {
-        if is_root(accounts.value_at(place).kind) {
-            return true;
-        }
-    }
-    false
-}
-
-/// Whether it is the kind of the root.
-fn is_root(kind: AccountKind) -> bool
-    ensures { result ≡ is_root kind }
-{
-    kind == AccountKind::Root
 }
 
 /// Whether the number of each account is below the next: that of the last is the greatest.

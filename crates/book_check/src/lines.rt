@@ -26,7 +26,7 @@ const MAX_AMOUNT: u64 = 1_000_000_000_000;
 type LineParts<'a> = ((u64, i32, i64), (&'a str, &'a str, &'a str, &'a str), u64);
 
 /// The first number at which a line breaks a rule of its kind, or is one too many.
-pub fn first_line(
+pub(crate) fn first_line(
     alloc: Global,
     accounts: &Tree,
     statements: &Table<Held>,

@@ -14,7 +14,7 @@ use std::alloc::Global;
 const MOST: usize = 100_000;
 
 /// The first number at which a reconciliation breaks a rule of its kind, or is one too many.
-pub fn first_reconciliation(
+pub(crate) fn first_reconciliation(
     alloc: Global,
     accounts: &Tree,
     reconciliations: &Table<Recon>,

@@ -15,7 +15,7 @@ use book_undo::Schedule;
 const MOST: usize = 1_000;
 
 /// The first number at which a schedule breaks a rule of its kind, or is one too many.
-pub fn first_schedule(
+pub(crate) fn first_schedule(
     commodities: &Commodities,
     accounts: &Tree,
     schedules: &Table<Schedule>,

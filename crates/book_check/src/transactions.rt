@@ -23,7 +23,7 @@ const MOST: usize = 200_000;
 const MOST_SPLITS: usize = 1_000_000;
 
 /// The first number at which a transaction breaks a rule of its kind, or is one too many, or has a split too many.
-pub fn first_transaction(
+pub(crate) fn first_transaction(
     alloc: Global,
     commodities: &Commodities,
     accounts: &Tree,
