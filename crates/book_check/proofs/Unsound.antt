@@ -1,20 +1,19 @@
 -- A book has no first unsound key exactly where it is sound and its numbers are drawn.
 use Rattle.std.proofs.Common.{◌≡◌, ℕ, ◌+◌, ◌<◌, ◌≤◌, nat_lt, ◌==◌, not, Bool, true, false, ◌&&◌, if◌then◌else◌}
 use Rattle.std.proofs.Common.{List, []}
-use Rattle.std.proofs.Common.{◌∷◌, ◌++◌, length, Option, Some, None, option_map, refl, sym, ap, ◌∙◌, subst, arith, All}
-use Rattle.std.specs.Prelude.{IsTrue, is_some}
+use Rattle.std.proofs.Common.{◌∷◌, length, Option, Some, None, refl, ap, ◌∙◌, subst, arith, All}
+use Rattle.std.specs.Prelude.{IsTrue}
 use Rattle.std.specs.List.{AllByRecursion, list_all}
 use Rattle.std.proofs.lemmas.Bool.Decides.{nat_tests}
 use Rattle.std.proofs.lemmas.List.Elements.{All-nil, All-cons, All-head, All-tail}
 use Rattle.std.proofs.Common.{length-append}
 use Rattle.book_keeper.specs.declared.row.RowKey.{RowKey}
 use Rattle.book_commodity.specs.CommodityRules.{commodity_rules}
-use Rattle.book_commodity.specs.Currency.{is_currency_of}
-use Rattle.book_commodity.specs.Rules.{AllHold, AllKept, EachKeeps, IsSoundTable, broken_where, first_broken}
+use Rattle.book_commodity.specs.Rules.{AllHold, IsSoundTable, broken_where}
 use Rattle.book_commodity.specs.Table.{AllAbove, Rises, value_of}
 use Rattle.book_commodity.proofs.RuleLemmas.{kept_of, none_broken}
 use Rattle.book_commodity.proofs.TableLemmas.{above_value}
-use Rattle.book_accounts.specs.AccountRules.{account_rules, root_of}
+use Rattle.book_accounts.specs.AccountRules.{account_rules}
 use Rattle.book_splits.specs.Balance.{splits_of}
 use Rattle.book_splits.specs.declared.split.Split.{Split}
 use Rattle.book_splits.specs.declared.reconciliation.MarkedSplit.{MarkedSplit}

@@ -1,12 +1,11 @@
 -- The first unsound key, computed on a small book: none, and then one for each rule that is broken.
-use Rattle.std.proofs.Common.{◌≡◌, ℕ, ◌+◌, ℤ, pos, negsuc, Bool, true, false, List, [], ◌∷◌, Option, Some, None, codes}
+use Rattle.std.proofs.Common.{◌≡◌, ℕ, ℤ, pos, negsuc, Bool, true, false, List, [], ◌∷◌, Option, Some, None, codes}
 use Rattle.std.proofs.Common.{◌++◌, drop, refl}
 use Rattle.book_commodity.specs.declared.commodity.Commodity.{Commodity}
 use Rattle.book_accounts.specs.Tree.{nearest_parents}
 use Rattle.book_accounts.specs.declared.account.Account.{Account}
 use Rattle.book_accounts.specs.declared.kind.AccountKind.{AccountKind}
 use Rattle.book_accounts.specs.declared.kind.AccountKind.TheVariants.{Root, Asset, Bank, Expense, Stock}
-use Rattle.book_splits.specs.declared.reconciliation.MarkedSplit.{MarkedSplit}
 use Rattle.book_splits.specs.declared.reconciliation.Recon.{Recon}
 use Rattle.book_splits.specs.declared.split.Mark.{Mark}
 use Rattle.book_splits.specs.declared.split.Mark.TheVariants.{New, Cleared, Reconciled}
@@ -16,15 +15,15 @@ use Rattle.book_prices.specs.declared.price.Price.{Price}
 use Rattle.book_schedule.specs.declared.recurrence.Adjust.TheVariants.{Back}
 use Rattle.book_schedule.specs.declared.recurrence.Recurrence.{Recurrence}
 use Rattle.book_schedule.specs.declared.recurrence.RecurrenceKind.TheVariants.{Monthly}
-use Rattle.book_schedule.specs.declared.timing.End.TheVariants.{Until, After}
+use Rattle.book_schedule.specs.declared.timing.End.TheVariants.{After}
 use Rattle.book_schedule.specs.declared.timing.Timing.{Timing}
 use Rattle.book_statement.specs.declared.binding.Binding.{Binding}
 use Rattle.book_statement.specs.declared.held.Held.{Held}
 use Rattle.book_statement.specs.declared.line.Line.{Line}
 use Rattle.book_statement.specs.declared.line_state.LineState.{LineState}
-use Rattle.book_statement.specs.declared.line_state.LineState.TheVariants.{Open, Matched, Dismissed}
+use Rattle.book_statement.specs.declared.line_state.LineState.TheVariants.{Open, Matched}
 use Rattle.book_statement.specs.declared.statement_line.StatementLine.{StatementLine}
-use Rattle.book_undo.specs.Book.{Book, empty_book}
+use Rattle.book_undo.specs.Book.{Book}
 use Rattle.book_undo.specs.declared.schedule.Schedule.{Schedule}
 use Rattle.book_keeper.specs.declared.row.RowKey.{RowKey}
 use Rattle.book_check.specs.FirstUnsound.{first_unsound}

@@ -1,46 +1,57 @@
-ghost use Rattle.std.specs.Prelude.{◌≡◌, ◌<◌, Some, length, option_map, slice_get};
-ghost use Rattle.book_commodity.specs.Rules.{stands_before};
-ghost use Rattle.book_commodity.specs.CommodityRules.{commodity_rules, has_fraction, has_same_pair};
-ghost use Rattle.book_check.specs.FirstUnsound.{all_hold, first_of_table, is_before, keeps};
+ghost use Rattle.std.specs.Prelude.{◌≡◌, IfOk};
+ghost use Rattle.book_commodity.specs.CommodityRules.{commodity_rules, has_fraction};
+ghost use Rattle.book_commodity.specs.Currency.{is_currency_of};
+ghost use Rattle.book_commodity.specs.Table.{value_of};
+ghost use Rattle.book_check.specs.FirstUnsound.{first_of_table};
+ghost use Rattle.book_check.specs.Keys.{commodity_parts};
 
-use book_commodity::{Commodities, Commodity};
+use crate::seen::Seen;
+use book_commodity::{Commodities, Commodity, OutOfMemory};
+use std::alloc::Global;
 
 /// How many commodities a book has at most.
 const MOST: usize = 10_000;
 
 /// The first number at which a commodity breaks a rule of its kind, or is one too many.
-pub fn first_commodity(commodities: &Commodities) -> Option<u64>
-    ensures { result ≡ first_of_table (commodity_rules commodities.now.entries) 10000 commodities.now.entries }
+pub(crate) fn first_commodity(
+    alloc: Global,
+    commodities: &Commodities,
+) -> Result<Option<u64>, OutOfMemory>
+    ensures { IfOk result (λ found. found ≡ first_of_table
+        (commodity_rules commodities.now.entries) 10000 commodities.now.entries) }
 {
+    let mut seen = Seen::new(alloc);
     for place in 0..commodities.len() {
+        let number = commodities.number_at(place);
+        let commodity = commodities.value_at(place);
         if place >= MOST {
-            return Some(commodities.number_at(place));
+            return Ok(Some(number));
         }
-        if !keeps_at(commodities, place) {
-            return Some(commodities.number_at(place));
+        if !has_fraction(commodity) {
+            return Ok(Some(number));
+        }
+        if seen.insert(key_of(commodity))? {
+            return Ok(Some(number));
         }
     }
-    None
+    Ok(None)
 }
 
-/// Whether the commodity at the place keeps its rules.
-fn keeps_at(commodities: &Commodities, place: usize) -> bool
-    requires { place < length commodities.now.entries }
-    ensures { option_map (keeps (commodity_rules commodities.now.entries)) (slice_get commodities.now.entries place)
-        ≡ Some result }
+/// The space and the name of the commodity.
+fn key_of(commodity: &Commodity) -> (&str, &str)
+    ensures { (result.0.now, result.1.now) ≡ commodity_parts commodity.now }
 {
-    keeps_rules(
-        commodities,
-        commodities.number_at(place),
-        commodities.value_at(place),
-    )
+    (commodity.space.as_str(), commodity.name.as_str())
 }
 
-/// Whether the commodity keeps its rules under the number.
-fn keeps_rules(commodities: &Commodities, number: u64, commodity: &Commodity) -> bool
-    ensures { result ≡ all_hold (commodity_rules commodities.now.entries number commodity.now) }
+/// Whether the commodity is there, and is a currency.
+pub(crate) fn is_currency(commodities: &Commodities, number: u64) -> bool
+    ensures { result ≡ is_currency_of (value_of number commodities.now.entries) }
 {
-    !is_taken(commodities, number, commodity) && has_fraction(commodity)
+    match commodities.find(number) {
+        Some(commodity) => commodity.is_currency(),
+        None => false,
+    }
 }
 
 /// Whether one unit is made of 1 to 10^9 smallest units.
@@ -48,33 +59,4 @@ fn has_fraction(commodity: &Commodity) -> bool
     ensures { result ≡ has_fraction commodity.now }
 {
     commodity.fraction >= 1 && commodity.fraction <= 1_000_000_000
-}
-
-/// Whether a commodity before the number has the same space and the same name.
-fn is_taken(commodities: &Commodities, number: u64, commodity: &Commodity) -> bool
-    ensures { result ≡ stands_before (has_same_pair commodity.now) number commodities.now.entries }
-{
-    for place in 0..commodities.len() {
-        if is_taken_at(commodities, place, number, commodity) {
-            return true;
-        }
-    }
-    false
-}
-
-/// Whether the commodity at the place is before the number, and has the same space and the same name.
-fn is_taken_at(commodities: &Commodities, place: usize, number: u64, commodity: &Commodity) -> bool
-    requires { place < length commodities.now.entries }
-    ensures { option_map (is_before (has_same_pair commodity.now) number) (slice_get commodities.now.entries place)
-        ≡ Some result }
-{
-    commodities.number_at(place) < number && is_same_pair(commodities.value_at(place), commodity)
-}
-
-/// Whether another commodity has the same space and the same name.
-fn is_same_pair(other: &Commodity, commodity: &Commodity) -> bool
-    ensures { result ≡ has_same_pair commodity.now other.now }
-{
-    other.space.as_str() == commodity.space.as_str()
-        && other.name.as_str() == commodity.name.as_str()
 }

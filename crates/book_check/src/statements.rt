@@ -1,82 +1,74 @@
-ghost use Rattle.std.specs.Prelude.{◌≡◌, ◌<◌, Some, length, option_map, slice_get};
-ghost use Rattle.book_commodity.specs.Rules.{stands_before};
-ghost use Rattle.book_sound.specs.StatementRules.{is_same_statement, statement_rules};
-ghost use Rattle.book_check.specs.FirstUnsound.{all_hold, first_of_table, is_before, keeps};
+ghost use Rattle.std.specs.Prelude.{◌≡◌, IfOk};
+ghost use Rattle.book_sound.specs.StatementRules.{statement_rules};
+ghost use Rattle.book_sound.specs.Tests.{is_live};
+ghost use Rattle.book_check.specs.FirstUnsound.{first_of_table};
+ghost use Rattle.book_check.specs.Keys.{statement_parts};
 
+use crate::seen::Seen;
 use book_accounts::Tree;
-use book_commodity::Table;
+use book_commodity::{OutOfMemory, Table};
 use book_statement::Held;
+use std::alloc::Global;
 
 /// How many statements a book has at most.
 const MOST: usize = 100_000;
 
+/// A statement's account, what its file calls the account, its number, its balances, its day, and whether they tie.
+type StatementKey<'a> = (
+    u64,
+    &'a str,
+    &'a str,
+    Option<i64>,
+    Option<i64>,
+    i32,
+    Option<bool>,
+);
+
 /// The first number at which a statement breaks a rule of its kind, or is one too many.
-pub fn first_statement(accounts: &Tree, statements: &Table<Held>) -> Option<u64>
-    ensures { result ≡ first_of_table (statement_rules accounts.now.entries statements.now.entries)
-        100000 statements.now.entries }
+pub(crate) fn first_statement(
+    alloc: Global,
+    accounts: &Tree,
+    statements: &Table<Held>,
+) -> Result<Option<u64>, OutOfMemory>
+    ensures { IfOk result (λ found. found ≡ first_of_table
+        (statement_rules accounts.now.entries statements.now.entries) 100000 statements.now.entries) }
 {
+    let mut seen = Seen::new(alloc);
     for place in 0..statements.len() {
+        let number = statements.number_at(place);
+        let statement = statements.value_at(place);
         if place >= MOST {
-            return Some(statements.number_at(place));
+            return Ok(Some(number));
         }
-        if !keeps_at(accounts, statements, place) {
-            return Some(statements.number_at(place));
+        if !is_there(accounts, statement.account) {
+            return Ok(Some(number));
+        }
+        if seen.insert(key_of(statement))? {
+            return Ok(Some(number));
         }
     }
-    None
+    Ok(None)
 }
 
-/// Whether the statement at the place keeps its rules.
-fn keeps_at(accounts: &Tree, statements: &Table<Held>, place: usize) -> bool
-    requires { place < length statements.now.entries }
-    ensures { option_map (keeps (statement_rules accounts.now.entries statements.now.entries))
-        (slice_get statements.now.entries place) ≡ Some result }
+/// All fields of the statement.
+fn key_of(statement: &Held) -> StatementKey<'_>
+    ensures { (result.0, result.1.now, result.2.now, result.3, result.4, result.5, result.6)
+        ≡ statement_parts statement.now }
 {
-    keeps_rules(
-        accounts,
-        statements,
-        statements.number_at(place),
-        statements.value_at(place),
+    (
+        statement.account,
+        statement.account_text.as_str(),
+        statement.number.as_str(),
+        statement.opening,
+        statement.closing,
+        statement.day.number(),
+        statement.ties,
     )
 }
 
-/// Whether the statement keeps its rules under the number.
-fn keeps_rules(accounts: &Tree, statements: &Table<Held>, number: u64, statement: &Held) -> bool
-    ensures { result ≡ all_hold (statement_rules accounts.now.entries statements.now.entries number statement.now) }
+/// Whether the account is there.
+fn is_there(accounts: &Tree, account: u64) -> bool
+    ensures { result ≡ is_live accounts.now.entries account }
 {
-    accounts.find(statement.account).is_some() && !is_taken(statements, number, statement)
-}
-
-/// Whether a statement before the number is equal in all fields.
-fn is_taken(statements: &Table<Held>, number: u64, statement: &Held) -> bool
-    ensures { result ≡ stands_before (is_same_statement statement.now) number statements.now.entries }
-{
-    for place in 0..statements.len() {
-        if is_taken_at(statements, place, number, statement) {
-            return true;
-        }
-    }
-    false
-}
-
-/// Whether the statement at the place is before the number, and is equal in all fields.
-fn is_taken_at(statements: &Table<Held>, place: usize, number: u64, statement: &Held) -> bool
-    requires { place < length statements.now.entries }
-    ensures { option_map (is_before (is_same_statement statement.now) number) (slice_get statements.now.entries place)
-        ≡ Some result }
-{
-    statements.number_at(place) < number && is_same_statement(statements.value_at(place), statement)
-}
-
-/// Whether another statement is equal in all fields.
-fn is_same_statement(other: &Held, statement: &Held) -> bool
-    ensures { result ≡ is_same_statement statement.now other.now }
-{
-    other.account == statement.account
-        && other.account_text.as_str() == statement.account_text.as_str()
-        && other.number.as_str() == statement.number.as_str()
-        && other.opening == statement.opening
-        && other.closing == statement.closing
-        && other.day.number() == statement.day.number()
-        && other.ties == statement.ties
+    accounts.find(account).is_some()
 }

@@ -1,5 +1,5 @@
 -- Rows that stood for what an engine kept stand for what it keeps.
-use Rattle.std.proofs.Common.{◌≡◌, ℕ, ◌+◌, nat_lt, Bool, true, false, not, ◌||◌, IsTrue, List, ◌∷◌, Option, None}
+use Rattle.std.proofs.Common.{◌≡◌, ℕ, nat_lt, Bool, true, false, not, ◌||◌, IsTrue, List, ◌∷◌, Option, None}
 use Rattle.std.proofs.Common.{inl, inr, refl, sym, ap, ◌∙◌, subst, arith}
 use Rattle.std.proofs.lemmas.Bool.Decides.{nat_tests}
 use Rattle.book_commodity.specs.Rules.{broken_where, first_broken}
@@ -21,12 +21,12 @@ use Rattle.book_engine.specs.Opens.{Opens, OpensTo, unsound_at}
 use Rattle.book_engine.specs.Standing.{StandFor, StandForKept, Stands}
 use Rattle.book_engine.proofs.StepLemmas.{Moves, step_moves}
 
-same_placed :
+pub same_placed :
     (s t : State) (p q : ℕ) → s ≡ t → p ≡ q → placed s p ≡ placed t q
 same_placed s t p q state position =
     ap (λ (x : State). placed x p) state ∙ ap (λ (n : ℕ). placed t n) position
 
-stand_same :
+pub stand_same :
     (saved now_saved : Bool) (old new : SavedState) (rows : List Row) → saved ≡ now_saved → old ≡ new
     → StandFor saved old rows → StandFor now_saved new rows
 stand_same saved now_saved old new rows same state stand =
@@ -91,6 +91,10 @@ plan_leaves state position saved command plan is none =
 or_none : (saved commits : Bool) → commits ≡ false → (saved || commits) ≡ saved
 or_none true commits e = refl
 or_none false commits e = e
+
+or_some : (saved commits : Bool) → IsTrue commits → (saved || commits) ≡ true
+or_some true commits e = refl
+or_some false commits e = e
 
 -- What an engine keeps after a plan.
 pub record IsAfter (before now : Kept) (plan : Planned) : Type 0 where

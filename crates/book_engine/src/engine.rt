@@ -129,7 +129,7 @@ impl Engine {
         }
     }
 
-    /// The state is sound.
+    /// What holds of every engine holds of this one.
     fn sound(&self)
         ensures { IsWhole self.now.state self.now.position self.now.saved }
     {

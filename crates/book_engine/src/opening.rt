@@ -3,7 +3,8 @@ ghost use Rattle.book_undo.specs.Book.{book_of};
 ghost use Rattle.book_rows.specs.Row.{IsWithin};
 ghost use Rattle.book_opening.specs.State.{head_of, state_of};
 ghost use Rattle.book_step.specs.Soundness.{AreDrawn, IsSound, IsSoundBook};
-ghost use Rattle.book_engine.specs.Opening.{IsBegun, IsChecked, open_error, unsound_at};
+ghost use Rattle.book_engine.specs.Opening.{IsBegun, IsChecked, open_error};
+ghost use Rattle.book_engine.specs.Opens.{unsound_at};
 
 use crate::fresh::{FIRST_NUMBER, fresh_book};
 use crate::{Engine, OpenError};

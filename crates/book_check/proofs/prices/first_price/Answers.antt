@@ -1,31 +1,72 @@
 -- The one at the place is past the limit, breaks a rule, or keeps all.
-use Rattle.std.proofs.Common.{◌≡◌, ◌<◌, ◌≤◌, Bool, true, false, Some, ap, sym, ◌∙◌, arith}
+use Rattle.std.proofs.Common.{◌≡◌, ◌<◌, ◌≤◌, not, true, false, sym, ap, ◌∙◌, arith}
 use Rattle.std.proofs.lemmas.Bool.Decides.{nat_tests}
+use Rattle.book_commodity.specs.Rules.{stands_before}
+use Rattle.book_prices.specs.Rate.{is_same}
 use Rattle.book_sound.specs.PriceRules.{price_rules}
-use Rattle.book_check.proofs.WalkLemmas.{first_fails, first_keeps, first_past}
+use Rattle.book_check.specs.Keys.{price_parts}
+use Rattle.book_check.specs.FirstUnsound.{all_hold}
+use Rattle.book_check.proofs.KeyLemmas.{price_cmp, price_same, price_shown, price_ties}
+use Rattle.book_check.proofs.OnceLemmas.{price_asked, own_fails, own_holds}
+use Rattle.book_check.proofs.SeenLemmas.{entry_at, keys_before, keys_next}
+use Rattle.book_check.proofs.WalkLemmas.{counted_fails, counted_keeps, counted_past}
 use Rattle.book_check.proofs.prices.first_price.Goals as goal
 
 pub returns-then-place-ge-MOST : goal.returns-then-place-ge-MOST
 returns-then-place-ge-MOST c =
+    let es = c.args.prices.now.entries in
+    let n = c.number_at-number.result in
+    let price = c.value_at-price.result.now in
+    let there = entry_at es c.loop-place.place n price c.number_at-number.ensures c.value_at-price.ensures in
     let past : 1000000 ≤ c.loop-place.place = omega arith in
-    sym (c.loop-place.invariant
-    ∙ first_past (price_rules c.args.commodities.now.entries c.args.prices.now.entries) 1000000 c.loop-place.place
-    c.number_at.result c.args.prices.now.entries
-    c.number_at.ensures past)
+    sym (c.loop-place.invariant.walk
+    ∙ counted_past (price_rules c.args.commodities.now.entries c.args.prices.now.entries) 1000000 c.loop-place.place n price es there past)
 
-pub returns-then-not-keeps_at : goal.returns-then-not-keeps_at
-returns-then-not-keeps_at c =
-    let fails : c.keeps_at.result ≡ false = (let test = c.if-not-keeps_at.true in grind (arith, nat_tests, test)) in
-    sym (c.loop-place.invariant
-    ∙ first_fails (price_rules c.args.commodities.now.entries c.args.prices.now.entries) 1000000 c.loop-place.place
-    c.number_at-then-not-keeps_at.result c.args.prices.now.entries
-    c.number_at-then-not-keeps_at.ensures (c.keeps_at.ensures ∙ ap (λ (b : Bool). Some b) fails))
+pub returns-then-not-is_kept : goal.returns-then-not-is_kept
+returns-then-not-is_kept c =
+    let es = c.args.prices.now.entries in
+    let n = c.number_at-number.result in
+    let price = c.value_at-price.result.now in
+    let there = entry_at es c.loop-place.place n price c.number_at-number.ensures c.value_at-price.ensures in
+    let fails : c.is_kept.result ≡ false = (let test = c.if-not-is_kept.true in grind (arith, nat_tests, test)) in
+    sym (c.loop-place.invariant.walk
+    ∙ counted_fails (price_rules c.args.commodities.now.entries c.args.prices.now.entries) 1000000 c.loop-place.place n price es there
+    (own_fails (all_hold (price_rules c.args.commodities.now.entries c.args.prices.now.entries n price)) c.is_kept.result (stands_before (is_same price) n es)
+    (price_asked c.args.commodities.now.entries es n price c.is_kept.result c.is_kept.ensures) fails))
+
+pub returns-then-branch : goal.returns-then-branch
+returns-then-branch c =
+    let es = c.args.prices.now.entries in
+    let n = c.number_at-number.result in
+    let price = c.value_at-price.result.now in
+    let there = entry_at es c.loop-place.place n price c.number_at-number.ensures c.value_at-price.ensures in
+    let before = c.in_ok-insert.ensures.before
+    ∙ keys_before price_cmp price_shown price_same price_parts es c.loop-place.place n price
+    c.key_of.result c.loop-place.seen c.len-place-end.ensures.rises there c.key_of.ensures c.loop-place.invariant.keys in
+    let holds : c.is_kept.result ≡ true = (let test = c.if-not-is_kept.false in grind (arith, nat_tests, test)) in
+    sym (c.loop-place.invariant.walk
+    ∙ counted_fails (price_rules c.args.commodities.now.entries c.args.prices.now.entries) 1000000 c.loop-place.place n price es there
+    (own_holds (all_hold (price_rules c.args.commodities.now.entries c.args.prices.now.entries n price)) c.is_kept.result (stands_before (is_same price) n es) c.in_ok-insert.field-0
+    (price_asked c.args.commodities.now.entries es n price c.is_kept.result c.is_kept.ensures) holds before ∙ ap not c.if-branch.true))
 
 pub loop-place-preserved : goal.loop-place-preserved
 loop-place-preserved c =
-    let keeps : c.keeps_at.result ≡ true = (let test = c.if-not-keeps_at.false in grind (arith, nat_tests, test)) in
-    let low : c.loop-place.place < 1000000 = omega arith in
-    c.loop-place.invariant
-    ∙ first_keeps (price_rules c.args.commodities.now.entries c.args.prices.now.entries) 1000000 c.loop-place.place
-    c.args.prices.now.entries
-    (c.keeps_at.ensures ∙ ap (λ (b : Bool). Some b) keeps) low
+    let es = c.args.prices.now.entries in
+    let n = c.number_at-number.result in
+    let price = c.value_at-price.result.now in
+    let there = entry_at es c.loop-place.place n price c.number_at-number.ensures c.value_at-price.ensures in
+    let before = c.in_ok-insert.ensures.before
+    ∙ keys_before price_cmp price_shown price_same price_parts es c.loop-place.place n price
+    c.key_of.result c.loop-place.seen c.len-place-end.ensures.rises there c.key_of.ensures c.loop-place.invariant.keys in
+    let holds : c.is_kept.result ≡ true = (let test = c.if-not-is_kept.false in grind (arith, nat_tests, test)) in
+    let below : c.loop-place.place < 1000000 = omega arith in record {
+      walk =
+          c.loop-place.invariant.walk
+          ∙ counted_keeps (price_rules c.args.commodities.now.entries c.args.prices.now.entries) 1000000 c.loop-place.place n price es there below
+          (own_holds (all_hold (price_rules c.args.commodities.now.entries c.args.prices.now.entries n price)) c.is_kept.result (stands_before (is_same price) n es) c.in_ok-insert.field-0
+          (price_asked c.args.commodities.now.entries es n price c.is_kept.result c.is_kept.ensures) holds before ∙ ap not c.if-branch.false);
+      keys =
+          keys_next price_cmp price_shown price_same price_parts price_ties es c.loop-place.place n price
+          c.key_of.result c.loop-place.seen c.insert.new.self there c.key_of.ensures c.loop-place.invariant.keys
+          c.in_ok-insert.ensures.adds;
+    }

@@ -2,7 +2,6 @@ use Rattle.std.proofs.Common.{◌≡◌, Bool, not, ◌||◌, sym, subst, arith}
 use Rattle.std.proofs.lemmas.Grind.{common_steps}
 use Rattle.book_undo.specs.Book.{Book, book_of}
 use Rattle.book_undo.specs.Edit.{edited, is_nothing}
-use Rattle.book_step.specs.Soundness.{IsSound}
 use Rattle.book_step.specs.State.{State}
 use Rattle.book_engine.specs.Kept.{IsWhole, kept_by}
 use Rattle.book_engine.specs.Planned.{planned_by}

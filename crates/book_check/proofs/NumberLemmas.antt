@@ -1,0 +1,165 @@
+-- Numbers of splits, against those that were seen.
+use Rattle.std.proofs.Common.{◌≡◌, ℕ, ◌+◌, ◌==◌, not, Bool, true, false, ◌&&◌, ◌||◌, List, [], ◌∷◌, take, Some, slice_get}
+use Rattle.std.proofs.Common.{refl, sym, ap, ◌∙◌, arith}
+use Rattle.std.specs.List.{list_all, list_any}
+use Rattle.std.specs.Cmp.{unsigned_tied}
+use Rattle.std.specs.Ordering.{nat_cmp}
+use Rattle.std.proofs.lemmas.Bool.Decides.{nat_tests}
+use Rattle.book_commodity.specs.Rules.{stands_before}
+use Rattle.book_commodity.specs.Table.{Rises}
+use Rattle.book_splits.specs.TransactionRules.{are_once, is_among, numbers_of, share_numbers}
+use Rattle.book_splits.specs.declared.transaction.Txn.{Txn}
+use Rattle.book_commodity.specs.declared.commodity.Commodity.{Commodity}
+use Rattle.book_accounts.specs.declared.account.Account.{Account}
+use Rattle.book_splits.specs.declared.reconciliation.Recon.{Recon}
+use Rattle.book_sound.specs.MarkedTransactionRules.{is_rightly_marked, marked_transaction_rules}
+use Rattle.book_sound.specs.Tests.{passes_check}
+use Rattle.book_check.specs.FirstUnsound.{all_hold}
+use Rattle.book_check.specs.Numbers.{AddsAll, HasNumbers, are_new}
+use Rattle.book_check.specs.Seen.{Adds, is_seen}
+use Rattle.book_check.proofs.SeenLemmas.{any_next, before_place}
+
+pub or_swap : (a b : Bool) → (a || b) ≡ (b || a)
+or_swap true true = refl
+or_swap true false = refl
+or_swap false true = refl
+or_swap false false = refl
+
+or_move : (a b c : Bool) → (a || (b || c)) ≡ (b || (a || c))
+or_move true true c = refl
+or_move true false c = refl
+or_move false true c = refl
+or_move false false c = refl
+
+crossed : (a b c d : Bool) → ((a || b) || (c || d)) ≡ ((a || c) || (b || d))
+crossed true b true d = refl
+crossed true b false d = refl
+crossed false true true d = refl
+crossed false true false d = refl
+crossed false false true d = refl
+crossed false false false d = refl
+
+equal_either : (n q : ℕ) → (n == q) ≡ (q == n)
+equal_either n q = grind (arith, nat_tests)
+
+-- tests that are the same for each item
+pub any_same : {X : Type 0} (f g : X → Bool) (xs : List X) → ((x : X) → f x ≡ g x) → list_any f xs ≡ list_any g xs
+any_same f g [] same = refl
+any_same f g (x ∷ xs) same =
+    ap (λ t. t || list_any f xs) (same x) ∙ ap (λ t. g x || t) (any_same f g xs same)
+
+-- an item passes one of two tests
+any_either :
+    {X : Type 0} (f g : X → Bool) (xs : List X)
+    → list_any (λ x. f x || g x) xs ≡ (list_any f xs || list_any g xs)
+any_either f g [] = refl
+any_either f g (x ∷ xs) =
+    ap (λ t. (f x || g x) || t) (any_either f g xs) ∙ crossed (f x) (g x) (list_any f xs) (list_any g xs)
+
+pub none_of : {X : Type 0} (xs : List X) → list_any (λ x. false) xs ≡ false
+none_of [] = refl
+none_of (x ∷ xs) = none_of xs
+
+-- a pair of two lists passes a test, whichever list is gone through first
+any_swap :
+    {X Y : Type 0} (f : X → Y → Bool) (xs : List X) (ys : List Y)
+    → list_any (λ x. list_any (λ y. f x y) ys) xs ≡ list_any (λ y. list_any (λ x. f x y) xs) ys
+any_swap f [] ys = sym (none_of ys)
+any_swap f (x ∷ xs) ys =
+    ap (λ t. list_any (λ y. f x y) ys || t) (any_swap f xs ys)
+    ∙ sym (any_either (λ y. f x y) (λ y. list_any (λ z. f z y) xs) ys)
+
+-- a number is seen after another is added
+seen_after :
+    (old new : List ℕ) (n q : ℕ) → Adds nat_cmp old n new
+    → is_seen nat_cmp new q ≡ ((n == q) || is_seen nat_cmp old q)
+seen_after old new n q adds = adds q ∙ ap (λ t. t || is_seen nat_cmp old q) (unsigned_tied n q)
+
+any_after :
+    (old new : List ℕ) (n : ℕ) (more : List ℕ) → Adds nat_cmp old n new
+    → list_any (is_seen nat_cmp new) more ≡ (is_among more n || list_any (is_seen nat_cmp old) more)
+any_after old new n more adds =
+    any_same (is_seen nat_cmp new) (λ q. (q == n) || is_seen nat_cmp old q) more
+    (λ q. seen_after old new n q adds ∙ ap (λ t. t || is_seen nat_cmp old q) (equal_either n q))
+    ∙ any_either (λ q. q == n) (is_seen nat_cmp old) more
+
+-- a number that was seen isn't new
+pub new_taken :
+    (old : List ℕ) (n : ℕ) (more : List ℕ) → is_seen nat_cmp old n ≡ true → are_new old (n ∷ more) ≡ false
+new_taken old n more taken =
+    ap (λ t. are_once (n ∷ more) && not (t || list_any (is_seen nat_cmp old) more)) taken
+    ∙ never (are_once (n ∷ more))
+  where
+    never : (a : Bool) → (a && false) ≡ false
+    never true = refl
+    never false = refl
+
+-- one that wasn't is new, where those behind it are once it is seen
+pub new_next :
+    (old new : List ℕ) (n : ℕ) (more : List ℕ) → is_seen nat_cmp old n ≡ false → Adds nat_cmp old n new
+    → are_new old (n ∷ more) ≡ are_new new more
+new_next old new n more free adds =
+    ap (λ t. are_once (n ∷ more) && not (t || list_any (is_seen nat_cmp old) more)) free
+    ∙ regrouped (is_among more n) (are_once more) (list_any (is_seen nat_cmp old) more)
+    ∙ ap (λ t. are_once more && not t) (sym (any_after old new n more adds))
+  where
+    regrouped : (among once any : Bool) → ((not among && once) && not any) ≡ (once && not (among || any))
+    regrouped true true any = refl
+    regrouped true false any = refl
+    regrouped false once any = refl
+
+pub added_next :
+    (old new : List ℕ) (n q : ℕ) (more : List ℕ) → Adds nat_cmp old n new
+    → (is_among (n ∷ more) q || is_seen nat_cmp old q) ≡ (is_among more q || is_seen nat_cmp new q)
+added_next old new n q more adds =
+    moved (n == q) (is_among more q) (is_seen nat_cmp old q)
+    ∙ ap (λ t. is_among more q || t) (sym (seen_after old new n q adds))
+  where
+    moved : (a b c : Bool) → ((a || b) || c) ≡ (b || (a || c))
+    moved true true c = refl
+    moved true false c = refl
+    moved false b c = refl
+
+-- a transaction shares a number with one before it, where a number of it was seen
+pub shares_seen :
+    (seen : List ℕ) (es : List (ℕ × Txn)) (i n : ℕ) (t : Txn) → Rises es → slice_get es i ≡ Some (n, t)
+    → HasNumbers seen (take i es)
+    → stands_before (share_numbers t) n es ≡ list_any (is_seen nat_cmp seen) (numbers_of t.splits)
+shares_seen seen es i n t rise there has =
+    before_place (share_numbers t) es i n t rise there
+    ∙ any_swap (λ (e : ℕ × Txn) (q : ℕ). is_among (numbers_of e.1.splits) q) (take i es) (numbers_of t.splits)
+    ∙ any_same (λ q. list_any (λ (e : ℕ × Txn). is_among (numbers_of e.1.splits) q) (take i es)) (is_seen nat_cmp seen)
+    (numbers_of t.splits) (λ q. sym (has q))
+
+-- the numbers of one transaction more are seen
+pub numbers_next :
+    (old new : List ℕ) (es : List (ℕ × Txn)) (i n : ℕ) (t : Txn) → slice_get es i ≡ Some (n, t)
+    → HasNumbers old (take i es) → AddsAll old (numbers_of t.splits) new → HasNumbers new (take (i + 1) es)
+numbers_next old new es i n t there has adds number =
+    adds number ∙ or_swap (is_among (numbers_of t.splits) number) (is_seen nat_cmp old number)
+    ∙ ap (λ b. b || is_among (numbers_of t.splits) number) (has number)
+    ∙ sym (any_next (λ (e : ℕ × Txn). is_among (numbers_of e.1.splits) number) es i (n, t) there)
+
+-- the rules of a transaction, as a walk asks them
+pub rules_asked :
+    (commodities : List (ℕ × Commodity)) (accounts : List (ℕ × Account)) (reconciliations : List (ℕ × Recon))
+    (seen : List ℕ) (es : List (ℕ × Txn)) (i n : ℕ) (t : Txn) (kept new : Bool) → Rises es
+    → slice_get es i ≡ Some (n, t) → HasNumbers seen (take i es)
+    → kept ≡ (passes_check commodities accounts t && list_all (is_rightly_marked reconciliations) t.splits)
+    → new ≡ are_new seen (numbers_of t.splits)
+    → all_hold (marked_transaction_rules commodities accounts reconciliations es n t) ≡ (kept && new)
+rules_asked commodities accounts reconciliations seen es i n t kept new rise there has asked counted =
+    regrouped (passes_check commodities accounts t) (are_once (numbers_of t.splits))
+    (stands_before (share_numbers t) n es) (list_all (is_rightly_marked reconciliations) t.splits)
+    ∙ ap (λ b. (passes_check commodities accounts t && list_all (is_rightly_marked reconciliations) t.splits)
+    && (are_once (numbers_of t.splits) && not b)) (shares_seen seen es i n t rise there has)
+    ∙ ap (λ b. b && are_new seen (numbers_of t.splits)) (sym asked) ∙ ap (λ b. kept && b) (sym counted)
+  where
+    regrouped : (p o s m : Bool) → (p && (o && (not s && (m && true)))) ≡ ((p && m) && (o && not s))
+    regrouped false o s m = refl
+    regrouped true false s true = refl
+    regrouped true false s false = refl
+    regrouped true true true true = refl
+    regrouped true true true false = refl
+    regrouped true true false true = refl
+    regrouped true true false false = refl
