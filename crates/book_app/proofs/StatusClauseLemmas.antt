@@ -1,5 +1,5 @@
 -- From what holds at a run's end to what holds when the program's work has ended.
-use Rattle.std.proofs.Common.{◌≡◌, ℕ, List, [], Option, IsTrue, Err, refl, sym, subst, arith}
+use Rattle.std.proofs.Common.{◌≡◌, ◌≢◌, ℕ, List, [], Option, IsTrue, Err, refl, sym, subst, arith}
 use Rattle.book_keeper.proofs.StreamLemmas.{Are-some, Wrote-nil}
 use Rattle.book_keeper.specs.declared.row.Row.{Row}
 use Rattle.book_lines.specs.RunClause.{Moment, at, RunClause}
@@ -16,6 +16,7 @@ use Rattle.book_app.specs.Numbers.{status_of, status_unopened}
 use Rattle.book_app.specs.StatusClause.{IsBookRun, IsLineRun, IsSession, IsUntouched, Keeping, NowOpensTo, OpenedTo}
 use Rattle.book_app.specs.StatusClause.{StatusClause}
 use Rattle.book_app.specs.declared.status.Status.{Status}
+use Rattle.book_app.specs.declared.status.Status.TheVariants.{Memory, Usage}
 
 session_clause :
     (keeping : Keeping) (before after : List ℕ → Type 0) (bytes read left text : List ℕ) (ended : RunEnd)
@@ -79,7 +80,7 @@ run_of_nothing keeping input output status holds = let bytes = Are-some input in
   clause = holds bytes.0;
 }
 
-untouched :
+pub untouched :
     (keeping : Keeping) → (IsTrue keeping.sure → (rows : List Row) → keeping.held rows → keeping.holds rows)
     → IsUntouched keeping [] []
 untouched keeping rows = record { input = refl; output = refl; rows = rows }
@@ -94,3 +95,14 @@ unopened_clause keeping output bytes error.Keeper rows opened = untouched keepin
 unopened_clause keeping output bytes (error.BadRows kind id) rows opened = (untouched keeping rows, opened)
 unopened_clause keeping output bytes (error.UnsoundBook kind id) rows opened = (untouched keeping rows, opened)
 unopened_clause keeping output bytes error.OutOfMemory rows opened = untouched keeping rows
+
+-- where the words could not be read
+pub run_without_words :
+    (keeping : Keeping) (input : Option (List ℕ)) (output : List ℕ → Type 0) (status : Status)
+    → (IsTrue keeping.sure → (rows : List Row) → keeping.held rows → keeping.holds rows)
+    → (status ≢ Usage → status ≡ Memory) → IsBookRun keeping input input output output status
+run_without_words keeping input output Usage rows is =
+    run_of_nothing keeping input output Usage (λ bytes. untouched keeping rows)
+run_without_words keeping input output other rows is =
+    subst (λ (s : Status). IsBookRun keeping input input output output s) (sym (is (λ same. cc)))
+    (run_of_nothing keeping input output Memory (λ bytes. untouched keeping rows))

@@ -1,3 +1,4 @@
+pub mod Later
 pub mod Machine
 pub mod Numbers
 pub mod StatusClause

@@ -1,6 +1,5 @@
 -- What holds when the program's work has ended, by its status.
 use Rattle.std.specs.Prelude.{◌≡◌, ℕ, ◌+◌, ◌^◌, ◌≤◌, ⊤, Bool, IsTrue, List, [], ◌++◌, Option, Some, Result, Ok, Err, length}
-use Rattle.std.specs.Prelude.{refl, ◌∙◌}
 use Rattle.book_keeper.specs.Stream.{Are, Wrote}
 use Rattle.book_keeper.specs.declared.row.Row.{Row}
 use Rattle.book_lines.specs.RunClause.{Moment, at, RunClause}
@@ -128,22 +127,3 @@ IsOpenedAt book path (Err (error.BadRows kind id)) = path ≡ book
 IsOpenedAt book path (Err (error.UnsoundBook kind id)) = path ≡ book
 IsOpenedAt book path (Err error.Keeper) = ⊤
 IsOpenedAt book path (Err error.OutOfMemory) = ⊤
-
--- A keeper after lines were answered: its path stays, and it knows its rows only if it did before.
-pub record IsLater {K : Type 0} (path : K → List ℕ) (sure : K → Bool) (before after : K) : Type 0 where
-  pub same_path : path after ≡ path before
-  pub still_sure : IsTrue (sure after) → IsTrue (sure before)
-
--- a keeper is such a one after no line
-pub same_later :
-    {K : Type 0} (path : K → List ℕ) (sure : K → Bool) (keeper : K) → IsLater path sure keeper keeper
-same_later path sure keeper = record { same_path = refl; still_sure = λ still. still }
-
--- and after more lines
-pub twice_later :
-    {K : Type 0} (path : K → List ℕ) (sure : K → Bool) (first second third : K) → IsLater path sure first second
-    → IsLater path sure second third → IsLater path sure first third
-twice_later path sure first second third one other = record {
-  same_path = other.same_path ∙ one.same_path;
-  still_sure = λ still. one.still_sure (other.still_sure still);
-}

@@ -5,7 +5,8 @@ ghost use Rattle.book_lines.specs.RunClause.{at};
 ghost use Rattle.book_engine.specs.Kept.{state_kept};
 ghost use Rattle.book_engine.specs.Opening.{HasOpenCause, Opened};
 ghost use Rattle.book_engine.specs.Standing.{Stands};
-ghost use Rattle.book_app.specs.StatusClause.{HasBookPath, IsBookRun, IsLater, IsLineRun, IsOpenedAt, over};
+ghost use Rattle.book_app.specs.StatusClause.{HasBookPath, IsBookRun, IsLineRun, IsOpenedAt, over};
+ghost use Rattle.book_app.specs.Later.{IsLater};
 ghost use Rattle.book_app.specs.Words.{named_book};
 
 use crate::reply::Answering;

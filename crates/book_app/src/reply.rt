@@ -9,7 +9,7 @@ ghost use Rattle.book_engine.specs.Standing.{Stands};
 ghost use Rattle.book_undo.specs.Room.{HasRoom};
 ghost use Rattle.book_texts.specs.AnswerText.{answer_bytes};
 ghost use Rattle.book_app.specs.Machine.{Changes, IsOutcome, Replies};
-ghost use Rattle.book_app.specs.StatusClause.{IsLater};
+ghost use Rattle.book_app.specs.Later.{IsLater};
 
 use book_commodity::{Bytes, OutOfMemory};
 use book_engine::{Engine, Plan};
@@ -119,7 +119,7 @@ impl<K: Keeper> Machine<Answering, K> for Engine {
     ghost use Rattle.book_engine.specs.Kept.{state_kept};
     ghost use Rattle.book_engine.specs.Standing.{Stands};
     ghost use Rattle.book_app.specs.Machine.{answers as line_answers};
-    ghost use Rattle.book_app.specs.StatusClause.{IsLater, same_later, twice_later};
+    ghost use Rattle.book_app.specs.Later.{IsLater, same_later, twice_later};
 
     ghost answers = { λ old line mark text new. line_answers (state_kept old) line mark text (state_kept new) };
 
