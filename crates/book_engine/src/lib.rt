@@ -13,6 +13,8 @@ mod fresh;
 mod opening;
 mod plan;
 mod planning;
+#[cfg(test)]
+mod tests;
 
 pub use book_command::{Answer, Command, GivenAccount, GivenSplit, GivenTxn, Refusal, Rule, What};
 pub use engine::Engine;
