@@ -98,3 +98,6 @@ fn add_new(seen: &mut Seen<u64>, splits: &[Split]) -> Result<bool, OutOfMemory>
     }
     Ok(true)
 }
+
+#[cfg(test)]
+mod tests;
