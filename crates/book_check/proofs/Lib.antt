@@ -1,9 +1,15 @@
 pub mod AccountLemmas
+pub mod AnyLemmas
+pub mod HeadLemmas
 pub mod KeyLemmas
+pub mod LineLemmas
 pub mod MarkLemmas
 pub mod NumberLemmas
 pub mod OnceLemmas
+pub mod ReconciliationLemmas
+pub mod RowKeyLemmas
 pub mod SeenLemmas
+pub mod SplitMapLemmas
 pub mod Unsound
 pub mod WalkLemmas
 pub mod Worked

@@ -42,10 +42,6 @@ first_of_table rules most entries = first_in rules most (λ _. 0) 0 0 0 entries
 abbrev pub keeps : {T : Type 0} → (ℕ → T → List Bool) → ℕ × T → Bool
 keeps rules entry = all_hold (rules entry.0 entry.1)
 
--- Whether an entry stands before a number, and passes a test.
-abbrev pub is_before : {T : Type 0} → (T → Bool) → ℕ → ℕ × T → Bool
-is_before test number entry = nat_lt entry.0 number && test entry.1
-
 -- Whether each number of a table is below the next.
 abbrev pub are_below : {T : Type 0} → ℕ → List (ℕ × T) → Bool
 are_below next entries = list_all (λ entry. nat_lt entry.0 next) entries
@@ -79,12 +75,11 @@ key_in kind number = option_map (λ id. record { kind = kind; id = id }) number
 abbrev pub splits_in : Txn → ℕ
 splits_in transaction = length transaction.splits
 
--- The first unsound key of the head and of each table, in the order of the kinds: a thing there breaks a rule of its
--- kind, or goes past a limit of this project.
-abbrev pub unsound_keys : Book → ℕ → List (Option RowKey)
-unsound_keys book next =
-    broken_where (not (all_hold (head_rules book next))) (record { kind = 1; id = 0 })
-    ∷ key_in 2 (first_of_table (commodity_rules book.commodities) 10000 book.commodities)
+-- The first unsound key of each table, in the order of the kinds: a thing there breaks a rule of its kind, or goes past
+-- a limit of this project.
+abbrev pub thing_keys : Book → List (Option RowKey)
+thing_keys book =
+    key_in 2 (first_of_table (commodity_rules book.commodities) 10000 book.commodities)
     ∷ key_in 3 (first_of_table (account_rules book.commodities book.accounts) 10000 book.accounts)
     ∷ key_in 4 (first_in
     (marked_transaction_rules book.commodities book.accounts book.reconciliations book.transactions)
@@ -97,6 +92,11 @@ unsound_keys book next =
     ∷ key_in 9 (first_of_table (binding_rules book.accounts book.bindings) 10000 book.bindings)
     ∷ key_in 10 (first_of_table (reconciliation_rules book.accounts) 100000 book.reconciliations)
     ∷ []
+
+-- The same with that of the head before them.
+abbrev pub unsound_keys : Book → ℕ → List (Option RowKey)
+unsound_keys book next =
+    broken_where (not (all_hold (head_rules book next))) (record { kind = 1; id = 0 }) ∷ thing_keys book
 
 -- The first key at which a book isn't sound, or a number isn't below the next.
 abbrev pub first_unsound : Book → ℕ → Option RowKey

@@ -16,7 +16,7 @@ use std::alloc::Global;
 const MOST: usize = 10_000;
 
 /// The first number at which an account breaks a rule of its kind, or is one too many.
-pub fn first_account(
+pub(crate) fn first_account(
     alloc: Global,
     commodities: &Commodities,
     accounts: &Tree,
@@ -53,7 +53,7 @@ fn key_of(account: &Account) -> (Option<u64>, &str)
 }
 
 /// The number of the root.
-fn root_of(accounts: &Tree) -> Option<u64>
+pub(crate) fn root_of(accounts: &Tree) -> Option<u64>
     ensures { result ≡ root_of accounts.now.entries }
 {
     for place in 0..accounts.len() {
@@ -142,6 +142,3 @@ fn parent_of(accounts: &Tree, number: u64) -> Option<u64>
         None => None,
     }
 }
-
-#[cfg(test)]
-mod tests;

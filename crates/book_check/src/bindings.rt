@@ -13,7 +13,7 @@ use std::alloc::Global;
 const MOST: usize = 10_000;
 
 /// The first number at which a binding breaks a rule of its kind, or is one too many.
-pub fn first_binding(
+pub(crate) fn first_binding(
     alloc: Global,
     accounts: &Tree,
     bindings: &Table<Binding>,

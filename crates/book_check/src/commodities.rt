@@ -13,7 +13,10 @@ use std::alloc::Global;
 const MOST: usize = 10_000;
 
 /// The first number at which a commodity breaks a rule of its kind, or is one too many.
-pub fn first_commodity(alloc: Global, commodities: &Commodities) -> Result<Option<u64>, OutOfMemory>
+pub(crate) fn first_commodity(
+    alloc: Global,
+    commodities: &Commodities,
+) -> Result<Option<u64>, OutOfMemory>
     ensures { IfOk result (λ found. found ≡ first_of_table
         (commodity_rules commodities.now.entries) 10000 commodities.now.entries) }
 {

@@ -1,23 +1,26 @@
-//! Which key of a book is the first at which it is not sound: the rules are those of `book_sound`, asked key by key.
-//! A book has no such key exactly where it is sound and all its numbers are drawn. So far the commodities, accounts,
-//! transactions, prices, statements and bindings are asked. What may stand once is looked up in a set of the keys that
-//! were seen, so that a walk over n things takes time n log n; the set takes memory.
+//! Which key of a book is the first at which it is not sound: the rules are those of `book_sound`, asked key by key,
+//! from the head and the commodities to the reconciliations. `first_unsound` finds that key and no other, and finds
+//! none exactly where the book is sound and all its numbers are drawn; it changes nothing, and fails only when it is
+//! out of memory. What may stand once is looked up in a set of the keys that were seen, and a split by its number in a
+//! map, so that a walk over n things takes time n log n; set and map take memory.
 #![tactic(auto)]
 
 mod accounts;
 mod bindings;
+mod book;
 mod commodities;
+mod head;
+mod lines;
 mod marks;
+mod passes;
 mod prices;
+mod reconciliations;
+mod schedules;
 mod seen;
+mod splits;
 mod statements;
 #[cfg(test)]
 mod tests;
 mod transactions;
 
-pub use accounts::first_account;
-pub use bindings::first_binding;
-pub use commodities::first_commodity;
-pub use prices::first_price;
-pub use statements::first_statement;
-pub use transactions::first_transaction;
+pub use book::first_unsound;

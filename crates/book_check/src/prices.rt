@@ -16,7 +16,7 @@ use std::alloc::Global;
 const MOST: usize = 1_000_000;
 
 /// The first number at which a price breaks a rule of its kind, or is one too many.
-pub fn first_price(
+pub(crate) fn first_price(
     alloc: Global,
     commodities: &Commodities,
     prices: &Prices,

@@ -25,7 +25,7 @@ type StatementKey<'a> = (
 );
 
 /// The first number at which a statement breaks a rule of its kind, or is one too many.
-pub fn first_statement(
+pub(crate) fn first_statement(
     alloc: Global,
     accounts: &Tree,
     statements: &Table<Held>,

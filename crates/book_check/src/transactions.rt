@@ -9,10 +9,11 @@ ghost use Rattle.book_check.specs.Marks.{HasMarks};
 ghost use Rattle.book_check.specs.Numbers.{AddsAll, are_new};
 
 use crate::marks::{MarkKey, are_marked, marks_of};
+use crate::passes::passes_check;
 use crate::seen::Seen;
 use book_accounts::Tree;
 use book_commodity::{Commodities, OutOfMemory, Table};
-use book_splits::{Recon, Split, Txn, Txns, check_txn};
+use book_splits::{Recon, Split, Txn, Txns};
 use std::alloc::Global;
 
 /// How many transactions a book has at most.
@@ -22,7 +23,7 @@ const MOST: usize = 200_000;
 const MOST_SPLITS: usize = 1_000_000;
 
 /// The first number at which a transaction breaks a rule of its kind, or is one too many, or has a split too many.
-pub fn first_transaction(
+pub(crate) fn first_transaction(
     alloc: Global,
     commodities: &Commodities,
     accounts: &Tree,
@@ -79,13 +80,6 @@ fn is_kept(
         && are_marked(reconciliations, marks, transaction.splits.as_slice())
 }
 
-/// Whether the transaction breaks no rule of transactions among these commodities and accounts.
-fn passes_check(commodities: &Commodities, accounts: &Tree, transaction: &Txn) -> bool
-    ensures { result ≡ passes_check commodities.now.entries accounts.now.entries transaction.now }
-{
-    check_txn(commodities, accounts, transaction).is_ok()
-}
-
 /// Adds the numbers of the splits, and says whether each is new.
 fn add_new(seen: &mut Seen<u64>, splits: &[Split]) -> Result<bool, OutOfMemory>
     ensures new { IfOk result (λ new. new ≡ are_new seen.old (numbers_of splits.now)) }
@@ -98,6 +92,3 @@ fn add_new(seen: &mut Seen<u64>, splits: &[Split]) -> Result<bool, OutOfMemory>
     }
     Ok(true)
 }
-
-#[cfg(test)]
-mod tests;

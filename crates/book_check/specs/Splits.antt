@@ -1,0 +1,26 @@
+-- The splits of a book by their numbers, as lines are matched with them.
+use Rattle.std.specs.Prelude.{◌≡◌, ℕ, ℤ, ◌==◌, Bool, false, ◌&&◌, List, ◌++◌, Option, Some, None, option_map}
+use Rattle.std.specs.BTreeMap.{get}
+use Rattle.std.specs.Ordering.{int_eq, nat_cmp}
+use Rattle.book_splits.specs.declared.split.Split.{Split}
+use Rattle.book_sound.specs.LineRules.{split_among}
+use Rattle.book_check.specs.declared.splits.Quantity.{Quantity}
+use Rattle.book_check.specs.declared.splits.Splits.{Splits}
+
+-- What a split gives to its account.
+abbrev pub quantity_of : Split → Quantity
+quantity_of split = record { account = split.account; quantity = split.quantity }
+
+-- Whether there is a split, and it gives this quantity to the account.
+abbrev pub fits_quantity : ℕ → ℤ → Option Quantity → Bool
+fits_quantity account quantity None = false
+fits_quantity account quantity (Some split) = (split.account == account) && int_eq split.quantity quantity
+
+-- The map has what each number's first split gives, and nothing more.
+abbrev pub HasSplits : List Split → Splits → Type 0
+HasSplits splits map =
+    (number : ℕ) → get nat_cmp map.quantities number ≡ option_map quantity_of (split_among number splits)
+
+-- The new map has these splits besides those that the old one has, and before them.
+abbrev pub PutsBefore : List Split → Splits → Splits → Type 0
+PutsBefore splits old new = (rest : List Split) → HasSplits rest old → HasSplits (splits ++ rest) new
