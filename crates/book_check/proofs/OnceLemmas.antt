@@ -1,4 +1,5 @@
--- The rules of a thing that may stand once, as a walk asks them: those of the thing alone, and then whether it was seen.
+-- The rules of a thing that may stand once, as a walk asks them: those of the thing alone, and then whether it was
+-- seen.
 use Rattle.std.proofs.Common.{◌≡◌, ℕ, not, Bool, true, false, ◌&&◌, List, [], ◌∷◌, refl, sym, ap, ◌∙◌}
 use Rattle.book_commodity.specs.CommodityRules.{commodity_rules, has_fraction, has_same_pair}
 use Rattle.book_commodity.specs.Currency.{is_currency_of}
@@ -36,7 +37,9 @@ last_alone true true = refl
 last_alone true false = refl
 last_alone false s = refl
 
-last_of_five : (a b c d s : Bool) → (a && (b && (c && (d && (not s && true))))) ≡ ((a && (b && (c && (d && true)))) && not s)
+last_of_five :
+    (a b c d s : Bool)
+    → (a && (b && (c && (d && (not s && true))))) ≡ ((a && (b && (c && (d && true)))) && not s)
 last_of_five false b c d s = refl
 last_of_five true false c d s = refl
 last_of_five true true false d s = refl

@@ -441,6 +441,11 @@ fn of_parents(rt: HostRuntime) -> Result<(), Fail> {
             6
         )?
     );
+    let cycle = account(alloc, "Assets", AccountKind::Asset, Some(3), true)?;
+    assert!(rt;
+        finds(alloc, 5, Thing::Account(cycle), 3, 3)?,
+        "3 under 5 under 3"
+    );
     Ok(())
 }
 
@@ -463,6 +468,8 @@ fn of_marks(rt: HostRuntime) -> Result<(), Fail> {
     assert!(rt; finds(alloc, 17, single(alloc, by_none)?, 4, 17)?);
     let unlisted = marked(alloc, 17, Mark::Reconciled, Some(19));
     assert!(rt; finds(alloc, 17, single(alloc, unlisted)?, 4, 17)?);
+    let of_the_rent = reconciled(alloc, 4, 1_000, 11)?;
+    assert!(rt; finds(alloc, 19, Thing::Recon(of_the_rent), 4, 10)?);
     let unmarked = marked(alloc, 17, Mark::New, Some(19));
     assert!(rt; finds(alloc, 17, single(alloc, unmarked)?, 4, 17)?);
     let mut plain = sound(alloc)?;
