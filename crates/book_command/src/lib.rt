@@ -1,6 +1,6 @@
 //! What a command asks, what an accepted command is answered, the rules that can refuse one, and why a line is no
-//! command, as plain types. Public are `Command` with its `What` and the values given in it, `Answer`, `Rule`,
-//! `Refusal` and `WireError`.
+//! command, as plain types; and the words of commands. Public are `Command` with its `What` and the values given in
+//! it, `Answer`, `Rule`, `Refusal`, `WireError`, `Word` and `words`.
 #![tactic(auto)]
 
 mod answer;
@@ -8,9 +8,11 @@ mod command;
 mod refusal;
 mod rule;
 mod wire_error;
+mod word;
 
 pub use answer::Answer;
 pub use command::{Command, GivenAccount, GivenSplit, GivenTxn, What};
 pub use refusal::Refusal;
 pub use rule::Rule;
 pub use wire_error::WireError;
+pub use word::{Word, words};

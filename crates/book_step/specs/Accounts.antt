@@ -145,12 +145,12 @@ abbrev pub becomes_placeholder : Account → Account → Bool
 becomes_placeholder old new = not old.placeholder && new.placeholder
 
 -- An account with splits takes splits (GnuCash Concepts Guide, placeholder accounts).
-abbrev pub has_split : List (ℕ × Txn) → ℕ → Option Rule
-has_split transactions number = broken_where (has_splits transactions number) (NotEmpty number)
+abbrev pub takes_splits : List (ℕ × Txn) → ℕ → Option Rule
+takes_splits transactions number = broken_where (has_splits transactions number) (NotEmpty number)
 
 -- The rules of an account that becomes a placeholder: it has no split, and nothing else of the book names it.
 abbrev pub placeholder_rules : Bool → Book → ℕ → List (Option Rule)
-placeholder_rules true book number = has_split book.transactions number ∷ in_use_rules book number
+placeholder_rules true book number = takes_splits book.transactions number ∷ in_use_rules book number
 placeholder_rules false book number = []
 
 -- The rules of an edit: the new parent is in the book, the account isn't the root, it may stand in the tree with its

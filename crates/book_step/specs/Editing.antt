@@ -124,14 +124,14 @@ is_same_part split other =
     (other.id == split.id) && ((other.account == split.account) && int_eq other.quantity split.quantity)
 
 -- Whether a reconciled split is none of these splits, or has another account or quantity among them.
-abbrev pub is_lost : List Split → Split → Bool
-is_lost later split = is_reconciled split.mark && not (list_any (is_same_part split) later)
+abbrev pub loses_reconciliation : List Split → Split → Bool
+loses_reconciliation later split = is_reconciled split.mark && not (list_any (is_same_part split) later)
 
 -- Without force a reconciled split is neither removed nor moved to another account or quantity (GnuCash Manual,
 -- changing a reconciled split). The first by place is reported.
 abbrev pub reconciled : Bool → List Split → List Split → Option Rule
 reconciled true splits later = None
-reconciled false splits later = option_map (λ split. Reconciled split.id) (find (is_lost later) splits)
+reconciled false splits later = option_map (λ split. Reconciled split.id) (find (loses_reconciliation later) splits)
 
 -- ---- the edit
 

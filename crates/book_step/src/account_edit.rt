@@ -1,8 +1,8 @@
 ghost use Rattle.std.specs.Prelude.{◌≡◌, [], ◌∷◌, Some, IfOk, unwrap_or};
 ghost use Rattle.book_commodity.specs.Rules.{ReportsFirst};
 ghost use Rattle.book_commodity.specs.Table.{value_of};
-ghost use Rattle.book_step.specs.Accounts.{account_edit, account_edit_of, becomes_placeholder, edit_rules, has_split};
-ghost use Rattle.book_step.specs.Accounts.{moved_rule, placeholder_rules, same_fields, with_given};
+ghost use Rattle.book_step.specs.Accounts.{account_edit, account_edit_of, becomes_placeholder, edit_rules};
+ghost use Rattle.book_step.specs.Accounts.{moved_rule, placeholder_rules, same_fields, takes_splits, with_given};
 ghost use Rattle.book_step.specs.Outcome.{StepsTo};
 
 use crate::accounts::{check_given, check_not_root, known};
@@ -134,7 +134,7 @@ fn check_placeholder(
 
 /// The account has no split.
 fn check_without_splits(present: &Present, number: u64) -> Result<(), Rule>
-    ensures { ReportsFirst (has_split present.now.book.transactions number ∷ []) result }
+    ensures { ReportsFirst (takes_splits present.now.book.transactions number ∷ []) result }
 {
     if has_splits(&present.plain.transactions, number) {
         return Err(Rule::NotEmpty { account: number });

@@ -4,7 +4,7 @@ ghost use Rattle.book_undo.specs.Edit.{edited, together};
 ghost use Rattle.book_undo.specs.declared.edit.Edit.{Gone, Put};
 ghost use Rattle.book_undo.specs.declared.thing.Thing.TheVariants as thing;
 ghost use Rattle.book_undo.specs.declared.thing.ThingKind.TheVariants as kind;
-ghost use Rattle.book_sound.specs.Dismissal.{dismissed, dismissing, is_lost, is_lost_split, loses_split, stays_as};
+ghost use Rattle.book_sound.specs.Dismissal.{dismissed, dismissing, is_lost_split, loses_split, stays_as};
 ghost use Rattle.book_step.specs.Editing.{book_with, book_without};
 
 use crate::edited_splits::find_split;
@@ -85,13 +85,16 @@ fn loses_split(old: &[Split], new: &[Split], line: &Line) -> bool
     ensures { result ≡ loses_split old.now new.now line.now }
 {
     match line.state {
-        LineState::Matched(number) => is_lost(find_split(old, number), find_split(new, number)),
+        LineState::Matched(number) => is_lost_split(
+            find_split(old, number),
+            find_split(new, number),
+        ),
         LineState::Open | LineState::Dismissed => false,
     }
 }
 
 /// Whether there was a split that is gone, or whose account or quantity is another.
-fn is_lost(old: Option<&Split>, new: Option<&Split>) -> bool
+fn is_lost_split(old: Option<&Split>, new: Option<&Split>) -> bool
     ensures { result ≡ is_lost_split (option_copied old.entry) (option_copied new.entry) }
 {
     match old {
@@ -121,3 +124,6 @@ fn together(edit: Edit, more: Vec<Edit>) -> Result<Edit, OutOfMemory>
     edits.insert(0, edit)?;
     Ok(Edit::All(Many::of(edits)))
 }
+
+#[cfg(test)]
+mod tests;

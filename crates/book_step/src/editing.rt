@@ -4,7 +4,7 @@ ghost use Rattle.book_commodity.specs.Rules.{ReportsFirst};
 ghost use Rattle.book_commodity.specs.Table.{value_of};
 ghost use Rattle.book_splits.specs.SplitCount.{splits_in};
 ghost use Rattle.book_step.specs.Editing.{drawn_by, drop_transaction, edit_of, edit_transaction, edited_transaction};
-ghost use Rattle.book_step.specs.Editing.{is_lost, is_same_part, number_rules, reconciled, too_many_after};
+ghost use Rattle.book_step.specs.Editing.{is_same_part, loses_reconciliation, number_rules, reconciled, too_many_after};
 ghost use Rattle.book_step.specs.Editing.{unknown_transaction};
 ghost use Rattle.book_step.specs.Outcome.{StepsTo};
 ghost use Rattle.book_step.specs.Posting.{broken_by};
@@ -131,7 +131,7 @@ fn check_reconciled(force: bool, splits: &[Split], later: &[Split]) -> Result<()
         return Ok(());
     }
     for split in splits {
-        if is_lost(later, split) {
+        if loses_reconciliation(later, split) {
             return Err(Rule::Reconciled { split: split.id });
         }
     }
@@ -139,8 +139,8 @@ fn check_reconciled(force: bool, splits: &[Split], later: &[Split]) -> Result<()
 }
 
 /// Whether the split is reconciled, and none of the later ones is the same part.
-fn is_lost(later: &[Split], split: &Split) -> bool
-    ensures { result ≡ is_lost later.now split.now }
+fn loses_reconciliation(later: &[Split], split: &Split) -> bool
+    ensures { result ≡ loses_reconciliation later.now split.now }
 {
     is_reconciled(split.mark) && !has_part(later, split)
 }

@@ -1,20 +1,32 @@
-ghost use Rattle.std.specs.Prelude.{◌≡◌, [], None, IfOk, false};
-ghost use Rattle.book_step.specs.Soundness.{IsSound};
-ghost use Rattle.book_step.specs.State.{euro, fresh_state, root, state_of};
+ghost use Rattle.std.specs.Prelude.{◌≡◌, IfOk};
+ghost use Rattle.book_undo.specs.Book.{book_of};
+ghost use Rattle.book_step.specs.State.{euro, fresh_book, root};
 
 use crate::{Answer, Command, GivenAccount, GivenSplit, GivenTxn, Refusal, Rule, What, step_of};
 use book_accounts::{Account, AccountKind};
 use book_commodity::{Commodity, Day, Many, OutOfMemory, Text};
 use book_undo::Plain;
 use std::alloc::Global;
+use std::marker::Model;
 use std::test::Fail;
 
-/// A book with the next number and the version.
+/// A book with the next number and the version. Contracts see the state, which is sound.
 #[derive(Drop)]
 struct Machine {
     plain: Plain,
     next: u64,
     version: u64,
+}
+
+impl Model for Machine {
+    ghost use Rattle.book_step.specs.State.{State, state_of};
+    ghost use Rattle.book_step.specs.Soundness.{IsSound};
+
+    ghost Value = { State };
+
+    ghost view = { λ m. state_of m.plain m.next m.version };
+
+    ghost invariant = { λ m. IsSound (state_of m.plain m.next m.version) };
 }
 
 fn text(alloc: Global, text: &str) -> Result<Text, OutOfMemory>
@@ -50,9 +62,9 @@ fn root(alloc: Global) -> Result<Account, OutOfMemory>
     })
 }
 
-/// The machine in which each run begins.
-fn fresh(alloc: Global) -> Result<Machine, OutOfMemory>
-    ensures { IfOk result (λ machine. state_of machine.plain machine.next machine.version ≡ fresh_state) }
+/// The book in which each run begins.
+fn fresh_book(alloc: Global) -> Result<Plain, OutOfMemory>
+    ensures { IfOk result (λ plain. book_of plain ≡ fresh_book) }
 {
     let mut plain = Plain::new(alloc, 1);
     plain.commodities.reserve(1)?;
@@ -61,26 +73,21 @@ fn fresh(alloc: Global) -> Result<Machine, OutOfMemory>
         .put(1, commodity(alloc, "CURRENCY", "EUR")?);
     plain.accounts.reserve(1)?;
     plain.accounts.put(2, root(alloc)?);
-    Ok(Machine {
-        plain,
-        next: 3,
-        version: 0,
-    })
-}
-
-/// The same machine, whose state is sound.
-fn begun(alloc: Global) -> Result<Machine, OutOfMemory>
-    ensures { IfOk result (λ machine. IsSound (state_of machine.plain machine.next machine.version)) }
-{
-    fresh(alloc)
+    Ok(plain)
 }
 
 impl Machine {
+    /// The machine in which each run begins.
+    fn begin(alloc: Global) -> Result<Machine, OutOfMemory> {
+        Ok(Machine {
+            plain: fresh_book(alloc)?,
+            next: 3,
+            version: 0,
+        })
+    }
+
     /// Takes the command, and changes the book by its step.
-    fn take(&mut self, alloc: Global, what: What) -> Result<Answer, Refusal>
-        requires { IsSound (state_of self.old.plain self.old.next self.old.version) }
-        ensures { IsSound (state_of self.new.plain self.new.next self.new.version) }
-    {
+    fn take(&mut self, alloc: Global, what: What) -> Result<Answer, Refusal> {
         let at = Some(self.version);
         let step = step_of(
             alloc,
@@ -94,6 +101,11 @@ impl Machine {
         self.next = step.next;
         self.plain.apply(step.edit);
         Ok(step.answer)
+    }
+
+    /// Whether these are the next number and the version.
+    fn is_at(&self, next: u64, version: u64) -> bool {
+        self.next == next && self.version == version
     }
 }
 
@@ -141,20 +153,20 @@ fn nothing_moved(alloc: Global, account: u64) -> Result<GivenTxn, OutOfMemory> {
 #[test]
 fn commodities_are_taken(rt: HostRuntime) -> Result<(), Fail> {
     let alloc = rt.alloc();
-    let mut machine = begun(alloc)?;
+    let mut machine = Machine::begin(alloc)?;
     let euro = machine.take(alloc, What::BookCurrency { commodity: 1 })?;
     assert!(rt; matches!(euro, Answer::BookCurrency));
     let commodity = commodity(alloc, "NYSE", "ACME")?;
     let added = machine.take(alloc, What::CommodityAdd { commodity })?;
     assert!(rt; matches!(added, Answer::CommodityAdd { commodity: 3 }));
-    assert!(rt; machine.next == 4 && machine.version == 1);
+    assert!(rt; machine.is_at(4, 1));
     Ok(())
 }
 
 #[test]
 fn accounts_are_taken(rt: HostRuntime) -> Result<(), Fail> {
     let alloc = rt.alloc();
-    let mut machine = begun(alloc)?;
+    let mut machine = Machine::begin(alloc)?;
     let bank = machine.take(alloc, bank(alloc, "Bank")?)?;
     assert!(rt; matches!(bank, Answer::AccountAdd { account: 3 }));
     let given = renamed(alloc, "Checking")?;
@@ -162,7 +174,7 @@ fn accounts_are_taken(rt: HostRuntime) -> Result<(), Fail> {
     assert!(rt; matches!(edited, Answer::AccountEdit));
     let dropped = machine.take(alloc, What::AccountDrop { account: 3 })?;
     assert!(rt; matches!(dropped, Answer::AccountDrop));
-    assert!(rt; machine.next == 4 && machine.version == 3);
+    assert!(rt; machine.is_at(4, 3));
     Ok(())
 }
 
@@ -170,7 +182,7 @@ fn accounts_are_taken(rt: HostRuntime) -> Result<(), Fail> {
 fn posts_are_taken(rt: HostRuntime) -> Result<(), Fail> {
     let alloc = rt.alloc();
     let day = Day::of_number(19_732).ok_or("a day of the range")?;
-    let mut machine = begun(alloc)?;
+    let mut machine = Machine::begin(alloc)?;
     let bank = machine.take(alloc, bank(alloc, "Bank")?)?;
     assert!(rt; matches!(bank, Answer::AccountAdd { account: 3 }));
     let given = nothing_moved(alloc, 3)?;

@@ -10,7 +10,7 @@ use Rattle.book_commodity.specs.declared.kind.Kind.TheVariants.{Reconciliation}
 use Rattle.book_texts.specs.AnswerText.{answer_bytes}
 use Rattle.book_texts.specs.RefusedText.{fault_bytes, too_long_bytes}
 use Rattle.book_texts.specs.RuleText.{rule_bytes}
-use Rattle.book_texts.specs.Words.{kind_word, limit_word}
+use Rattle.book_texts.specs.Words.{kind_word, limit_word, word_text}
 
 -- the number stands before the kind, in byte order
 unknown_bytes : rule_bytes (Unknown Reconciliation 7) 9
@@ -34,7 +34,7 @@ long_bytes = refl
 
 edit_bytes : answer_bytes (Edit 5 (6 ∷ 9 ∷ []) (pos 3 ∷ negsuc 2 ∷ [])) 4
     ≡ codes "{\"balances\":[\"3\",\"-3\"],\"ok\":\"edit\",\"splits\":[6,9],\"version\":4}"
-unfolding digits serde_json_on_literals
+unfolding digits word_text serde_json_on_literals
 edit_bytes = refl
 
 reconciled_bytes : rule_bytes (Reconciled 6) 5 ≡ codes "{\"broken\":\"Reconciled\",\"split\":6,\"version\":5}"

@@ -3,7 +3,9 @@ use Rattle.std.specs.Prelude.{ℕ, List, [], ◌∷◌, codes}
 use Rattle.serde_json.specs.Data.{Data, Members, no_members, object, put, string}
 use Rattle.serde_json.specs.View.{members_view}
 use Rattle.serde_json.specs.Written.{compact_text}
+use Rattle.book_command.specs.declared.word.Word.{Word}
 use Rattle.book_texts.specs.Shown.{number_data}
+use Rattle.book_texts.specs.Words.{word_text}
 use Rattle.book_texts.specs.declared.fields.Fields.{Fields}
 
 -- Members with further ones, each put at its place in the byte order of the names.
@@ -12,9 +14,9 @@ with_all members [] = members
 with_all members (field ∷ fields) = with_all (put field.0 field.1 members) fields
 
 -- What an accepted command is answered: its word under "ok", the version after it, and its own fields.
-abbrev pub answered : List ℕ → List (List ℕ × Data) → ℕ → Members
+abbrev pub answered : Word → List (List ℕ × Data) → ℕ → Members
 answered word own version =
-    with_all no_members ((codes "ok", string word) ∷ (codes "version", number_data version) ∷ own)
+    with_all no_members ((codes "ok", string (word_text word)) ∷ (codes "version", number_data version) ∷ own)
 
 -- What a command that would break a rule is answered: the rule's name under "broken", the version, which stays, and
 -- the rule's own fields.

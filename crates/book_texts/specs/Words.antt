@@ -1,4 +1,4 @@
--- The words for kinds of things and for what has a limit.
+-- The words of commands, for kinds of things and for what has a limit.
 use Rattle.std.specs.Prelude.{ℕ, List, [], ◌∷◌, codes}
 use denote.Enum.Bare.{sameb}
 use Rattle.serde_json.specs.Data.{Data, string}
@@ -13,6 +13,13 @@ use Rattle.book_commodity.specs.declared.kind.Kind.TheVariants.{Schedule, Statem
 use Rattle.book_commodity.specs.contracts.counted.Counted as counted
 use Rattle.book_commodity.specs.contracts.kind.Kind as kind
 use Rattle.book_json.specs.Words.{word_of}
+use Rattle.book_command.specs.Words.{words}
+use Rattle.book_command.specs.declared.word.Word.{Word}
+use Rattle.book_command.specs.contracts.word.Word as command
+
+-- The text of a command's word; two words are one where they have one name.
+unfoldable pub word_text : Word → List ℕ
+word_text = word_of (sameb command.the_type) words
 
 -- The words for kinds of things.
 abbrev pub kinds : List (List ℕ × Kind)

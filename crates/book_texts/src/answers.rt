@@ -6,7 +6,7 @@ use crate::accounts::account_add;
 use crate::commodities::commodity_add;
 use crate::fields::Fields;
 use crate::posting::{edit, post};
-use book_command::Answer;
+use book_command::{Answer, Word};
 use book_commodity::{Bytes, OutOfMemory};
 use std::alloc::{AllocError, Global};
 
@@ -22,11 +22,11 @@ fn answer_fields(alloc: Global, answer: &Answer, version: u64) -> Result<Fields,
     ensures { IfOk result (λ fields. members_of fields ≡ answer_members answer.now version) }
 {
     match answer {
-        Answer::BookCurrency => Fields::answered(alloc, "book_currency", version),
+        Answer::BookCurrency => Fields::answered(alloc, Word::BookCurrency, version),
         Answer::CommodityAdd { commodity } => commodity_add(alloc, *commodity, version),
         Answer::AccountAdd { account } => account_add(alloc, *account, version),
-        Answer::AccountEdit => Fields::answered(alloc, "account_edit", version),
-        Answer::AccountDrop => Fields::answered(alloc, "account_drop", version),
+        Answer::AccountEdit => Fields::answered(alloc, Word::AccountEdit, version),
+        Answer::AccountDrop => Fields::answered(alloc, Word::AccountDrop, version),
         Answer::Post {
             transaction,
             splits,
@@ -37,6 +37,6 @@ fn answer_fields(alloc: Global, answer: &Answer, version: u64) -> Result<Fields,
             splits,
             balances,
         } => edit(alloc, splits, balances, version),
-        Answer::Drop => Fields::answered(alloc, "drop", version),
+        Answer::Drop => Fields::answered(alloc, Word::Drop, version),
     }
 }

@@ -3,6 +3,8 @@ ghost use Rattle.serde_json.specs.View.{members_view};
 ghost use Rattle.serde_json.specs.Written.{members_have_float};
 
 use crate::shown::Shown;
+use crate::words::word_text;
+use book_command::Word;
 use book_commodity::{Bytes, OutOfMemory};
 use serde_json::value::Map;
 use serde_json::{Value, put};
@@ -35,10 +37,10 @@ impl Fields {
     }
 
     /// What every accepted command is answered: its word and the version after it.
-    pub fn answered(alloc: Global, word: &str, version: u64) -> Result<Fields, AllocError>
-        ensures { IfOk result (λ fields. members_of fields ≡ answered_members word.now [] version) }
+    pub fn answered(alloc: Global, word: Word, version: u64) -> Result<Fields, AllocError>
+        ensures { IfOk result (λ fields. members_of fields ≡ answered_members word [] version) }
     {
-        let answered = Fields::new(alloc).with_text("ok", word)?;
+        let answered = Fields::new(alloc).with_text("ok", word_text(word))?;
         Ok(answered.with("version", &version)?)
     }
 

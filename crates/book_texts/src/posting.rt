@@ -3,6 +3,7 @@ ghost use Rattle.book_texts.specs.Fields.{members_of};
 ghost use Rattle.book_texts.specs.Posting.{edit, post};
 
 use crate::fields::Fields;
+use book_command::Word;
 use book_commodity::Many;
 use std::alloc::{AllocError, Global};
 
@@ -16,7 +17,7 @@ pub(crate) fn post(
 ) -> Result<Fields, AllocError>
     ensures { IfOk result (λ fields. members_of fields ≡ post transaction splits.now balances.now version) }
 {
-    let fields = Fields::answered(alloc, "post", version)?;
+    let fields = Fields::answered(alloc, Word::Post, version)?;
     let fields = fields.with("balances", balances)?;
     let fields = fields.with("splits", splits)?;
     Ok(fields.with("transaction", &transaction)?)
@@ -31,7 +32,7 @@ pub(crate) fn edit(
 ) -> Result<Fields, AllocError>
     ensures { IfOk result (λ fields. members_of fields ≡ edit splits.now balances.now version) }
 {
-    let edited = Fields::answered(alloc, "edit", version)?;
+    let edited = Fields::answered(alloc, Word::Edit, version)?;
     let edited = edited.with("balances", balances)?;
     Ok(edited.with("splits", splits)?)
 }

@@ -1,7 +1,8 @@
 ghost use Rattle.std.specs.Prelude.{◌≡◌, refl};
-ghost use Rattle.book_texts.specs.Words.{kind_data, kind_word, limit_data, limit_word};
+ghost use Rattle.book_texts.specs.Words.{kind_data, kind_word, limit_data, limit_word, word_text};
 
 use crate::shown::Shown;
+use book_command::{Word, words};
 use book_commodity::{Counted, Kind};
 use book_json::word_of;
 use serde_json::Value;
@@ -73,4 +74,12 @@ fn limit_text(which: Counted) -> &'static str
     ensures { result.now ≡ limit_word which }
 {
     word_of(&LIMITS, which)
+}
+
+/// The text of a command's word.
+#[tactic(auto, unfolding(crate::specs::Words::word_text))]
+pub(crate) fn word_text(word: Word) -> &'static str
+    ensures { result.now ≡ word_text word }
+{
+    word_of(words(), word)
 }

@@ -3,7 +3,7 @@ use Rattle.std.proofs.Common.{◌≡◌, [], Some, None, Ok, Err, codes, false, 
 use Rattle.serde_json.specs.Data.{Members, null, number, string, array, object, no_items, no_members, member, unsigned}
 use Rattle.book_command.specs.declared.command.What.TheVariants as what
 use Rattle.book_wire.specs.Asked.{Asks, NotCommand, NotBuilt, asked_of_data}
-use Rattle.book_wire.specs.Commands.{command_form}
+use Rattle.book_wire.specs.Commands.{word_form}
 use Rattle.book_wire.specs.Posting.{split, kept_split}
 use Rattle.book_json.specs.Members.{complete, ends, flag, needed, optional, text}
 use Rattle.book_json.specs.Forms.{whole, whole_signed}
@@ -18,14 +18,14 @@ no_word = refl
 -- whether a command is built is asked before its other members are read
 later_word : asked_of_data
     (object (member (codes "at") null (member (codes "do") (string (codes "undo")) no_members))) ≡ NotBuilt
-unfolding needed command_form
+unfolding needed word_form
 later_word = refl
 
 -- the version is read before the members of the command
 version_first : asked_of_data
     (object (member (codes "at") null (member (codes "do") (string (codes "account_drop")) no_members)))
     ≡ NotCommand (codes "at")
-unfolding needed optional command_form whole
+unfolding needed optional word_form whole
 version_first = refl
 
 -- where nothing is said of force, nothing is forced
@@ -33,7 +33,7 @@ unforced : asked_of_data
     (object
     (member (codes "do") (string (codes "drop")) (member (codes "transaction") (number (unsigned 5)) no_members)))
     ≡ Asks (record { at = None; what = what.Drop 5 false })
-unfolding needed optional flag ends command_form whole
+unfolding needed optional flag ends word_form whole
 unforced = refl
 
 abbrev numbered : Members

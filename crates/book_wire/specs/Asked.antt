@@ -9,7 +9,8 @@ use Rattle.book_json.specs.declared.fault.Fault.TheVariants as fault
 use Rattle.book_command.specs.declared.command.Command.{Command}
 use Rattle.book_command.specs.declared.wire_error.WireError.{WireError}
 use Rattle.book_command.specs.declared.wire_error.WireError.TheVariants as wire
-use Rattle.book_wire.specs.Commands.{command, command_form}
+use Rattle.book_command.specs.declared.word.Word.{Word}
+use Rattle.book_wire.specs.Commands.{built_of, command, word_form}
 use Rattle.book_wire.specs.declared.commands.Built.{Built}
 
 -- A line asks for a command; or it is no JSON, or no command, where the member of this name fails; or its command is
@@ -31,13 +32,13 @@ asked_of_built (Some built) left = asked_of_command (command built left)
 asked_of_built None left = NotBuilt
 
 -- What is asked once the word was read, or failed.
-abbrev pub asked_of_word : Result (Option Built × Members) (List ℕ) → Asked
-asked_of_word (Ok found) = asked_of_built found.0 found.1
+abbrev pub asked_of_word : Result (Word × Members) (List ℕ) → Asked
+asked_of_word (Ok found) = asked_of_built (built_of found.0) found.1
 asked_of_word (Err name) = NotCommand name
 
 -- What an object asks: its word is read before all else.
 abbrev pub asked_of_members : Members → Asked
-asked_of_members members = asked_of_word (needed command_form (codes "do") members)
+asked_of_members members = asked_of_word (needed word_form (codes "do") members)
 
 -- What data asks that may be an object; where it is none, the member with the empty name fails.
 abbrev pub asked_of_object : Option Members → Asked

@@ -1,13 +1,13 @@
-ghost use Rattle.std.specs.Prelude.{codes};
+ghost use Rattle.std.specs.Prelude.{◌≡◌, codes};
 ghost use Rattle.book_json.specs.Members.{needed};
 ghost use Rattle.book_json.specs.Reads.{rest, Gives};
-ghost use Rattle.book_wire.specs.Commands.{command, command_form, what_of};
+ghost use Rattle.book_wire.specs.Commands.{built_of, command, what_of, word_form};
 
 use crate::accounts::AccountCommand::{self, AccountAdd, AccountDrop, AccountEdit};
 use crate::commodities::CommodityCommand::{self, BookCurrency, CommodityAdd};
 use crate::posting::PostingCommand::{self, Drop, Edit, Post};
 use Built::{Accounts, Commodities, Posting};
-use book_command::{Command, What};
+use book_command::{Command, What, Word, words};
 use book_json::{Fault, Reading};
 
 /// A command that is built, by its family.
@@ -18,53 +18,29 @@ pub(crate) enum Built {
     Posting(PostingCommand),
 }
 
-/// The commands: the word of each with what reads its members, `None` where it is not built yet.
-const COMMANDS: [(&str, Option<Built>); 37] = [
-    ("book_currency", Some(Commodities(BookCurrency))),
-    ("commodity_add", Some(Commodities(CommodityAdd))),
-    ("account_add", Some(Accounts(AccountAdd))),
-    ("account_edit", Some(Accounts(AccountEdit))),
-    ("account_drop", Some(Accounts(AccountDrop))),
-    ("post", Some(Posting(Post))),
-    ("edit", Some(Posting(Edit))),
-    ("drop", Some(Posting(Drop))),
-    ("mark", None),
-    ("price_set", None),
-    ("price_drop", None),
-    ("schedule_add", None),
-    ("schedule_drop", None),
-    ("schedule_run", None),
-    ("bind", None),
-    ("import", None),
-    ("line_match", None),
-    ("line_add", None),
-    ("line_dismiss", None),
-    ("line_reopen", None),
-    ("match_auto", None),
-    ("reconcile", None),
-    ("reconcile_statement", None),
-    ("undo", None),
-    ("redo", None),
-    ("register", None),
-    ("trial", None),
-    ("sheet", None),
-    ("income", None),
-    ("lots", None),
-    ("gains", None),
-    ("lines", None),
-    ("statements", None),
-    ("recons", None),
-    ("due", None),
-    ("price", None),
-    ("status", None),
-];
-
-/// The command that the word of a line names, `None` where it is not built yet.
-#[tactic(auto, unfolding(crate::specs::Commands::command_form))]
-pub(crate) fn command_named(members: &mut Reading) -> Result<Option<Built>, Fault>
-    ensures { Gives (needed command_form (codes "do") (rest members.old)) result (rest members.new) }
+/// The word of a line.
+#[tactic(auto, unfolding(crate::specs::Commands::word_form))]
+pub(crate) fn word(members: &mut Reading) -> Result<Word, Fault>
+    ensures { Gives (needed word_form (codes "do") (rest members.old)) result (rest members.new) }
 {
-    members.word("do", &COMMANDS)
+    members.word("do", words())
+}
+
+/// The command of a word, `None` where it is not built yet.
+pub(crate) fn built_of(word: Word) -> Option<Built>
+    ensures { result ≡ built_of word }
+{
+    match word {
+        Word::BookCurrency => Some(Commodities(BookCurrency)),
+        Word::CommodityAdd => Some(Commodities(CommodityAdd)),
+        Word::AccountAdd => Some(Accounts(AccountAdd)),
+        Word::AccountEdit => Some(Accounts(AccountEdit)),
+        Word::AccountDrop => Some(Accounts(AccountDrop)),
+        Word::Post => Some(Posting(Post)),
+        Word::Edit => Some(Posting(Edit)),
+        Word::Drop => Some(Posting(Drop)),
+        _ => None,
+    }
 }
 
 /// The command, of the members after its word, which it reads to the end.

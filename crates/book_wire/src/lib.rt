@@ -1,5 +1,5 @@
-//! Lines of JSON read as commands: the table of the commands' words, and the members of each command in their order. A
-//! line is read exactly as the tables in `specs/` say. Nothing here knows the book or how it is kept. Public is
+//! Lines of JSON read as commands: the word of each, and its members in their order. A line is read exactly as the
+//! definitions in `specs/` say. Nothing here knows the book or how it is kept. Public is
 //! `command_of`; the texts that answer lines are handed on from the crates that make them.
 #![tactic(auto)]
 

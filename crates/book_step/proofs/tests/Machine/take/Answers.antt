@@ -10,17 +10,17 @@ use Rattle.book_step.proofs.AnswerLemmas.{whole_step}
 use Rattle.book_step.proofs.SoundStep.{step-sound}
 use Rattle.book_step.proofs.tests.Machine.take.Goals as goal
 
-pub returns : goal.returns
-returns c =
-    let state : State = state_of c.args.self.now.plain c.args.self.now.next c.args.self.now.version in
-    let command : Command = record { at = Some c.args.self.now.version; what = c.args.what } in
+pub invariant_of-self-2 : goal.invariant_of-self-2
+invariant_of-self-2 c =
+    let state : State = state_of c.self.inside.plain c.self.inside.next c.self.inside.version in
+    let command : Command = record { at = Some c.self.inside.version; what = c.args.what } in
     let taken = c.in_ok-step.step in
     let new : State = after state taken in
-    let sound = step-sound state command new (with_balances new.book taken.answer) c.requires
+    let sound = step-sound state command new (with_balances new.book taken.answer) c.self.invariant
     (whole_step state command new taken.answer c.in_ok-step.ensures.leads) in
     let book : book_of c.apply.new.self ≡ edited taken.edit state.book = c.apply.ensures
     ∙ ap (edited taken.edit) c.in_ok-reserve_for.ensures.book in
     subst (λ (version : ℕ). IsSound
     (record { book = book_of c.apply.new.self; next = taken.next; version = version }))
-    (sym c.version_after-self.ensures)
+    (sym c.version_after-self-inside.ensures)
     (subst (λ (b : Book). IsSound (record { book = b; next = taken.next; version = new.version })) (sym book) sound)
