@@ -1,4 +1,5 @@
--- The rules of a thing that may stand once, as a walk asks them: those of the thing alone, and then whether it was seen.
+-- The rules of a thing that may stand once, as a walk asks them: those of the thing alone, and then whether it was
+-- seen.
 use Rattle.std.proofs.Common.{◌≡◌, ℕ, not, Bool, true, false, ◌&&◌, List, [], ◌∷◌, refl, sym, ap, ◌∙◌}
 use Rattle.book_commodity.specs.CommodityRules.{commodity_rules, has_fraction, has_same_pair}
 use Rattle.book_commodity.specs.Currency.{is_currency_of}

@@ -71,7 +71,8 @@ fn is_root(kind: AccountKind) -> bool
     matches!(kind, AccountKind::Root)
 }
 
-/// Whether what the account has fits: its commodity, its basis, and a parent unless it is a root, which takes no splits.
+/// Whether what the account has fits: its commodity, its basis, and a parent unless it is a root, which takes no
+/// splits.
 fn is_whole(commodities: &Commodities, account: &Account) -> bool
     ensures { result ≡ is_whole commodities.now.entries account.now }
 {

@@ -17,56 +17,70 @@ returns-then-place-ge-MOST c =
     let es = c.args.bindings.now.entries in
     let n = c.number_at-number.result in
     let binding = c.value_at-binding.result.now in
+    let rules = binding_rules c.args.accounts.now.entries c.args.bindings.now.entries in
     let there = entry_at es c.loop-place.place n binding c.number_at-number.ensures c.value_at-binding.ensures in
     let past : 10000 ≤ c.loop-place.place = omega arith in
-    sym (c.loop-place.invariant.walk
-    ∙ counted_past (binding_rules c.args.accounts.now.entries c.args.bindings.now.entries) 10000 c.loop-place.place n binding es there past)
+    sym (c.loop-place.invariant.walk ∙ counted_past rules 10000 c.loop-place.place n binding es there past)
 
 pub returns-then-not-takes_splits : goal.returns-then-not-takes_splits
 returns-then-not-takes_splits c =
     let es = c.args.bindings.now.entries in
     let n = c.number_at-number.result in
     let binding = c.value_at-binding.result.now in
+    let rules = binding_rules c.args.accounts.now.entries c.args.bindings.now.entries in
     let there = entry_at es c.loop-place.place n binding c.number_at-number.ensures c.value_at-binding.ensures in
-    let fails : c.takes_splits.result ≡ false = (let test = c.if-not-takes_splits.true in grind (arith, nat_tests, test)) in
+    let taken = stands_before (is_same_binding binding) n es in
+    let asked = binding_asked c.args.accounts.now.entries es n binding c.takes_splits.result c.takes_splits.ensures in
+    let fails : c.takes_splits.result ≡ false = (let test = c.if-not-takes_splits.true in
+    grind (arith, nat_tests, test)) in
     sym (c.loop-place.invariant.walk
-    ∙ counted_fails (binding_rules c.args.accounts.now.entries c.args.bindings.now.entries) 10000 c.loop-place.place n binding es there
-    (own_fails (all_hold (binding_rules c.args.accounts.now.entries c.args.bindings.now.entries n binding)) c.takes_splits.result (stands_before (is_same_binding binding) n es)
-    (binding_asked c.args.accounts.now.entries es n binding c.takes_splits.result c.takes_splits.ensures) fails))
+    ∙ counted_fails rules 10000 c.loop-place.place n binding es there
+    (own_fails (all_hold (rules n binding)) c.takes_splits.result taken asked fails))
 
 pub returns-then-branch : goal.returns-then-branch
 returns-then-branch c =
     let es = c.args.bindings.now.entries in
     let n = c.number_at-number.result in
     let binding = c.value_at-binding.result.now in
+    let rules = binding_rules c.args.accounts.now.entries c.args.bindings.now.entries in
     let there = entry_at es c.loop-place.place n binding c.number_at-number.ensures c.value_at-binding.ensures in
+    let taken = stands_before (is_same_binding binding) n es in
+    let asked = binding_asked c.args.accounts.now.entries es n binding c.takes_splits.result c.takes_splits.ensures in
     let before = c.in_ok-insert.ensures.before
-    ∙ keys_before binding_cmp binding_shown binding_same (λ (b : Binding). b.text) es c.loop-place.place n binding
-    c.as_str.result c.loop-place.seen c.len-place-end.ensures.rises there c.as_str.ensures c.loop-place.invariant.keys in
-    let holds : c.takes_splits.result ≡ true = (let test = c.if-not-takes_splits.false in grind (arith, nat_tests, test)) in
+    ∙ keys_before binding_cmp binding_shown binding_same (λ (binding : Binding). binding.text) es c.loop-place.place n binding
+    c.as_str.result c.loop-place.seen c.len-place-end.ensures.rises there c.as_str.ensures
+    c.loop-place.invariant.keys in
+    let holds : c.takes_splits.result ≡ true = (let test = c.if-not-takes_splits.false in
+    grind (arith, nat_tests, test)) in
+    let held = own_holds (all_hold (rules n binding)) c.takes_splits.result taken c.in_ok-insert.field-0 asked holds
+    before in
     sym (c.loop-place.invariant.walk
-    ∙ counted_fails (binding_rules c.args.accounts.now.entries c.args.bindings.now.entries) 10000 c.loop-place.place n binding es there
-    (own_holds (all_hold (binding_rules c.args.accounts.now.entries c.args.bindings.now.entries n binding)) c.takes_splits.result (stands_before (is_same_binding binding) n es) c.in_ok-insert.field-0
-    (binding_asked c.args.accounts.now.entries es n binding c.takes_splits.result c.takes_splits.ensures) holds before ∙ ap not c.if-branch.true))
+    ∙ counted_fails rules 10000 c.loop-place.place n binding es there (held ∙ ap not c.if-branch.true))
 
 pub loop-place-preserved : goal.loop-place-preserved
 loop-place-preserved c =
     let es = c.args.bindings.now.entries in
     let n = c.number_at-number.result in
     let binding = c.value_at-binding.result.now in
+    let rules = binding_rules c.args.accounts.now.entries c.args.bindings.now.entries in
     let there = entry_at es c.loop-place.place n binding c.number_at-number.ensures c.value_at-binding.ensures in
+    let taken = stands_before (is_same_binding binding) n es in
+    let asked = binding_asked c.args.accounts.now.entries es n binding c.takes_splits.result c.takes_splits.ensures in
     let before = c.in_ok-insert.ensures.before
-    ∙ keys_before binding_cmp binding_shown binding_same (λ (b : Binding). b.text) es c.loop-place.place n binding
-    c.as_str.result c.loop-place.seen c.len-place-end.ensures.rises there c.as_str.ensures c.loop-place.invariant.keys in
-    let holds : c.takes_splits.result ≡ true = (let test = c.if-not-takes_splits.false in grind (arith, nat_tests, test)) in
+    ∙ keys_before binding_cmp binding_shown binding_same (λ (binding : Binding). binding.text) es c.loop-place.place n binding
+    c.as_str.result c.loop-place.seen c.len-place-end.ensures.rises there c.as_str.ensures
+    c.loop-place.invariant.keys in
+    let holds : c.takes_splits.result ≡ true = (let test = c.if-not-takes_splits.false in
+    grind (arith, nat_tests, test)) in
+    let held = own_holds (all_hold (rules n binding)) c.takes_splits.result taken c.in_ok-insert.field-0 asked holds
+    before in
     let below : c.loop-place.place < 10000 = omega arith in record {
       walk =
           c.loop-place.invariant.walk
-          ∙ counted_keeps (binding_rules c.args.accounts.now.entries c.args.bindings.now.entries) 10000 c.loop-place.place n binding es there below
-          (own_holds (all_hold (binding_rules c.args.accounts.now.entries c.args.bindings.now.entries n binding)) c.takes_splits.result (stands_before (is_same_binding binding) n es) c.in_ok-insert.field-0
-          (binding_asked c.args.accounts.now.entries es n binding c.takes_splits.result c.takes_splits.ensures) holds before ∙ ap not c.if-branch.false);
+          ∙ counted_keeps rules 10000 c.loop-place.place n binding es there below
+          (held ∙ ap not c.if-branch.false);
       keys =
-          keys_next binding_cmp binding_shown binding_same (λ (b : Binding). b.text) binding_ties es c.loop-place.place n binding
-          c.as_str.result c.loop-place.seen c.insert.new.self there c.as_str.ensures c.loop-place.invariant.keys
-          c.in_ok-insert.ensures.adds;
+          keys_next binding_cmp binding_shown binding_same (λ (binding : Binding). binding.text) binding_ties es
+          c.loop-place.place n binding c.as_str.result c.loop-place.seen c.insert.new.self there
+          c.as_str.ensures c.loop-place.invariant.keys c.in_ok-insert.ensures.adds;
     }

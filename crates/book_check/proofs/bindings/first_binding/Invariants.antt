@@ -11,6 +11,9 @@ abbrev pub invariant-loop-place : goal.invariant-loop-place
 invariant-loop-place l = record {
   walk :
       first_of_table (binding_rules l.accounts.entries l.bindings.entries) 10000 l.bindings.entries
-      ≡ first_in (binding_rules l.accounts.entries l.bindings.entries) 10000 (λ _. 0) 0 l.place 0 (drop l.place l.bindings.entries);
-  keys : HasKeys binding_cmp binding_shown binding_same (λ (b : Binding). b.text) l.seen (take l.place l.bindings.entries);
+      ≡ first_in (binding_rules l.accounts.entries l.bindings.entries) 10000 (λ _. 0) 0 l.place 0
+      (drop l.place l.bindings.entries);
+  keys :
+      HasKeys binding_cmp binding_shown binding_same (λ (binding : Binding). binding.text) l.seen
+      (take l.place l.bindings.entries);
 }

@@ -11,6 +11,9 @@ abbrev pub invariant-loop-place : goal.invariant-loop-place
 invariant-loop-place l = record {
   walk :
       first_of_table (commodity_rules l.commodities.entries) 10000 l.commodities.entries
-      ≡ first_in (commodity_rules l.commodities.entries) 10000 (λ _. 0) 0 l.place 0 (drop l.place l.commodities.entries);
-  keys : HasKeys commodity_cmp commodity_shown commodity_same commodity_parts l.seen (take l.place l.commodities.entries);
+      ≡ first_in (commodity_rules l.commodities.entries) 10000 (λ _. 0) 0 l.place 0
+      (drop l.place l.commodities.entries);
+  keys :
+      HasKeys commodity_cmp commodity_shown commodity_same commodity_parts l.seen
+      (take l.place l.commodities.entries);
 }

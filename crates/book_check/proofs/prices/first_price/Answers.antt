@@ -17,56 +17,70 @@ returns-then-place-ge-MOST c =
     let es = c.args.prices.now.entries in
     let n = c.number_at-number.result in
     let price = c.value_at-price.result.now in
+    let rules = price_rules c.args.commodities.now.entries c.args.prices.now.entries in
     let there = entry_at es c.loop-place.place n price c.number_at-number.ensures c.value_at-price.ensures in
     let past : 1000000 ≤ c.loop-place.place = omega arith in
-    sym (c.loop-place.invariant.walk
-    ∙ counted_past (price_rules c.args.commodities.now.entries c.args.prices.now.entries) 1000000 c.loop-place.place n price es there past)
+    sym (c.loop-place.invariant.walk ∙ counted_past rules 1000000 c.loop-place.place n price es there past)
 
 pub returns-then-not-is_kept : goal.returns-then-not-is_kept
 returns-then-not-is_kept c =
     let es = c.args.prices.now.entries in
     let n = c.number_at-number.result in
     let price = c.value_at-price.result.now in
+    let rules = price_rules c.args.commodities.now.entries c.args.prices.now.entries in
     let there = entry_at es c.loop-place.place n price c.number_at-number.ensures c.value_at-price.ensures in
-    let fails : c.is_kept.result ≡ false = (let test = c.if-not-is_kept.true in grind (arith, nat_tests, test)) in
+    let taken = stands_before (is_same price) n es in
+    let asked = price_asked c.args.commodities.now.entries es n price c.is_kept.result c.is_kept.ensures in
+    let fails : c.is_kept.result ≡ false = (let test = c.if-not-is_kept.true in
+    grind (arith, nat_tests, test)) in
     sym (c.loop-place.invariant.walk
-    ∙ counted_fails (price_rules c.args.commodities.now.entries c.args.prices.now.entries) 1000000 c.loop-place.place n price es there
-    (own_fails (all_hold (price_rules c.args.commodities.now.entries c.args.prices.now.entries n price)) c.is_kept.result (stands_before (is_same price) n es)
-    (price_asked c.args.commodities.now.entries es n price c.is_kept.result c.is_kept.ensures) fails))
+    ∙ counted_fails rules 1000000 c.loop-place.place n price es there
+    (own_fails (all_hold (rules n price)) c.is_kept.result taken asked fails))
 
 pub returns-then-branch : goal.returns-then-branch
 returns-then-branch c =
     let es = c.args.prices.now.entries in
     let n = c.number_at-number.result in
     let price = c.value_at-price.result.now in
+    let rules = price_rules c.args.commodities.now.entries c.args.prices.now.entries in
     let there = entry_at es c.loop-place.place n price c.number_at-number.ensures c.value_at-price.ensures in
+    let taken = stands_before (is_same price) n es in
+    let asked = price_asked c.args.commodities.now.entries es n price c.is_kept.result c.is_kept.ensures in
     let before = c.in_ok-insert.ensures.before
     ∙ keys_before price_cmp price_shown price_same price_parts es c.loop-place.place n price
-    c.key_of.result c.loop-place.seen c.len-place-end.ensures.rises there c.key_of.ensures c.loop-place.invariant.keys in
-    let holds : c.is_kept.result ≡ true = (let test = c.if-not-is_kept.false in grind (arith, nat_tests, test)) in
+    c.key_of.result c.loop-place.seen c.len-place-end.ensures.rises there c.key_of.ensures
+    c.loop-place.invariant.keys in
+    let holds : c.is_kept.result ≡ true = (let test = c.if-not-is_kept.false in
+    grind (arith, nat_tests, test)) in
+    let held = own_holds (all_hold (rules n price)) c.is_kept.result taken c.in_ok-insert.field-0 asked holds
+    before in
     sym (c.loop-place.invariant.walk
-    ∙ counted_fails (price_rules c.args.commodities.now.entries c.args.prices.now.entries) 1000000 c.loop-place.place n price es there
-    (own_holds (all_hold (price_rules c.args.commodities.now.entries c.args.prices.now.entries n price)) c.is_kept.result (stands_before (is_same price) n es) c.in_ok-insert.field-0
-    (price_asked c.args.commodities.now.entries es n price c.is_kept.result c.is_kept.ensures) holds before ∙ ap not c.if-branch.true))
+    ∙ counted_fails rules 1000000 c.loop-place.place n price es there (held ∙ ap not c.if-branch.true))
 
 pub loop-place-preserved : goal.loop-place-preserved
 loop-place-preserved c =
     let es = c.args.prices.now.entries in
     let n = c.number_at-number.result in
     let price = c.value_at-price.result.now in
+    let rules = price_rules c.args.commodities.now.entries c.args.prices.now.entries in
     let there = entry_at es c.loop-place.place n price c.number_at-number.ensures c.value_at-price.ensures in
+    let taken = stands_before (is_same price) n es in
+    let asked = price_asked c.args.commodities.now.entries es n price c.is_kept.result c.is_kept.ensures in
     let before = c.in_ok-insert.ensures.before
     ∙ keys_before price_cmp price_shown price_same price_parts es c.loop-place.place n price
-    c.key_of.result c.loop-place.seen c.len-place-end.ensures.rises there c.key_of.ensures c.loop-place.invariant.keys in
-    let holds : c.is_kept.result ≡ true = (let test = c.if-not-is_kept.false in grind (arith, nat_tests, test)) in
+    c.key_of.result c.loop-place.seen c.len-place-end.ensures.rises there c.key_of.ensures
+    c.loop-place.invariant.keys in
+    let holds : c.is_kept.result ≡ true = (let test = c.if-not-is_kept.false in
+    grind (arith, nat_tests, test)) in
+    let held = own_holds (all_hold (rules n price)) c.is_kept.result taken c.in_ok-insert.field-0 asked holds
+    before in
     let below : c.loop-place.place < 1000000 = omega arith in record {
       walk =
           c.loop-place.invariant.walk
-          ∙ counted_keeps (price_rules c.args.commodities.now.entries c.args.prices.now.entries) 1000000 c.loop-place.place n price es there below
-          (own_holds (all_hold (price_rules c.args.commodities.now.entries c.args.prices.now.entries n price)) c.is_kept.result (stands_before (is_same price) n es) c.in_ok-insert.field-0
-          (price_asked c.args.commodities.now.entries es n price c.is_kept.result c.is_kept.ensures) holds before ∙ ap not c.if-branch.false);
+          ∙ counted_keeps rules 1000000 c.loop-place.place n price es there below
+          (held ∙ ap not c.if-branch.false);
       keys =
-          keys_next price_cmp price_shown price_same price_parts price_ties es c.loop-place.place n price
-          c.key_of.result c.loop-place.seen c.insert.new.self there c.key_of.ensures c.loop-place.invariant.keys
-          c.in_ok-insert.ensures.adds;
+          keys_next price_cmp price_shown price_same price_parts price_ties es
+          c.loop-place.place n price c.key_of.result c.loop-place.seen c.insert.new.self there
+          c.key_of.ensures c.loop-place.invariant.keys c.in_ok-insert.ensures.adds;
     }

@@ -11,6 +11,9 @@ abbrev pub invariant-loop-place : goal.invariant-loop-place
 invariant-loop-place l = record {
   walk :
       first_of_table (price_rules l.commodities.entries l.prices.entries) 1000000 l.prices.entries
-      ≡ first_in (price_rules l.commodities.entries l.prices.entries) 1000000 (λ _. 0) 0 l.place 0 (drop l.place l.prices.entries);
-  keys : HasKeys price_cmp price_shown price_same price_parts l.seen (take l.place l.prices.entries);
+      ≡ first_in (price_rules l.commodities.entries l.prices.entries) 1000000 (λ _. 0) 0 l.place 0
+      (drop l.place l.prices.entries);
+  keys :
+      HasKeys price_cmp price_shown price_same price_parts l.seen
+      (take l.place l.prices.entries);
 }

@@ -11,6 +11,9 @@ abbrev pub invariant-loop-place : goal.invariant-loop-place
 invariant-loop-place l = record {
   walk :
       first_of_table (statement_rules l.accounts.entries l.statements.entries) 100000 l.statements.entries
-      ≡ first_in (statement_rules l.accounts.entries l.statements.entries) 100000 (λ _. 0) 0 l.place 0 (drop l.place l.statements.entries);
-  keys : HasKeys statement_cmp statement_shown statement_same statement_parts l.seen (take l.place l.statements.entries);
+      ≡ first_in (statement_rules l.accounts.entries l.statements.entries) 100000 (λ _. 0) 0 l.place 0
+      (drop l.place l.statements.entries);
+  keys :
+      HasKeys statement_cmp statement_shown statement_same statement_parts l.seen
+      (take l.place l.statements.entries);
 }
