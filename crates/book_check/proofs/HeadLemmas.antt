@@ -1,13 +1,10 @@
 -- What the rules of the head ask: numbers below the next.
-use Rattle.std.proofs.Common.{◌≡◌, ℕ, ◌+◌, ◌-◌, ◌<◌, nat_lt, Bool, true, false, ◌&&◌, List, [], ◌∷◌, length, drop}
-use Rattle.std.proofs.Common.{Option, Some, None, option_map, slice_get, cond, find, is_some, refl, sym, ap, ◌∙◌, arith}
+use Rattle.std.proofs.Common.{◌≡◌, ℕ, ◌-◌, ◌<◌, nat_lt, Bool, true, ◌&&◌, List, [], ◌∷◌, length}
+use Rattle.std.proofs.Common.{Some, option_map, slice_get, refl, ap, ◌∙◌, arith}
 use Rattle.std.specs.List.{list_all}
 use Rattle.std.proofs.lemmas.Bool.Decides.{nat_tests}
 use Rattle.std.proofs.lemmas.List.Folds.{list_all-append}
 use Rattle.book_commodity.specs.Table.{AllAbove, Rises}
-use Rattle.book_commodity.proofs.ListLemmas.{drop_by}
-use Rattle.book_accounts.specs.AccountRules.{is_root, root_of}
-use Rattle.book_accounts.specs.declared.account.Account.{Account}
 use Rattle.book_splits.specs.Balance.{splits_of}
 use Rattle.book_splits.specs.declared.split.Split.{Split}
 use Rattle.book_splits.specs.declared.transaction.Txn.{Txn}

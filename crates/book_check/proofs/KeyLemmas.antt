@@ -141,7 +141,9 @@ statement_same one other =
     && (option_eq int_eq one.3 other.3 && (option_eq int_eq one.4 other.4
     && (int_eq one.5 other.5 && option_eq beq one.6 other.6)))))
 
-seven : (a b c d e f g : Bool) → ((((((a && b) && c) && d) && e) && f) && g) ≡ (a && (b && (c && (d && (e && (f && g))))))
+seven :
+    (a b c d e f g : Bool)
+    → ((((((a && b) && c) && d) && e) && f) && g) ≡ (a && (b && (c && (d && (e && (f && g))))))
 seven false b c d e f g = refl
 seven true false c d e f g = refl
 seven true true false d e f g = refl

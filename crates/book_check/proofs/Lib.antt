@@ -1,4 +1,5 @@
 pub mod AccountLemmas
+pub mod AnyLemmas
 pub mod HeadLemmas
 pub mod KeyLemmas
 pub mod LineLemmas

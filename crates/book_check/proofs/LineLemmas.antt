@@ -1,5 +1,5 @@
 -- The lines of statements, as a walk asks their rules.
-use Rattle.std.proofs.Common.{◌≡◌, Ordering, ℕ, ℤ, ◌+◌, ◌==◌, nat_eq, not, Bool, true, false, ◌&&◌, ◌||◌, List, [], ◌∷◌}
+use Rattle.std.proofs.Common.{◌≡◌, Ordering, ℕ, ℤ, ◌+◌, ◌==◌, nat_eq, not, Bool, true, false, ◌&&◌, ◌||◌, List}
 use Rattle.std.proofs.Common.{take, drop, ◌<◌, is_some, Option, Some, None, slice_get, refl, sym, ap, ◌∙◌}
 use Rattle.std.specs.Cmp.{tied_then, unsigned_tied}
 use Rattle.std.specs.Cmp.Lexicographic.{slice_cmp}
@@ -21,8 +21,8 @@ use Rattle.book_check.specs.FirstUnsound.{all_hold, first_in}
 use Rattle.book_check.specs.LineWalk.{AddsKey, AddsMatched, HasKeys, HasMatched, LineParts, has_parts, is_matched_with}
 use Rattle.book_check.specs.LineWalk.{parts_cmp}
 use Rattle.book_check.specs.Seen.{Adds, is_seen}
-use Rattle.book_check.proofs.NumberLemmas.{any_same, none_of, or_swap}
-use Rattle.book_check.proofs.SeenLemmas.{any_next, before_place}
+use Rattle.book_check.proofs.AnyLemmas.{any_next, any_same, none_of, or_swap}
+use Rattle.book_check.proofs.SeenLemmas.{before_place}
 use Rattle.book_check.proofs.WalkLemmas.{counted_fails, counted_keeps}
 
 -- ---- keys of lines

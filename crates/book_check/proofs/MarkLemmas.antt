@@ -11,7 +11,7 @@ use Rattle.book_splits.specs.declared.reconciliation.MarkedSplit.{MarkedSplit}
 use Rattle.book_splits.specs.declared.reconciliation.Recon.{Recon}
 use Rattle.book_check.specs.Marks.{MarkKey, is_listed, is_made, is_made_by, mark_cmp}
 use Rattle.book_check.specs.Seen.{Adds, is_seen}
-use Rattle.book_check.proofs.SeenLemmas.{any_next}
+use Rattle.book_check.proofs.AnyLemmas.{any_next, or_false, or_swap}
 
 not_made :
     (n i : ℕ) (q : ℤ) (es : List (ℕ × Recon)) → AllAbove n es → is_made es (n, i, q) ≡ false
@@ -28,13 +28,9 @@ made_by_number n i q x es r true same rise e more =
     let there : x.1 ≡ r = grind (arith, nat_tests) in
     let none : is_made es (n, i, q) ≡ false = rw here (not_made x.0 i q es rise.0) in
     let as_made = ap (λ t. (t && is_listed i q x.1.marked) || is_made es (n, i, q)) (equal x.0 n (sym here)) in
-    as_made ∙ ap (λ t. is_listed i q x.1.marked || t) none ∙ alone (is_listed i q x.1.marked)
+    as_made ∙ ap (λ t. is_listed i q x.1.marked || t) none ∙ or_false (is_listed i q x.1.marked)
     ∙ ap (λ (y : Recon). is_listed i q y.marked) there
   where
-    alone : (a : Bool) → (a || false) ≡ a
-    alone true = refl
-    alone false = refl
-
     equal : (a b : ℕ) → a ≡ b → (a == b) ≡ true
     equal a b e = grind (arith, nat_tests)
 made_by_number n i q x es r false apart rise e more =
@@ -64,7 +60,9 @@ mark_is n s q key =
     grouped true b c = refl
     grouped false b c = refl
 
-shuffled : (here listed found seen : Bool) → ((here && found) || ((here && listed) || seen)) ≡ ((here && (listed || found)) || seen)
+shuffled :
+    (here listed found seen : Bool)
+    → ((here && found) || ((here && listed) || seen)) ≡ ((here && (listed || found)) || seen)
 shuffled true true true seen = refl
 shuffled true true false seen = refl
 shuffled true false true seen = refl
@@ -98,9 +96,3 @@ made_next es i n r old new there so_far added key =
     added key ∙ ap (λ t. is_made_by n r.marked key || t) (so_far key)
     ∙ or_swap (is_made_by n r.marked key) (is_made (take i es) key)
     ∙ sym (any_next (λ (e : ℕ × Recon). is_made_by e.0 e.1.marked key) es i (n, r) there)
-  where
-    or_swap : (a b : Bool) → (a || b) ≡ (b || a)
-    or_swap true true = refl
-    or_swap true false = refl
-    or_swap false true = refl
-    or_swap false false = refl

@@ -1,5 +1,5 @@
 -- Numbers of splits, against those that were seen.
-use Rattle.std.proofs.Common.{◌≡◌, ℕ, ◌+◌, ◌==◌, not, Bool, true, false, ◌&&◌, ◌||◌, List, [], ◌∷◌, take, Some, slice_get}
+use Rattle.std.proofs.Common.{◌≡◌, ℕ, ◌+◌, ◌==◌, not, Bool, true, false, ◌&&◌, ◌||◌, List, ◌∷◌, take, Some, slice_get}
 use Rattle.std.proofs.Common.{refl, sym, ap, ◌∙◌, arith}
 use Rattle.std.specs.List.{list_all, list_any}
 use Rattle.std.specs.Cmp.{unsigned_tied}
@@ -17,57 +17,11 @@ use Rattle.book_sound.specs.Tests.{passes_check}
 use Rattle.book_check.specs.FirstUnsound.{all_hold}
 use Rattle.book_check.specs.Numbers.{AddsAll, HasNumbers, are_new}
 use Rattle.book_check.specs.Seen.{Adds, is_seen}
-use Rattle.book_check.proofs.SeenLemmas.{any_next, before_place}
-
-pub or_swap : (a b : Bool) → (a || b) ≡ (b || a)
-or_swap true true = refl
-or_swap true false = refl
-or_swap false true = refl
-or_swap false false = refl
-
-or_move : (a b c : Bool) → (a || (b || c)) ≡ (b || (a || c))
-or_move true true c = refl
-or_move true false c = refl
-or_move false true c = refl
-or_move false false c = refl
-
-crossed : (a b c d : Bool) → ((a || b) || (c || d)) ≡ ((a || c) || (b || d))
-crossed true b true d = refl
-crossed true b false d = refl
-crossed false true true d = refl
-crossed false true false d = refl
-crossed false false true d = refl
-crossed false false false d = refl
+use Rattle.book_check.proofs.AnyLemmas.{any_either, any_next, any_same, any_swap, or_swap}
+use Rattle.book_check.proofs.SeenLemmas.{before_place}
 
 equal_either : (n q : ℕ) → (n == q) ≡ (q == n)
 equal_either n q = grind (arith, nat_tests)
-
--- tests that are the same for each item
-pub any_same : {X : Type 0} (f g : X → Bool) (xs : List X) → ((x : X) → f x ≡ g x) → list_any f xs ≡ list_any g xs
-any_same f g [] same = refl
-any_same f g (x ∷ xs) same =
-    ap (λ t. t || list_any f xs) (same x) ∙ ap (λ t. g x || t) (any_same f g xs same)
-
--- an item passes one of two tests
-any_either :
-    {X : Type 0} (f g : X → Bool) (xs : List X)
-    → list_any (λ x. f x || g x) xs ≡ (list_any f xs || list_any g xs)
-any_either f g [] = refl
-any_either f g (x ∷ xs) =
-    ap (λ t. (f x || g x) || t) (any_either f g xs) ∙ crossed (f x) (g x) (list_any f xs) (list_any g xs)
-
-pub none_of : {X : Type 0} (xs : List X) → list_any (λ x. false) xs ≡ false
-none_of [] = refl
-none_of (x ∷ xs) = none_of xs
-
--- a pair of two lists passes a test, whichever list is gone through first
-any_swap :
-    {X Y : Type 0} (f : X → Y → Bool) (xs : List X) (ys : List Y)
-    → list_any (λ x. list_any (λ y. f x y) ys) xs ≡ list_any (λ y. list_any (λ x. f x y) xs) ys
-any_swap f [] ys = sym (none_of ys)
-any_swap f (x ∷ xs) ys =
-    ap (λ t. list_any (λ y. f x y) ys || t) (any_swap f xs ys)
-    ∙ sym (any_either (λ y. f x y) (λ y. list_any (λ z. f z y) xs) ys)
 
 -- a number is seen after another is added
 seen_after :

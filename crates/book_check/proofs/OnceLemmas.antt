@@ -37,7 +37,9 @@ last_alone true true = refl
 last_alone true false = refl
 last_alone false s = refl
 
-last_of_five : (a b c d s : Bool) → (a && (b && (c && (d && (not s && true))))) ≡ ((a && (b && (c && (d && true)))) && not s)
+last_of_five :
+    (a b c d s : Bool)
+    → (a && (b && (c && (d && (not s && true))))) ≡ ((a && (b && (c && (d && true)))) && not s)
 last_of_five false b c d s = refl
 last_of_five true false c d s = refl
 last_of_five true true false d s = refl

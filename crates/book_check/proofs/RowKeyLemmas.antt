@@ -1,7 +1,7 @@
 -- The first of several keys, asked one after another.
-use Rattle.std.proofs.Common.{◌≡◌, ◌∷◌, ℕ, not, Bool, true, false, List, Option, Some, None, Result, Ok, Err, ap, sym, ◌∙◌}
+use Rattle.std.proofs.Common.{◌≡◌, ◌∷◌, ℕ, List, Option, Some, None, ap, sym}
 use Rattle.book_keeper.specs.declared.row.RowKey.{RowKey}
-use Rattle.book_commodity.specs.Rules.{broken_where, first_broken}
+use Rattle.book_commodity.specs.Rules.{first_broken}
 use Rattle.book_check.specs.FirstUnsound.{key_in}
 
 -- a number of the kind was found: its key is the first

@@ -1,7 +1,6 @@
 -- Keys that a walk has seen, against the entries that it has come by.
-use Rattle.std.proofs.Common.{◌≡◌, ℕ, zero, suc, ◌+◌, ◌<◌, nat_lt, Bool, true, false, ◌&&◌, ◌||◌, List, []}
-use Rattle.std.proofs.Common.{◌∷◌, take, Some, option_map, slice_get, refl, sym, ap, subst, ◌∙◌, arith}
-use Rattle.std.proofs.Common.{add-one}
+use Rattle.std.proofs.Common.{◌≡◌, ℕ, zero, suc, ◌+◌, ◌<◌, nat_lt, Bool, false, ◌&&◌, ◌||◌, List, []}
+use Rattle.std.proofs.Common.{◌∷◌, take, Option, Some, None, option_map, slice_get, refl, sym, ap, subst, ◌∙◌, arith}
 use Rattle.std.specs.List.{list_any}
 use Rattle.std.specs.declared.cmp.Ordering.{Ordering}
 use Rattle.std.specs.Ordering.{is_eq}
@@ -10,38 +9,22 @@ use Rattle.book_commodity.proofs.ListLemmas.{mapped_some}
 use Rattle.book_commodity.specs.Rules.{stands_before}
 use Rattle.book_commodity.specs.Table.{AllAbove, Rises}
 use Rattle.book_check.specs.Seen.{Adds, is_seen}
+use Rattle.book_check.proofs.AnyLemmas.{any_next, or_swap}
 
--- parts of three tests of a list, where one item more is asked
-pub any_next :
-    {X : Type 0} (test : X → Bool) (xs : List X) (i : ℕ) (x : X) → slice_get xs i ≡ Some x
-    → list_any test (take (i + 1) xs) ≡ (list_any test (take i xs) || test x)
-any_next {X} test xs i x e = ap (λ n. list_any test (take n xs)) (add-one i) ∙ go xs i e
-  where
-    swapped : (a b c : Bool) → (a || (b || c)) ≡ ((a || b) || c)
-    swapped true b c = refl
-    swapped false b c = refl
-
-    alone : (a : Bool) → (a || false) ≡ a
-    alone true = refl
-    alone false = refl
-
-    go : (xs : List X) (i : ℕ) → slice_get xs i ≡ Some x
-        → list_any test (take (suc i) xs) ≡ (list_any test (take i xs) || test x)
-    go [] i e = absurd cc
-    go (y ∷ xs) zero e = let same : y ≡ x = cc in alone (test y) ∙ ap test same
-    go (y ∷ xs) (suc i) e =
-        ap (λ t. test y || t) (go xs i e) ∙ swapped (test y) (list_any test (take i xs)) (test x)
+entry_of :
+    {T : Type 0} (o : Option (ℕ × T)) (n : ℕ) (v : T) → option_map (λ e. e.0) o ≡ Some n
+    → option_map (λ e. e.1) o ≡ Some v → o ≡ Some (n, v)
+entry_of None n v number value = absurd cc
+entry_of {T} (Some (m, w)) n v number value =
+    let first : m ≡ n = cc in
+    let second : w ≡ v = cc in
+    ap (λ (k : ℕ). Some (k, w)) first ∙ ap (λ (x : T). Some (n, x)) second
 
 -- an entry by its number and its value
 pub entry_at :
     {T : Type 0} (es : List (ℕ × T)) (i n : ℕ) (v : T) → option_map (λ e. e.0) (slice_get es i) ≡ Some n
     → option_map (λ e. e.1) (slice_get es i) ≡ Some v → slice_get es i ≡ Some (n, v)
-entry_at {T} es i n v number value =
-    let a = mapped_some (λ (e : ℕ × T). e.0) (slice_get es i) n number in
-    let b = mapped_some (λ (e : ℕ × T). e.1) (slice_get es i) v value in
-    let same : b.0 ≡ a.0 = (let p = a.1 in let q = b.1 in cc) in
-    b.1 ∙ ap (λ (e : ℕ × T). Some (e.0, b.0.1)) same ∙ ap (λ (m : ℕ). Some (m, b.0.1)) a.2
-    ∙ ap (λ (w : T). Some (n, w)) b.2
+entry_at es i n v number value = entry_of (slice_get es i) n v number value
 
 none_before :
     {T : Type 0} (test : T → Bool) (n : ℕ) (es : List (ℕ × T)) → AllAbove n es → stands_before test n es ≡ false
@@ -75,12 +58,6 @@ abbrev pub HasKeys :
     {K P T : Type 0} → (K → K → Ordering) → (K → P) → (P → P → Bool) → (T → P) → List K → List (ℕ × T) → Type 0
 HasKeys {K} cmp shown same parts keys entries =
     (key : K) → is_seen cmp keys key ≡ list_any (λ entry. same (parts entry.1) (shown key)) entries
-
-or_swap : (a b : Bool) → (a || b) ≡ (b || a)
-or_swap true true = refl
-or_swap true false = refl
-or_swap false true = refl
-or_swap false false = refl
 
 -- the key of one thing more
 pub keys_next :

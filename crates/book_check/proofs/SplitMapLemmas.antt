@@ -1,5 +1,5 @@
 -- A map of splits that is filled from the last split to the first.
-use Rattle.std.proofs.Common.{◌≡◌, ℕ, ◌+◌, ◌==◌, Bool, true, false, cond, List, ◌∷◌, ◌++◌, drop, Option, Some, None}
+use Rattle.std.proofs.Common.{◌≡◌, ℕ, ◌+◌, ◌==◌, Bool, true, false, cond, List, ◌∷◌, ◌++◌, drop, Option, Some}
 use Rattle.std.proofs.Common.{option_map, slice_get, refl, ap, subst, sym, ◌∙◌}
 use Rattle.std.specs.BTreeMap.{get}
 use Rattle.std.specs.Cmp.{unsigned_tied}

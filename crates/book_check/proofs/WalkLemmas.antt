@@ -1,7 +1,7 @@
 -- Tables that are gone through from place to place.
-use Rattle.std.proofs.Common.{◌≡◌, ℕ, ◌+◌, ◌<◌, ◌≤◌, nat_lt, not, Bool, true, false, ◌&&◌, ◌||◌, if◌then◌else◌}
+use Rattle.std.proofs.Common.{◌≡◌, ℕ, ◌+◌, ◌<◌, ◌≤◌, nat_lt, not, Bool, true, false, ◌&&◌, if◌then◌else◌}
 use Rattle.std.proofs.Common.{List}
-use Rattle.std.proofs.Common.{◌∷◌, drop, Some, option_map, slice_get, refl, sym, ap, ◌∙◌, arith}
+use Rattle.std.proofs.Common.{drop, Some, slice_get, refl, ap, ◌∙◌, arith}
 use Rattle.std.proofs.lemmas.Bool.Decides.{nat_tests}
 use Rattle.book_commodity.proofs.ListLemmas.{drop_at}
 use Rattle.book_check.specs.FirstUnsound.{all_hold, first_in}

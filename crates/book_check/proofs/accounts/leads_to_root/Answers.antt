@@ -1,9 +1,10 @@
 -- An account on the way up is the root, or has no parent, or its parent is asked next.
-use Rattle.std.proofs.Common.{◌≡◌, ◌+◌, ◌-◌, ◌<◌, ◌≤◌, ◌||◌, ℕ, Bool, true, false, refl, List, length, Option, sym, ap, ◌∙◌, arith}
+use Rattle.std.proofs.Common.{◌+◌, ◌-◌, ◌<◌, ◌≤◌, ◌||◌, ℕ, Bool, List, length, Option, sym, ap, ◌∙◌, arith}
 use Rattle.std.specs.List.{list_any}
 use Rattle.book_accounts.specs.AccountRules.{is_root_number}
 use Rattle.book_accounts.specs.Tree.{followed_up, nearest_parents}
 use Rattle.book_check.proofs.AccountLemmas.{above_asked, at_root, parents_end}
+use Rattle.book_check.proofs.AnyLemmas.{or_false}
 use Rattle.book_check.proofs.accounts.leads_to_root.Goals as goal
 
 pub returns-then-eq : goal.returns-then-eq
@@ -47,8 +48,4 @@ returns c =
     ∙ at_root es c.args.root c.loop-step.current c.loop-step._step c.eq-2.result c.requires c.eq-2.ensures
     ∙ ap (λ (above : List ℕ). c.eq-2.result || list_any (is_root_number es) above)
     (parents_end es c.loop-step._step c.loop-step.current past)
-    ∙ alone c.eq-2.result)
-  where
-    alone : (b : Bool) → (b || false) ≡ b
-    alone true = refl
-    alone false = refl
+    ∙ or_false c.eq-2.result)

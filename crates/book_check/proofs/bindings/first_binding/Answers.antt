@@ -47,8 +47,8 @@ returns-then-branch c =
     let taken = stands_before (is_same_binding binding) n es in
     let asked = binding_asked c.args.accounts.now.entries es n binding c.takes_splits.result c.takes_splits.ensures in
     let before = c.in_ok-insert.ensures.before
-    ∙ keys_before binding_cmp binding_shown binding_same (λ (binding : Binding). binding.text) es c.loop-place.place n binding
-    c.as_str.result c.loop-place.seen c.len-place-end.ensures.rises there c.as_str.ensures
+    ∙ keys_before binding_cmp binding_shown binding_same (λ (binding : Binding). binding.text) es c.loop-place.place
+    n binding c.as_str.result c.loop-place.seen c.len-place-end.ensures.rises there c.as_str.ensures
     c.loop-place.invariant.keys in
     let holds : c.takes_splits.result ≡ true = (let test = c.if-not-takes_splits.false in
     grind (arith, nat_tests, test)) in
@@ -67,8 +67,8 @@ loop-place-preserved c =
     let taken = stands_before (is_same_binding binding) n es in
     let asked = binding_asked c.args.accounts.now.entries es n binding c.takes_splits.result c.takes_splits.ensures in
     let before = c.in_ok-insert.ensures.before
-    ∙ keys_before binding_cmp binding_shown binding_same (λ (binding : Binding). binding.text) es c.loop-place.place n binding
-    c.as_str.result c.loop-place.seen c.len-place-end.ensures.rises there c.as_str.ensures
+    ∙ keys_before binding_cmp binding_shown binding_same (λ (binding : Binding). binding.text) es c.loop-place.place
+    n binding c.as_str.result c.loop-place.seen c.len-place-end.ensures.rises there c.as_str.ensures
     c.loop-place.invariant.keys in
     let holds : c.takes_splits.result ≡ true = (let test = c.if-not-takes_splits.false in
     grind (arith, nat_tests, test)) in

@@ -1,9 +1,7 @@
 -- A sum that doesn't fit 128 bits is no balance of 64.
-use Rattle.std.proofs.Common.{◌≡◌, ◌+ℤ◌, Bool, true, false, sym, ap, ◌∙◌, refl, arith}
-use Rattle.std.specs.Ordering.{int_eq}
+use Rattle.std.proofs.Common.{arith}
 use Rattle.std.proofs.lemmas.Int.{ints}
 use Rattle.std.proofs.lemmas.Bool.Decides.{nat_tests}
-use Rattle.book_sound.specs.ReconciliationRules.{marked_sum}
 use Rattle.book_check.proofs.reconciliations.is_closed.Goals as goal
 
 pub returns-in-None : goal.returns-in-None

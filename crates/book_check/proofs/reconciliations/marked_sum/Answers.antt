@@ -1,5 +1,5 @@
 -- One split more is in the sum.
-use Rattle.std.proofs.Common.{◌≡◌, ◌+◌, take, get_or, pos, ap, ◌∙◌, sym, arith, ◌+ℤ◌}
+use Rattle.std.proofs.Common.{◌≡◌, ◌+◌, take, pos, ap, ◌∙◌, sym, arith, ◌+ℤ◌}
 use Rattle.std.proofs.lemmas.Int.{ints}
 use Rattle.book_sound.specs.ReconciliationRules.{marked_sum as sum_of}
 use Rattle.book_splits.specs.declared.reconciliation.MarkedSplit.{MarkedSplit}
