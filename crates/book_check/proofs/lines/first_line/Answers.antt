@@ -51,7 +51,8 @@ returns-then-branch c =
     sym (c.loop-place.invariant.first
     ∙ line_fails c.args.accounts.now.entries c.args.statements.now.entries c.args.transactions.now.entries
     c.args.lines.now.entries c.loop-place.place c.number_at-number.result c.value_at-line.result.now
-    c.keeps_alone.result c.in_ok-add_key.field-0 split c.len-place-end.ensures.rises there (c.keeps_alone.ensures c.args.transactions.now.entries c.in_ok-splits.ensures)
+    c.keeps_alone.result c.in_ok-add_key.field-0 split c.len-place-end.ensures.rises there
+    (c.keeps_alone.ensures c.args.transactions.now.entries c.in_ok-splits.ensures)
     (c.in_ok-add_key.ensures.before (take c.loop-place.place c.args.lines.now.entries) c.loop-place.invariant.keys)
     refl (fails_key c.keeps_alone.result c.in_ok-add_key.field-0 split c.if-branch.true))
 
