@@ -1,6 +1,6 @@
 -- The lines of statements, as a walk asks their rules.
 use Rattle.std.proofs.Common.{◌≡◌, Ordering, ℕ, ℤ, ◌+◌, ◌==◌, nat_eq, not, Bool, true, false, ◌&&◌, ◌||◌, List}
-use Rattle.std.proofs.Common.{take, drop, ◌<◌, is_some, option_map, Option, Some, None, slice_get, refl, sym, ap, ◌∙◌}
+use Rattle.std.proofs.Common.{take, drop, ◌<◌, is_some, Option, Some, None, slice_get, refl, sym, ap, ◌∙◌}
 use Rattle.std.specs.Cmp.{tied_then, unsigned_tied}
 use Rattle.std.specs.Cmp.Lexicographic.{slice_cmp}
 use Rattle.std.specs.List.{list_any}
@@ -22,8 +22,8 @@ use Rattle.book_check.specs.LineWalk.{AddsKey, AddsMatched, HasKeys, HasMatched,
 use Rattle.book_check.specs.LineWalk.{parts_cmp}
 use Rattle.book_check.specs.Seen.{Adds, is_seen}
 use Rattle.book_check.proofs.AnyLemmas.{any_next, any_same, none_of, or_swap}
-use Rattle.book_check.proofs.SeenLemmas.{before_place, entry_at}
-use Rattle.book_check.proofs.WalkLemmas.{first_fails, first_keeps, kept_at}
+use Rattle.book_check.proofs.SeenLemmas.{before_place}
+use Rattle.book_check.proofs.WalkLemmas.{counted_fails, counted_keeps}
 
 -- ---- keys of lines
 -- A key is that of a line.
@@ -266,26 +266,21 @@ passes alone key split a k s =
 pub line_fails :
     (accounts : List (ℕ × Account)) (statements : List (ℕ × Held)) (transactions : List (ℕ × Txn))
     (es : List (ℕ × Line)) (i n : ℕ) (line : Line) (alone key split : Bool) → Rises es
-    → option_map (λ (e : ℕ × Line). e.0) (slice_get es i) ≡ Some n
-    → option_map (λ (e : ℕ × Line). e.1) (slice_get es i) ≡ Some line
+    → slice_get es i ≡ Some (n, line)
     → alone ≡ (is_live accounts line.account && (is_live statements line.statement
     && (not (is_over_limit line.body.amount) && fits_in_state transactions line line.state)))
     → key ≡ list_any (λ (e : ℕ × Line). has_same_key line e.1) (take i es)
     → split ≡ list_any (λ (e : ℕ × Line). shares_split line e.1) (take i es)
     → false ≡ ((alone && not key) && not split)
     → first_in (line_rules accounts statements transactions es) 1000000 (λ _. 0) 0 i 0 (drop i es) ≡ Some n
-line_fails accounts statements transactions es i n line alone key split rise number value asked known taken fails =
-    let rules = line_rules accounts statements transactions es in
-    first_fails rules 1000000 i n es number
-    (kept_at rules es i n line false number value
-    (fails ∙ sym (line_asked accounts statements transactions es i n line alone key split rise
-    (entry_at es i n line number value) asked known taken)))
+line_fails accounts statements transactions es i n line alone key split rise there asked known taken fails =
+    counted_fails (line_rules accounts statements transactions es) 1000000 i n line es there
+    (line_asked accounts statements transactions es i n line alone key split rise there asked known taken ∙ sym fails)
 
 pub line_keeps :
     (accounts : List (ℕ × Account)) (statements : List (ℕ × Held)) (transactions : List (ℕ × Txn))
     (es : List (ℕ × Line)) (i n : ℕ) (line : Line) (alone key split : Bool) → Rises es
-    → option_map (λ (e : ℕ × Line). e.0) (slice_get es i) ≡ Some n
-    → option_map (λ (e : ℕ × Line). e.1) (slice_get es i) ≡ Some line
+    → slice_get es i ≡ Some (n, line)
     → alone ≡ (is_live accounts line.account && (is_live statements line.statement
     && (not (is_over_limit line.body.amount) && fits_in_state transactions line line.state)))
     → key ≡ list_any (λ (e : ℕ × Line). has_same_key line e.1) (take i es)
@@ -293,9 +288,7 @@ pub line_keeps :
     → true ≡ ((alone && not key) && not split) → i < 1000000
     → first_in (line_rules accounts statements transactions es) 1000000 (λ _. 0) 0 i 0 (drop i es)
     ≡ first_in (line_rules accounts statements transactions es) 1000000 (λ _. 0) 0 (i + 1) 0 (drop (i + 1) es)
-line_keeps accounts statements transactions es i n line alone key split rise number value asked known taken passes_ low =
-    let rules = line_rules accounts statements transactions es in
-    first_keeps rules 1000000 i es
-    (kept_at rules es i n line true number value
-    (passes_ ∙ sym (line_asked accounts statements transactions es i n line alone key split rise
-    (entry_at es i n line number value) asked known taken))) low
+line_keeps accounts statements transactions es i n line alone key split rise there asked known taken passes_ low =
+    counted_keeps (line_rules accounts statements transactions es) 1000000 i n line es there low
+    (line_asked accounts statements transactions es i n line alone key split rise there asked known taken
+    ∙ sym passes_)

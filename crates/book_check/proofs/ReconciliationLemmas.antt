@@ -1,6 +1,6 @@
 -- The marked splits of a reconciliation, gone through from place to place.
-use Rattle.std.proofs.Common.{◌≡◌, ℕ, suc, ◌+◌, ◌<◌, ◌+ℤ◌, not, Bool, true, false, ◌&&◌, List, [], ◌∷◌, length, drop, map}
-use Rattle.std.proofs.Common.{get_or, take, refl, sym, ap, ◌∙◌, arith}
+use Rattle.std.proofs.Common.{◌≡◌, ℕ, suc, ◌+◌, ◌<◌, ◌+ℤ◌, not, Bool, true, false, ◌&&◌, List, [], ◌∷◌, length, drop}
+use Rattle.std.proofs.Common.{get_or, map, take, refl, sym, ap, ◌∙◌, arith}
 use Rattle.std.proofs.Math.IntN.{+ℤ_idr}
 use Rattle.std.proofs.Math.Seq.{drop-cons}
 use Rattle.std.proofs.lemmas.List.{map-append, take_more}

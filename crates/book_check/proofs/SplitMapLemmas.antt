@@ -15,7 +15,8 @@ use Rattle.book_check.specs.declared.splits.Splits.{Splits}
 
 chosen :
     (t : Bool) (split : Split) (other : Option Split)
-    → cond t (Some (quantity_of split)) (option_map quantity_of other) ≡ option_map quantity_of (cond t (Some split) other)
+    → cond t (Some (quantity_of split)) (option_map quantity_of other)
+    ≡ option_map quantity_of (cond t (Some split) other)
 chosen true split other = refl
 chosen false split other = refl
 

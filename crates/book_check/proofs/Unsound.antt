@@ -367,7 +367,8 @@ none_where_sound book next sound drawn =
           key_none 3 _ (table_none (account_rules book.commodities book.accounts) 10000 book.accounts sound.accounts),
           (
             key_none 4 _
-                (none_of (marked_transaction_rules book.commodities book.accounts book.reconciliations book.transactions)
+                (none_of
+                (marked_transaction_rules book.commodities book.accounts book.reconciliations book.transactions)
                 200000 splits_in 1000000 0 0 book.transactions (omega (arith, few_txns))
                 (omega (arith, few_splits, weigh))
                 (keep_of
@@ -380,7 +381,8 @@ none_where_sound book next sound drawn =
                     (table_none (schedule_rules book.commodities book.accounts) 1000 book.schedules sound.schedules),
                 (
                   key_none 7 _
-                      (table_none (statement_rules book.accounts book.statements) 100000 book.statements sound.statements),
+                      (table_none (statement_rules book.accounts book.statements) 100000 book.statements
+                      sound.statements),
                   (
                     key_none 8 _
                         (table_none

@@ -1,11 +1,10 @@
 -- Tables that are gone through from place to place.
 use Rattle.std.proofs.Common.{◌≡◌, ℕ, ◌+◌, ◌<◌, ◌≤◌, nat_lt, not, Bool, true, false, ◌&&◌, if◌then◌else◌}
 use Rattle.std.proofs.Common.{List}
-use Rattle.std.proofs.Common.{drop, Some, option_map, slice_get, refl, sym, ap, ◌∙◌, arith}
+use Rattle.std.proofs.Common.{drop, Some, slice_get, refl, ap, ◌∙◌, arith}
 use Rattle.std.proofs.lemmas.Bool.Decides.{nat_tests}
-use Rattle.book_commodity.proofs.ListLemmas.{drop_at, mapped_some}
-use Rattle.book_check.specs.FirstUnsound.{all_hold, first_in, keeps}
-use Rattle.book_check.proofs.SeenLemmas.{entry_at}
+use Rattle.book_commodity.proofs.ListLemmas.{drop_at}
+use Rattle.book_check.specs.FirstUnsound.{all_hold, first_in}
 
 -- ---- where things are weighed
 weighed :
@@ -102,42 +101,3 @@ pub counted_keeps :
     ≡ first_in rules most (λ _. 0) 0 (place + 1) 0 (drop (place + 1) es)
 counted_keeps rules most place n v es there below holds =
     weighed_keeps rules most (λ _. 0) 0 place 0 n v es there (limit_within place most below) holds
-
--- ---- the same, where a test tells whether the entry at a place keeps its rules
--- whether the entry at a place keeps its rules, by its number and its thing
-pub kept_at :
-    {T : Type 0} (rules : ℕ → T → List Bool) (es : List (ℕ × T)) (place n : ℕ) (x : T) (kept : Bool)
-    → option_map (λ (e : ℕ × T). e.0) (slice_get es place) ≡ Some n
-    → option_map (λ (e : ℕ × T). e.1) (slice_get es place) ≡ Some x → kept ≡ all_hold (rules n x)
-    → option_map (keeps rules) (slice_get es place) ≡ Some kept
-kept_at rules es place n x kept number thing is =
-    ap (option_map (keeps rules)) (entry_at es place n x number thing) ∙ ap (λ (b : Bool). Some b) (sym is)
-
-pub first_past :
-    {T : Type 0} (rules : ℕ → T → List Bool) (most place n : ℕ) (es : List (ℕ × T))
-    → option_map (λ (e : ℕ × T). e.0) (slice_get es place) ≡ Some n → most ≤ place
-    → first_in rules most (λ _. 0) 0 place 0 (drop place es) ≡ Some n
-first_past {T} rules most place n es number past =
-    let a = mapped_some (λ (e : ℕ × T). e.0) (slice_get es place) n number in
-    counted_past rules most place a.0.0 a.0.1 es a.1 past ∙ ap (λ (m : ℕ). Some m) a.2
-
-pub first_fails :
-    {T : Type 0} (rules : ℕ → T → List Bool) (most place n : ℕ) (es : List (ℕ × T))
-    → option_map (λ (e : ℕ × T). e.0) (slice_get es place) ≡ Some n
-    → option_map (keeps rules) (slice_get es place) ≡ Some false
-    → first_in rules most (λ _. 0) 0 place 0 (drop place es) ≡ Some n
-first_fails {T} rules most place n es number fails =
-    let a = mapped_some (λ (e : ℕ × T). e.0) (slice_get es place) n number in
-    let b = mapped_some (keeps rules) (slice_get es place) false fails in
-    let same : b.0 ≡ a.0 = (let p = a.1 in let q = b.1 in cc) in
-    counted_fails rules most place b.0.0 b.0.1 es b.1 b.2
-    ∙ ap (λ (e : ℕ × T). Some e.0) same ∙ ap (λ (m : ℕ). Some m) a.2
-
-pub first_keeps :
-    {T : Type 0} (rules : ℕ → T → List Bool) (most place : ℕ) (es : List (ℕ × T))
-    → option_map (keeps rules) (slice_get es place) ≡ Some true → place < most
-    → first_in rules most (λ _. 0) 0 place 0 (drop place es)
-    ≡ first_in rules most (λ _. 0) 0 (place + 1) 0 (drop (place + 1) es)
-first_keeps rules most place es kept low =
-    let b = mapped_some (keeps rules) (slice_get es place) true kept in
-    counted_keeps rules most place b.0.0 b.0.1 es b.1 low b.2

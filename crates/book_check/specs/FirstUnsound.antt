@@ -38,10 +38,6 @@ first_in rules most weight heaviest count sum (entry ∷ more) =
 abbrev pub first_of_table : {T : Type 0} → (ℕ → T → List Bool) → ℕ → List (ℕ × T) → Option ℕ
 first_of_table rules most entries = first_in rules most (λ _. 0) 0 0 0 entries
 
--- Whether an entry of a table keeps the rules of its kind.
-abbrev pub keeps : {T : Type 0} → (ℕ → T → List Bool) → ℕ × T → Bool
-keeps rules entry = all_hold (rules entry.0 entry.1)
-
 -- Whether each number of a table is below the next.
 abbrev pub are_below : {T : Type 0} → ℕ → List (ℕ × T) → Bool
 are_below next entries = list_all (λ entry. nat_lt entry.0 next) entries

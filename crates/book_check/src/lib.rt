@@ -2,7 +2,7 @@
 //! from the head and the commodities to the reconciliations. `first_unsound` finds that key and no other, and finds
 //! none exactly where the book is sound and all its numbers are drawn; it changes nothing, and fails only when it is
 //! out of memory. What may stand once is looked up in a set of the keys that were seen, and a split by its number in a
-//! map, so that a walk over n things takes time n log n; set and map take memory.
+//! map, so that no walk compares each thing with each; set and map take memory.
 #![tactic(auto)]
 
 mod accounts;

@@ -1,8 +1,8 @@
-ghost use Rattle.std.specs.Prelude.{◌≡◌, ◌<◌, Some, IfOk, length, option_map, slice_get};
+ghost use Rattle.std.specs.Prelude.{◌≡◌, IfOk};
 ghost use Rattle.book_splits.specs.TransactionRules.{are_once};
 ghost use Rattle.book_sound.specs.ReconciliationRules.{is_closed, marked_numbers, marked_sum};
 ghost use Rattle.book_sound.specs.ReconciliationRules.{reconciliation_rules};
-ghost use Rattle.book_check.specs.FirstUnsound.{all_hold, first_of_table, keeps};
+ghost use Rattle.book_check.specs.FirstUnsound.{all_hold, first_of_table};
 
 use crate::seen::Seen;
 use book_accounts::Tree;
@@ -23,33 +23,20 @@ pub(crate) fn first_reconciliation(
         100000 reconciliations.now.entries) }
 {
     for place in 0..reconciliations.len() {
+        let number = reconciliations.number_at(place);
+        let reconciliation = reconciliations.value_at(place);
         if place >= MOST {
-            return Ok(Some(reconciliations.number_at(place)));
+            return Ok(Some(number));
         }
-        if !keeps_at(alloc, accounts, reconciliations, place)? {
-            return Ok(Some(reconciliations.number_at(place)));
+        if !is_kept(alloc, accounts, reconciliation)? {
+            return Ok(Some(number));
         }
     }
     Ok(None)
 }
 
-/// Whether the reconciliation at the place keeps its rules.
-fn keeps_at(
-    alloc: Global,
-    accounts: &Tree,
-    reconciliations: &Table<Recon>,
-    place: usize,
-) -> Result<bool, OutOfMemory>
-    requires { place < length reconciliations.now.entries }
-    ensures { IfOk result (λ kept. option_map (keeps (reconciliation_rules accounts.now.entries))
-        (slice_get reconciliations.now.entries place) ≡ Some kept) }
-{
-    let _ = reconciliations.number_at(place);
-    keeps_rules(alloc, accounts, reconciliations.value_at(place))
-}
-
-/// Whether the reconciliation keeps its rules, under each number.
-fn keeps_rules(alloc: Global, accounts: &Tree, reconciliation: &Recon) -> Result<bool, OutOfMemory>
+/// Whether the reconciliation keeps its rules, whatever its number.
+fn is_kept(alloc: Global, accounts: &Tree, reconciliation: &Recon) -> Result<bool, OutOfMemory>
     ensures { IfOk result (λ kept. (number : _)
         → kept ≡ all_hold (reconciliation_rules accounts.now.entries number reconciliation.now)) }
 {

@@ -1,8 +1,8 @@
-ghost use Rattle.std.specs.Prelude.{◌≡◌, ◌<◌, Some, length, option_map, slice_get};
+ghost use Rattle.std.specs.Prelude.{◌≡◌};
 ghost use Rattle.std.specs.List.{list_all};
 ghost use Rattle.book_sound.specs.ScheduleRules.{has_multiplier, has_occurrences, is_blank, schedule_rules};
 ghost use Rattle.book_sound.specs.Tests.{is_within};
-ghost use Rattle.book_check.specs.FirstUnsound.{all_hold, first_of_table, keeps};
+ghost use Rattle.book_check.specs.FirstUnsound.{all_hold, first_of_table};
 
 use crate::passes::passes_check;
 use book_accounts::Tree;
@@ -24,44 +24,22 @@ pub(crate) fn first_schedule(
         1000 schedules.now.entries }
 {
     for place in 0..schedules.len() {
+        let number = schedules.number_at(place);
+        let schedule = schedules.value_at(place);
         if place >= MOST {
-            return Some(schedules.number_at(place));
+            return Some(number);
         }
-        if !keeps_at(commodities, accounts, schedules, place) {
-            return Some(schedules.number_at(place));
+        if !is_kept(commodities, accounts, schedule) {
+            return Some(number);
         }
     }
     None
 }
 
-/// Whether the schedule at the place keeps its rules.
-fn keeps_at(
-    commodities: &Commodities,
-    accounts: &Tree,
-    schedules: &Table<Schedule>,
-    place: usize,
-) -> bool
-    requires { place < length schedules.now.entries }
-    ensures { option_map (keeps (schedule_rules commodities.now.entries accounts.now.entries))
-        (slice_get schedules.now.entries place) ≡ Some result }
-{
-    keeps_rules(
-        commodities,
-        accounts,
-        schedules.number_at(place),
-        schedules.value_at(place),
-    )
-}
-
-/// Whether the schedule keeps its rules, which are the same under each number.
-fn keeps_rules(
-    commodities: &Commodities,
-    accounts: &Tree,
-    _number: u64,
-    schedule: &Schedule,
-) -> bool
-    ensures { result
-        ≡ all_hold (schedule_rules commodities.now.entries accounts.now.entries _number schedule.now) }
+/// Whether the schedule keeps its rules, whatever its number.
+fn is_kept(commodities: &Commodities, accounts: &Tree, schedule: &Schedule) -> bool
+    ensures { (number : _)
+        → result ≡ all_hold (schedule_rules commodities.now.entries accounts.now.entries number schedule.now) }
 {
     let recurrences = schedule.timing.recurrences.as_slice();
     have_multipliers(recurrences)

@@ -13,10 +13,8 @@ use std::test::Fail;
 /// The next number of the book.
 const NEXT: u64 = 26;
 
-fn text(alloc: Global, words: &str) -> Result<Text, OutOfMemory> {
-    let mut text = String::new(alloc);
-    text.push_str(words)?;
-    Ok(Text::of(text))
+fn text(alloc: Global, characters: &str) -> Result<Text, OutOfMemory> {
+    Ok(Text::of(String::from_str(alloc, characters)?))
 }
 
 fn day(number: i32) -> Result<Day, OutOfMemory> {
@@ -35,83 +33,54 @@ fn commodity(alloc: Global, space: &str, name: &str, fraction: u64) -> Result<Th
     }))
 }
 
-/// An account in euros.
+/// An account in a commodity; a root and an asset account are placeholders.
 fn account(
     alloc: Global,
     name: &str,
     kind: AccountKind,
+    commodity: u64,
     parent: Option<u64>,
-    placeholder: bool,
-) -> Result<Account, OutOfMemory> {
-    Ok(Account {
+    basis: Option<u64>,
+) -> Result<Thing, OutOfMemory> {
+    Ok(Thing::Account(Account {
         name: text(alloc, name)?,
         kind,
-        commodity: 1,
+        commodity,
         parent,
         code: Text::new(alloc),
         note: Text::new(alloc),
         hidden: false,
-        placeholder,
-        basis: None,
-    })
+        placeholder: matches!(kind, AccountKind::Root | AccountKind::Asset),
+        basis,
+    }))
 }
 
-/// An account that takes splits.
-fn leaf(
-    alloc: Global,
-    name: &str,
-    kind: AccountKind,
-    parent: Option<u64>,
-) -> Result<Thing, OutOfMemory> {
-    Ok(Thing::Account(account(alloc, name, kind, parent, false)?))
-}
+/// A split by its number, account, value, mark and reconciliation; its quantity is its value.
+type Given = (u64, u64, i64, Mark, Option<u64>);
 
-/// An unmarked split whose quantity is its value.
-fn split(alloc: Global, id: u64, account: u64, value: i64) -> Split {
-    Split {
-        id,
-        account,
-        memo: Text::new(alloc),
-        action: Text::new(alloc),
-        mark: Mark::New,
-        recon: None,
-        value,
-        quantity: value,
+/// A transaction in euros with these splits.
+fn transaction(alloc: Global, given: &[Given]) -> Result<Txn, OutOfMemory> {
+    let day = day(19_723)?;
+    let mut splits = Many::new(alloc);
+    for (id, account, value, mark, recon) in given {
+        splits.push(Split {
+            id: *id,
+            account: *account,
+            memo: Text::new(alloc),
+            action: Text::new(alloc),
+            mark: *mark,
+            recon: *recon,
+            value: *value,
+            quantity: *value,
+        })?;
     }
-}
-
-/// A transaction in euros with no splits.
-fn empty(alloc: Global) -> Result<Txn, OutOfMemory> {
     Ok(Txn {
         currency: 1,
-        day: day(19_723)?,
+        day,
         num: Text::new(alloc),
         description: Text::new(alloc),
-        splits: Many::new(alloc),
+        splits,
     })
-}
-
-/// A transaction in euros with one split.
-fn single(alloc: Global, only: Split) -> Result<Thing, OutOfMemory> {
-    let mut transaction = empty(alloc)?;
-    transaction.splits.push(only)?;
-    Ok(Thing::Txn(transaction))
-}
-
-/// A transaction in euros with two splits.
-fn pair(alloc: Global, one: Split, other: Split) -> Result<Txn, OutOfMemory> {
-    let mut transaction = empty(alloc)?;
-    transaction.splits.push(one)?;
-    transaction.splits.push(other)?;
-    Ok(transaction)
-}
-
-/// A split of nothing on the bank account, with this mark and reconciliation.
-fn marked(alloc: Global, id: u64, mark: Mark, recon: Option<u64>) -> Split {
-    let mut marked = split(alloc, id, 3, 0);
-    marked.mark = mark;
-    marked.recon = recon;
-    marked
 }
 
 fn price(commodity: u64, currency: u64, number: i32, num: u64) -> Result<Thing, OutOfMemory> {
@@ -124,8 +93,8 @@ fn price(commodity: u64, currency: u64, number: i32, num: u64) -> Result<Thing, 
     }))
 }
 
-/// A schedule of the rent with so many recurrences, each going on by so many months.
-fn schedule(alloc: Global, count: usize, every: u32) -> Result<Schedule, OutOfMemory> {
+/// A monthly recurrence, so many times over.
+fn recurrences(alloc: Global, count: usize, every: u32) -> Result<Many<Recurrence>, OutOfMemory> {
     let start = day(19_753)?;
     let mut recurrences = Many::new(alloc);
     for _ in 0..count {
@@ -136,24 +105,43 @@ fn schedule(alloc: Global, count: usize, every: u32) -> Result<Schedule, OutOfMe
             adjust: Adjust::Back,
         })?;
     }
-    Ok(Schedule {
-        name: text(alloc, "Rent")?,
+    Ok(recurrences)
+}
+
+/// A schedule of the rent, whose template has a split with this number.
+fn schedule(
+    alloc: Global,
+    recurrences: Many<Recurrence>,
+    end: End,
+    advance: u32,
+    made: u64,
+    split: u64,
+) -> Result<Thing, OutOfMemory> {
+    let template = transaction(
+        alloc,
+        &[
+            (0, 3, -200, Mark::New, None),
+            (split, 4, 200, Mark::New, None),
+        ],
+    )?;
+    Ok(Thing::Schedule(Schedule {
+        name: Text::new(alloc),
         timing: Timing {
             recurrences,
-            end: End::After(12),
-            advance: 366,
+            end,
+            advance,
             last: None,
-            made: 0,
+            made,
         },
-        template: pair(alloc, split(alloc, 0, 3, -200), split(alloc, 0, 4, 200))?,
-    })
+        template,
+    }))
 }
 
 fn statement(alloc: Global, account: u64) -> Result<Thing, OutOfMemory> {
     Ok(Thing::Held(Held {
         account,
         account_text: text(alloc, "NL01BANK0123456789")?,
-        number: text(alloc, "1")?,
+        number: Text::new(alloc),
         opening: Some(0),
         closing: Some(800),
         day: day(19_753)?,
@@ -161,25 +149,32 @@ fn statement(alloc: Global, account: u64) -> Result<Thing, OutOfMemory> {
     }))
 }
 
-/// A line of the bank account.
-fn line(alloc: Global, ordinal: u64, amount: i64, state: LineState) -> Result<Line, OutOfMemory> {
-    Ok(Line {
-        account: 3,
-        statement: 20,
+fn line(
+    alloc: Global,
+    account: u64,
+    statement: u64,
+    ordinal: u64,
+    amount: i64,
+    state: LineState,
+) -> Result<Thing, OutOfMemory> {
+    let day = day(19_727)?;
+    Ok(Thing::Line(Line {
+        account,
+        statement,
         ordinal,
         body: StatementLine {
-            day: day(19_727)?,
-            value_day: day(19_727)?,
+            day,
+            value_day: day,
             amount,
             kind: text(alloc, "NTRF")?,
-            ref_own: text(alloc, "RENT")?,
-            ref_bank: text(alloc, "B77")?,
-            text: text(alloc, "January rent")?,
+            ref_own: Text::new(alloc),
+            ref_bank: Text::new(alloc),
+            text: Text::new(alloc),
             category: Text::new(alloc),
             parts: Many::new(alloc),
         },
         state,
-    })
+    }))
 }
 
 fn binding(alloc: Global, name: &str, account: u64) -> Result<Thing, OutOfMemory> {
@@ -189,25 +184,28 @@ fn binding(alloc: Global, name: &str, account: u64) -> Result<Thing, OutOfMemory
     }))
 }
 
-/// A reconciliation with no split.
-fn bare(alloc: Global, account: u64, closing: i64) -> Result<Recon, OutOfMemory> {
-    Ok(Recon {
+/// A reconciliation that marked these splits, each with the quantity of 1000.
+fn reconciliation(
+    alloc: Global,
+    account: u64,
+    closing: i64,
+    splits: &[u64],
+) -> Result<Thing, OutOfMemory> {
+    let day = day(19_753)?;
+    let mut marked = Many::new(alloc);
+    for split in splits {
+        marked.push(MarkedSplit {
+            split: *split,
+            quantity: 1_000,
+        })?;
+    }
+    Ok(Thing::Recon(Recon {
         account,
-        day: day(19_753)?,
+        day,
         opening: 0,
         closing,
-        marked: Many::new(alloc),
-    })
-}
-
-/// A reconciliation that marked one split.
-fn reconciled(alloc: Global, account: u64, closing: i64, split: u64) -> Result<Recon, OutOfMemory> {
-    let mut reconciliation = bare(alloc, account, closing)?;
-    reconciliation.marked.push(MarkedSplit {
-        split,
-        quantity: 1000,
-    })?;
-    Ok(reconciliation)
+        marked,
+    }))
 }
 
 /// Puts the thing under the number.
@@ -215,39 +213,39 @@ fn put(plain: &mut Plain, number: u64, thing: Thing) -> Result<(), OutOfMemory> 
     match thing {
         Thing::Commodity(commodity) => {
             plain.commodities.reserve(1)?;
-            let _ = plain.commodities.put(number, commodity);
+            plain.commodities.put(number, commodity);
         }
         Thing::Account(account) => {
             plain.accounts.reserve(1)?;
-            let _ = plain.accounts.put(number, account);
+            plain.accounts.put(number, account);
         }
         Thing::Txn(transaction) => {
             plain.transactions.reserve(1)?;
-            let _ = plain.transactions.put(number, transaction);
+            plain.transactions.put(number, transaction);
         }
         Thing::Price(price) => {
             plain.prices.reserve(1)?;
-            let _ = plain.prices.put(number, price);
+            plain.prices.put(number, price);
         }
         Thing::Schedule(schedule) => {
             plain.schedules.reserve(1)?;
-            let _ = plain.schedules.put(number, schedule);
+            plain.schedules.put(number, schedule);
         }
         Thing::Held(statement) => {
             plain.statements.reserve(1)?;
-            let _ = plain.statements.put(number, statement);
+            plain.statements.put(number, statement);
         }
         Thing::Line(line) => {
             plain.lines.reserve(1)?;
-            let _ = plain.lines.put(number, line);
+            plain.lines.put(number, line);
         }
         Thing::Binding(binding) => {
             plain.bindings.reserve(1)?;
-            let _ = plain.bindings.put(number, binding);
+            plain.bindings.put(number, binding);
         }
         Thing::Recon(reconciliation) => {
             plain.reconciliations.reserve(1)?;
-            let _ = plain.reconciliations.put(number, reconciliation);
+            plain.reconciliations.put(number, reconciliation);
         }
     }
     Ok(())
@@ -257,299 +255,302 @@ fn put(plain: &mut Plain, number: u64, thing: Thing) -> Result<(), OutOfMemory> 
 /// reconciled and one is matched with a line, and one or two of each other kind.
 fn sound(alloc: Global) -> Result<Plain, OutOfMemory> {
     let mut plain = Plain::new(alloc, 1);
-    put_commodities_and_accounts(alloc, &mut plain)?;
-    put_transactions(alloc, &mut plain)?;
-    put(&mut plain, 8, price(7, 1, 19_723, 150)?)?;
-    put(&mut plain, 16, Thing::Schedule(schedule(alloc, 1, 1)?))?;
-    put(&mut plain, 20, statement(alloc, 3)?)?;
-    put(
-        &mut plain,
-        22,
-        Thing::Line(line(alloc, 0, -200, LineState::Matched(14))?),
-    )?;
-    put(
-        &mut plain,
-        23,
-        Thing::Line(line(alloc, 1, -200, LineState::Open)?),
-    )?;
-    put(&mut plain, 24, binding(alloc, "NL01BANK0123456789", 3)?)?;
-    put(
-        &mut plain,
-        19,
-        Thing::Recon(reconciled(alloc, 3, 1000, 11)?),
-    )?;
+    put_ledger(alloc, &mut plain)?;
+    put_rest(alloc, &mut plain)?;
     Ok(plain)
 }
 
-fn put_commodities_and_accounts(alloc: Global, plain: &mut Plain) -> Result<(), OutOfMemory> {
+/// Puts the commodities, the accounts, the transactions and the price.
+fn put_ledger(alloc: Global, plain: &mut Plain) -> Result<(), OutOfMemory> {
     put(plain, 1, commodity(alloc, "CURRENCY", "EUR", 100)?)?;
     put(plain, 7, commodity(alloc, "NYSE", "ACME", 1)?)?;
-    let root = account(alloc, "Root", AccountKind::Root, None, true)?;
-    put(plain, 2, Thing::Account(root))?;
-    put(plain, 3, leaf(alloc, "Bank", AccountKind::Bank, Some(5))?)?;
+    for (number, name, kind, parent) in [
+        (2, "Root", AccountKind::Root, None),
+        (3, "Bank", AccountKind::Bank, Some(5)),
+        (4, "Rent", AccountKind::Expense, Some(2)),
+        (5, "Assets", AccountKind::Asset, Some(2)),
+    ] {
+        put(plain, number, account(alloc, name, kind, 1, parent, None)?)?;
+    }
+    for (number, given) in [
+        (
+            10,
+            [
+                (11, 3, 1_000, Mark::Reconciled, Some(19)),
+                (12, 4, -1_000, Mark::New, None),
+            ],
+        ),
+        (
+            13,
+            [
+                (14, 3, -200, Mark::Cleared, None),
+                (15, 4, 200, Mark::New, None),
+            ],
+        ),
+    ] {
+        put(plain, number, Thing::Txn(transaction(alloc, &given)?))?;
+    }
+    put(plain, 8, price(7, 1, 19_723, 150)?)
+}
+
+/// Puts the things of the other kinds.
+fn put_rest(alloc: Global, plain: &mut Plain) -> Result<(), OutOfMemory> {
+    let monthly = recurrences(alloc, 1, 1)?;
     put(
         plain,
-        4,
-        leaf(alloc, "Rent", AccountKind::Expense, Some(2))?,
+        16,
+        schedule(alloc, monthly, End::After(12), 366, 0, 0)?,
     )?;
-    let assets = account(alloc, "Assets", AccountKind::Asset, Some(2), true)?;
-    put(plain, 5, Thing::Account(assets))
+    put(plain, 19, reconciliation(alloc, 3, 1_000, &[11])?)?;
+    put(plain, 20, statement(alloc, 3)?)?;
+    for (number, ordinal, state) in [(22, 0, LineState::Matched(14)), (23, 1, LineState::Open)] {
+        put(plain, number, line(alloc, 3, 20, ordinal, -200, state)?)?;
+    }
+    put(plain, 24, binding(alloc, "NL01BANK0123456789", 3)?)
 }
 
-fn put_transactions(alloc: Global, plain: &mut Plain) -> Result<(), OutOfMemory> {
-    let mut received = split(alloc, 11, 3, 1000);
-    received.mark = Mark::Reconciled;
-    received.recon = Some(19);
-    let opening = pair(alloc, received, split(alloc, 12, 4, -1000))?;
-    put(plain, 10, Thing::Txn(opening))?;
-    let rent = pair(alloc, split(alloc, 14, 3, -200), split(alloc, 15, 4, 200))?;
-    put(plain, 13, Thing::Txn(rent))
-}
-
-/// Whether this key is the first at which the sound book is unsound once the thing stands under the number.
-fn finds(alloc: Global, number: u64, thing: Thing, kind: u8, id: u64) -> Result<bool, OutOfMemory> {
+/// The first unsound key of the sound book, once the thing stands under the number.
+fn first_with(alloc: Global, number: u64, thing: Thing) -> Result<Option<RowKey>, OutOfMemory> {
     let mut plain = sound(alloc)?;
     put(&mut plain, number, thing)?;
-    Ok(first_unsound(alloc, &plain, NEXT)? == Some(RowKey { kind, id }))
+    first_unsound(alloc, &plain, NEXT)
 }
 
-// A sound book has no unsound key, and one without a root or with a share as its currency has the head's.
+// A sound book has no unsound key; one whose currency is a share or is not there, or whose numbers are not below the
+// next, has the head's.
 #[test]
-fn of_the_head(rt: HostRuntime) -> Result<(), Fail> {
+fn head(rt: HostRuntime) -> Result<(), Fail> {
     let alloc = rt.alloc();
     let mut plain = sound(alloc)?;
-    assert!(rt; first_unsound(alloc, &plain, NEXT)?.is_none());
-    plain.currency = 7;
-    assert!(rt; first_unsound(alloc, &plain, NEXT)? == Some(RowKey { kind: 1, id: 0 }));
-    plain.currency = 9;
-    assert!(rt; first_unsound(alloc, &plain, NEXT)? == Some(RowKey { kind: 1, id: 0 }));
-    plain.currency = 1;
-    assert!(rt; first_unsound(alloc, &plain, NEXT)?.is_none());
-    assert!(rt; first_unsound(alloc, &plain, 24)? == Some(RowKey { kind: 1, id: 0 }));
-    let _ = plain.accounts.take(2);
-    assert!(rt; first_unsound(alloc, &plain, NEXT)? == Some(RowKey { kind: 1, id: 0 }));
+    let head = Some(RowKey { kind: 1, id: 0 });
+    for (currency, next, found) in [
+        (1, NEXT, None),
+        (7, NEXT, head),
+        (9, NEXT, head),
+        (1, 24, head),
+    ] {
+        plain.currency = currency;
+        assert!(rt; first_unsound(alloc, &plain, next)? == found);
+    }
     Ok(())
 }
 
-// A number that is not below the next is one of the head.
+// A book without its root has the head's key, and one whose reconciliation is gone that of the transaction marked.
 #[test]
-fn of_numbers(rt: HostRuntime) -> Result<(), Fail> {
+fn what_is_gone(rt: HostRuntime) -> Result<(), Fail> {
     let alloc = rt.alloc();
-    assert!(rt; finds(alloc, 26, commodity(alloc, "NYSE", "B", 1)?, 1, 0)?);
-    assert!(rt;
-        finds(
-            alloc,
-            26,
-            leaf(alloc, "A", AccountKind::Asset, Some(2))?,
-            1,
-            0
-        )?
-    );
-    let late = line(alloc, 2, -200, LineState::Open)?;
-    assert!(rt; finds(alloc, 26, Thing::Line(late), 1, 0)?);
-    assert!(rt; finds(alloc, 17, single(alloc, split(alloc, 26, 3, 0))?, 1, 0)?);
-    let gone = reconciled(alloc, 3, 1000, 26)?;
-    assert!(rt; finds(alloc, 18, Thing::Recon(gone), 1, 0)?);
-    let mut ahead = schedule(alloc, 1, 1)?;
-    ahead.timing.made = 26;
-    assert!(rt; finds(alloc, 16, Thing::Schedule(ahead), 1, 0)?);
-    Ok(())
-}
-
-#[test]
-fn of_commodities_and_prices(rt: HostRuntime) -> Result<(), Fail> {
-    let alloc = rt.alloc();
-    assert!(rt; finds(alloc, 9, commodity(alloc, "NYSE", "ACME", 2)?, 2, 9)?);
-    assert!(rt; finds(alloc, 9, commodity(alloc, "NYSE", "B", 0)?, 2, 9)?);
-    assert!(rt; finds(alloc, 9, price(9, 1, 19_723, 150)?, 5, 9)?);
-    assert!(rt; finds(alloc, 9, price(1, 7, 19_723, 150)?, 5, 9)?);
-    assert!(rt; finds(alloc, 9, price(7, 1, 1, 0)?, 5, 9)?);
-    assert!(rt; finds(alloc, 9, price(1, 1, 19_723, 150)?, 5, 9)?);
-    assert!(rt; finds(alloc, 9, price(7, 1, 19_723, 150)?, 5, 9)?);
-    Ok(())
-}
-
-#[test]
-fn of_accounts(rt: HostRuntime) -> Result<(), Fail> {
-    let alloc = rt.alloc();
-    let mut foreign = account(alloc, "A", AccountKind::Asset, Some(2), false)?;
-    foreign.commodity = 9;
-    assert!(rt; finds(alloc, 6, Thing::Account(foreign), 3, 6)?);
-    let mut bank = account(alloc, "A", AccountKind::Bank, Some(2), false)?;
-    bank.basis = Some(1);
-    assert!(rt; finds(alloc, 6, Thing::Account(bank), 3, 6)?);
-    assert!(rt;
-        finds(
-            alloc,
-            6,
-            leaf(alloc, "A", AccountKind::Stock, Some(5))?,
-            3,
-            6
-        )?
-    );
-    assert!(rt; finds(alloc, 6, leaf(alloc, "A", AccountKind::Asset, None)?, 3, 6)?);
-    let second = account(alloc, "Root", AccountKind::Root, None, true)?;
-    assert!(rt; finds(alloc, 6, Thing::Account(second), 3, 6)?);
-    assert!(rt;
-        finds(
-            alloc,
-            2,
-            leaf(alloc, "Root", AccountKind::Root, None)?,
-            3,
-            2
-        )?
-    );
-    Ok(())
-}
-
-#[test]
-fn of_parents(rt: HostRuntime) -> Result<(), Fail> {
-    let alloc = rt.alloc();
-    assert!(rt;
-        finds(
-            alloc,
-            6,
-            leaf(alloc, "A", AccountKind::Asset, Some(9))?,
-            3,
-            6
-        )?
-    );
-    assert!(rt;
-        finds(
-            alloc,
-            6,
-            leaf(alloc, "A", AccountKind::Expense, Some(5))?,
-            3,
-            6
-        )?
-    );
-    assert!(rt;
-        finds(
-            alloc,
-            6,
-            leaf(alloc, "Rent", AccountKind::Expense, Some(2))?,
-            3,
-            6
-        )?
-    );
-    assert!(rt;
-        finds(
-            alloc,
-            6,
-            leaf(alloc, "A", AccountKind::Asset, Some(6))?,
-            3,
-            6
-        )?
-    );
-    let cycle = account(alloc, "Assets", AccountKind::Asset, Some(3), true)?;
-    assert!(rt;
-        finds(alloc, 5, Thing::Account(cycle), 3, 3)?,
-        "3 under 5 under 3"
-    );
-    Ok(())
-}
-
-#[test]
-fn of_transactions(rt: HostRuntime) -> Result<(), Fail> {
-    let alloc = rt.alloc();
-    assert!(rt; finds(alloc, 17, Thing::Txn(empty(alloc)?), 4, 17)?);
-    assert!(rt; finds(alloc, 17, single(alloc, split(alloc, 17, 3, 1))?, 4, 17)?);
-    assert!(rt; finds(alloc, 17, single(alloc, split(alloc, 17, 5, 0))?, 4, 17)?);
-    assert!(rt; finds(alloc, 17, single(alloc, split(alloc, 11, 3, 0))?, 4, 17)?);
-    let twice = pair(alloc, split(alloc, 17, 3, 0), split(alloc, 17, 4, 0))?;
-    assert!(rt; finds(alloc, 17, Thing::Txn(twice), 4, 17)?);
-    Ok(())
-}
-
-#[test]
-fn of_marks(rt: HostRuntime) -> Result<(), Fail> {
-    let alloc = rt.alloc();
-    let by_none = marked(alloc, 17, Mark::Reconciled, None);
-    assert!(rt; finds(alloc, 17, single(alloc, by_none)?, 4, 17)?);
-    let unlisted = marked(alloc, 17, Mark::Reconciled, Some(19));
-    assert!(rt; finds(alloc, 17, single(alloc, unlisted)?, 4, 17)?);
-    let of_the_rent = reconciled(alloc, 4, 1_000, 11)?;
-    assert!(rt; finds(alloc, 19, Thing::Recon(of_the_rent), 4, 10)?);
-    let unmarked = marked(alloc, 17, Mark::New, Some(19));
-    assert!(rt; finds(alloc, 17, single(alloc, unmarked)?, 4, 17)?);
     let mut plain = sound(alloc)?;
-    let _ = plain.reconciliations.take(19);
+    plain.reconciliations.take(19);
     assert!(rt; first_unsound(alloc, &plain, NEXT)? == Some(RowKey { kind: 4, id: 10 }));
+    plain.accounts.take(2);
+    assert!(rt; first_unsound(alloc, &plain, NEXT)? == Some(RowKey { kind: 1, id: 0 }));
     Ok(())
 }
 
 #[test]
-fn of_schedules(rt: HostRuntime) -> Result<(), Fail> {
+fn numbers_below_the_next(rt: HostRuntime) -> Result<(), Fail> {
     let alloc = rt.alloc();
-    assert!(rt; finds(alloc, 16, Thing::Schedule(schedule(alloc, 1, 0)?), 6, 16)?);
-    assert!(rt; finds(alloc, 16, Thing::Schedule(schedule(alloc, 0, 1)?), 6, 16)?);
-    assert!(rt; finds(alloc, 16, Thing::Schedule(schedule(alloc, 13, 1)?), 6, 16)?);
-    let mut over = schedule(alloc, 1, 1)?;
-    over.timing.end = End::After(0);
-    assert!(rt; finds(alloc, 16, Thing::Schedule(over), 6, 16)?);
-    let mut early = schedule(alloc, 12, 1)?;
-    early.timing.advance = 367;
-    assert!(rt; finds(alloc, 16, Thing::Schedule(early), 6, 16)?);
-    let mut numbered = schedule(alloc, 1, 1)?;
-    numbered.template = pair(alloc, split(alloc, 0, 3, -200), split(alloc, 17, 4, 200))?;
-    assert!(rt; finds(alloc, 16, Thing::Schedule(numbered), 6, 16)?);
+    let head = Some(RowKey { kind: 1, id: 0 });
+    let late = line(alloc, 3, 20, 2, -200, LineState::Open)?;
+    assert!(rt; first_with(alloc, 26, late)? == head);
+    let split = transaction(alloc, &[(26, 3, 0, Mark::New, None)])?;
+    assert!(rt; first_with(alloc, 17, Thing::Txn(split))? == head);
+    let gone = reconciliation(alloc, 3, 1_000, &[26])?;
+    assert!(rt; first_with(alloc, 18, gone)? == head);
+    let monthly = recurrences(alloc, 1, 1)?;
+    let ahead = schedule(alloc, monthly, End::Never, 0, 26, 0)?;
+    assert!(rt; first_with(alloc, 16, ahead)? == head);
     Ok(())
 }
 
 #[test]
-fn of_statements_and_bindings(rt: HostRuntime) -> Result<(), Fail> {
+fn commodities(rt: HostRuntime) -> Result<(), Fail> {
     let alloc = rt.alloc();
-    assert!(rt; finds(alloc, 21, statement(alloc, 9)?, 7, 21)?);
-    assert!(rt; finds(alloc, 21, statement(alloc, 3)?, 7, 21)?);
-    assert!(rt; finds(alloc, 25, binding(alloc, "NL01BANK0123456789", 4)?, 9, 25)?);
-    assert!(rt; finds(alloc, 25, binding(alloc, "B", 9)?, 9, 25)?);
-    assert!(rt; finds(alloc, 25, binding(alloc, "B", 5)?, 9, 25)?);
+    for (name, fraction) in [("ACME", 2), ("B", 0), ("B", 1_000_000_001)] {
+        let damaged = commodity(alloc, "NYSE", name, fraction)?;
+        assert!(rt; first_with(alloc, 9, damaged)? == Some(RowKey { kind: 2, id: 9 }));
+    }
     Ok(())
 }
 
 #[test]
-fn of_lines(rt: HostRuntime) -> Result<(), Fail> {
+fn accounts(rt: HostRuntime) -> Result<(), Fail> {
     let alloc = rt.alloc();
-    let mut elsewhere = line(alloc, 2, -200, LineState::Open)?;
-    elsewhere.account = 9;
-    assert!(rt; finds(alloc, 25, Thing::Line(elsewhere), 8, 25)?);
-    let mut alone = line(alloc, 2, -200, LineState::Open)?;
-    alone.statement = 9;
-    assert!(rt; finds(alloc, 25, Thing::Line(alone), 8, 25)?);
-    let large = line(alloc, 2, -1_000_000_000_001, LineState::Open)?;
-    assert!(rt; finds(alloc, 25, Thing::Line(large), 8, 25)?);
-    let again = line(alloc, 1, -200, LineState::Open)?;
-    assert!(rt; finds(alloc, 25, Thing::Line(again), 8, 25)?);
-    let unmatched = line(alloc, 2, -200, LineState::Matched(25))?;
-    assert!(rt; finds(alloc, 25, Thing::Line(unmatched), 8, 25)?);
-    let shared = line(alloc, 2, -200, LineState::Matched(14))?;
-    assert!(rt; finds(alloc, 25, Thing::Line(shared), 8, 25)?);
+    for (number, name, kind, commodity, parent, basis, id) in [
+        // In no commodity of the book; a basis that does not fit the kind.
+        (6, "A", AccountKind::Bank, 9, Some(5), None, 6),
+        (6, "A", AccountKind::Bank, 1, Some(5), Some(1), 6),
+        (6, "A", AccountKind::Stock, 7, Some(5), None, 6),
+        (6, "A", AccountKind::Stock, 7, Some(5), Some(7), 6),
+        // A second root; no parent; a parent that is not there, or of another group.
+        (6, "Root", AccountKind::Root, 1, None, None, 6),
+        (6, "A", AccountKind::Asset, 1, None, None, 6),
+        (6, "A", AccountKind::Asset, 1, Some(9), None, 6),
+        (6, "A", AccountKind::Expense, 1, Some(5), None, 6),
+        // A name twice; an account under itself, and the assets under the bank that is under them.
+        (6, "Rent", AccountKind::Expense, 1, Some(2), None, 6),
+        (6, "A", AccountKind::Asset, 1, Some(6), None, 6),
+        (5, "Assets", AccountKind::Asset, 1, Some(3), None, 3),
+    ] {
+        let damaged = account(alloc, name, kind, commodity, parent, basis)?;
+        assert!(rt; first_with(alloc, number, damaged)? == Some(RowKey { kind: 3, id }));
+    }
     Ok(())
 }
 
-// A line that is matched with a split of another amount breaks a rule, and so do the reconciliations whose account is
-// gone, whose list has a split twice, or whose balances do not close.
+/// The first unsound key where a transaction with one split stands besides.
+fn first_with_split(alloc: Global, split: Given) -> Result<Option<RowKey>, OutOfMemory> {
+    first_with(alloc, 17, Thing::Txn(transaction(alloc, &[split])?))
+}
+
+// One with no splits; unbalanced; on a placeholder; with a number of another; and with marks that no reconciliation
+// made.
 #[test]
-fn of_matches_and_reconciliations(rt: HostRuntime) -> Result<(), Fail> {
+fn transactions(rt: HostRuntime) -> Result<(), Fail> {
     let alloc = rt.alloc();
-    let other = line(alloc, 0, -199, LineState::Matched(14))?;
-    assert!(rt; finds(alloc, 22, Thing::Line(other), 8, 22)?);
-    let foreign = reconciled(alloc, 9, 1000, 11)?;
-    assert!(rt; finds(alloc, 25, Thing::Recon(foreign), 10, 25)?);
-    let mut twice = reconciled(alloc, 3, 2000, 11)?;
-    twice.marked.push(MarkedSplit {
-        split: 11,
-        quantity: 1000,
-    })?;
-    assert!(rt; finds(alloc, 25, Thing::Recon(twice), 10, 25)?);
-    let open = reconciled(alloc, 3, 999, 11)?;
-    assert!(rt; finds(alloc, 25, Thing::Recon(open), 10, 25)?);
+    let key = Some(RowKey { kind: 4, id: 17 });
+    let empty = Thing::Txn(transaction(alloc, &[])?);
+    assert!(rt; first_with(alloc, 17, empty)? == key);
+    for split in [
+        (17, 3, 1, Mark::New, None),
+        (17, 5, 0, Mark::New, None),
+        (11, 3, 0, Mark::New, None),
+        (17, 3, 0, Mark::Reconciled, None),
+        (17, 3, 0, Mark::Reconciled, Some(19)),
+        (17, 3, 0, Mark::New, Some(19)),
+        (17, 3, 0, Mark::Cleared, Some(19)),
+    ] {
+        assert!(rt; first_with_split(alloc, split)? == key);
+    }
     Ok(())
 }
 
-// Of two unsound keys the one with the lesser kind is found.
+// The reconciled split on another account, and with another quantity; and a number twice in one transaction.
 #[test]
-fn of_two_the_lesser(rt: HostRuntime) -> Result<(), Fail> {
+fn marked_transactions(rt: HostRuntime) -> Result<(), Fail> {
+    let alloc = rt.alloc();
+    for (account, value, mark, id) in [
+        (4, 1_000, Mark::Reconciled, 12),
+        (3, 999, Mark::Reconciled, 12),
+        (3, 1_000, Mark::Cleared, 12),
+        (3, 1_000, Mark::Reconciled, 11),
+    ] {
+        let given = [
+            (11, account, value, mark, Some(19)),
+            (id, 4, -value, Mark::New, None),
+        ];
+        let damaged = Thing::Txn(transaction(alloc, &given)?);
+        assert!(rt; first_with(alloc, 10, damaged)? == Some(RowKey { kind: 4, id: 10 }));
+    }
+    Ok(())
+}
+
+#[test]
+fn prices(rt: HostRuntime) -> Result<(), Fail> {
+    let alloc = rt.alloc();
+    for (commodity, currency, day, num) in [
+        (9, 1, 1, 150),
+        (1, 7, 1, 150),
+        (7, 1, 1, 0),
+        (1, 1, 1, 150),
+        (7, 1, 19_723, 151),
+    ] {
+        let damaged = price(commodity, currency, day, num)?;
+        assert!(rt; first_with(alloc, 9, damaged)? == Some(RowKey { kind: 5, id: 9 }));
+    }
+    Ok(())
+}
+
+#[test]
+fn schedules(rt: HostRuntime) -> Result<(), Fail> {
+    let alloc = rt.alloc();
+    for (count, every, end, advance, split, found) in [
+        (12, 10_000, End::Never, 366, 0, None),
+        (0, 1, End::Never, 366, 0, Some(RowKey { kind: 6, id: 16 })),
+        (13, 1, End::Never, 366, 0, Some(RowKey { kind: 6, id: 16 })),
+        (1, 0, End::Never, 366, 0, Some(RowKey { kind: 6, id: 16 })),
+        (
+            1,
+            1,
+            End::After(0),
+            366,
+            0,
+            Some(RowKey { kind: 6, id: 16 }),
+        ),
+        (1, 1, End::Never, 367, 0, Some(RowKey { kind: 6, id: 16 })),
+        (1, 1, End::Never, 366, 17, Some(RowKey { kind: 6, id: 16 })),
+    ] {
+        let monthly = recurrences(alloc, count, every)?;
+        let damaged = schedule(alloc, monthly, end, advance, 0, split)?;
+        assert!(rt; first_with(alloc, 16, damaged)? == found);
+    }
+    Ok(())
+}
+
+#[test]
+fn statements(rt: HostRuntime) -> Result<(), Fail> {
+    let alloc = rt.alloc();
+    for account in [9, 3] {
+        let damaged = statement(alloc, account)?;
+        assert!(rt; first_with(alloc, 21, damaged)? == Some(RowKey { kind: 7, id: 21 }));
+    }
+    Ok(())
+}
+
+#[test]
+fn lines(rt: HostRuntime) -> Result<(), Fail> {
+    let alloc = rt.alloc();
+    for (number, account, statement, ordinal, amount, state) in [
+        (25, 9, 20, 2, -200, LineState::Open),
+        (25, 3, 9, 2, -200, LineState::Open),
+        (25, 3, 20, 2, -1_000_000_000_001, LineState::Open),
+        (25, 3, 20, 1, -200, LineState::Dismissed),
+        // Matched with no split; with one that another line is matched with; on another account; of another amount.
+        (25, 3, 20, 2, -200, LineState::Matched(25)),
+        (25, 3, 20, 2, -200, LineState::Matched(14)),
+        (22, 4, 20, 0, -200, LineState::Matched(14)),
+        (22, 3, 20, 0, -199, LineState::Matched(14)),
+    ] {
+        let damaged = line(alloc, account, statement, ordinal, amount, state)?;
+        assert!(rt;
+            first_with(alloc, number, damaged)?
+                == Some(RowKey {
+                    kind: 8,
+                    id: number
+                })
+        );
+    }
+    Ok(())
+}
+
+#[test]
+fn bindings(rt: HostRuntime) -> Result<(), Fail> {
+    let alloc = rt.alloc();
+    for (name, account) in [("NL01BANK0123456789", 4), ("B", 9), ("B", 5)] {
+        let damaged = binding(alloc, name, account)?;
+        assert!(rt; first_with(alloc, 25, damaged)? == Some(RowKey { kind: 9, id: 25 }));
+    }
+    Ok(())
+}
+
+// One of no account, one that lists a split twice, and one that does not sum to its closing balance.
+#[test]
+fn reconciliations(rt: HostRuntime) -> Result<(), Fail> {
+    let alloc = rt.alloc();
+    for (account, closing, splits) in [
+        (9, 2_000, [11, 12]),
+        (3, 2_000, [11, 11]),
+        (3, 1_999, [11, 12]),
+    ] {
+        let damaged = reconciliation(alloc, account, closing, &splits)?;
+        assert!(rt; first_with(alloc, 25, damaged)? == Some(RowKey { kind: 10, id: 25 }));
+    }
+    Ok(())
+}
+
+// Of two unsound keys the one of the lesser kind is found.
+#[test]
+fn lesser_of_two(rt: HostRuntime) -> Result<(), Fail> {
     let alloc = rt.alloc();
     let mut plain = sound(alloc)?;
     put(&mut plain, 24, binding(alloc, "B", 9)?)?;
