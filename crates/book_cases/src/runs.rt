@@ -53,7 +53,7 @@ pub(crate) fn ran(
     let bytes = Bytes::of(input.to_vec(alloc)?);
     let source = MemSource::new(bytes, piece.max(1), Many::of(reads.to_vec(alloc)?));
     let output = MemSink::new(alloc, ROOM, Many::of(writes.to_vec(alloc)?))?;
-    ended(alloc, words, empty_keeper(alloc, &[])?, source, output)
+    run_over(alloc, words, empty_keeper(alloc, &[])?, source, output)
 }
 
 /// Runs the lines over the keeper.
@@ -65,11 +65,11 @@ pub(crate) fn ran_over(
     let bytes = Bytes::of(lines.as_bytes().to_vec(alloc)?);
     let source = MemSource::new(bytes, 4096, Many::new(alloc));
     let output = MemSink::new(alloc, ROOM, Many::new(alloc))?;
-    ended(alloc, &["run", "household.book"], keeper, source, output)
+    run_over(alloc, &["run", "household.book"], keeper, source, output)
 }
 
 /// Runs the words over these.
-fn ended(
+fn run_over(
     alloc: Global,
     words: &[&str],
     mut keeper: MemKeeper,
