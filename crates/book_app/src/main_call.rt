@@ -40,9 +40,7 @@ pub fn run_lines<K: Keeper, S: Source, O: Sink>(
     ensures output_fault { result ≡ Status.OutputFault → Rose (O.faults output.old) (O.faults output.new) }
     ensures no_output_fault { result ≢ Status.OutputFault → O.faults output.new ≡ O.faults output.old }
 {
-    status_after(run::<Answering, K, Engine, S, O>(
-        alloc, engine, keeper, input, output, room,
-    ))
+    status_after(run::<Answering, K, Engine, S, O>(alloc, engine, keeper, input, output, room))
 }
 
 /// The engine with the book that the keeper has at this path.

@@ -134,12 +134,7 @@ impl<K: Keeper> Machine<Answering, K> for Engine {
     ghost follows_through = { λ first second third one other.
         twice_later K.path_given K.sure first second third one other };
 
-    fn answer(
-        &mut self,
-        alloc: Global,
-        keeper: &mut K,
-        line: &[u8],
-    ) -> Result<Bytes, Unanswered> {
+    fn answer(&mut self, alloc: Global, keeper: &mut K, line: &[u8]) -> Result<Bytes, Unanswered> {
         answer_to(alloc, self, keeper, line)
     }
 

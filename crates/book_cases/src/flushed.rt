@@ -1,3 +1,4 @@
+use crate::runs::empty_keeper;
 use crate::texts::repeated;
 use book_app::run_over;
 use book_commodity::{OutOfMemory, Text};
@@ -55,7 +56,14 @@ fn answers_of_every_length_are_flushed(rt: HostRuntime) -> Result<(), Fail> {
     }
     let words = words(alloc)?;
     let writer = Unforgiving { unflushed: 0 };
-    let ran = run_over(alloc, words.as_slice(), lines.as_bytes(), writer);
+    let mut keeper = empty_keeper(alloc, &[])?;
+    let ran = run_over(
+        alloc,
+        words.as_slice(),
+        &mut keeper,
+        lines.as_bytes(),
+        writer,
+    );
     assert_eq!(rt; ran.ended.report(&rt), ExitCode::from(0));
     Ok(())
 }

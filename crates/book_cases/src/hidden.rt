@@ -1,4 +1,4 @@
-use crate::runs::{SALARY, SALARY_ANSWERS};
+use crate::runs::{SALARY, SALARY_ANSWERS, empty_keeper};
 use book_app::run_over;
 use book_commodity::{OutOfMemory, Text};
 use std::alloc::Global;
@@ -86,7 +86,14 @@ fn ended(rt: &HostRuntime, reads: u32, writes: u32) -> Result<ExitCode, OutOfMem
         calls: 0,
         fails: reads,
     };
-    let ran = run_over(rt.alloc(), words.as_slice(), reader, failing_writer(writes));
+    let mut keeper = empty_keeper(rt.alloc(), &[])?;
+    let ran = run_over(
+        rt.alloc(),
+        words.as_slice(),
+        &mut keeper,
+        reader,
+        failing_writer(writes),
+    );
     Ok(ran.ended.report(rt))
 }
 

@@ -1,5 +1,6 @@
-//! Tests alone: whole runs through `book_main`, over inputs and outputs in memory. What a run answers is proved;
-//! these show that it is answered at all, where memory is ample, and that inputs and outputs may fail at any call.
+//! Tests alone: whole runs through `book_main`, over inputs, outputs and keepers in memory. What a run answers is
+//! proved; these show that it is answered at all, where memory is ample, and that inputs, outputs and keepers may fail
+//! at any call.
 #![tactic(auto)]
 
 #[cfg(test)]
@@ -12,6 +13,8 @@ mod faults;
 mod flushed;
 #[cfg(test)]
 mod hidden;
+#[cfg(test)]
+mod keeping;
 #[cfg(test)]
 mod long;
 #[cfg(test)]

@@ -1,4 +1,4 @@
-use crate::runs::{SALARY, SALARY_ANSWERS};
+use crate::runs::{SALARY, SALARY_ANSWERS, empty_keeper};
 use book_app::{Status, run_over, run_program};
 use book_commodity::Text;
 use std::alloc::{Alloc, Allocator, Global};
@@ -222,7 +222,14 @@ fn a_reader_that_fails(rt: HostRuntime) -> Result<(), Fail> {
     let reader = Broken {
         left: SALARY.as_bytes(),
     };
-    let ran = run_over(rt.alloc(), words.as_slice(), reader, io::writer(&host));
+    let mut keeper = empty_keeper(rt.alloc(), &[])?;
+    let ran = run_over(
+        rt.alloc(),
+        words.as_slice(),
+        &mut keeper,
+        reader,
+        io::writer(&host),
+    );
     assert_eq!(rt; ran.ended.report(&host), ExitCode::from(4));
     assert_eq!(rt; host.written.get(), SALARY_ANSWERS.len());
     assert_eq!(rt; host.lines.get(), 1);
@@ -231,12 +238,25 @@ fn a_reader_that_fails(rt: HostRuntime) -> Result<(), Fail> {
 }
 
 // Each status but Done says its one line on standard error, and ends with its number.
-static ENDS: [(Status, &str, u32, u8); 6] = [
+static ENDS: [(Status, &str, u32, u8); 9] = [
     (Status::Done, "", 0, 0),
     (Status::Usage, USAGE, 1, 2),
     (Status::Memory, "book: out of memory", 1, 3),
     (Status::InputFault, "book: the input failed", 1, 4),
     (Status::OutputFault, "book: the output failed", 1, 5),
+    (Status::KeeperFault, "book: the book file failed", 1, 6),
+    (
+        Status::BadRows { kind: 4, id: 5 },
+        "book: the book is damaged",
+        1,
+        7,
+    ),
+    (
+        Status::UnsoundBook { kind: 4, id: 5 },
+        "book: the book is damaged",
+        1,
+        7,
+    ),
     (Status::InputLimit, "book: the input is too long", 1, 9),
 ];
 

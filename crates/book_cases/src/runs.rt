@@ -1,6 +1,6 @@
 use book_app::{Status, book_main};
 use book_commodity::{Bytes, Many, OutOfMemory, Text};
-use book_keeper::{MemSink, MemSource};
+use book_keeper::{MemKeeper, MemSink, MemSource};
 use std::alloc::Global;
 
 /// Two accounts.
@@ -27,14 +27,21 @@ pub(crate) const SALARY_ANSWERS: &str = r#"{"account":3,"ok":"account_add","vers
 {"balances":["250000","-250000"],"ok":"post","splits":[6,7],"transaction":5,"version":3}
 "#;
 
-/// How a run ended, and what it wrote.
+/// How a run ended, what it wrote, and the keeper.
 #[derive(Drop)]
 pub(crate) struct Ended {
     pub(crate) status: Status,
     pub(crate) output: MemSink,
+    pub(crate) keeper: MemKeeper,
 }
 
-/// Runs the words over the input, which is read in pieces of so many bytes; these reads and writes fail.
+/// A keeper without rows, whose commits of these numbers fail.
+pub(crate) fn empty_keeper(alloc: Global, fail: &[u64]) -> Result<MemKeeper, OutOfMemory> {
+    Ok(MemKeeper::new(Many::new(alloc), Many::of(fail.to_vec(alloc)?)))
+}
+
+/// Runs the words over the input, which is read in pieces of so many bytes, and over a keeper without rows; these
+/// reads and writes fail.
 pub(crate) fn ran(
     alloc: Global,
     words: &[&str],
@@ -43,13 +50,46 @@ pub(crate) fn ran(
     reads: &[u64],
     writes: &[u64],
 ) -> Result<Ended, OutOfMemory> {
+    let bytes = Bytes::of(input.to_vec(alloc)?);
+    let source = MemSource::new(bytes, piece.max(1), Many::of(reads.to_vec(alloc)?));
+    let output = MemSink::new(alloc, ROOM, Many::of(writes.to_vec(alloc)?))?;
+    run_over(alloc, words, empty_keeper(alloc, &[])?, source, output)
+}
+
+/// Runs the lines over the keeper.
+pub(crate) fn ran_over(
+    alloc: Global,
+    keeper: MemKeeper,
+    lines: &str,
+) -> Result<Ended, OutOfMemory> {
+    let bytes = Bytes::of(lines.as_bytes().to_vec(alloc)?);
+    let source = MemSource::new(bytes, 4096, Many::new(alloc));
+    let output = MemSink::new(alloc, ROOM, Many::new(alloc))?;
+    run_over(alloc, &["run", "household.book"], keeper, source, output)
+}
+
+/// Runs the words over these.
+fn run_over(
+    alloc: Global,
+    words: &[&str],
+    mut keeper: MemKeeper,
+    mut source: MemSource,
+    mut output: MemSink,
+) -> Result<Ended, OutOfMemory> {
     let mut texts = Vec::new(alloc);
     for word in words {
         texts.push(Text::of(String::from_str(alloc, word)?))?;
     }
-    let bytes = Bytes::of(input.to_vec(alloc)?);
-    let mut source = MemSource::new(bytes, piece.max(1), Many::of(reads.to_vec(alloc)?));
-    let mut output = MemSink::new(alloc, ROOM, Many::of(writes.to_vec(alloc)?))?;
-    let status = book_main(alloc, texts.as_slice(), &mut source, &mut output);
-    Ok(Ended { status, output })
+    let status = book_main(
+        alloc,
+        texts.as_slice(),
+        &mut keeper,
+        &mut source,
+        &mut output,
+    );
+    Ok(Ended {
+        status,
+        output,
+        keeper,
+    })
 }

@@ -1,6 +1,6 @@
 use book_app::{Status, book_main};
 use book_commodity::{Bytes, Many, OutOfMemory, Text};
-use book_keeper::{MemSink, MemSource};
+use book_keeper::{MemKeeper, MemSink, MemSource};
 use std::alloc::{AllocError, Global};
 use std::str;
 
@@ -22,7 +22,14 @@ fn run(alloc: Global, commands: &str) -> Result<String, OutOfMemory> {
     let bytes = Bytes::of(commands.as_bytes().to_vec(alloc)?);
     let mut input = MemSource::new(bytes, 4096, Many::new(alloc));
     let mut output = MemSink::new(alloc, ROOM, Many::new(alloc))?;
-    let status = book_main(alloc, words.as_slice(), &mut input, &mut output);
+    let mut keeper = MemKeeper::new(Many::new(alloc), Many::new(alloc));
+    let status = book_main(
+        alloc,
+        words.as_slice(),
+        &mut keeper,
+        &mut input,
+        &mut output,
+    );
     let mut answers = String::new(alloc);
     if let (Status::Done, Ok(text)) = (status, str::from_utf8(output.written())) {
         answers.push_str(text)?;
