@@ -1,5 +1,6 @@
 -- What holds when the program's work has ended, by its status.
-use Rattle.std.specs.Prelude.{◌≡◌, ℕ, ◌+◌, ◌^◌, ◌≤◌, ⊤, Bool, IsTrue, List, [], ◌++◌, Option, Some, Result, Ok, Err, length}
+use Rattle.std.specs.Prelude.{◌≡◌, ℕ, ◌+◌, ◌^◌, ◌≤◌, ⊤, Bool, IsTrue, List, [], ◌++◌, Option, Some, Result, Ok, Err}
+use Rattle.std.specs.Prelude.{length}
 use Rattle.book_keeper.specs.Stream.{Are, Wrote}
 use Rattle.book_keeper.specs.declared.row.Row.{Row}
 use Rattle.book_lines.specs.RunClause.{Moment, at, RunClause}

@@ -4,8 +4,8 @@ use crate::Rule;
 use book_commodity::OutOfMemory;
 use std::alloc::AllocError;
 
-/// Why a command was not accepted: a rule that it breaks; the keeper of the rows failed, and its count of faults rose in
-/// that call; or out of memory. Nothing was changed.
+/// Why a command was not accepted: a rule that it breaks; the keeper of the rows failed, and its count of faults rose
+/// in that call; or out of memory. Nothing was changed.
 #[derive(Clone, Copy, Debug, PartialEq, Eq)]
 pub enum Refusal {
     Broken(Rule),

@@ -16,7 +16,8 @@ above_where n (row ∷ rows) all =
 rises_by : (rows : List Row) → do_rise rows ≡ true → Rises rows
 rises_by [] all = tt
 rises_by (row ∷ rows) all =
-    let first : list_all (λ other. nat_lt (rank row.key) (rank other.key)) rows ≡ true = grind (arith, nat_tests, all) in
+    let first : list_all (λ other. nat_lt (rank row.key) (rank other.key)) rows ≡ true =
+    grind (arith, nat_tests, all) in
     let more : do_rise rows ≡ true = grind (arith, nat_tests, all) in
     (above_where (rank row.key) rows first, rises_by rows more)
 

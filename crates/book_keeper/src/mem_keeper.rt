@@ -142,7 +142,8 @@ impl Keeper for MemKeeper {
         ensures path { self.new.path ≡ self.old.path }
         ensures sure { IsTrue (do_rise self.new.rows) → IsTrue (do_rise self.old.rows) }
         ensures made { OnOk result (IsTrue (do_rise self.new.rows) → (rows : List Row)
-            → (self.old.rows ≡ rows) × Rises rows → (self.new.rows ≡ after_changes changes.now rows) × Rises (after_changes changes.now rows)) }
+            → (self.old.rows ≡ rows) × Rises rows
+            → (self.new.rows ≡ after_changes changes.now rows) × Rises (after_changes changes.now rows)) }
         ensures unchanged { OnErr result (IsTrue (do_rise self.new.rows) → (rows : List Row)
             → (self.old.rows ≡ rows) × Rises rows → (self.new.rows ≡ rows) × Rises rows) }
         ensures cause { HasKeepCause self.old.faults self.new.faults result }
