@@ -1,4 +1,4 @@
-ghost use Rattle.std.specs.Prelude.{◌≡◌, ◌≢◌, ◌↔◌, None, OnErr, MatchResult};
+ghost use Rattle.std.specs.Prelude.{◌≡◌, ◌≢◌, ◌↔◌, None, IfOk, OnErr, MatchResult};
 ghost use Rattle.std.specs.IoError.{error_kind};
 ghost use Rattle.std.specs.Process.{exit_status};
 ghost use Rattle.book_keeper.specs.Faults.{Rose};
@@ -78,6 +78,7 @@ pub(crate) fn run_words<K: Keeper, I: Read, O: Write>(
         (may_hold O.contents (sink_over writer)) (may_hold O.contents result.output) result.ended.status }
     ensures usage { (result.ended.status ≡ Status.Usage) ↔ MatchResult words
         (λ given. named_book given.items ≡ None) (λ error. error_kind error ≡ ErrorKind.InvalidData) }
+    ensures path { IfOk words (λ given. HasBookPath given.items (K.path_given keeper.new) result.ended.status) }
     ensures memory { OnErr words (result.ended.status ≢ Status.Usage → result.ended.status ≡ Status.Memory) }
     ensures keeper_fault { result.ended.status ≡ Status.KeeperFault
         → Rose (K.faults keeper.old) (K.faults keeper.new) }

@@ -1,6 +1,6 @@
 use book_app::{Status, book_main};
 use book_commodity::{Bytes, Many, OutOfMemory, Text};
-use book_keeper::{MemKeeper, MemSink, MemSource};
+use book_keeper::{Keeper, MemKeeper, MemSink, MemSource};
 use std::alloc::Global;
 
 /// Two accounts.
@@ -73,23 +73,40 @@ fn run_over(
     alloc: Global,
     words: &[&str],
     mut keeper: MemKeeper,
-    mut source: MemSource,
-    mut output: MemSink,
+    source: MemSource,
+    output: MemSink,
 ) -> Result<Ended, OutOfMemory> {
-    let mut texts = Vec::new(alloc);
-    for word in words {
-        texts.push(Text::of(String::from_str(alloc, word)?))?;
-    }
-    let status = book_main(
-        alloc,
-        texts.as_slice(),
-        &mut keeper,
-        &mut source,
-        &mut output,
-    );
+    let (status, output) = run_with(alloc, words, &mut keeper, source, output)?;
     Ok(Ended {
         status,
         output,
         keeper,
     })
+}
+
+/// Runs no line over the keeper: how it ends, and how many bytes were written.
+pub(crate) fn status_over<K: Keeper>(
+    alloc: Global,
+    keeper: &mut K,
+) -> Result<(Status, usize), OutOfMemory> {
+    let source = MemSource::new(Bytes::new(alloc), 4096, Many::new(alloc));
+    let output = MemSink::new(alloc, ROOM, Many::new(alloc))?;
+    let (status, output) = run_with(alloc, &["run", "household.book"], keeper, source, output)?;
+    Ok((status, output.written().len()))
+}
+
+/// How a run of the words over these ends, and what it wrote.
+fn run_with<K: Keeper>(
+    alloc: Global,
+    words: &[&str],
+    keeper: &mut K,
+    mut source: MemSource,
+    mut output: MemSink,
+) -> Result<(Status, MemSink), OutOfMemory> {
+    let mut texts = Vec::new(alloc);
+    for word in words {
+        texts.push(Text::of(String::from_str(alloc, word)?))?;
+    }
+    let status = book_main(alloc, texts.as_slice(), keeper, &mut source, &mut output);
+    Ok((status, output))
 }
