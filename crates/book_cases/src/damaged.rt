@@ -14,8 +14,8 @@ type Key = (u8, u8);
 /// The key and the body of a row.
 type Kept = (Key, &'static [u8]);
 
-/// The rows of a sound book with things of each kind, made by hand from the table of rows in docs/FORMATS.md. Numbers
-/// from 31 on are free, and the next one is 40.
+/// The rows of a sound book with things of each kind, made from the table of rows in docs/FORMATS.md and not by the
+/// writer of rows. Numbers from 31 on are free, and the next one is 40.
 const SOUND: [Kept; 25] = [
     // The head.
     (
