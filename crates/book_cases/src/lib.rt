@@ -8,8 +8,6 @@ mod cases;
 #[cfg(test)]
 mod changes;
 #[cfg(test)]
-mod damaged;
-#[cfg(test)]
 mod faults;
 #[cfg(test)]
 mod flushed;
