@@ -40,10 +40,10 @@ fn lines_without(alloc: Global, place: usize) -> Result<String, OutOfMemory> {
 /// What was written, without the answers that say that the keeper failed, and how many of these there were.
 fn without_refusals(alloc: Global, ended: &Ended) -> Result<(String, usize), Fail> {
     let mut text = String::new(alloc);
-    let mut refused = 0;
+    let mut refused: usize = 0;
     for line in std::str::from_utf8(ended.output.written())?.split_inclusive('\n') {
         if line == KEEPER {
-            refused += 1;
+            refused = refused.saturating_add(1);
         } else {
             text.push_str(line)?;
         }
