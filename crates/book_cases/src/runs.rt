@@ -84,17 +84,6 @@ fn run_over(
     })
 }
 
-/// Runs no line over the keeper: how it ends, and how many bytes were written.
-pub(crate) fn status_over<K: Keeper>(
-    alloc: Global,
-    keeper: &mut K,
-) -> Result<(Status, usize), OutOfMemory> {
-    let source = MemSource::new(Bytes::new(alloc), 4096, Many::new(alloc));
-    let output = MemSink::new(alloc, ROOM, Many::new(alloc))?;
-    let (status, output) = run_with(alloc, &["run", "household.book"], keeper, source, output)?;
-    Ok((status, output.written().len()))
-}
-
 /// How a run of the words over these ends, and what it wrote.
 fn run_with<K: Keeper>(
     alloc: Global,
