@@ -1,0 +1,6 @@
+pub mod Content
+pub mod KeeperInSqlite
+pub mod KnownRows
+pub mod RowCalls
+pub mod RowsDatabase
+pub mod RowsSchema

@@ -1,0 +1,45 @@
+-- The schema of a file of rows: one table with its key, and the index that SQLite makes for the key.
+use Rattle.std.specs.Prelude.{ℕ, true, false, List, [], ◌∷◌, None, codes}
+use Rattle.sqlite_value.specs.declared.value.Value.TheVariants.{Null}
+use Rattle.sqlite_value.specs.declared.keys.Collation.TheVariants.{Binary}
+use Rattle.sqlite_value.specs.Keys.{plain}
+use Rattle.sqlite_schema.specs.declared.schema.Kind.{Kind}
+use Rattle.sqlite_schema.specs.declared.schema.Kind.TheVariants.{Integer, Blob}
+use Rattle.sqlite_schema.specs.declared.schema.Column.{Column}
+use Rattle.sqlite_schema.specs.declared.schema.Table.{Table}
+use Rattle.sqlite_schema.specs.declared.schema.Index.{Index}
+use Rattle.sqlite_schema.specs.declared.schema.Schema.{Schema}
+use Rattle.sqlite_catalog.specs.Listing.{automatic}
+
+abbrev rows_column : List ℕ → Kind → Column
+rows_column name kind =
+    record { name = name; kind = kind; is_strict = true; not_null = true; default = Null; collation = Binary }
+
+-- bk_rows(kind INTEGER, id INTEGER, body BLOB, PRIMARY KEY(kind, id)) STRICT
+abbrev pub rows_table : Table
+rows_table = record {
+  name = codes "bk_rows";
+  tree = 0;
+  columns = rows_column (codes "kind") Integer ∷ rows_column (codes "id") Integer
+      ∷ (record (rows_column (codes "body") Blob) { not_null = false }) ∷ [];
+  key = None;
+  primary = 1 ∷ 2 ∷ [];
+  uniques = (1 ∷ 2 ∷ []) ∷ [];
+  orders = plain ∷ [];
+  checks = [];
+  references = [];
+  computed = [];
+  stamps = record { places = []; terms = []; formats = [] };
+  is_counted = false;
+}
+
+-- The index of its key.
+abbrev pub rows_index : Index
+rows_index = automatic rows_table 0 (1 ∷ 2 ∷ []) 1
+
+abbrev pub rows_schema : Schema
+rows_schema = record { tables = rows_table ∷ []; indexes = rows_index ∷ []; views = [] }
+
+-- The schema of an empty file.
+abbrev pub no_schema : Schema
+no_schema = record { tables = []; indexes = []; views = [] }

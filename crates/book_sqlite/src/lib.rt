@@ -1,0 +1,8 @@
+//! The rows of a book in SQLite: `SqliteKeeper` keeps them in the one table `bk_rows` of a database, over any store of
+//! the kit's `sqlite`, and `FileKeeper` opens the file that a path names and keeps them there. A commit is one
+//! transaction. Public are these two keepers.
+#![tactic(auto)]
+
+mod sqlite_keeper;
+
+pub use sqlite_keeper::SqliteKeeper;
