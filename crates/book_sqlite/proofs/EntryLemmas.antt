@@ -109,6 +109,7 @@ is_true_then false h = absurd cc
 -- What is known of the entries of a file of rows.
 pub record AreEntries (es : List Entry) : Type 0 where
   pub ordered : IsTable es
+  pub rowids : (e : Entry) → Has es e → is_int (rowid e) ≡ true
   pub keyed : (e : Entry) → Has es e → IsKeyed e
   pub once : (a b : Entry) → Has es a → Has es b → column a 1 ≡ column b 1 → column a 2 ≡ column b 2 → a ≡ b
 
@@ -151,10 +152,12 @@ entries db it =
     let keyed = λ (e : Entry) (h : Has (db.trees 0) e). keyed_from db.trees e
       (keeps_at Datatype rows_schema db.trees rows_table e (sound.rules Datatype) (inl refl) h)
       (keeps_at NotNull rows_schema db.trees rows_table e (sound.rules NotNull) (inl refl) h) in
+    let rowids = λ (e : Entry) (h : Has (db.trees 0) e). is_true_then _ (all_has _ (db.trees 0) e it.keyed h) in
     record {
       ordered = it.ordered;
+      rowids = rowids;
       keyed = keyed;
-      once = λ a b ha hb. once_in db.trees it.ordered (λ e h. is_true_then _ (all_has _ (db.trees 0) e it.keyed h)) a b ha hb
+      once = λ a b ha hb. once_in db.trees it.ordered rowids a b ha hb
         (keeps_at Unique rows_schema db.trees rows_table b (sound.rules Unique) (inl refl) hb) (keyed a ha);
     }
 

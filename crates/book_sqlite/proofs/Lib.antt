@@ -1,4 +1,9 @@
+pub mod ChangeLemmas
 pub mod ContentLemmas
 pub mod EntryLemmas
+pub mod FirstLemmas
 pub mod Meanings
 pub mod MemberLemmas
+pub mod PutLemmas
+pub mod ShownLemmas
+pub mod TakeLemmas
