@@ -15,7 +15,7 @@ use Rattle.sqlite_sql.specs.Term.{Term}
 use Rattle.sqlite_sql.specs.Query.{Query, Output, output, output_cmp, page, matches_as, IsAnswerAs}
 use Rattle.sqlite_sql.specs.Program.{overlay}
 use Rattle.sqlite_rules.specs.Lists.{Has}
-use Rattle.book_sqlite.specs.RowCalls.{HasKey, UpTo, ShowsFirst}
+use Rattle.book_sqlite.specs.RowCalls.{HasKey, UpTo, Behind, From, ShowsFirst}
 use Rattle.sqlite_rules.specs.Edit.{id_in}
 use Rattle.sqlite_rules.specs.Calls.{ids_of}
 use Rattle.sqlite_rules.proofs.TableLemmas.{int_is}
@@ -55,13 +55,6 @@ up_to_by kind id other more Equal Equal is js h =
     let same : more ≡ id = int_ranked more id Equal js in inr (sym (int_ranked other kind Equal is), omega (arith, ints, same))
 up_to_by kind id other more Equal Greater is js h =
     let high : id <ℤ more = int_ranked more id Greater js in inr (sym (int_ranked other kind Equal is), omega (arith, ints, high))
-
--- ---- what is behind a number of a kind, and what is of a kind or a greater one
-abbrev pub Behind : ℤ → ℤ → ℤ → ℤ → Type 0
-Behind kind id other more = (other ≡ kind) × (id <ℤ more)
-
-abbrev pub From : ℤ → ℤ → ℤ → Type 0
-From kind other more = kind ≤ℤ other
 
 -- WHERE decides it of entries with keys
 abbrev Decides : Entry → List Term → (ℤ → ℤ → Type 0) → Type 0

@@ -2,8 +2,10 @@ pub mod ChangeLemmas
 pub mod ContentLemmas
 pub mod EntryLemmas
 pub mod FirstLemmas
+pub mod FoundLemmas
 pub mod Meanings
 pub mod MemberLemmas
 pub mod PutLemmas
 pub mod ShownLemmas
+pub mod StateFacts
 pub mod TakeLemmas

@@ -1,10 +1,11 @@
 -- What the calls on a connection make of the rows, where its store is clean.
-use Rattle.std.specs.Prelude.{◌≡◌, ◌⊎◌, ℤ, ◌<ℤ◌, ◌≤ℤ◌, true, false, List, [], ◌∷◌, IsTrue}
+use Rattle.std.specs.Prelude.{◌≡◌, ◌⊎◌, ℤ, ◌<ℤ◌, ◌≤ℤ◌, true, false, List, [], ◌∷◌, Option, Some, None, IsTrue}
 use Rattle.sqlite_value.specs.declared.value.Value.TheVariants.{Int}
 use Rattle.sqlite_value.specs.Order.{Row as Entry, column}
 use Rattle.sqlite_rules.specs.Lists.{Has}
 use Rattle.sqlite.specs.State.{State, HasCleanDisk}
 use Rattle.book_keeper.specs.declared.row.Row.{Row}
+use Rattle.book_sqlite.specs.Content.{row_made}
 use Rattle.book_sqlite.specs.RowsDatabase.{IsRowsDatabase, rows_in}
 
 -- The store is clean, and the connection is open.
@@ -46,6 +47,14 @@ HasKey e kind id = (column e 1 ≡ Int kind) × (column e 2 ≡ Int id)
 abbrev pub UpTo : ℤ → ℤ → ℤ → ℤ → Type 0
 UpTo kind id other more = (kind <ℤ other) ⊎ ((kind ≡ other) × (id ≤ℤ more))
 
+-- Behind a number among those of a kind.
+abbrev pub Behind : ℤ → ℤ → ℤ → ℤ → Type 0
+Behind kind id other more = (other ≡ kind) × (id <ℤ more)
+
+-- Of a kind, or of a greater one.
+abbrev pub From : ℤ → ℤ → ℤ → Type 0
+From kind other more = kind ≤ℤ other
+
 -- A select shows the first entry, by its key, of those whose keys pass, or nothing where none passes.
 abbrev pub ShowsFirst : (ℤ → ℤ → Type 0) → List Entry → List Entry → Type 0
 ShowsFirst Passes es [] = (e : Entry) (kind id : ℤ) → Has es e → HasKey e kind id → Passes kind id → ⊥
@@ -54,3 +63,10 @@ ShowsFirst Passes es (shown ∷ []) =
     × (shown ≡ Int kind ∷ Int id ∷ column e 3 ∷ [])
     × ((f : Entry) (other more : ℤ) → Has es f → HasKey f other more → Passes other more → UpTo kind id other more)
 ShowsFirst Passes es (shown ∷ next ∷ more) = ⊥
+
+-- The row that is read from what a select shows: none where it shows none, or else the first, which has to be a row of a
+-- book.
+abbrev pub ReadsFrom : List Entry → Option Row → Type 0
+ReadsFrom [] found = found ≡ None
+ReadsFrom (shown ∷ more) found =
+    (row : Row) × (found ≡ Some row) × (row_made (column shown 0) (column shown 1) (column shown 2) ≡ Some row)
