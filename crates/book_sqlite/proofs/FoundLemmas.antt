@@ -68,3 +68,71 @@ found_by P es (x ∷ []) found known shows reads =
         (subst (λ n. UpTo n (pos row.key.id) (pos other.key.kind) (pos other.key.id)) kind
           (subst (λ n. UpTo shows.1 n (pos other.key.kind) (pos other.key.id)) number up));
     })
+
+-- ---- the first behind a key, or the first of all
+abbrev AllFit : List Row → Type 0
+AllFit rows = (x : Row) → Has rows x → x.key.id < 2 ^ 64
+
+pub fits_of : (es : List Entry) → AllFit (rows_of es)
+fits_of es x h = let e = holder es x h in (key_at e.0 x e.2).fits
+
+-- a rank above that of a key: of a greater kind, or of its kind and behind its number
+above_by : (key other : RowKey) → key.id < 2 ^ 64 → other.id < 2 ^ 64 → rank key < rank other
+    → (key.kind < other.kind) ⊎ ((other.kind ≡ key.kind) × (key.id < other.id))
+above_by key other low fits up = elim (Rattle.std.proofs.lemmas.Bool.cases_lt key.kind other.kind) [
+  | inl less ↦ inl less
+  | inr not_less ↦
+      let same : other.kind ≡ key.kind = omega (arith, low, fits, up, not_less) in inr (same, omega (arith, up, same))
+]
+
+-- a greater kind has greater ranks
+kind_up : (a b : RowKey) → a.id < 2 ^ 64 → a.kind < b.kind → rank a < rank b
+kind_up a b low less = omega (arith, low, less)
+
+-- the one that is found behind the number is the first behind the key
+pub after_behind :
+    (rows : List Row) (key : RowKey) (id : ℤ) (row : Row) → Rattle.book_keeper.specs.Rows.Rises rows → AllFit rows → key.id < 2 ^ 64
+    → id ≤ℤ pos key.id → IsFound (Behind (pos key.kind) id) rows (Some row) → rank key < rank row.key
+    → first_after (Some key) rows ≡ Some row
+after_behind rows key id row up fit low under found above =
+    let kind : row.key.kind ≡ key.kind = (let e = found.passes.0 in cc) in
+    first_is (rank key) rows row up found.there above (λ other h behind.
+      elim (above_by key other.key low (fit other h) behind) [
+        | inl greater ↦ omega (arith, kind_up row.key other.key (fit row found.there) (omega (arith, kind, greater)))
+        | inr same ↦ found.least other h (ap pos same.0, omega (arith, ints, under, same.1))
+      ])
+
+-- where none is found behind the number, it is the first of the greater kinds
+pub after_from :
+    (rows : List Row) (key : RowKey) (id next : ℤ) (found : Option Row) → Rattle.book_keeper.specs.Rows.Rises rows → AllFit rows → key.id < 2 ^ 64
+    → id ≤ℤ pos key.id → next ≡ pos (key.kind + 1) → IsFound (Behind (pos key.kind) id) rows None → IsFound (From next) rows found
+    → first_after (Some key) rows ≡ found
+after_from rows key id next None up fit low under next_is none found =
+    none_above (rank key) rows (λ other h. elim (Rattle.std.proofs.lemmas.Bool.cases_lt (rank key) (rank other.key)) [
+      | inl behind ↦ absurd (elim (above_by key other.key low (fit other h) behind) [
+        | inl greater ↦ found other h (omega (arith, ints, next_is, greater))
+        | inr same ↦ none other h (ap pos same.0, omega (arith, ints, under, same.1))
+      ])
+      | inr not_behind ↦ not_behind
+    ])
+after_from rows key id next (Some row) up fit low under next_is none found =
+    let kind : key.kind < row.key.kind = omega (arith, ints, next_is, found.passes) in
+    first_is (rank key) rows row up found.there (kind_up key row.key low kind) (λ other h behind.
+      elim (above_by key other.key low (fit other h) behind) [
+        | inl greater ↦ found.least other h (omega (arith, ints, next_is, greater))
+        | inr same ↦ absurd (none other h (ap pos same.0, omega (arith, ints, under, same.1)))
+      ])
+
+-- no kind is below the least, so it is the first of all
+pub after_none :
+    (rows : List Row) (n : ℕ) (found : Option Row) → Rattle.book_keeper.specs.Rows.Rises rows → IsFound (From (negsuc n)) rows found
+    → first_after None rows ≡ found
+after_none [] n None up found = refl
+after_none [] n (Some row) up found = absurd found.there
+after_none (r ∷ rows) n None up found = absurd (found r (inl refl) (omega (arith, ints)))
+after_none (r ∷ rows) n (Some row) up found = elim found.there [
+  | inl same ↦ ap Some (sym same)
+  | inr later ↦
+      let low = found.least r (inl refl) (omega (arith, ints)) in
+      let high = Rattle.book_sqlite.proofs.MemberLemmas.above_member (rank r.key) rows row up.0 later in absurd (omega (arith, low, high))
+]

@@ -3,6 +3,8 @@
 //! transaction. Public are these two keepers.
 #![tactic(auto)]
 
+mod selects;
 mod sqlite_keeper;
+mod statements;
 
 pub use sqlite_keeper::SqliteKeeper;
