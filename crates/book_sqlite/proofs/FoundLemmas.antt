@@ -9,23 +9,10 @@ use Rattle.book_keeper.specs.declared.row.RowKey.{RowKey}
 use Rattle.book_keeper.specs.Rows.{rank, first_above, first_row, first_after}
 use Rattle.book_sqlite.specs.Content.{row_made, row_held, rows_of}
 use Rattle.book_sqlite.specs.KnownRows.{rises_of}
-use Rattle.book_sqlite.specs.RowCalls.{HasKey, UpTo, Behind, From, ShowsFirst, ReadsFrom}
+use Rattle.book_sqlite.specs.RowCalls.{HasKey, UpTo, Behind, From, ShowsFirst, ReadsFrom, IsLeast, NonePasses, IsFound}
 use Rattle.book_sqlite.proofs.MemberLemmas.{none_above, first_is}
 use Rattle.book_sqlite.proofs.ContentLemmas.{Made, made_from, holder, held_in}
 use Rattle.book_sqlite.proofs.EntryLemmas.{AreEntries, holds_once}
-
--- The row is among those, its key passes, and no other key that passes is below it.
-pub record IsLeast (P : ℤ → ℤ → Type 0) (rows : List Row) (row : Row) : Type 0 where
-  pub there : Has rows row
-  pub passes : P (pos row.key.kind) (pos row.key.id)
-  pub least : (other : Row) → Has rows other → P (pos other.key.kind) (pos other.key.id) → rank row.key ≤ rank other.key
-
-abbrev NonePasses : (ℤ → ℤ → Type 0) → List Row → Type 0
-NonePasses P rows = (other : Row) → Has rows other → P (pos other.key.kind) (pos other.key.id) → ⊥
-
-abbrev pub IsFound : (ℤ → ℤ → Type 0) → List Row → Option Row → Type 0
-IsFound P rows None = NonePasses P rows
-IsFound P rows (Some row) = IsLeast P rows row
 
 key_at : (e : Entry) (row : Row) → row_held e ≡ Some row → Made (column e 1) (column e 2) (column e 3) row
 key_at e row is = made_from (column e 1) (column e 2) (column e 3) row is

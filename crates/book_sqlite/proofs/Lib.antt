@@ -1,4 +1,5 @@
 pub mod ChangeLemmas
+pub mod CommitLemmas
 pub mod ContentLemmas
 pub mod EntryLemmas
 pub mod FirstLemmas

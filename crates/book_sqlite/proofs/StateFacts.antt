@@ -1,6 +1,6 @@
 -- What calls leave of a connection, from what the kit says of them.
-use Rattle.std.proofs.Common.{◌≡◌, ◌⊎◌, ◌^◌, ℕ, ◌<◌, ◌≤◌, pos, true, false, List, [], ◌∷◌, None, Ok, Err, inl, inr, refl, sym, ap, subst, ◌∙◌, arith, IsTrue}
-use Rattle.sqlite_value.specs.declared.value.Value.TheVariants.{Null}
+use Rattle.std.proofs.Common.{◌≡◌, ◌⊎◌, ◌^◌, ℕ, ℤ, ◌<◌, ◌≤◌, pos, true, false, List, [], ◌∷◌, None, Some, Result, Ok, Err, IfOk, IfErr, OnOk, OnErr, inl, inr, refl, sym, ap, subst, ◌∙◌, arith, IsTrue}
+use Rattle.sqlite_value.specs.declared.value.Value.TheVariants.{Int, Null}
 use Rattle.sqlite_value.specs.Order.{Row as Entry}
 use Rattle.sqlite_trees.specs.Tree.{Trees}
 use Rattle.sqlite_trees.specs.View.{doubt}
@@ -129,19 +129,84 @@ shown_unchanged sql params old new rows has plain h =
     (rw bare.0 at h.2).3
 
 pub shown_behind : (old new : State) (kind id : _) (rows : List Entry) → IsRowsDatabase old.now
-    → Shown behind_text (Rattle.sqlite_value.specs.declared.value.Value.TheVariants.Int kind ∷ Rattle.sqlite_value.specs.declared.value.Value.TheVariants.Int id ∷ []) old new rows
+    → Shown behind_text (Int kind ∷ Int id ∷ []) old new rows
     → ShowsFirst (Behind kind id) (old.now.trees 0) rows × IsUnchanged old new
 shown_behind old new kind id rows it h =
-    let params = Rattle.sqlite_value.specs.declared.value.Value.TheVariants.Int kind ∷ Rattle.sqlite_value.specs.declared.value.Value.TheVariants.Int id ∷ [] in
+    let params = Int kind ∷ Int id ∷ [] in
     let read = reads_as behind_text params old new rows_schema it.schema _ behind_is behind_plain unlisted.0 rows h in
     (shows_first behind_terms (Behind kind id) old.now.trees params (entries old.now it) (behind_decides kind id) rows (read.answer Null),
       shown_unchanged behind_text params old new rows it.schema behind_plain h)
 
 pub shown_from_kind : (old new : State) (kind : _) (rows : List Entry) → IsRowsDatabase old.now
-    → Shown from_text (Rattle.sqlite_value.specs.declared.value.Value.TheVariants.Int kind ∷ []) old new rows
+    → Shown from_text (Int kind ∷ []) old new rows
     → ShowsFirst (From kind) (old.now.trees 0) rows × IsUnchanged old new
 shown_from_kind old new kind rows it h =
-    let params = Rattle.sqlite_value.specs.declared.value.Value.TheVariants.Int kind ∷ [] in
+    let params = Int kind ∷ [] in
     let read = reads_as from_text params old new rows_schema it.schema _ from_is from_plain unlisted.1 rows h in
     (shows_first from_terms (From kind) old.now.trees params (entries old.now it) (from_decides kind) rows (read.answer Null),
       shown_unchanged from_text params old new rows it.schema from_plain h)
+
+-- ---- answers of the functions with one statement
+pub put_answer :
+    (old new : State) (row : Row) (params : Entry) (r : Result ℕ Error) → params ≡ put_params row → row.key.kind < 2 ^ 8 → row.key.id < 2 ^ 64
+    → (HasCleanDisk new → IsTrue old.in_transaction → ExecutesInside 0 put_text params old new r)
+    → OnOk r (HasCleanDisk new → IsTrue old.in_transaction → ChangesInside old new (with_row row))
+put_answer old new row params (Ok count) is low fits h = λ clean inside.
+    puts_inside old new row count low fits (subst (λ p. ExecutesInside 0 put_text p old new (Ok count)) is (h clean inside))
+put_answer old new row params (Err e) is low fits h = tt
+
+pub take_answer :
+    (old new : State) (key : RowKey) (params : Entry) (r : Result ℕ Error) → params ≡ take_params key → key.id < 2 ^ 64
+    → (HasCleanDisk new → IsTrue old.in_transaction → ExecutesInside 0 take_text params old new r)
+    → OnOk r (HasCleanDisk new → IsTrue old.in_transaction → ChangesInside old new (without_row key))
+take_answer old new key params (Ok count) is fits h = λ clean inside.
+    takes_inside old new key count fits (subst (λ p. ExecutesInside 0 take_text p old new (Ok count)) is (h clean inside))
+take_answer old new key params (Err e) is fits h = tt
+
+pub kept_answer :
+    (old new : State) (sql : List ℕ) (params : Entry) (r : Result ℕ Error)
+    → (HasCleanDisk new → IsTrue old.in_transaction → ExecutesInside 0 sql params old new r)
+    → OnErr r (HasCleanDisk new → IsTrue old.in_transaction → KeepsCommit old new)
+kept_answer old new sql params (Ok count) h = tt
+kept_answer old new sql params (Err e) h = λ clean inside. inside_failed old new sql params e (h clean inside)
+
+-- ---- answers of the selects
+shown_open_by : (old new : State) (sql : List ℕ) (c : _) (params : Entry) (rows : List Entry) (o : _)
+    → Rattle.sqlite.specs.State.ShowsRows old new sql c params rows o → IsTrue old.is_open
+shown_open_by old new sql c params rows None h = h.3.0.was_open
+shown_open_by old new sql c params rows (Some what) h = h.1.shown.was_open
+
+shown_open : (old new : State) (sql : List ℕ) (params : Entry) (rows : List Entry) → Shown sql params old new rows → IsTrue old.is_open
+unfolding Shown
+shown_open old new sql params rows h = shown_open_by old new sql h.0 _ rows _ h.2
+
+module _ {A : Type 0} (items : A → List Entry) (old new : State) (back : HasCleanDisk new → HasCleanDisk old) (ready : IsReady old) where
+  pub select_left :
+      (sql : List ℕ) (params : Entry) (plain : IsPlain (understood rows_schema sql)) (r : Result A Error)
+      → (HasCleanDisk new → IfOk r (λ rows. Shown sql params old new (items rows)))
+      → (HasCleanDisk new → IfErr r (FailsToQuery sql params old new)) → HasCleanDisk new → StaysCommitted old new
+  select_left sql params plain (Ok rows) ok err clean =
+      let h = ok clean in
+      let it = ready.rows (back clean, shown_open old new sql params (items rows) h) in
+      stays old new back ready clean (inl (shown_unchanged sql params old new (items rows) it.schema plain h))
+  select_left sql params plain (Err e) ok err clean = stays old new back ready clean (query_failed old new sql params e (err clean))
+
+  pub behind_answer :
+      (kind id : ℤ) (params : Entry) (r : Result A Error) → params ≡ Int kind ∷ Int id ∷ []
+      → (HasCleanDisk new → IfOk r (λ rows. Shown behind_text params old new (items rows)))
+      → IfOk r (λ rows. HasCleanDisk new → IsTrue new.is_open → ShowsFirst (Behind kind id) (old.now.trees 0) (items rows))
+  behind_answer kind id params (Ok rows) same ok = λ clean is.
+      let h = subst (λ p. Shown behind_text p old new (items rows)) same (ok clean) in
+      let it = ready.rows (back clean, shown_open old new behind_text (Int kind ∷ Int id ∷ []) (items rows) h) in
+      (shown_behind old new kind id (items rows) it h).0
+  behind_answer kind id params (Err e) same ok = tt
+
+  pub from_answer :
+      (kind : ℤ) (params : Entry) (r : Result A Error) → params ≡ Int kind ∷ []
+      → (HasCleanDisk new → IfOk r (λ rows. Shown from_text params old new (items rows)))
+      → IfOk r (λ rows. HasCleanDisk new → IsTrue new.is_open → ShowsFirst (From kind) (old.now.trees 0) (items rows))
+  from_answer kind params (Ok rows) same ok = λ clean is.
+      let h = subst (λ p. Shown from_text p old new (items rows)) same (ok clean) in
+      let it = ready.rows (back clean, shown_open old new from_text (Int kind ∷ []) (items rows) h) in
+      (shown_from_kind old new kind (items rows) it h).0
+  from_answer kind params (Err e) same ok = tt

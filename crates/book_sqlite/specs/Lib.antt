@@ -1,3 +1,4 @@
+pub mod CommitCalls
 pub mod Content
 pub mod KeeperInSqlite
 pub mod KnownRows

@@ -1,10 +1,11 @@
 -- What the calls on a connection make of the rows, where its store is clean.
-use Rattle.std.specs.Prelude.{◌≡◌, ◌⊎◌, ℤ, ◌<ℤ◌, ◌≤ℤ◌, true, false, List, [], ◌∷◌, Option, Some, None, IsTrue}
+use Rattle.std.specs.Prelude.{◌≡◌, ◌⊎◌, ◌≤◌, ℤ, pos, ◌<ℤ◌, ◌≤ℤ◌, true, false, List, [], ◌∷◌, Option, Some, None, IsTrue}
 use Rattle.sqlite_value.specs.declared.value.Value.TheVariants.{Int}
 use Rattle.sqlite_value.specs.Order.{Row as Entry, column}
 use Rattle.sqlite_rules.specs.Lists.{Has}
 use Rattle.sqlite.specs.State.{State, HasCleanDisk}
 use Rattle.book_keeper.specs.declared.row.Row.{Row}
+use Rattle.book_keeper.specs.Rows.{rank}
 use Rattle.book_sqlite.specs.Content.{row_made}
 use Rattle.book_sqlite.specs.RowsDatabase.{IsRowsDatabase, rows_in}
 
@@ -70,3 +71,18 @@ abbrev pub ReadsFrom : List Entry → Option Row → Type 0
 ReadsFrom [] found = found ≡ None
 ReadsFrom (shown ∷ more) found =
     (row : Row) × (found ≡ Some row) × (row_made (column shown 0) (column shown 1) (column shown 2) ≡ Some row)
+
+-- The row is among those, its key passes, and no other key that passes is below it.
+pub record IsLeast (Passes : ℤ → ℤ → Type 0) (rows : List Row) (row : Row) : Type 0 where
+  pub there : Has rows row
+  pub passes : Passes (pos row.key.kind) (pos row.key.id)
+  pub least : (other : Row) → Has rows other → Passes (pos other.key.kind) (pos other.key.id)
+      → rank row.key ≤ rank other.key
+
+abbrev pub NonePasses : (ℤ → ℤ → Type 0) → List Row → Type 0
+NonePasses Passes rows = (other : Row) → Has rows other → Passes (pos other.key.kind) (pos other.key.id) → ⊥
+
+-- The least of the rows whose keys pass, or none where none passes.
+abbrev pub IsFound : (ℤ → ℤ → Type 0) → List Row → Option Row → Type 0
+IsFound Passes rows None = NonePasses Passes rows
+IsFound Passes rows (Some row) = IsLeast Passes rows row

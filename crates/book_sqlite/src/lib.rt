@@ -3,6 +3,7 @@
 //! transaction. Public are these two keepers.
 #![tactic(auto)]
 
+mod commit;
 mod selects;
 mod sqlite_keeper;
 mod statements;

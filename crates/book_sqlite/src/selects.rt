@@ -1,16 +1,25 @@
 ghost use Rattle.std.specs.Prelude.{◌≡◌, ◌<◌, IsTrue, Some, IfOk, IfSome};
+ghost use Rattle.sqlite_value.specs.declared.value.Value.TheVariants.{Int};
 ghost use Rattle.sqlite_value.specs.Order.{column};
+ghost use Rattle.sqlite_value.specs.Value.{owned};
 ghost use Rattle.sqlite.specs.State.{HasCleanDisk};
 ghost use Rattle.sqlite.specs.Held.{state};
 ghost use Rattle.book_keeper.specs.Rows.{rank, first_after};
 ghost use Rattle.book_sqlite.specs.Content.{row_made};
 ghost use Rattle.book_sqlite.specs.RowsDatabase.{rows_in};
-ghost use Rattle.book_sqlite.specs.RowCalls.{IsReady, StaysCommitted, ShowsFirst, Behind, From, ReadsFrom};
+ghost use Rattle.book_sqlite.specs.RowCalls.{IsReady, StaysCommitted, ShowsFirst, Behind, From, ReadsFrom, IsFound};
 
 use book_commodity::Bytes;
 use book_keeper::{Row, RowKey};
 use sqlite::types::ValueRef;
 use sqlite::{Alter, Connection, Error, Row as Shown};
+
+/// An integer as SQL has it.
+fn integer(n: i64) -> ValueRef<'static>
+    ensures { owned result ≡ Int n }
+{
+    ValueRef::Int(n)
+}
 
 /// The first row of this kind behind the number, if there is one.
 fn first_behind<S: Alter>(
@@ -27,7 +36,7 @@ fn first_behind<S: Alter>(
 {
     conn.query_all(
         "SELECT kind, id, body FROM bk_rows WHERE kind = ?1 AND id > ?2 ORDER BY kind, id LIMIT 1",
-        &[ValueRef::Int(kind), ValueRef::Int(id)],
+        &[integer(kind), integer(id)],
     )
 }
 
@@ -42,7 +51,7 @@ fn first_from<S: Alter>(conn: &mut Connection<S>, kind: i64) -> Result<Vec<Shown
 {
     conn.query_all(
         "SELECT kind, id, body FROM bk_rows WHERE kind >= ?1 ORDER BY kind, id LIMIT 1",
-        &[ValueRef::Int(kind)],
+        &[integer(kind)],
     )
 }
 
@@ -70,4 +79,34 @@ fn first_of(shown: &[Shown]) -> Result<Option<Row>, Error>
         Some(shown) => Ok(Some(row_of(shown)?)),
         None => Ok(None),
     }
+}
+
+/// The first row of the book of this kind behind the number.
+fn row_behind<S: Alter>(
+    conn: &mut Connection<S>,
+    kind: i64,
+    id: i64,
+) -> Result<Option<Row>, Error>
+    requires { IsReady (state S.Store conn.old) }
+    ensures ready { IsReady (state S.Store conn.new) }
+    ensures clean { HasCleanDisk (state S.Store conn.new) → HasCleanDisk (state S.Store conn.old) }
+    ensures stays { HasCleanDisk (state S.Store conn.new) → StaysCommitted (state S.Store conn.old) (state S.Store conn.new) }
+    ensures found { IfOk result (λ found. HasCleanDisk (state S.Store conn.new) → IsTrue (state S.Store conn.new).is_open
+        → IsFound (Behind kind id) (rows_in (state S.Store conn.old).now) found) }
+{
+    let shown = first_behind(conn, kind, id)?;
+    first_of(shown.as_slice())
+}
+
+/// The first row of the book whose kind is this one or a greater one.
+fn row_from<S: Alter>(conn: &mut Connection<S>, kind: i64) -> Result<Option<Row>, Error>
+    requires { IsReady (state S.Store conn.old) }
+    ensures ready { IsReady (state S.Store conn.new) }
+    ensures clean { HasCleanDisk (state S.Store conn.new) → HasCleanDisk (state S.Store conn.old) }
+    ensures stays { HasCleanDisk (state S.Store conn.new) → StaysCommitted (state S.Store conn.old) (state S.Store conn.new) }
+    ensures found { IfOk result (λ found. HasCleanDisk (state S.Store conn.new) → IsTrue (state S.Store conn.new).is_open
+        → IsFound (From kind) (rows_in (state S.Store conn.old).now) found) }
+{
+    let shown = first_from(conn, kind)?;
+    first_of(shown.as_slice())
 }

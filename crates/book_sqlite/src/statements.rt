@@ -8,9 +8,16 @@ ghost use Rattle.book_sqlite.specs.RowsSchema.{no_schema};
 ghost use Rattle.book_sqlite.specs.RowsDatabase.{IsRowsDatabase};
 ghost use Rattle.book_sqlite.specs.RowCalls.{ChangesInside};
 
-use book_keeper::{Change, Row, RowKey};
+use book_keeper::{Change, RowKey};
 use sqlite::types::ValueRef;
 use sqlite::{Alter, Error, Transaction};
+
+/// A kind as SQL has it.
+fn kind_value(kind: u8) -> ValueRef<'static>
+    ensures { owned result ≡ Int (pos kind) }
+{
+    ValueRef::Int(i64::from(kind))
+}
 
 /// A number as SQL has it.
 fn number(n: u64) -> ValueRef<'static>
@@ -30,23 +37,24 @@ fn blob(bytes: &[u8]) -> ValueRef<'_>
     ValueRef::Blob(bytes)
 }
 
-/// Puts the row, in place of the one with its key if there is one.
-fn put_row<S: Alter>(tx: &mut Transaction<'_, S>, row: &Row) -> Result<usize, Error>
-    requires { row.now.key.id < 2 ^ 62 }
+/// Puts a row of these bytes under the key, in place of the one with the key if there is one.
+fn put_row<S: Alter>(
+    tx: &mut Transaction<'_, S>,
+    key: RowKey,
+    body: &[u8],
+) -> Result<usize, Error>
+    requires { key.id < 2 ^ 62 }
     ensures same_reference { tx.new.conn.ghost_name ≡ tx.old.conn.ghost_name }
     ensures made { OnOk result (HasCleanDisk (state S.Store tx.new.conn.now) → IsTrue tx.old.conn.now.in_transaction
-        → ChangesInside (state S.Store tx.old.conn.now) (state S.Store tx.new.conn.now) (with_row row.now)) }
+        → ChangesInside (state S.Store tx.old.conn.now) (state S.Store tx.new.conn.now)
+            (with_row (record { key = key; body = body.now }))) }
     ensures kept { OnErr result (HasCleanDisk (state S.Store tx.new.conn.now) → IsTrue tx.old.conn.now.in_transaction
         → KeepsCommit (state S.Store tx.old.conn.now) (state S.Store tx.new.conn.now)) }
     ensures survives { Survives (state S.Store tx.old.conn.now) (state S.Store tx.new.conn.now) (λ _. ⊥) }
 {
     tx.execute(
         "INSERT OR REPLACE INTO bk_rows(kind, id, body) VALUES (?1, ?2, ?3)",
-        &[
-            number(u64::from(row.key.kind)),
-            number(row.key.id),
-            blob(row.body.as_slice()),
-        ],
+        &[kind_value(key.kind), number(key.id), blob(body)],
     )
 }
 
@@ -62,7 +70,7 @@ fn take_row<S: Alter>(tx: &mut Transaction<'_, S>, key: RowKey) -> Result<usize,
 {
     tx.execute(
         "DELETE FROM bk_rows WHERE kind = ?1 AND id = ?2",
-        &[number(u64::from(key.kind)), number(key.id)],
+        &[kind_value(key.kind), number(key.id)],
     )
 }
 
@@ -77,7 +85,7 @@ pub fn make<S: Alter>(tx: &mut Transaction<'_, S>, change: &Change) -> Result<us
     ensures survives { Survives (state S.Store tx.old.conn.now) (state S.Store tx.new.conn.now) (λ _. ⊥) }
 {
     match change {
-        Change::Put(row) => put_row(tx, row),
+        Change::Put(row) => put_row(tx, row.key, row.body.as_slice()),
         Change::Gone(key) => take_row(tx, *key),
     }
 }
