@@ -1,5 +1,5 @@
 -- The row that is read from what the selects show is the first behind a key.
-use Rattle.std.proofs.Common.{◌≡◌, ◌⊎◌, ◌^◌, ◌*◌, ◌+◌, ℕ, ℤ, ◌<◌, ◌≤◌, pos, negsuc, ◌<ℤ◌, ◌≤ℤ◌, List, [], ◌∷◌, Option, Some, None, inl, inr, refl, sym, ap, subst, ◌∙◌, arith}
+use Rattle.std.proofs.Common.{◌≡◌, ◌⊎◌, ◌^◌, ◌*◌, ◌+◌, ℕ, ℤ, ◌<◌, ◌≤◌, pos, negsuc, ◌<ℤ◌, ◌≤ℤ◌, List, [], ◌∷◌, Option, Some, None, IfSome, IfOk, Result, Ok, Err, inl, inr, refl, sym, ap, subst, ◌∙◌, arith}
 use Rattle.std.proofs.lemmas.Int.{ints}
 use Rattle.sqlite_value.specs.declared.value.Value.TheVariants.{Int}
 use Rattle.sqlite_value.specs.Order.{Row as Entry, column}
@@ -123,3 +123,35 @@ after_none (r ∷ rows) n (Some row) up found = elim found.there [
       let low = found.least r (inl refl) (omega (arith, ints)) in
       let high = Rattle.book_sqlite.proofs.MemberLemmas.above_member (rank r.key) rows row up.0 later in absurd (omega (arith, low, high))
 ]
+
+-- what the selects show is read
+pub found_answer :
+    {E C O : Type 0} (P : ℤ → ℤ → Type 0) (es shown slice : List Entry) (r : Result (Option Row) E) → (C → O → AreEntries es) → slice ≡ shown
+    → IfOk r (ReadsFrom slice) → (C → O → ShowsFirst P es shown) → IfOk r (λ found. C → O → IsFound P (rows_of es) found)
+found_answer P es shown slice (Ok found) known same reads shows = λ c o.
+    found_by P es shown found (known c o) (shows c o) (subst (λ l. ReadsFrom l found) same reads)
+found_answer P es shown slice (Err e) known same reads shows = tt
+
+pub none_answer :
+    {E : Type 0} (C O : Type 0) (es : List Entry) (n : ℕ) (r : Result (Option Row) E) → IfOk r (λ found. C → O → IsFound (From (negsuc n)) (rows_of es) found)
+    → IfOk r (λ found. C → O → found ≡ first_after None (rows_of es))
+none_answer C O es n (Ok found) h = λ c o. sym (after_none (rows_of es) n found (rises_of es) (h c o))
+none_answer C O es n (Err e) h = tt
+
+-- the row that is found is the first behind the key, if it is above that
+abbrev pub IsNext : RowKey → List Row → Option Row → Type 0
+IsNext key rows found = IfSome found (λ (row : Row). rank key < rank row.key) → found ≡ first_after (Some key) rows
+
+pub behind_next :
+    (es : List Entry) (key : RowKey) (id : ℤ) (row : Row) → key.id < 2 ^ 64 → id ≤ℤ pos key.id
+    → IsFound (Behind (pos key.kind) id) (rows_of es) (Some row) → IsNext key (rows_of es) (Some row)
+behind_next es key id row low under found above = sym (after_behind (rows_of es) key id row (rises_of es) (fits_of es) low under found above)
+
+pub from_next :
+    {E : Type 0} (C O : Type 0) (es now : List Entry) (key : RowKey) (id : ℤ) (r : Result (Option Row) E) → key.id < 2 ^ 64 → id ≤ℤ pos key.id
+    → (C → O → NonePasses (Behind (pos key.kind) id) (rows_of es)) → (C → O → rows_of now ≡ rows_of es)
+    → IfOk r (λ found. C → O → IsFound (From (pos (key.kind + 1))) (rows_of now) found) → IfOk r (λ found. C → O → IsNext key (rows_of es) found)
+from_next C O es now key id (Ok found) low under none same h = λ c o _.
+    sym (after_from (rows_of es) key id (pos (key.kind + 1)) found (rises_of es) (fits_of es) low under refl (none c o)
+    (subst (λ rows. IsFound (From (pos (key.kind + 1))) rows found) (same c o) (h c o)))
+from_next C O es now key id (Err e) low under none same h = tt

@@ -1,5 +1,5 @@
 -- What the calls on a connection make of the rows, where its store is clean.
-use Rattle.std.specs.Prelude.{◌≡◌, ◌⊎◌, ◌≤◌, ℤ, pos, ◌<ℤ◌, ◌≤ℤ◌, true, false, List, [], ◌∷◌, Option, Some, None, IsTrue}
+use Rattle.std.specs.Prelude.{◌≡◌, ◌⊎◌, ◌≤◌, ◌+◌, ◌-◌, ◌^◌, ℕ, ℤ, pos, negsuc, ◌<ℤ◌, ◌≤ℤ◌, true, false, List, [], ◌∷◌, Option, Some, None, IsTrue}
 use Rattle.sqlite_value.specs.declared.value.Value.TheVariants.{Int}
 use Rattle.sqlite_value.specs.Order.{Row as Entry, column}
 use Rattle.sqlite_rules.specs.Lists.{Has}
@@ -55,6 +55,11 @@ Behind kind id other more = (other ≡ kind) × (id <ℤ more)
 -- Of a kind, or of a greater one.
 abbrev pub From : ℤ → ℤ → ℤ → Type 0
 From kind other more = kind ≤ℤ other
+
+-- The least kind behind this one, or the least integer of SQL.
+abbrev pub kinds_behind : Option ℕ → ℤ
+kinds_behind None = negsuc (2 ^ 63 - 1)
+kinds_behind (Some kind) = pos (kind + 1)
 
 -- A select shows the first entry, by its key, of those whose keys pass, or nothing where none passes.
 abbrev pub ShowsFirst : (ℤ → ℤ → Type 0) → List Entry → List Entry → Type 0

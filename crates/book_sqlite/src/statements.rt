@@ -13,15 +13,15 @@ use sqlite::types::ValueRef;
 use sqlite::{Alter, Error, Transaction};
 
 /// A kind as SQL has it.
-fn kind_value(kind: u8) -> ValueRef<'static>
+pub fn kind_value(kind: u8) -> ValueRef<'static>
     ensures { owned result ≡ Int (pos kind) }
 {
     ValueRef::Int(i64::from(kind))
 }
 
 /// A number as SQL has it.
-fn number(n: u64) -> ValueRef<'static>
-    requires { n < 2 ^ 62 }
+pub fn number(n: u64) -> ValueRef<'static>
+    requires { n < 2 ^ 63 }
     ensures { owned result ≡ Int (pos n) }
 {
     let Ok(n) = i64::try_from(n) else {
