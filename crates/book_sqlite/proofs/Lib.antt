@@ -4,6 +4,7 @@ pub mod ContentLemmas
 pub mod EntryLemmas
 pub mod FirstLemmas
 pub mod FoundLemmas
+pub mod KeeperLemmas
 pub mod Meanings
 pub mod MemberLemmas
 pub mod PutLemmas

@@ -1,6 +1,6 @@
 -- A keeper in SQLite, and what it knows of its rows.
 use Rattle.std.specs.Prelude.{◌≡◌, ℕ, Bool, true, false, ◌&&◌, List, Option, Some, None, IsTrue, IfSome, refl}
-use Rattle.std.specs.Coded.{Coded, code_by, coded×, coded_ℕ, coded_bool, coded_list, coded_option}
+use Rattle.std.specs.Coded.{Coded, code_by, coded×, coded_ℕ, coded_list, coded_option}
 use Rattle.sqlite_trees.specs.Tree.{Trees}
 use Rattle.sqlite_trees.specs.declared.store.Store.{Ghosts}
 use Rattle.sqlite.specs.State.{State}
@@ -10,24 +10,21 @@ use Rattle.book_keeper.specs.Rows.{Rises}
 use Rattle.book_sqlite.specs.Content.{rows_of}
 use Rattle.book_sqlite.specs.RowCalls.{IsReady}
 
--- Its connection, unless that was lost while opening; whether it was opened; its path and the count of its faults.
+-- Its connection to a file of rows, if it has one; its path and the count of its faults.
 pub record SqliteKept (S : Type 0) : Type 0 where
   pub connection : Option (Held S)
-  pub is_ready : Bool
   pub path : List ℕ
   pub faults : ℕ
 
 abbrev pub kept_code : {S : Type 0} → Coded S → Coded (SqliteKept S)
 kept_code {S} store =
-    code_by (Option (Held S) × (Bool × (List ℕ × ℕ)))
-    (coded× (coded_option (held_code store)) (coded× coded_bool (coded× (coded_list coded_ℕ) coded_ℕ)))
-    (λ k. (k.connection, (k.is_ready, (k.path, k.faults))))
-    (λ p. record { connection = p.0; is_ready = p.1.0; path = p.1.1.0; faults = p.1.1.1 }) (λ _. refl)
+    code_by (Option (Held S) × (List ℕ × ℕ)) (coded× (coded_option (held_code store)) (coded× (coded_list coded_ℕ) coded_ℕ))
+    (λ k. (k.connection, (k.path, k.faults))) (λ p. record { connection = p.0; path = p.1.0; faults = p.1.1 }) (λ _. refl)
 
 module _ {S : Type 0} (g : Ghosts S) where
-  -- a keeper that was opened has a file of rows
-  abbrev pub IsKept : Option (Held S) → Bool → Type 0
-  IsKept connection is_ready = IsTrue is_ready → IfSome connection (λ c. IsReady (state g c))
+  -- the connection is one to a file of rows
+  abbrev pub IsKept : Option (Held S) → Type 0
+  IsKept connection = IfSome connection (λ c. IsReady (state g c))
 
   abbrev known_by : Option (Held S) → Bool
   known_by None = false

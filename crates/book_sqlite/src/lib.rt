@@ -4,6 +4,7 @@
 #![tactic(auto)]
 
 mod commit;
+mod opening;
 mod selects;
 mod sqlite_keeper;
 mod statements;

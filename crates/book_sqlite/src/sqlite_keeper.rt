@@ -1,11 +1,15 @@
-ghost use Rattle.std.specs.Prelude.{◌≡◌, ◌<◌, ◌⊎◌, false, [], List, Some, IfOk, IfErr, IfSome, OnOk, OnErr, IsTrue};
+ghost use Rattle.std.specs.Prelude.{◌≡◌, ◌<◌, ◌≤◌, ◌⊎◌, false, [], List, Some, IfOk, IfErr, IfSome, OnOk, OnErr, IsTrue};
+ghost use Rattle.book_keeper.specs.Faults.{Rose};
 ghost use Rattle.book_keeper.specs.Keeping.{HasKeepCause};
 ghost use Rattle.book_keeper.specs.Rows.{AreRising, rank, after_changes, first_after};
 ghost use Rattle.book_sqlite.specs.KeeperInSqlite.{is_sure, HoldsRows, MayLeave, has_clean_store};
 
+use crate::commit::make_all;
+use crate::opening::prepared;
+use crate::selects::row_after;
 use book_commodity::Text;
 use book_keeper::{Change, KeepError, Keeper, Row, RowKey};
-use sqlite::{Alter, Connection};
+use sqlite::{Alter, Connection, Error, ErrorCode};
 use std::alloc::Global;
 use std::marker::Model;
 
@@ -14,7 +18,7 @@ use std::marker::Model;
 #[derive(Drop)]
 pub struct SqliteKeeper<S: Alter> {
     connection: Option<Connection<S>>,
-    is_ready: bool,
+    lacked_memory: bool,
     alloc: Global,
     path: Text,
     faults: u64,
@@ -27,28 +31,60 @@ impl<S: Alter> Model for SqliteKeeper<S> {
 
     ghost coded = { kept_code S.code };
 
-    ghost view = { λ k. record {
-      connection = k.connection;
-      is_ready = k.is_ready;
-      path = k.path;
-      faults = k.faults;
-    } };
+    ghost view = { λ k. record { connection = k.connection; path = k.path; faults = k.faults } };
 
-    ghost invariant = { λ k. IsKept S.Store k.connection k.is_ready };
+    ghost invariant = { λ k. IsKept S.Store k.connection };
 }
 
-impl<S: Alter> SqliteKeeper<S> {
-    /// A keeper over this connection, which is still to be opened.
+impl<S: Alter + Drop> SqliteKeeper<S> {
+    /// A keeper over this connection. It makes the table of rows where the database has nothing yet. Where it has
+    /// another schema it is left as it is, and `open` fails.
     pub fn over(alloc: Global, connection: Connection<S>) -> SqliteKeeper<S>
-        ensures { result ≡ record { connection = Some connection; is_ready = false; path = []; faults = 0 } }
+        ensures path { result.path ≡ [] }
+        ensures faults { result.faults ≡ 0 }
     {
+        let (connection, lacked_memory) = match prepared(alloc, connection) {
+            Ok(connection) => (Some(connection), false),
+            Err(error) => (None, is_want_of_memory(error)),
+        };
         SqliteKeeper {
-            connection: Some(connection),
-            is_ready: false,
+            connection,
+            lacked_memory,
             alloc,
             path: Text::new(alloc),
             faults: 0,
         }
+    }
+
+    /// Counts a fault, unless the call was out of memory.
+    fn fail(&mut self, lacked_memory: bool) -> KeepError
+        ensures connection { self.new.connection ≡ self.old.connection }
+        ensures path { self.new.path ≡ self.old.path }
+        ensures later { self.old.faults ≤ self.new.faults }
+        ensures cause { result ≡ KeepError.Failed → Rose self.old.faults self.new.faults }
+    {
+        if lacked_memory {
+            return KeepError::OutOfMemory;
+        }
+        self.faults = self.faults.saturating_add(1);
+        KeepError::Failed
+    }
+}
+
+/// Whether a call of the kit's was out of memory.
+fn is_want_of_memory(error: Error) -> bool {
+    matches!(error, Error::SqliteFailure(ErrorCode::OutOfMemory))
+}
+
+/// The text of these characters.
+fn text_of(alloc: Global, path: &str) -> Result<Text, KeepError>
+    ensures value { IfOk result (λ text. text ≡ path.now) }
+    ensures memory { IfErr result (λ error. error ≡ KeepError.OutOfMemory) }
+{
+    let mut text = String::new(alloc);
+    match text.push_str(path) {
+        Ok(()) => Ok(Text::of(text)),
+        Err(_) => Err(KeepError::OutOfMemory),
     }
 }
 
@@ -83,20 +119,37 @@ impl<S: Alter + Drop> Keeper for SqliteKeeper<S> {
       names = S.Store.names;
     }) keeper rows held };
 
-    /// Makes the table of rows where the database has nothing yet. Fails where it has another schema, and leaves it then.
+    /// Keeps the path. Fails where the keeper has no file of rows.
     fn open(&mut self, path: &str) -> Result<(), KeepError> {
-        Err(KeepError::OutOfMemory)
+        let text = text_of(self.alloc, path)?;
+        if self.connection.is_none() {
+            let lacked_memory = self.lacked_memory;
+            return Err(self.fail(lacked_memory));
+        }
+        self.path = text;
+        Ok(())
     }
 
-    /// Makes all the changes in one transaction. At each exit a crash leaves rows that it could leave before the call,
-    /// or those after all the changes.
+    /// Makes all the changes in one transaction.
     fn commit(&mut self, changes: &[Change]) -> Result<(), KeepError> {
-        Err(KeepError::OutOfMemory)
+        let Some(connection) = &mut self.connection else {
+            return Err(self.fail(false));
+        };
+        match make_all(connection, changes) {
+            Ok(()) => Ok(()),
+            Err(error) => Err(self.fail(is_want_of_memory(error))),
+        }
     }
 
     /// One select within the kind and, where that shows none, one over the greater kinds. Fails at a row that is none of
     /// a book.
     fn next_row(&mut self, after: Option<RowKey>) -> Result<Option<Row>, KeepError> {
-        Err(KeepError::OutOfMemory)
+        let Some(connection) = &mut self.connection else {
+            return Err(self.fail(false));
+        };
+        match row_after(connection, after) {
+            Ok(found) => Ok(found),
+            Err(error) => Err(self.fail(is_want_of_memory(error))),
+        }
     }
 }
