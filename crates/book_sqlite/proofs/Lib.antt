@@ -7,6 +7,7 @@ pub mod FoundLemmas
 pub mod KeeperLemmas
 pub mod Meanings
 pub mod MemberLemmas
+pub mod OpeningLemmas
 pub mod PutLemmas
 pub mod ShownLemmas
 pub mod StateFacts

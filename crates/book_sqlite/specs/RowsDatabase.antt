@@ -18,3 +18,8 @@ pub record IsRowsDatabase (db : Database) : Type 0 where
 -- The rows of a book that the database holds. The table of rows is its first.
 abbrev pub rows_in : Database → List Row
 rows_in db = rows_of (db.trees 0)
+
+-- Where the schema is that of a file of rows, the rowids of its table are integers that rise.
+abbrev pub HasRowids : Database → Type 0
+HasRowids db =
+    db.schema ≡ rows_schema → IsTable (db.trees 0) × AllByRecursion (λ r. IsTrue (is_int (rowid r))) (db.trees 0)

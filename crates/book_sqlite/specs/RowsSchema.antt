@@ -1,5 +1,5 @@
 -- The schema of a file of rows: one table with its key, and the index that SQLite makes for the key.
-use Rattle.std.specs.Prelude.{ℕ, true, false, List, [], ◌∷◌, None, codes}
+use Rattle.std.specs.Prelude.{◌≡◌, ℕ, Bool, true, false, List, [], ◌∷◌, None, codes}
 use Rattle.sqlite_value.specs.declared.value.Value.TheVariants.{Null}
 use Rattle.sqlite_value.specs.declared.keys.Collation.TheVariants.{Binary}
 use Rattle.sqlite_value.specs.Keys.{plain}
@@ -11,17 +11,18 @@ use Rattle.sqlite_schema.specs.declared.schema.Index.{Index}
 use Rattle.sqlite_schema.specs.declared.schema.Schema.{Schema}
 use Rattle.sqlite_catalog.specs.Listing.{automatic}
 
-abbrev rows_column : List ℕ → Kind → Column
-rows_column name kind =
-    record { name = name; kind = kind; is_strict = true; not_null = true; default = Null; collation = Binary }
+-- A column of a STRICT table, with no default of its own.
+abbrev pub strict_column : List ℕ → Kind → Bool → Column
+strict_column name kind not_null =
+    record { name = name; kind = kind; is_strict = true; not_null = not_null; default = Null; collation = Binary }
 
 -- bk_rows(kind INTEGER, id INTEGER, body BLOB, PRIMARY KEY(kind, id)) STRICT
 abbrev pub rows_table : Table
 rows_table = record {
   name = codes "bk_rows";
   tree = 0;
-  columns = rows_column (codes "kind") Integer ∷ rows_column (codes "id") Integer
-      ∷ (record (rows_column (codes "body") Blob) { not_null = false }) ∷ [];
+  columns = strict_column (codes "kind") Integer true ∷ strict_column (codes "id") Integer true
+      ∷ strict_column (codes "body") Blob false ∷ [];
   key = None;
   primary = 1 ∷ 2 ∷ [];
   uniques = (1 ∷ 2 ∷ []) ∷ [];
@@ -43,3 +44,13 @@ rows_schema = record { tables = rows_table ∷ []; indexes = rows_index ∷ []; 
 -- The schema of an empty file.
 abbrev pub no_schema : Schema
 no_schema = record { tables = []; indexes = []; views = [] }
+
+-- A table that has no rule beside its keys, and no default that is computed.
+pub record HasNoMore (table : Table) : Type 0 where
+  pub checks : table.checks ≡ []
+  pub references : table.references ≡ []
+  pub computed : table.computed ≡ []
+  pub places : table.stamps.places ≡ []
+  pub terms : table.stamps.terms ≡ []
+  pub formats : table.stamps.formats ≡ []
+  pub counted : table.is_counted ≡ false

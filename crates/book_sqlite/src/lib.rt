@@ -5,6 +5,7 @@
 
 mod commit;
 mod opening;
+mod schema_test;
 mod selects;
 mod sqlite_keeper;
 mod statements;
