@@ -1,5 +1,6 @@
 -- What the statements mean.
-use Rattle.std.proofs.Common.{◌≡◌, ℕ, pos, negsuc, List, [], ◌∷◌, codes, true, false, None, Ok, refl}
+use Rattle.std.proofs.Common.{◌≡◌, ℕ, pos, negsuc, List, [], ◌∷◌, codes, true, false, None, Ok, ◌++◌, refl, ap, arith}
+use Rattle.std.proofs.lemmas.Fmt.{decimal_digit}
 use Rattle.sqlite_value.specs.declared.value.Value.TheVariants.{Null, Int}
 use Rattle.sqlite_value.specs.declared.keys.Collation.TheVariants.{Binary}
 use Rattle.sqlite_value.specs.Keys.{ascending}
@@ -7,6 +8,7 @@ use Rattle.sqlite_sql.specs.declared.ops.BinaryOp.TheVariants.{Compare}
 use Rattle.sqlite_sql.specs.declared.ops.CompareOp.TheVariants.{Eq, Gt, Ge}
 use Rattle.sqlite_sql.specs.Term.{Term, lit, col, op2}
 use Rattle.sqlite_sql.specs.Query.{Query, inner, end}
+use Rattle.sqlite_schema.specs.declared.schema.Schema.{Schema}
 use Rattle.sqlite_schema.specs.declared.program.Program.{Program}
 use Rattle.sqlite_schema.specs.declared.command.Source.TheVariants.{Values}
 use Rattle.sqlite_schema.specs.declared.command.Conflict.TheVariants.{Replace}
@@ -16,7 +18,7 @@ use Rattle.sqlite_catalog.specs.Change.{created}
 use Rattle.sqlite_tied.specs.Compute.{everything}
 use Rattle.sqlite.specs.Listing.{understood, reads_listing}
 use Rattle.sqlite.proofs.Callers.{IsPlain, command_of, statement_of}
-use Rattle.book_sqlite.specs.RowsSchema.{rows_table, rows_schema, no_schema}
+use Rattle.book_sqlite.specs.RowsSchema.{rows_table, rows_index, rows_schema, no_schema}
 
 abbrev pub create_text : List ℕ
 create_text = codes "CREATE TABLE bk_rows(kind INTEGER, id INTEGER, body BLOB, PRIMARY KEY(kind, id)) STRICT"
@@ -44,8 +46,15 @@ pub create_plain : IsPlain (understood no_schema create_text)
 unfolding understood everything
 create_plain = (refl, refl)
 
+abbrev schema_named : List ℕ → Schema
+schema_named d = record {
+  tables = rows_table ∷ [];
+  indexes = (record rows_index { name = codes "sqlite_autoindex_" ++ (codes "bk_rows" ++ (codes "_" ++ d)) }) ∷ [];
+  views = [];
+}
+
 pub created_is : created no_schema rows_table ≡ rows_schema
-created_is = refl
+created_is = ap schema_named (decimal_digit 1 (omega arith))
 
 -- ---- one row put
 abbrev pub put_terms : List Term

@@ -10,7 +10,6 @@ use Rattle.sqlite_catalog.specs.Listing.{IsSound}
 use Rattle.sqlite_catalog.proofs.LayoutLemmas.{laid_out}
 use Rattle.sqlite.specs.Listing.{understood}
 use Rattle.sqlite.specs.State.{State, HasCleanDisk, Executes, Writes}
-use Rattle.sqlite.proofs.ListingLemmas.{objects_rise}
 use Rattle.sqlite.proofs.Callers.{runs_as}
 use Rattle.book_sqlite.specs.RowsSchema.{rows_schema, no_schema}
 use Rattle.book_sqlite.specs.RowCalls.{IsSure, IsReady}
@@ -22,7 +21,7 @@ pub has_rowids :
     (v : View) (schema : Schema) → IsListed (v.trees catalog_tree) v.shape v.reals → IsOrdered v.shape v.trees → IsSound schema v.trees
     → schema ≡ rows_schema → IsTable (v.trees 0) × AllByRecursion (λ r. IsTrue (is_int (rowid r))) (v.trees 0)
 has_rowids v schema listed ordered sound is =
-    let laid = laid_out listed (objects_rise v listed ordered) (subst (λ s. Rattle.sqlite_catalog.specs.Listing.AreListed (v.trees catalog_tree) s) is sound.lists.listed) in
+    let laid = laid_out listed (subst (λ s. IsShaped s (v.trees catalog_tree)) listed.itself.0 (ordered catalog_tree)) (subst (λ s. Rattle.sqlite_catalog.specs.Listing.AreListed (v.trees catalog_tree) s) is sound.lists.listed) in
     subst (λ s. IsShaped s (v.trees 0)) laid.tables.0 (ordered 0)
 
 -- the table that was made is ready

@@ -9,7 +9,6 @@ use Rattle.sqlite_schema.specs.declared.schema.Column.{Column}
 use Rattle.sqlite_schema.specs.declared.schema.Table.{Table}
 use Rattle.sqlite_schema.specs.declared.schema.Index.{Index}
 use Rattle.sqlite_schema.specs.declared.schema.Schema.{Schema}
-use Rattle.sqlite_catalog.specs.Listing.{automatic}
 
 -- A column of a STRICT table, with no default of its own.
 abbrev pub strict_column : List ℕ → Kind → Bool → Column
@@ -36,7 +35,14 @@ rows_table = record {
 
 -- The index of its key.
 abbrev pub rows_index : Index
-rows_index = automatic rows_table 0 (1 ∷ 2 ∷ []) 1
+rows_index = record {
+  name = codes "sqlite_autoindex_bk_rows_1";
+  tree = 1;
+  table = 0;
+  columns = 1 ∷ 2 ∷ [];
+  order = plain;
+  is_unique = true;
+}
 
 abbrev pub rows_schema : Schema
 rows_schema = record { tables = rows_table ∷ []; indexes = rows_index ∷ []; views = [] }
@@ -54,3 +60,14 @@ pub record HasNoMore (table : Table) : Type 0 where
   pub terms : table.stamps.terms ≡ []
   pub formats : table.stamps.formats ≡ []
   pub counted : table.is_counted ≡ false
+
+-- The columns of the table of rows.
+abbrev pub rows_columns : List Column
+rows_columns = rows_table.columns
+
+-- A table whose key is that of the table of rows.
+pub record HasRowsKey (table : Table) : Type 0 where
+  pub key : table.key ≡ None
+  pub primary : table.primary ≡ 1 ∷ 2 ∷ []
+  pub uniques : table.uniques ≡ (1 ∷ 2 ∷ []) ∷ []
+  pub orders : table.orders ≡ plain ∷ []

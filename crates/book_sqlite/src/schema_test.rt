@@ -1,5 +1,5 @@
 ghost use Rattle.std.specs.Prelude.{◌≡◌, IsTrue};
-ghost use Rattle.book_sqlite.specs.RowsSchema.{strict_column, rows_table, rows_index, rows_schema, no_schema, HasNoMore};
+ghost use Rattle.book_sqlite.specs.RowsSchema.{strict_column, rows_table, rows_index, rows_schema, no_schema, rows_columns, HasRowsKey, HasNoMore};
 
 use sqlite_schema::schema::{Column, Index, Kind, Schema, Table};
 use sqlite_value::keys::{Collation, Order};
@@ -29,22 +29,36 @@ pub fn is_of_rows(schema: &Schema) -> bool
 fn is_rows_table(table: &Table) -> bool
     ensures { IsTrue result → table.now ≡ rows_table }
 {
-    let [kind, id, body] = table.columns.as_slice() else {
+    table.name.as_slice() == b"bk_rows".as_slice()
+        && table.tree == 0
+        && are_rows_columns(table.columns.as_slice())
+        && has_rows_key(table)
+        && has_no_more(table)
+}
+
+/// Whether they are the columns of the table of rows.
+fn are_rows_columns(columns: &[Column]) -> bool
+    ensures { IsTrue result → columns.now ≡ rows_columns }
+{
+    let [kind, id, body] = columns else {
         return false;
     };
+    is_column(kind, b"kind", Kind::Integer, true)
+        && is_column(id, b"id", Kind::Integer, true)
+        && is_column(body, b"body", Kind::Blob, false)
+}
+
+/// Whether the table has the key of the table of rows.
+fn has_rows_key(table: &Table) -> bool
+    ensures { IsTrue result → HasRowsKey table.now }
+{
     let [unique] = table.uniques.as_slice() else {
         return false;
     };
-    table.name.as_slice() == b"bk_rows".as_slice()
-        && table.tree == 0
-        && is_column(kind, b"kind", Kind::Integer, true)
-        && is_column(id, b"id", Kind::Integer, true)
-        && is_column(body, b"body", Kind::Blob, false)
-        && table.key.is_none()
+    table.key.is_none()
         && table.primary.as_slice() == [1, 2].as_slice()
         && unique.as_slice() == [1, 2].as_slice()
         && table.orders.as_slice() == [Order { digits: 0 }].as_slice()
-        && has_no_more(table)
 }
 
 /// Whether the table has no rule beside its keys, and no default that is computed.

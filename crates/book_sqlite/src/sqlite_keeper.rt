@@ -89,6 +89,7 @@ fn text_of(alloc: Global, path: &str) -> Result<Text, KeepError>
 }
 
 impl<S: Alter + Drop> Keeper for SqliteKeeper<S> {
+    ghost use Rattle.book_keeper.specs.declared.row.Row.{Row};
     ghost use Rattle.book_sqlite.specs.KnownRows.{told_rows, rising_rows};
 
     ghost path_given = { λ keeper. keeper.path };
@@ -130,8 +131,22 @@ impl<S: Alter + Drop> Keeper for SqliteKeeper<S> {
         Ok(())
     }
 
-    /// Makes all the changes in one transaction.
-    fn commit(&mut self, changes: &[Change]) -> Result<(), KeepError> {
+    /// Makes all the changes in one transaction. At each exit a crash leaves rows that it could leave before the call, or
+    /// those after all the changes; after Ok, with the connection open, those after them alone.
+    fn commit(&mut self, changes: &[Change]) -> Result<(), KeepError>
+        ensures crash { IsTrue (is_sure S.Store self.old) → IsTrue (has_clean_store S.Store self.new)
+            → (rows held : List Row) → HoldsRows S.Store self.old held → MayLeave S.Store self.new rows
+            → MayLeave S.Store self.old rows ⊎ (rows ≡ after_changes changes.now held) }
+        ensures settled { OnOk result (IsTrue (is_sure S.Store self.new) → (rows held : List Row)
+            → HoldsRows S.Store self.old held → MayLeave S.Store self.new rows → rows ≡ after_changes changes.now held) }
+        ensures path { self.new.path ≡ self.old.path }
+        ensures sure { IsTrue (is_sure S.Store self.new) → IsTrue (is_sure S.Store self.old) }
+        ensures made { OnOk result (IsTrue (is_sure S.Store self.new) → (rows : List Row)
+            → HoldsRows S.Store self.old rows → HoldsRows S.Store self.new (after_changes changes.now rows)) }
+        ensures unchanged { OnErr result (IsTrue (is_sure S.Store self.new) → (rows : List Row)
+            → HoldsRows S.Store self.old rows → HoldsRows S.Store self.new rows) }
+        ensures cause { HasKeepCause self.old.faults self.new.faults result }
+    {
         let Some(connection) = &mut self.connection else {
             return Err(self.fail(false));
         };
