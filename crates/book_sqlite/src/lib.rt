@@ -4,10 +4,12 @@
 #![tactic(auto)]
 
 mod commit;
+mod file_keeper;
 mod opening;
 mod schema_test;
 mod selects;
 mod sqlite_keeper;
 mod statements;
 
+pub use file_keeper::FileKeeper;
 pub use sqlite_keeper::SqliteKeeper;

@@ -55,10 +55,13 @@ fn has_rows_key(table: &Table) -> bool
     let [unique] = table.uniques.as_slice() else {
         return false;
     };
+    let [order] = table.orders.as_slice() else {
+        return false;
+    };
     table.key.is_none()
         && table.primary.as_slice() == [1, 2].as_slice()
         && unique.as_slice() == [1, 2].as_slice()
-        && table.orders.as_slice() == [Order { digits: 0 }].as_slice()
+        && order.digits == 0
 }
 
 /// Whether the table has no rule beside its keys, and no default that is computed.

@@ -77,7 +77,7 @@ fn is_want_of_memory(error: Error) -> bool {
 }
 
 /// The text of these characters.
-fn text_of(alloc: Global, path: &str) -> Result<Text, KeepError>
+pub fn text_of(alloc: Global, path: &str) -> Result<Text, KeepError>
     ensures value { IfOk result (λ text. text ≡ path.now) }
     ensures memory { IfErr result (λ error. error ≡ KeepError.OutOfMemory) }
 {
@@ -134,6 +134,7 @@ impl<S: Alter + Drop> Keeper for SqliteKeeper<S> {
     /// Makes all the changes in one transaction. At each exit a crash leaves rows that it could leave before the call, or
     /// those after all the changes; after Ok, with the connection open, those after them alone.
     fn commit(&mut self, changes: &[Change]) -> Result<(), KeepError>
+        requires { AreRising changes.now }
         ensures crash { IsTrue (is_sure S.Store self.old) → IsTrue (has_clean_store S.Store self.new)
             → (rows held : List Row) → HoldsRows S.Store self.old held → MayLeave S.Store self.new rows
             → MayLeave S.Store self.old rows ⊎ (rows ≡ after_changes changes.now held) }
