@@ -1,6 +1,8 @@
-ghost use Rattle.std.specs.Prelude.{◌≡◌, IsTrue};
+ghost use Rattle.std.specs.Prelude.{◌≡◌, [], ◌∷◌, IsTrue};
+ghost use Rattle.sqlite_value.specs.Keys.{plain};
 ghost use Rattle.book_sqlite.specs.RowsSchema.{strict_column, rows_table, rows_index, rows_schema, no_schema, rows_columns, HasRowsKey, HasNoMore};
 
+use sqlite_items::Items;
 use sqlite_schema::schema::{Column, Index, Kind, Schema, Table};
 use sqlite_value::keys::{Collation, Order};
 use sqlite_value::value::Value;
@@ -52,16 +54,37 @@ fn are_rows_columns(columns: &[Column]) -> bool
 fn has_rows_key(table: &Table) -> bool
     ensures { IsTrue result → HasRowsKey table.now }
 {
-    let [unique] = table.uniques.as_slice() else {
-        return false;
-    };
-    let [order] = table.orders.as_slice() else {
-        return false;
-    };
     table.key.is_none()
-        && table.primary.as_slice() == [1, 2].as_slice()
-        && unique.as_slice() == [1, 2].as_slice()
-        && order.digits == 0
+        && are_first_two(&table.primary)
+        && is_the_one_key(table.uniques.as_slice())
+        && is_one_plain_order(table.orders.as_slice())
+}
+
+/// Whether these keys are one, of the first two columns.
+fn is_the_one_key(uniques: &[Items<usize>]) -> bool
+    ensures { IsTrue result → uniques.now ≡ (1 ∷ 2 ∷ []) ∷ [] }
+{
+    let [unique] = uniques else {
+        return false;
+    };
+    are_first_two(unique)
+}
+
+/// Whether these places are those of the first two columns.
+fn are_first_two(places: &Items<usize>) -> bool
+    ensures { IsTrue result → places.now ≡ 1 ∷ 2 ∷ [] }
+{
+    places.as_slice() == [1, 2].as_slice()
+}
+
+/// Whether these orders are one, of bytes that ascend.
+fn is_one_plain_order(orders: &[Order]) -> bool
+    ensures { IsTrue result → orders.now ≡ plain ∷ [] }
+{
+    let [order] = orders else {
+        return false;
+    };
+    order.digits == 0
 }
 
 /// Whether the table has no rule beside its keys, and no default that is computed.
