@@ -43,11 +43,13 @@ left_from : (ids : List ℤ) (es : List Entry) (e : Entry) → Has (without_all 
 left_from [] es e h = (h, λ id none. absurd none)
 left_from (id ∷ ids) es e h =
     let later = left_from ids (without_rowid id es) e h in
-    let kept = has_filtered (λ r. not (has_rowid id r)) es e later.0 in
-    (kept.0, λ k there. elim there [
-      | inl same ↦ subst (λ n. has_rowid n e ≡ false) (sym same) (not-true _ kept.1)
-      | inr more ↦ later.1 k more
-    ])
+    let kept = has_filtered (λ r. not (has_rowid id r)) es e later.0 in (
+      kept.0,
+      λ k there. elim there [
+        | inl same ↦ subst (λ n. has_rowid n e ≡ false) (sym same) (not-true _ kept.1)
+        | inr more ↦ later.1 k more
+      ],
+    )
 
 left_has : (ids : List ℤ) (es : List Entry) (e : Entry) → Has es e → Lacks ids e → Has (without_all es ids) e
 left_has [] es e h lacks = h
@@ -140,16 +142,16 @@ after_put es now known next row new ids exact low new_is fresh now_is =
     let left = without_all es ids in
     same_members (rows_of now) (with_row row (rows_of es)) (rises_of now) (rises_with row (rows_of es) (rises_of es))
     (λ r h.
-      let e = holder now r h in
-      elim (put_has new left e.0 (subst (λ l. Has l e.0) now_is e.1)) [
-        | inl first ↦
-            let both : Some r ≡ Some row = sym e.2 ∙ ap row_held first ∙ new_is in
-            let r_is : row ≡ r = cc in
-            subst (Has (with_row row (rows_of es))) r_is (member_put row (rows_of es))
-        | inr old ↦ member_kept row (rows_of es) r
-            (held_in es (holds_once es known) e.0 r (left_from ids es e.0 old).0 e.2)
-            (λ same. gone es known row.key ids exact e.0 old (has_key e.0 r row.key e.2 low same))
-      ])
+    let e = holder now r h in
+    elim (put_has new left e.0 (subst (λ l. Has l e.0) now_is e.1)) [
+      | inl first ↦
+          let both : Some r ≡ Some row = sym e.2 ∙ ap row_held first ∙ new_is in
+          let r_is : row ≡ r = cc in
+          subst (Has (with_row row (rows_of es))) r_is (member_put row (rows_of es))
+      | inr old ↦ member_kept row (rows_of es) r
+          (held_in es (holds_once es known) e.0 r (left_from ids es e.0 old).0 e.2)
+          (λ same. gone es known row.key ids exact e.0 old (has_key e.0 r row.key e.2 low same))
+    ])
     (λ r h. elim (put_member row (rows_of es) r (rises_of es) h) [
       | inl first ↦ subst (Has (rows_of now)) (sym first)
           (held_in now (holds_once now next) new row (subst (λ l. Has l new) (sym now_is) (has_put new left)) new_is)
@@ -167,12 +169,12 @@ pub after_take :
 after_take es now known next key ids exact low now_is =
     same_members (rows_of now) (without_row key (rows_of es)) (rises_of now) (rises_without key (rows_of es) (rises_of es))
     (λ r h.
-      let e = holder now r h in
-      let old = subst (λ l. Has l e.0) now_is e.1 in
-      member_left key (rows_of es) r (held_in es (holds_once es known) e.0 r (left_from ids es e.0 old).0 e.2)
-      (λ same. gone es known key ids exact e.0 old (has_key e.0 r key e.2 low same)))
+    let e = holder now r h in
+    let old = subst (λ l. Has l e.0) now_is e.1 in
+    member_left key (rows_of es) r (held_in es (holds_once es known) e.0 r (left_from ids es e.0 old).0 e.2)
+    (λ same. gone es known key ids exact e.0 old (has_key e.0 r key e.2 low same)))
     (λ r h.
-      let old = left_member key (rows_of es) r (rises_of es) h in
-      let e = holder es r old.0 in
-      let there = kept es known key ids exact e.0 e.1 (λ has. old.1 (same_rank e.0 r key e.2 has)) in
-      held_in now (holds_once now next) e.0 r (subst (λ l. Has l e.0) (sym now_is) there) e.2)
+    let old = left_member key (rows_of es) r (rises_of es) h in
+    let e = holder es r old.0 in
+    let there = kept es known key ids exact e.0 e.1 (λ has. old.1 (same_rank e.0 r key e.2 has)) in
+    held_in now (holds_once now next) e.0 r (subst (λ l. Has l e.0) (sym now_is) there) e.2)

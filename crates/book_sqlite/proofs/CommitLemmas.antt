@@ -32,8 +32,8 @@ making_step old mid new change rest all m step = record {
   };
   mode = step.mode;
   rows = λ it.
-    let r = m.rows it in
-    let s = step.rows r.0 in (s.0, ap (after_changes rest) s.1 ∙ r.1);
+      let r = m.rows it in
+      let s = step.rows r.0 in (s.0, ap (after_changes rest) s.1 ∙ r.1);
 }
 
 -- what is undone after the last commit was kept stays committed

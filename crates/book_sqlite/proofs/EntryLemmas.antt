@@ -140,7 +140,7 @@ once_in :
 once_in db up ints_only a b ha hb alone k one two = elim (cases_Bool (differ (rowid a) (rowid b))) [
   | inl apart ↦
       let clash = some_from (λ o. agree plain (1 ∷ 2 ∷ []) o (1 ∷ 2 ∷ []) b && differ (rowid o) (rowid b)) (db 0) a ha
-        (and_from _ _ (agree_same_keys a b k one two) apart) in
+      (and_from _ _ (agree_same_keys a b k one two) apart) in
       let none : clashes plain (1 ∷ 2 ∷ []) (db 0) b ≡ false = not-true _ (and_parts _ _ alone).0 in
       absurd (true≢false (sym clash ∙ none))
   | inr tied ↦ tied_same (db 0) a b up ha hb (tied_by (rowid a) (rowid b) (ints_only a ha) (ints_only b hb) tied)
@@ -150,15 +150,15 @@ pub entries : (db : Database) → IsRowsDatabase db → AreEntries (db.trees 0)
 entries db it =
     let sound = subst (λ s. Rattle.sqlite_schema.specs.Rules.Obeys s db.trees) it.schema it.sound.obeys in
     let keyed = λ (e : Entry) (h : Has (db.trees 0) e). keyed_from db.trees e
-      (keeps_at Datatype rows_schema db.trees rows_table e (sound.rules Datatype) (inl refl) h)
-      (keeps_at NotNull rows_schema db.trees rows_table e (sound.rules NotNull) (inl refl) h) in
+    (keeps_at Datatype rows_schema db.trees rows_table e (sound.rules Datatype) (inl refl) h)
+    (keeps_at NotNull rows_schema db.trees rows_table e (sound.rules NotNull) (inl refl) h) in
     let rowids = λ (e : Entry) (h : Has (db.trees 0) e). is_true_then _ (all_has _ (db.trees 0) e it.keyed h) in
     record {
       ordered = it.ordered;
       rowids = rowids;
       keyed = keyed;
       once = λ a b ha hb. once_in db.trees it.ordered rowids a b ha hb
-        (keeps_at Unique rows_schema db.trees rows_table b (sound.rules Unique) (inl refl) hb) (keyed a ha);
+          (keeps_at Unique rows_schema db.trees rows_table b (sound.rules Unique) (inl refl) hb) (keyed a ha);
     }
 
 -- entries of a file of rows hold each key once
@@ -168,7 +168,7 @@ holds_once es known a b row other ha hb ra rb same =
     let mb = made_from (column b 1) (column b 2) (column b 3) other rb in
     let parts = rank_parts row.key.kind row.key.id other.key.kind other.key.id ma.fits mb.fits same in
     let entry = known.once a b ha hb (ma.kind_is ∙ ap (λ n. Int (pos n)) parts.0 ∙ sym mb.kind_is)
-      (ma.id_is ∙ ap (λ n. Int (pos n)) parts.1 ∙ sym mb.id_is) in
+    (ma.id_is ∙ ap (λ n. Int (pos n)) parts.1 ∙ sym mb.id_is) in
     let both : row_held a ≡ row_held b = ap row_held entry in
     let some : Some row ≡ Some other = sym ra ∙ both ∙ rb in
     cc

@@ -69,9 +69,9 @@ behind_is kind id e k i has = rw (has.0, has.1, compared Eq k kind, compared Gt 
 pub behind_decides : (kind id : ℤ) → Decides (Int kind ∷ Int id ∷ []) behind_terms (Behind kind id)
 behind_decides kind id e k i has = (
   λ h. let both = and_parts _ _ (sym (behind_is kind id e k i has) ∙ h) in
-    (same_int k kind both.0, gt_by i id (int_cmp i id) refl (and_parts _ _ both.1).0),
+      (same_int k kind both.0, gt_by i id (int_cmp i id) refl (and_parts _ _ both.1).0),
   λ p. behind_is kind id e k i has ∙ and_from _ _ (ap (λ n. is_eq (int_cmp n kind)) p.0 ∙ ap is_eq (eq_itself kind))
-    (and_from _ _ (by_gt i id (int_cmp i id) refl p.1) refl),
+      (and_from _ _ (by_gt i id (int_cmp i id) refl p.1) refl),
 )
 
 from_is : (kind : ℤ) (e : Entry) (k i : ℤ) → HasKey e k i
@@ -100,7 +100,7 @@ module _ (filter : List Term) (P : ℤ → ℤ → Type 0) (db : Trees) (params 
       → ShowsFirst P (db 0) rows
   first_by [] rows same up shown =
       subst (ShowsFirst P (db 0)) (sym shown) (λ e kind id h has passes.
-        shown_has q Null (overlay db []) params refl [] same e h ((decides e kind id has).1 passes))
+      shown_has q Null (overlay db []) params refl [] same e h ((decides e kind id has).1 passes))
   first_by (o ∷ more) rows same up shown =
       let p = shown_from q Null (overlay db []) params refl (o ∷ more) same o (inl refl) in
       let k = known.keyed p.entry p.there in
@@ -116,12 +116,12 @@ module _ (filter : List Term) (P : ℤ → ℤ → Type 0) (db : Trees) (params 
         (decides p.entry k.kind k.id (k.kind_is, k.id_is)).0 p.passes,
         row,
         λ f other further h has passes.
-          let there = shown_has q Null (overlay db []) params refl (o ∷ more) same f h ((decides f other further has).1 passes) in
-          let least = first_least q o more (output q (params ∷ f ∷ [])) up there in
-          let keys : is_lt (ordering_then (value_cmp (Int other) (Int k.kind)) (ordering_then (value_cmp (Int further) (Int k.id)) Equal)) ≡ false =
-          rw (← has.0, ← has.1, ← k.kind_is, ← k.id_is) (subst (λ (x : Output). is_lt (output_cmp q (output q (params ∷ f ∷ [])) x) ≡ false) p.is least) in
-          up_to_by k.kind k.id other further (value_cmp (Int other) (Int k.kind)) (value_cmp (Int further) (Int k.id))
-          (value_cmp-Int other k.kind) (value_cmp-Int further k.id) keys,
+            let there = shown_has q Null (overlay db []) params refl (o ∷ more) same f h ((decides f other further has).1 passes) in
+            let least = first_least q o more (output q (params ∷ f ∷ [])) up there in
+            let keys : is_lt (ordering_then (value_cmp (Int other) (Int k.kind)) (ordering_then (value_cmp (Int further) (Int k.id)) Equal)) ≡ false =
+            rw (← has.0, ← has.1, ← k.kind_is, ← k.id_is) (subst (λ (x : Output). is_lt (output_cmp q (output q (params ∷ f ∷ [])) x) ≡ false) p.is least) in
+            up_to_by k.kind k.id other further (value_cmp (Int other) (Int k.kind)) (value_cmp (Int further) (Int k.id))
+            (value_cmp-Int other k.kind) (value_cmp-Int further k.id) keys,
       )
 
   -- an answer shows the first of the entries that pass
@@ -141,24 +141,23 @@ answers_rowids db key rows known a =
     let same = subst (λ k. IsPermutation k a.ordered) kept_is a.same in
     record {
       sound = λ id h.
-        let x = mapped_from (λ r. id_in (rowid r)) rows id h in
-        let o = mapped_from (λ (o : Output). o.1) a.ordered x.0 (subst (λ l. Has l x.0) a.shown x.1) in
-        let p = shown_from q Null (overlay db []) params refl a.ordered same o.0 o.1 in
-        let k = known.keyed p.entry p.there in
-        let both = and_parts _ _ (sym (key_is (pos key.kind) (pos key.id) p.entry k.kind k.id (k.kind_is, k.id_is)) ∙ p.passes) in
-        let second = and_parts _ _ both.1 in
-        let shown : x.0 ≡ rowid p.entry ∷ [] = o.2 ∙ ap (λ (y : Output). y.1) p.is in
-        let id_is : id ≡ id_in (rowid p.entry) = x.2 ∙ ap (λ e. id_in (rowid e)) shown in
-        (
-          p.entry,
-          p.there,
-          (k.kind_is ∙ ap Int (same_int k.kind (pos key.kind) both.0), k.id_is ∙ ap Int (same_int k.id (pos key.id) second.0)),
-          int_is (rowid p.entry) (known.rowids p.entry p.there) ∙ ap Int (sym id_is),
-        );
+          let x = mapped_from (λ r. id_in (rowid r)) rows id h in
+          let o = mapped_from (λ (o : Output). o.1) a.ordered x.0 (subst (λ l. Has l x.0) a.shown x.1) in
+          let p = shown_from q Null (overlay db []) params refl a.ordered same o.0 o.1 in
+          let k = known.keyed p.entry p.there in
+          let both = and_parts _ _ (sym (key_is (pos key.kind) (pos key.id) p.entry k.kind k.id (k.kind_is, k.id_is)) ∙ p.passes) in
+          let second = and_parts _ _ both.1 in
+          let shown : x.0 ≡ rowid p.entry ∷ [] = o.2 ∙ ap (λ (y : Output). y.1) p.is in
+          let id_is : id ≡ id_in (rowid p.entry) = x.2 ∙ ap (λ e. id_in (rowid e)) shown in (
+            p.entry,
+            p.there,
+            (k.kind_is ∙ ap Int (same_int k.kind (pos key.kind) both.0), k.id_is ∙ ap Int (same_int k.id (pos key.id) second.0)),
+            int_is (rowid p.entry) (known.rowids p.entry p.there) ∙ ap Int (sym id_is),
+          );
       complete = λ e h has.
-        let passes : passes_all params key_terms e ≡ true =
-        key_is (pos key.kind) (pos key.id) e (pos key.kind) (pos key.id) has ∙ rw (eq_itself (pos key.kind), eq_itself (pos key.id)) refl in
-        let there = shown_has q Null (overlay db []) params refl a.ordered same e h passes in
-        let shown = mapped_has (λ (o : Output). o.1) a.ordered (output q (params ∷ e ∷ [])) there in
-        mapped_has (λ r. id_in (rowid r)) rows (rowid e ∷ []) (subst (λ l. Has l (rowid e ∷ [])) (sym a.shown) shown);
+          let passes : passes_all params key_terms e ≡ true =
+          key_is (pos key.kind) (pos key.id) e (pos key.kind) (pos key.id) has ∙ rw (eq_itself (pos key.kind), eq_itself (pos key.id)) refl in
+          let there = shown_has q Null (overlay db []) params refl a.ordered same e h passes in
+          let shown = mapped_has (λ (o : Output). o.1) a.ordered (output q (params ∷ e ∷ [])) there in
+          mapped_has (λ r. id_in (rowid r)) rows (rowid e ∷ []) (subst (λ l. Has l (rowid e ∷ [])) (sym a.shown) shown);
     }

@@ -28,9 +28,9 @@ pub found_by : (P : ℤ → ℤ → Type 0) (es : List Entry) (shown : List Entr
     → ShowsFirst P es shown → ReadsFrom shown found → IsFound P (rows_of es) found
 found_by P es [] found known none reads =
     subst (IsFound P (rows_of es)) (sym reads) (λ other h passes.
-      let e = holder es other h in
-      let made = key_at e.0 other e.2 in
-      none e.0 (pos other.key.kind) (pos other.key.id) e.1 (made.kind_is, made.id_is) passes)
+    let e = holder es other h in
+    let made = key_at e.0 other e.2 in
+    none e.0 (pos other.key.kind) (pos other.key.id) e.1 (made.kind_is, made.id_is) passes)
 found_by P es (x ∷ y ∷ more) found known shows reads = absurd shows
 found_by P es (x ∷ []) found known shows reads =
     let e = shows.0 in
@@ -48,11 +48,11 @@ found_by P es (x ∷ []) found known shows reads =
       there = held_in es (holds_once es known) e row shows.3 held;
       passes = subst (λ n. P n (pos row.key.id)) kind (subst (P shows.1) number shows.5);
       least = λ other h passes.
-        let f = holder es other h in
-        let key = key_at f.0 other f.2 in
-        let up = shows.7 f.0 (pos other.key.kind) (pos other.key.id) f.1 (key.kind_is, key.id_is) passes in
-        rank_up row.key other.key made.fits key.fits
-        (subst (λ n. UpTo n (pos row.key.id) (pos other.key.kind) (pos other.key.id)) kind
+          let f = holder es other h in
+          let key = key_at f.0 other f.2 in
+          let up = shows.7 f.0 (pos other.key.kind) (pos other.key.id) f.1 (key.kind_is, key.id_is) passes in
+          rank_up row.key other.key made.fits key.fits
+          (subst (λ n. UpTo n (pos row.key.id) (pos other.key.kind) (pos other.key.id)) kind
           (subst (λ n. UpTo shows.1 n (pos other.key.kind) (pos other.key.id)) number up));
     })
 
@@ -84,10 +84,10 @@ pub after_behind :
 after_behind rows key id row up fit low under found above =
     let kind : row.key.kind ≡ key.kind = (let e = found.passes.0 in cc) in
     first_is (rank key) rows row up found.there above (λ other h behind.
-      elim (above_by key other.key low (fit other h) behind) [
-        | inl greater ↦ omega (arith, kind_up row.key other.key (fit row found.there) (omega (arith, kind, greater)))
-        | inr same ↦ found.least other h (ap pos same.0, omega (arith, ints, under, same.1))
-      ])
+    elim (above_by key other.key low (fit other h) behind) [
+      | inl greater ↦ omega (arith, kind_up row.key other.key (fit row found.there) (omega (arith, kind, greater)))
+      | inr same ↦ found.least other h (ap pos same.0, omega (arith, ints, under, same.1))
+    ])
 
 -- where none is found behind the number, it is the first of the greater kinds
 pub after_from :
@@ -105,10 +105,10 @@ after_from rows key id next None up fit low under next_is none found =
 after_from rows key id next (Some row) up fit low under next_is none found =
     let kind : key.kind < row.key.kind = omega (arith, ints, next_is, found.passes) in
     first_is (rank key) rows row up found.there (kind_up key row.key low kind) (λ other h behind.
-      elim (above_by key other.key low (fit other h) behind) [
-        | inl greater ↦ found.least other h (omega (arith, ints, next_is, greater))
-        | inr same ↦ absurd (none other h (ap pos same.0, omega (arith, ints, under, same.1)))
-      ])
+    elim (above_by key other.key low (fit other h) behind) [
+      | inl greater ↦ found.least other h (omega (arith, ints, next_is, greater))
+      | inr same ↦ absurd (none other h (ap pos same.0, omega (arith, ints, under, same.1)))
+    ])
 
 -- no kind is below the least, so it is the first of all
 pub after_none :

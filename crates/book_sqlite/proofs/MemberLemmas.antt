@@ -27,21 +27,24 @@ same_members (x ∷ xs) (y ∷ ys) up down f g =
       | inl same ↦ same
       | inr low ↦ elim (g y (inl refl)) [
         | inl same ↦ sym same
-        | inr high ↦ absurd (omega (arith, above_member (rank y.key) ys x down.0 low,
-            above_member (rank x.key) xs y up.0 high))
+        | inr high ↦ absurd (omega (
+          arith,
+          above_member (rank y.key) ys x down.0 low,
+          above_member (rank x.key) xs y up.0 high,
+        ))
       ]
     ] in
     let rest : xs ≡ ys = same_members xs ys up.1 down.1
-      (λ r h. elim (f r (inr h)) [
-        | inl same ↦ absurd (let up_r = above_member (rank x.key) xs r up.0 h in
-            not_below (rank x.key) (subst (λ (z : Row). rank x.key < rank z.key) (same ∙ sym first) up_r))
-        | inr later ↦ later
-      ])
-      (λ r h. elim (g r (inr h)) [
-        | inl same ↦ absurd (let up_r = above_member (rank y.key) ys r down.0 h in
-            not_below (rank y.key) (subst (λ (z : Row). rank y.key < rank z.key) (same ∙ first) up_r))
-        | inr later ↦ later
-      ]) in
+    (λ r h. elim (f r (inr h)) [
+      | inl same ↦ absurd (let up_r = above_member (rank x.key) xs r up.0 h in
+          not_below (rank x.key) (subst (λ (z : Row). rank x.key < rank z.key) (same ∙ sym first) up_r))
+      | inr later ↦ later
+    ])
+    (λ r h. elim (g r (inr h)) [
+      | inl same ↦ absurd (let up_r = above_member (rank y.key) ys r down.0 h in
+          not_below (rank y.key) (subst (λ (z : Row). rank y.key < rank z.key) (same ∙ first) up_r))
+      | inr later ↦ later
+    ]) in
     cc
 
 -- ---- the members after one is put
@@ -79,7 +82,7 @@ pub member_put : (new : Row) (rows : List Row) → Has (with_row new rows) new
 member_put new [] = inl refl
 member_put new (r ∷ rows) =
     elim (nat_lt (rank new.key) (rank r.key)) as (λ low. Has (cond low (new ∷ r ∷ rows)
-        (cond (rank new.key == rank r.key) (new ∷ rows) (r ∷ with_row new rows))) new) [
+    (cond (rank new.key == rank r.key) (new ∷ rows) (r ∷ with_row new rows))) new) [
       | true ↦ inl refl
       | false ↦ elim (rank new.key == rank r.key) as (λ same. Has (cond same (new ∷ rows) (r ∷ with_row new rows)) new)
           [ true ↦ inl refl | false ↦ inr (member_put new rows) ]

@@ -30,7 +30,7 @@ pub create_ready :
     → (HasCleanDisk new → Executes create_text [] old new (Ok count)) → IsReady new
 create_ready old new count empty outside mode ran =
     let wrote = λ (clean : HasCleanDisk new). subst (λ t. Writes old new Rattle.std.proofs.Common.None CreateTable t [] count) create_is.1
-      (runs_as create_text [] old new no_schema empty CreateTable create_is.0 create_plain count (ran clean)) in
+    (runs_as create_text [] old new no_schema empty CreateTable create_is.0 create_plain count (ran clean)) in
     record {
       autocommit = mode;
       settled = λ sure. sym ((wrote sure.0).shown.committed_is ∙ ap (λ b. if b then old.committed else new.now) outside);

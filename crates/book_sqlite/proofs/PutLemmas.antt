@@ -115,9 +115,10 @@ clears_gives old params db new one [] h = puts_gives old params db new one h
 clears_gives old params db new one (x ∷ more) h =
     let first = went h in
     let applied = one_step rows_schema Enforced db first.0 (edit_of db rows_table (ids_of (x ∷ more)) Given 0 []) refl first.1 in
-    let last = puts_gives old params first.0 new one first.2 in
-    (last.0 ∙ ap (put_row (cast_row rows_table new)) applied.rows,
-      subst (λ es. are_fresh es (cast_row rows_table new ∷ []) ≡ true) applied.rows last.1)
+    let last = puts_gives old params first.0 new one first.2 in (
+      last.0 ∙ ap (put_row (cast_row rows_table new)) applied.rows,
+      subst (λ es. are_fresh es (cast_row rows_table new ∷ []) ≡ true) applied.rows last.1,
+    )
 
 tries_gives :
     (old : State) (params : Entry) (db : Trees) (new : Entry) (one : Written) → Tries (task old params) Replace [] new db (Ok one)
@@ -137,7 +138,7 @@ equal_rowids a b r new p q h =
 module _ (es : List Entry) (known : AreEntries es) (row : Row) where
   free : is_taken es (new_entry es row) ≡ false
   free = next_is_free Chosen es (Int (pos row.key.kind) ∷ Int (pos row.key.id) ∷ Blob row.body ∷ []) known.ordered
-    (all_from _ es (λ e h. known.rowids e h))
+      (all_from _ es (λ e h. known.rowids e h))
 
   not_by_rowid : (r : Entry) → Has es r → agree plain (0 ∷ []) r (0 ∷ []) (new_entry es row) ≡ true → ⊥
   not_by_rowid r h same =
@@ -173,10 +174,10 @@ module _ (es : List Entry) (known : AreEntries es) (row : Row) where
       → AreRowidsOf es row.key (ids_of found)
   replaced found all = record {
     sound = λ id h.
-      let x = mapped_from (λ r. id_in (rowid r)) found id h in
-      let r = all.sound x.0 x.1 in
-      let id_is : id ≡ id_in (rowid r.0) = x.2 ∙ ap (λ e. id_in (rowid e)) r.3 in
-      (r.0, r.1, by_key r.0 r.1 r.2, int_is (rowid r.0) (known.rowids r.0 r.1) ∙ ap Int (sym id_is));
+        let x = mapped_from (λ r. id_in (rowid r)) found id h in
+        let r = all.sound x.0 x.1 in
+        let id_is : id ≡ id_in (rowid r.0) = x.2 ∙ ap (λ e. id_in (rowid e)) r.3 in
+        (r.0, r.1, by_key r.0 r.1 r.2, int_is (rowid r.0) (known.rowids r.0 r.1) ∙ ap Int (sym id_is));
     complete = λ e h has. mapped_has (λ r. id_in (rowid r)) found (rowid e ∷ []) (all.complete e h (meets e has));
   }
 
@@ -190,7 +191,7 @@ puts old new text row count it low fits w =
     let params = put_params row in
     let command = InsertOr 0 Replace (Values put_terms 4) [] in
     let done = went (subst (λ s. Does old.step_limit (mode_of old) params (record old.now { schema = s }) text None command
-      (Ok (w.tally, new.now))) it.schema w.changed) in
+    (Ok (w.tally, new.now))) it.schema w.changed) in
     let now = ap (λ (p : Tally × Database). p.1) (same_value (went (went done.2).2).2) in
     let given = went done.1 in
     let counter = went given.2 in
@@ -198,9 +199,9 @@ puts old new text row count it low fits w =
     let counted = went tried.2 in
     let source = given.1.1 in
     let one = went (subst (λ rows. Rattle.sqlite.specs.Rows.TriesEach (task old params) Replace [] rows
-      (Rattle.sqlite.specs.Rows.count_of counter.0) (Rattle.sqlite.specs.Rows.nothing db) (Ok tried.0)) source tried.1) in
+    (Rattle.sqlite.specs.Rows.count_of counter.0) (Rattle.sqlite.specs.Rows.nothing db) (Ok tried.0)) source tried.1) in
     let met = tries_gives old params db (new_entry (db 0) row) one.0
-      (subst (λ n. Tries (task old params) Replace [] n db (Ok one.0)) (numbered_is (db 0) row) one.1) in
+    (subst (λ n. Tries (task old params) Replace [] n db (Ok one.0)) (numbered_is (db 0) row) one.1) in
     let made = clears_gives old params db (new_entry (db 0) row) one.0 met.0 met.2 in
     let known = entries old.now it in
     let ids = ids_of met.0 in
@@ -215,14 +216,16 @@ puts old new text row count it low fits w =
     let next : IsRowsDatabase new.now = record {
       schema = ap (λ (d : Database). d.schema) now;
       ordered = subst Rattle.sqlite_trees.specs.Tree.IsTable (sym trees)
-        (IsTable-put_row (new_entry (db 0) row) (without_all (db 0) ids) (left_table ids (db 0) it.ordered));
+          (IsTable-put_row (new_entry (db 0) row) (without_all (db 0) ids) (left_table ids (db 0) it.ordered));
       keyed = subst (AllByRecursion (λ r. Rattle.std.specs.Prelude.IsTrue (is_int (rowid r)))) (sym trees)
-        (all_from _ (put_row (new_entry (db 0) row) (without_all (db 0) ids)) (λ e h.
+          (all_from _ (put_row (new_entry (db 0) row) (without_all (db 0) ids)) (λ e h.
           elim (put_has (new_entry (db 0) row) (without_all (db 0) ids) e h) [
             | inl same ↦ subst (λ r. Rattle.std.specs.Prelude.IsTrue (is_int (rowid r))) (sym same) refl
             | inr old_one ↦ all_has _ (without_all (db 0) ids) e (left_all _ ids (db 0) it.keyed) old_one
           ]));
       sound = w.sound;
-    } in
-    (next, after_put (db 0) (new.now.trees 0) known (entries new.now next) row (new_entry (db 0) row) ids
-      (replaced (db 0) known row met.0 met.1) fits (made_of row low fits) fresh trees)
+    } in (
+      next,
+      after_put (db 0) (new.now.trees 0) known (entries new.now next) row (new_entry (db 0) row) ids
+          (replaced (db 0) known row met.0 met.1) fits (made_of row low fits) fresh trees,
+    )

@@ -42,7 +42,7 @@ matched lost db filter params (e ∷ es) env h = go (passes_all params filter e)
         (b : Bool) → passes_all params filter e ≡ b
         → Has (Rattle.std.proofs.Common.◌++◌ (cond b ((params ∷ e ∷ []) ∷ []) []) (flat_map (λ r. cond (passes_all params filter r) ((params ∷ r ∷ []) ∷ []) []) es)) env
         → (Has (flat_map (λ r. cond (passes_all params filter r) ((params ∷ r ∷ []) ∷ []) []) es) env
-            → (f : Entry) × Has es f × (passes_all params filter f ≡ true) × (env ≡ params ∷ f ∷ []))
+        → (f : Entry) × Has es f × (passes_all params filter f ≡ true) × (env ≡ params ∷ f ∷ []))
         → (f : Entry) × Has (e ∷ es) f × (passes_all params filter f ≡ true) × (env ≡ params ∷ f ∷ [])
     go true is (inl same) more = (e, inl refl, is, same)
     go true is (inr later) more = let f = more later in (f.0, inr f.1, f.2, f.3)
@@ -74,7 +74,7 @@ module _ (q : Query) (lost : Value) (db : Trees) (params : Entry) (from_is : q.f
       let all = permuted ordered (map (output q) (matches_as lost db q.filter q.from (params ∷ []))) o (IsPermutation-sym _ _ same) h in
       let env = mapped_from (output q) (matches_as lost db q.filter q.from (params ∷ [])) o all in
       let entry = matched lost db q.filter params (db 0) env.0
-        (subst (λ f. Has (matches_as lost db q.filter f (params ∷ [])) env.0) from_is env.1) in
+      (subst (λ f. Has (matches_as lost db q.filter f (params ∷ [])) env.0) from_is env.1) in
       record { entry = entry.0; there = entry.1; passes = entry.2; is = env.2 ∙ ap (output q) entry.3 }
 
   pub shown_has : (e : Entry) → Has (db 0) e → passes_all params q.filter e ≡ true → Has ordered (output q (params ∷ e ∷ []))

@@ -74,7 +74,7 @@ puts_inside old new row count low fits h = record {
   committed = h.1.committed_is;
   mode = h.1.mode;
   rows = λ it. puts old new _ row count it low fits
-    (runs_as put_text (put_params row) old new rows_schema it.schema _ put_is put_plain count h.0);
+      (runs_as put_text (put_params row) old new rows_schema it.schema _ put_is put_plain count h.0);
 }
 
 pub takes_inside : (old new : State) (key : RowKey) (count : ℕ) → key.id < 2 ^ 64
@@ -85,7 +85,7 @@ takes_inside old new key count fits h = record {
   committed = h.1.committed_is;
   mode = h.1.mode;
   rows = λ it. takes old new _ key count it fits
-    (runs_as take_text (take_params key) old new rows_schema it.schema _ take_is take_plain count h.0);
+      (runs_as take_text (take_params key) old new rows_schema it.schema _ take_is take_plain count h.0);
 }
 
 -- ---- between transactions
@@ -107,9 +107,9 @@ stays_ready old new back ready mode kept = record {
   autocommit = mode;
   settled = λ sure. let k = kept sure.0 in k.now_is sure.1 ∙ sym (k.committed sure.1);
   rows = λ sure.
-    let k = kept sure.0 in
-    let was : IsSure old = (back sure.0, k.was_open sure.1) in
-    subst IsRowsDatabase (ready.settled was ∙ sym (k.now_is sure.1)) (ready.rows was);
+      let k = kept sure.0 in
+      let was : IsSure old = (back sure.0, k.was_open sure.1) in
+      subst IsRowsDatabase (ready.settled was ∙ sym (k.now_is sure.1)) (ready.rows was);
 }
 
 pub stays_then : (a b c : State) → StaysCommitted a b → StaysCommitted b c → StaysCommitted a c
@@ -133,18 +133,20 @@ pub shown_behind : (old new : State) (kind id : _) (rows : List Entry) → IsRow
     → ShowsFirst (Behind kind id) (old.now.trees 0) rows × IsUnchanged old new
 shown_behind old new kind id rows it h =
     let params = Int kind ∷ Int id ∷ [] in
-    let read = reads_as behind_text params old new rows_schema it.schema _ behind_is behind_plain unlisted.0 rows h in
-    (shows_first behind_terms (Behind kind id) old.now.trees params (entries old.now it) (behind_decides kind id) rows (read.answer Null),
-      shown_unchanged behind_text params old new rows it.schema behind_plain h)
+    let read = reads_as behind_text params old new rows_schema it.schema _ behind_is behind_plain unlisted.0 rows h in (
+      shows_first behind_terms (Behind kind id) old.now.trees params (entries old.now it) (behind_decides kind id) rows (read.answer Null),
+      shown_unchanged behind_text params old new rows it.schema behind_plain h,
+    )
 
 pub shown_from_kind : (old new : State) (kind : _) (rows : List Entry) → IsRowsDatabase old.now
     → Shown from_text (Int kind ∷ []) old new rows
     → ShowsFirst (From kind) (old.now.trees 0) rows × IsUnchanged old new
 shown_from_kind old new kind rows it h =
     let params = Int kind ∷ [] in
-    let read = reads_as from_text params old new rows_schema it.schema _ from_is from_plain unlisted.1 rows h in
-    (shows_first from_terms (From kind) old.now.trees params (entries old.now it) (from_decides kind) rows (read.answer Null),
-      shown_unchanged from_text params old new rows it.schema from_plain h)
+    let read = reads_as from_text params old new rows_schema it.schema _ from_is from_plain unlisted.1 rows h in (
+      shows_first from_terms (From kind) old.now.trees params (entries old.now it) (from_decides kind) rows (read.answer Null),
+      shown_unchanged from_text params old new rows it.schema from_plain h,
+    )
 
 -- ---- answers of the functions with one statement
 pub put_answer :

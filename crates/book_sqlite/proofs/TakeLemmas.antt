@@ -39,7 +39,7 @@ takes old new text key count it fits w =
     let params = take_params key in
     let command = Delete 0 (record { lets = []; body = take_query }) in
     let done = went (subst (λ s. Does old.step_limit (mode_of old) params (record old.now { schema = s }) text None command
-      (Ok (w.tally, new.now))) it.schema w.changed) in
+    (Ok (w.tally, new.now))) it.schema w.changed) in
     let now = ap (λ (p : Tally × Database). p.1) (same_value (went (went done.2).2).2) in
     let given = went done.1 in
     let known = entries old.now it in
@@ -73,10 +73,12 @@ creates old new count has w =
     let plain : lacks_sequence first.0.schema ≡ false = ap lacks_sequence schema in
     let now : new.now ≡ first.0 = ap (λ (p : Tally × Database). p.1) (same_value all.2) ∙ same_value (rw plain at first.2) in
     let trees : new.now.trees 0 ≡ [] =
-    ap (λ (d : Database). d.trees 0) now ∙ subst (λ s. first.0.trees (next_tree s) ≡ []) has made.empty in
-    (record {
-      schema = ap (λ (d : Database). d.schema) now ∙ schema;
-      ordered = subst IsTable (sym trees) tt;
-      keyed = subst (AllByRecursion (λ r. is_int (rowid r) ≡ true)) (sym trees) tt;
-      sound = w.sound;
-    }, trees)
+    ap (λ (d : Database). d.trees 0) now ∙ subst (λ s. first.0.trees (next_tree s) ≡ []) has made.empty in (
+      record {
+        schema = ap (λ (d : Database). d.schema) now ∙ schema;
+        ordered = subst IsTable (sym trees) tt;
+        keyed = subst (AllByRecursion (λ r. is_int (rowid r) ≡ true)) (sym trees) tt;
+        sound = w.sound;
+      },
+      trees,
+    )

@@ -21,7 +21,7 @@ pub fn make_all<S: Alter>(conn: &mut Connection<S>, changes: &[Change]) -> Resul
         → StaysCommitted (state S.Store conn.old) (state S.Store conn.new)) }
     ensures survives { Survives (state S.Store conn.old) (state S.Store conn.new)
         (λ db. IsRowsDatabase (state S.Store conn.old).now
-            → rows_of (db 0) ≡ after_changes changes.now (rows_in (state S.Store conn.old).now)) }
+        → rows_of (db 0) ≡ after_changes changes.now (rows_in (state S.Store conn.old).now)) }
 {
     let mut tx = conn.transaction();
     for change in changes {

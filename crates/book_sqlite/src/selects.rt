@@ -29,11 +29,7 @@ fn kind_behind(kind: Option<u8>) -> ValueRef<'static>
 }
 
 /// The first row of this kind behind the number, if there is one.
-fn first_behind<S: Alter>(
-    conn: &mut Connection<S>,
-    kind: u8,
-    id: u64,
-) -> Result<Vec<Shown>, Error>
+fn first_behind<S: Alter>(conn: &mut Connection<S>, kind: u8, id: u64) -> Result<Vec<Shown>, Error>
     requires ready { IsReady (state S.Store conn.old) }
     requires fits { id < 2 ^ 63 }
     ensures ready { IsReady (state S.Store conn.new) }
@@ -49,10 +45,7 @@ fn first_behind<S: Alter>(
 }
 
 /// The first row of the greater kinds, or of all, if there is one.
-fn first_from<S: Alter>(
-    conn: &mut Connection<S>,
-    kind: Option<u8>,
-) -> Result<Vec<Shown>, Error>
+fn first_from<S: Alter>(conn: &mut Connection<S>, kind: Option<u8>) -> Result<Vec<Shown>, Error>
     requires { IsReady (state S.Store conn.old) }
     ensures ready { IsReady (state S.Store conn.new) }
     ensures clean { HasCleanDisk (state S.Store conn.new) → HasCleanDisk (state S.Store conn.old) }
@@ -93,11 +86,7 @@ fn first_of(shown: &[Shown]) -> Result<Option<Row>, Error>
 }
 
 /// The first row of the book of this kind behind the number.
-fn row_behind<S: Alter>(
-    conn: &mut Connection<S>,
-    kind: u8,
-    id: u64,
-) -> Result<Option<Row>, Error>
+fn row_behind<S: Alter>(conn: &mut Connection<S>, kind: u8, id: u64) -> Result<Option<Row>, Error>
     requires ready { IsReady (state S.Store conn.old) }
     requires fits { id < 2 ^ 63 }
     ensures ready { IsReady (state S.Store conn.new) }
@@ -111,10 +100,7 @@ fn row_behind<S: Alter>(
 }
 
 /// The first row of the book of the greater kinds, or of all.
-fn row_from<S: Alter>(
-    conn: &mut Connection<S>,
-    kind: Option<u8>,
-) -> Result<Option<Row>, Error>
+fn row_from<S: Alter>(conn: &mut Connection<S>, kind: Option<u8>) -> Result<Option<Row>, Error>
     requires { IsReady (state S.Store conn.old) }
     ensures ready { IsReady (state S.Store conn.new) }
     ensures clean { HasCleanDisk (state S.Store conn.new) → HasCleanDisk (state S.Store conn.old) }

@@ -38,16 +38,12 @@ fn blob(bytes: &[u8]) -> ValueRef<'_>
 }
 
 /// Puts a row of these bytes under the key, in place of the one with the key if there is one.
-fn put_row<S: Alter>(
-    tx: &mut Transaction<'_, S>,
-    key: RowKey,
-    body: &[u8],
-) -> Result<usize, Error>
+fn put_row<S: Alter>(tx: &mut Transaction<'_, S>, key: RowKey, body: &[u8]) -> Result<usize, Error>
     requires { key.id < 2 ^ 62 }
     ensures same_reference { tx.new.conn.ghost_name ≡ tx.old.conn.ghost_name }
     ensures made { OnOk result (HasCleanDisk (state S.Store tx.new.conn.now) → IsTrue tx.old.conn.now.in_transaction
         → ChangesInside (state S.Store tx.old.conn.now) (state S.Store tx.new.conn.now)
-            (with_row (record { key = key; body = body.now }))) }
+        (with_row (record { key = key; body = body.now }))) }
     ensures kept { OnErr result (HasCleanDisk (state S.Store tx.new.conn.now) → IsTrue tx.old.conn.now.in_transaction
         → KeepsCommit (state S.Store tx.old.conn.now) (state S.Store tx.new.conn.now)) }
     ensures survives { Survives (state S.Store tx.old.conn.now) (state S.Store tx.new.conn.now) (λ _. ⊥) }

@@ -16,4 +16,4 @@ with_table-requires-clause-rowids g c = λ sure schema_is.
     let sound = ((c.in-Ok.ensures.opens sure.0).1 sure.1).0 in
     subst (λ (t : Trees). IsTable (t 0) × AllByRecursion (λ r. IsTrue (is_int (rowid r))) (t 0)) (sym trees)
     (has_rowids (g.S.Store.view s) conn.schema (g.met.S.Alter.listed s whole) (g.met.S.Store.ordered s whole)
-      (subst (IsSound conn.schema) trees sound) schema_is)
+    (subst (IsSound conn.schema) trees sound) schema_is)

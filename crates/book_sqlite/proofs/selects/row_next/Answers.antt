@@ -20,10 +20,10 @@ returns-clause-found g c =
     from_next _ _ (old.now.trees 0) (mid.now.trees 0) c.args.key (pos c.min.result) c.row_from.result (omega arith)
     (omega (arith, ints, c.min.ensures))
     (λ clean is. subst (IsFound (Behind (pos c.args.key.kind) (pos c.min.result)) (rows_in old.now)) c.in_default.is
-      (c.in_ok-row.ensures.found (c.row_from.ensures.clean clean) ((c.row_from.ensures.stays clean).was_open is)))
+    (c.in_ok-row.ensures.found (c.row_from.ensures.clean clean) ((c.row_from.ensures.stays clean).was_open is)))
     (λ clean is.
-      let early = c.row_from.ensures.clean clean in
-      let open_mid = (c.row_from.ensures.stays clean).was_open is in
-      let kept = c.row_behind.ensures.stays early in
-      ap rows_in (kept.now_is open_mid ∙ sym (c.requires.settled (c.row_behind.ensures.clean early, kept.was_open open_mid))))
+    let early = c.row_from.ensures.clean clean in
+    let open_mid = (c.row_from.ensures.stays clean).was_open is in
+    let kept = c.row_behind.ensures.stays early in
+    ap rows_in (kept.now_is open_mid ∙ sym (c.requires.settled (c.row_behind.ensures.clean early, kept.was_open open_mid))))
     c.row_from.ensures.found
