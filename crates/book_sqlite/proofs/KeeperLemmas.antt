@@ -1,0 +1,77 @@
+-- What the calls on the connection say of the keeper.
+use Rattle.std.proofs.Common.{◌≡◌, ◌⊎◌, true, ◌&&◌, List, Some, inl, inr, refl, sym, ap, subst, ◌∙◌, IsTrue, Option}
+use Rattle.std.proofs.lemmas.Bool.{and_parts, and_from}
+use Rattle.sqlite_trees.specs.Tree.{Trees}
+use Rattle.sqlite_trees.specs.declared.store.Store.{Ghosts}
+use Rattle.sqlite_trees.proofs.Doubt.{clean_of, no_doubt}
+use Rattle.sqlite.specs.Effect.{Database}
+use Rattle.sqlite.specs.State.{HasCleanDisk, Survives}
+use Rattle.sqlite.specs.Held.{Held, state}
+use Rattle.book_keeper.specs.declared.row.Row.{Row}
+use Rattle.book_sqlite.specs.Content.{rows_of}
+use Rattle.book_sqlite.specs.RowsDatabase.{IsRowsDatabase, rows_in}
+use Rattle.book_sqlite.specs.RowCalls.{IsSure, IsReady, Committed, StaysCommitted}
+use Rattle.book_sqlite.specs.KeeperInSqlite.{SqliteKept, is_sure, HoldsRows, MayLeave, has_clean_store}
+
+module _ {S : Type 0} (g : Ghosts S) where
+  abbrev knows : Held S → Type 0
+  knows c = IsTrue ((state g c).is_clean && (state g c).is_open)
+
+  sure_from : (c : Held S) → knows c → IsSure (state g c)
+  sure_from c sure = let parts = and_parts _ _ sure in (no_doubt _ parts.0, parts.1)
+
+  module _ (k : SqliteKept S) (c new : Held S) (is : k.connection ≡ Some c) (back : HasCleanDisk (state g new) → HasCleanDisk (state g c)) where
+    pub sure_back : (HasCleanDisk (state g new) → IsTrue (state g new).is_open → IsTrue (state g c).is_open) → knows new → IsTrue (is_sure g k)
+    sure_back opens sure =
+        let now = sure_from new sure in
+        let known : knows c = and_from _ _ (clean_of _ (back now.0)) (opens now.0 now.1) in rw is known
+
+    held_is : (rows : List Row) → HoldsRows g k rows → rows ≡ rows_of ((state g c).committed.trees 0)
+    held_is rows holds = rw is at holds
+
+    pub rows_stay : (HasCleanDisk (state g new) → StaysCommitted (state g c) (state g new)) → knows new → (rows : List Row) → HoldsRows g k rows
+        → rows ≡ rows_of ((state g new).committed.trees 0)
+    rows_stay stays sure rows holds =
+        let now = sure_from new sure in
+        held_is rows holds ∙ ap (λ (d : Database). rows_of (d.trees 0)) (sym ((stays now.0).committed now.1))
+
+    pub rows_made : (change : List Row → List Row) → IsReady (state g c) → (HasCleanDisk (state g new) → Committed (state g c) (state g new) change)
+        → knows new → (rows : List Row) → HoldsRows g k rows → change rows ≡ rows_of ((state g new).committed.trees 0)
+    rows_made change ready made sure rows holds =
+        let now = sure_from new sure in
+        let m = made now.0 in
+        let was : IsSure (state g c) = (back now.0, m.was_open) in
+        let before : rows ≡ rows_in (state g c).now = held_is rows holds ∙ ap rows_in (sym (ready.settled was)) in
+        ap change before ∙ sym (m.rows (ready.rows was)).1 ∙ ap rows_in m.settled
+
+    pub rows_found : {X : Type 0} (first : List Row → X) (found : X) → IsReady (state g c)
+        → (HasCleanDisk (state g new) → StaysCommitted (state g c) (state g new))
+        → (HasCleanDisk (state g new) → IsTrue (state g new).is_open → found ≡ first (rows_in (state g c).now))
+        → knows new → (rows : List Row) → HoldsRows g k rows → found ≡ first rows
+    rows_found first found ready stays is_first sure rows holds =
+        let now = sure_from new sure in
+        let was : IsSure (state g c) = (back now.0, (stays now.0).was_open now.1) in
+        let before : rows ≡ rows_in (state g c).now = held_is rows holds ∙ ap rows_in (sym (ready.settled was)) in
+        is_first now.0 now.1 ∙ ap first (sym before)
+
+    pub crash_leaves : (change : List Row → List Row) → IsReady (state g c)
+        → Survives (state g c) (state g new) (λ db. IsRowsDatabase (state g c).now → rows_of (db 0) ≡ change (rows_in (state g c).now))
+        → IsTrue (is_sure g k) → IsTrue (state g new).is_clean → (rows held : List Row) → HoldsRows g k held
+        → (db : Trees) × (state g new).may_leave db × (rows ≡ rows_of (db 0)) → MayLeave g k rows ⊎ (rows ≡ change held)
+    crash_leaves change ready survives sure clean rows held holds left =
+        let known : knows c = rw is at sure in
+        let was = sure_from c known in
+        let before : held ≡ rows_in (state g c).now = held_is held holds ∙ ap rows_in (sym (ready.settled was)) in
+        elim (survives.crash (no_doubt _ clean) left.0 left.1) [
+          | inl earlier ↦ inl (rw is (left.0, earlier, left.2))
+          | inr made ↦ inr (left.2 ∙ made (ready.rows was) ∙ ap change (sym before))
+        ]
+
+    -- of a commit that is made, and whose connection is open, a crash leaves the rows after it alone
+    pub crash_settles : (change : List Row → List Row) → IsReady (state g c) → (HasCleanDisk (state g new) → Committed (state g c) (state g new) change)
+        → ((db : Trees) → IsTrue (state g new).is_open → (state g new).may_leave db → db ≡ (state g new).committed.trees)
+        → knows new → (rows held : List Row) → HoldsRows g k held
+        → (db : Trees) × (state g new).may_leave db × (rows ≡ rows_of (db 0)) → rows ≡ change held
+    crash_settles change ready made settled sure rows held holds left =
+        let now = sure_from new sure in
+        left.2 ∙ ap (λ (t : Trees). rows_of (t 0)) (settled left.0 now.1 left.1) ∙ sym (rows_made change ready made sure held holds)

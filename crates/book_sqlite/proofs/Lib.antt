@@ -1,0 +1,14 @@
+pub mod ChangeLemmas
+pub mod CommitLemmas
+pub mod ContentLemmas
+pub mod EntryLemmas
+pub mod FirstLemmas
+pub mod FoundLemmas
+pub mod KeeperLemmas
+pub mod Meanings
+pub mod MemberLemmas
+pub mod OpeningLemmas
+pub mod PutLemmas
+pub mod ShownLemmas
+pub mod StateFacts
+pub mod TakeLemmas

@@ -1,0 +1,29 @@
+use Rattle.std.proofs.Common.{[], ◌∷◌, pos, arith, refl}
+use Rattle.sqlite.specs.State.{HasCleanDisk}
+use Rattle.sqlite.specs.Held.{state}
+use Rattle.sqlite.specs.Values.{bound}
+use Rattle.book_sqlite.specs.RowCalls.{kinds_behind}
+use Rattle.book_sqlite.proofs.StateFacts.{stays_ready, select_left, from_answer}
+use Rattle.book_sqlite.proofs.Meanings.{from_text, from_plain}
+use Rattle.book_sqlite.proofs.selects.first_from.Goals as goal
+
+pub returns-clause-stays : goal.returns-clause-stays
+returns-clause-stays g c =
+    let old = state g.S.Store c.args.conn.now in
+    let new = state g.S.Store c.query_all.new.self in
+    select_left (λ rows. rows.items) old new (λ clean. omega (arith, clean, c.query_all.ensures.survives.clean)) c.requires
+    from_text (bound (c.kind_behind.result ∷ [])) from_plain c.query_all.result c.query_all.ensures.ok c.query_all.ensures.err
+
+pub returns-clause-ready : goal.returns-clause-ready
+returns-clause-ready g c =
+    let old = state g.S.Store c.args.conn.now in
+    let new = state g.S.Store c.query_all.new.self in
+    stays_ready old new (λ clean. omega (arith, clean, c.query_all.ensures.survives.clean)) c.requires
+    (c.query_all.ensures.mode c.requires.autocommit) (returns-clause-stays g c)
+
+pub returns-clause-shown : goal.returns-clause-shown
+returns-clause-shown g c =
+    let old = state g.S.Store c.args.conn.now in
+    let new = state g.S.Store c.query_all.new.self in
+    from_answer (λ rows. rows.items) old new (λ clean. omega (arith, clean, c.query_all.ensures.survives.clean)) c.requires
+    (kinds_behind c.args.kind) (bound (c.kind_behind.result ∷ [])) c.query_all.result (rw c.kind_behind.ensures refl) c.query_all.ensures.ok

@@ -1,0 +1,93 @@
+-- What the calls on a connection make of the rows, where its store is clean.
+use Rattle.std.specs.Prelude.{◌≡◌, ◌⊎◌, ◌≤◌, ◌+◌, ◌-◌, ◌^◌, ℕ, ℤ, pos, negsuc, ◌<ℤ◌, ◌≤ℤ◌, true, false, List, [], ◌∷◌, Option, Some, None, IsTrue}
+use Rattle.sqlite_value.specs.declared.value.Value.TheVariants.{Int}
+use Rattle.sqlite_value.specs.Order.{Row as Entry, column}
+use Rattle.sqlite_rules.specs.Lists.{Has}
+use Rattle.sqlite.specs.State.{State, HasCleanDisk}
+use Rattle.book_keeper.specs.declared.row.Row.{Row}
+use Rattle.book_keeper.specs.Rows.{rank}
+use Rattle.book_sqlite.specs.Content.{row_made}
+use Rattle.book_sqlite.specs.RowsDatabase.{IsRowsDatabase, rows_in}
+
+-- The store is clean, and the connection is open.
+abbrev pub IsSure : State → Type 0
+IsSure s = HasCleanDisk s × IsTrue s.is_open
+
+-- The connection stands between two transactions, over a file of rows.
+pub record IsReady (s : State) : Type 0 where
+  pub autocommit : s.in_transaction ≡ false
+  pub settled : IsSure s → s.now ≡ s.committed
+  pub rows : IsSure s → IsRowsDatabase s.now
+
+-- A change of the rows inside a transaction. The last commit stays.
+pub record ChangesInside (old new : State) (change : List Row → List Row) : Type 0 where
+  pub was_open : IsTrue old.is_open
+  pub is_open : IsTrue new.is_open
+  pub committed : new.committed ≡ old.committed
+  pub mode : new.in_transaction ≡ true
+  pub rows : IsRowsDatabase old.now → IsRowsDatabase new.now × (rows_in new.now ≡ change (rows_in old.now))
+
+-- A change of the rows that is committed.
+pub record Committed (old new : State) (change : List Row → List Row) : Type 0 where
+  pub was_open : IsTrue old.is_open
+  pub is_open : IsTrue new.is_open
+  pub settled : new.now ≡ new.committed
+  pub rows : IsRowsDatabase old.now → IsRowsDatabase new.now × (rows_in new.now ≡ change (rows_in old.now))
+
+-- The last commit stays, and nothing is written after it, while the connection is open.
+pub record StaysCommitted (old new : State) : Type 0 where
+  pub was_open : IsTrue new.is_open → IsTrue old.is_open
+  pub now_is : IsTrue new.is_open → new.now ≡ old.committed
+  pub committed : IsTrue new.is_open → new.committed ≡ old.committed
+
+-- The entry has this kind and this number.
+abbrev pub HasKey : Entry → ℤ → ℤ → Type 0
+HasKey e kind id = (column e 1 ≡ Int kind) × (column e 2 ≡ Int id)
+
+-- Keys in order: by kind, and then by number.
+abbrev pub UpTo : ℤ → ℤ → ℤ → ℤ → Type 0
+UpTo kind id other more = (kind <ℤ other) ⊎ ((kind ≡ other) × (id ≤ℤ more))
+
+-- Behind a number among those of a kind.
+abbrev pub Behind : ℤ → ℤ → ℤ → ℤ → Type 0
+Behind kind id other more = (other ≡ kind) × (id <ℤ more)
+
+-- Of a kind, or of a greater one.
+abbrev pub From : ℤ → ℤ → ℤ → Type 0
+From kind other more = kind ≤ℤ other
+
+-- The least kind behind this one, or the least integer of SQL.
+abbrev pub kinds_behind : Option ℕ → ℤ
+kinds_behind None = negsuc (2 ^ 63 - 1)
+kinds_behind (Some kind) = pos (kind + 1)
+
+-- A select shows the first entry, by its key, of those whose keys pass, or nothing where none passes.
+abbrev pub ShowsFirst : (ℤ → ℤ → Type 0) → List Entry → List Entry → Type 0
+ShowsFirst Passes es [] = (e : Entry) (kind id : ℤ) → Has es e → HasKey e kind id → Passes kind id → ⊥
+ShowsFirst Passes es (shown ∷ []) =
+    (e : Entry) × (kind : ℤ) × (id : ℤ) × Has es e × HasKey e kind id × Passes kind id
+    × (shown ≡ Int kind ∷ Int id ∷ column e 3 ∷ [])
+    × ((f : Entry) (other more : ℤ) → Has es f → HasKey f other more → Passes other more → UpTo kind id other more)
+ShowsFirst Passes es (shown ∷ next ∷ more) = ⊥
+
+-- The row that is read from what a select shows: none where it shows none, or else the first, which has to be a row of a
+-- book.
+abbrev pub ReadsFrom : List Entry → Option Row → Type 0
+ReadsFrom [] found = found ≡ None
+ReadsFrom (shown ∷ more) found =
+    (row : Row) × (found ≡ Some row) × (row_made (column shown 0) (column shown 1) (column shown 2) ≡ Some row)
+
+-- The row is among those, its key passes, and no other key that passes is below it.
+pub record IsLeast (Passes : ℤ → ℤ → Type 0) (rows : List Row) (row : Row) : Type 0 where
+  pub there : Has rows row
+  pub passes : Passes (pos row.key.kind) (pos row.key.id)
+  pub least : (other : Row) → Has rows other → Passes (pos other.key.kind) (pos other.key.id)
+      → rank row.key ≤ rank other.key
+
+abbrev pub NonePasses : (ℤ → ℤ → Type 0) → List Row → Type 0
+NonePasses Passes rows = (other : Row) → Has rows other → Passes (pos other.key.kind) (pos other.key.id) → ⊥
+
+-- The least of the rows whose keys pass, or none where none passes.
+abbrev pub IsFound : (ℤ → ℤ → Type 0) → List Row → Option Row → Type 0
+IsFound Passes rows None = NonePasses Passes rows
+IsFound Passes rows (Some row) = IsLeast Passes rows row

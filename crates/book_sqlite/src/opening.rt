@@ -1,0 +1,63 @@
+ghost use Rattle.std.specs.Prelude.{◌≡◌, false, IsTrue, OnOk, IfOk};
+ghost use Rattle.sqlite.specs.Held.{state};
+ghost use Rattle.book_sqlite.specs.RowsSchema.{no_schema};
+ghost use Rattle.book_sqlite.specs.RowsDatabase.{HasRowids};
+ghost use Rattle.book_sqlite.specs.RowCalls.{IsSure, IsReady};
+
+use crate::schema_test::{is_empty, is_of_rows};
+use sqlite::{Alter, Connection, Error, ErrorCode};
+use std::alloc::Global;
+
+/// Makes the table of rows in a database that has nothing yet.
+fn make_table<S: Alter>(conn: &mut Connection<S>) -> Result<(), Error>
+    requires autocommit { conn.old.in_transaction ≡ false }
+    requires empty { (state S.Store conn.old).now.schema ≡ no_schema }
+    ensures { OnOk result (IsReady (state S.Store conn.new)) }
+{
+    conn.execute(
+        "CREATE TABLE bk_rows(kind INTEGER, id INTEGER, body BLOB, PRIMARY KEY(kind, id)) STRICT",
+        &[],
+    )?;
+    if conn.is_autocommit() {
+        Ok(())
+    } else {
+        Err(Error::SqliteFailure(ErrorCode::TransactionState))
+    }
+}
+
+/// Makes the table of rows where the database has nothing yet. Refuses another schema than that of a file of rows.
+fn with_table<S: Alter>(conn: &mut Connection<S>) -> Result<(), Error>
+    requires autocommit { conn.old.in_transaction ≡ false }
+    requires settled { IsSure (state S.Store conn.old) → (state S.Store conn.old).now ≡ (state S.Store conn.old).committed }
+    requires rowids { IsSure (state S.Store conn.old) → HasRowids (state S.Store conn.old).now }
+    ensures { OnOk result (IsReady (state S.Store conn.new)) }
+{
+    let schema = conn.schema();
+    if is_of_rows(schema) {
+        return Ok(());
+    }
+    if !is_empty(schema) {
+        return Err(Error::SqliteFailure(ErrorCode::NotADatabase));
+    }
+    make_table(conn)
+}
+
+/// The connection, over a file of rows: where the database has nothing yet, the table is made.
+pub fn prepared<S: Alter + Drop>(
+    alloc: Global,
+    connection: Connection<S>,
+) -> Result<Connection<S>, Error>
+    ensures { IfOk result (λ c. IsReady (state S.Store c)) }
+{
+    let store = connection.into_store();
+    if store.is_broken() {
+        return Err(Error::SqliteFailure(ErrorCode::Closed));
+    }
+    match Connection::over(alloc, store) {
+        Ok(mut connection) => {
+            with_table(&mut connection)?;
+            Ok(connection)
+        }
+        Err((error, _)) => Err(error),
+    }
+}

@@ -1,0 +1,171 @@
+ghost use Rattle.std.specs.Prelude.{◌≡◌, ◌<◌, ◌≤◌, ◌⊎◌, false, [], List, Some, IfOk, IfErr, IfSome, OnOk, OnErr, IsTrue};
+ghost use Rattle.book_keeper.specs.Faults.{Rose};
+ghost use Rattle.book_keeper.specs.Keeping.{HasKeepCause};
+ghost use Rattle.book_keeper.specs.Rows.{AreRising, rank, after_changes, first_after};
+ghost use Rattle.book_sqlite.specs.KeeperInSqlite.{is_sure, HoldsRows, MayLeave, has_clean_store};
+
+use crate::commit::make_all;
+use crate::opening::prepared;
+use crate::selects::row_after;
+use book_commodity::Text;
+use book_keeper::{Change, KeepError, Keeper, Row, RowKey};
+use sqlite::{Alter, Connection, Error, ErrorCode};
+use std::alloc::Global;
+use std::marker::Model;
+
+/// A keeper of rows in the one table of a SQLite database, over any store. It knows its rows while the store is clean
+/// and the connection open.
+#[derive(Drop)]
+pub struct SqliteKeeper<S: Alter> {
+    connection: Option<Connection<S>>,
+    lacked_memory: bool,
+    alloc: Global,
+    path: Text,
+    faults: u64,
+}
+
+impl<S: Alter> Model for SqliteKeeper<S> {
+    ghost use Rattle.book_sqlite.specs.KeeperInSqlite.{SqliteKept, kept_code, IsKept};
+
+    ghost Value = { SqliteKept S };
+
+    ghost coded = { kept_code S.code };
+
+    ghost view = { λ k. record { connection = k.connection; path = k.path; faults = k.faults } };
+
+    ghost invariant = { λ k. IsKept S.Store k.connection };
+}
+
+impl<S: Alter + Drop> SqliteKeeper<S> {
+    /// A keeper over this connection. It makes the table of rows where the database has nothing yet. Where it has
+    /// another schema it is left as it is, and `open` fails.
+    pub fn over(alloc: Global, connection: Connection<S>) -> SqliteKeeper<S>
+        ensures path { result.path ≡ [] }
+        ensures faults { result.faults ≡ 0 }
+    {
+        let (connection, lacked_memory) = match prepared(alloc, connection) {
+            Ok(connection) => (Some(connection), false),
+            Err(error) => (None, is_want_of_memory(error)),
+        };
+        SqliteKeeper {
+            connection,
+            lacked_memory,
+            alloc,
+            path: Text::new(alloc),
+            faults: 0,
+        }
+    }
+
+    /// Counts a fault, unless the call was out of memory.
+    fn fail(&mut self, lacked_memory: bool) -> KeepError
+        ensures connection { self.new.connection ≡ self.old.connection }
+        ensures path { self.new.path ≡ self.old.path }
+        ensures later { self.old.faults ≤ self.new.faults }
+        ensures cause { result ≡ KeepError.Failed → Rose self.old.faults self.new.faults }
+    {
+        if lacked_memory {
+            return KeepError::OutOfMemory;
+        }
+        self.faults = self.faults.saturating_add(1);
+        KeepError::Failed
+    }
+}
+
+/// Whether a call of the kit's was out of memory.
+fn is_want_of_memory(error: Error) -> bool {
+    matches!(error, Error::SqliteFailure(ErrorCode::OutOfMemory))
+}
+
+/// The text of these characters.
+pub fn text_of(alloc: Global, path: &str) -> Result<Text, KeepError>
+    ensures value { IfOk result (λ text. text ≡ path.now) }
+    ensures memory { IfErr result (λ error. error ≡ KeepError.OutOfMemory) }
+{
+    let mut text = String::new(alloc);
+    match text.push_str(path) {
+        Ok(()) => Ok(Text::of(text)),
+        Err(_) => Err(KeepError::OutOfMemory),
+    }
+}
+
+impl<S: Alter + Drop> Keeper for SqliteKeeper<S> {
+    ghost use Rattle.book_keeper.specs.declared.row.Row.{Row};
+    ghost use Rattle.book_sqlite.specs.KnownRows.{told_rows, rising_rows};
+
+    ghost path_given = { λ keeper. keeper.path };
+
+    ghost sure = { is_sure S.Store };
+
+    ghost holds = { HoldsRows S.Store };
+
+    ghost faults = { λ keeper. keeper.faults };
+
+    ghost told = { λ keeper sure. told_rows (record {
+      view = S.Store.view;
+      faults = S.Store.faults;
+      recovers = S.Store.recovers;
+      is_shielded = S.Store.is_shielded;
+      is_step = S.Store.is_step;
+      blamed = S.Store.blamed;
+      names = S.Store.names;
+    }) keeper sure };
+
+    ghost rising = { λ keeper rows held. rising_rows (record {
+      view = S.Store.view;
+      faults = S.Store.faults;
+      recovers = S.Store.recovers;
+      is_shielded = S.Store.is_shielded;
+      is_step = S.Store.is_step;
+      blamed = S.Store.blamed;
+      names = S.Store.names;
+    }) keeper rows held };
+
+    /// Keeps the path. Fails where the keeper has no file of rows.
+    fn open(&mut self, path: &str) -> Result<(), KeepError> {
+        let text = text_of(self.alloc, path)?;
+        if self.connection.is_none() {
+            let lacked_memory = self.lacked_memory;
+            return Err(self.fail(lacked_memory));
+        }
+        self.path = text;
+        Ok(())
+    }
+
+    /// Makes all the changes in one transaction. At each exit a crash leaves rows that it could leave before the call, or
+    /// those after all the changes; after Ok, with the connection open, those after them alone.
+    fn commit(&mut self, changes: &[Change]) -> Result<(), KeepError>
+        requires { AreRising changes.now }
+        ensures crash { IsTrue (is_sure S.Store self.old) → IsTrue (has_clean_store S.Store self.new)
+            → (rows held : List Row) → HoldsRows S.Store self.old held → MayLeave S.Store self.new rows
+            → MayLeave S.Store self.old rows ⊎ (rows ≡ after_changes changes.now held) }
+        ensures settled { OnOk result (IsTrue (is_sure S.Store self.new) → (rows held : List Row)
+            → HoldsRows S.Store self.old held → MayLeave S.Store self.new rows → rows ≡ after_changes changes.now held) }
+        ensures path { self.new.path ≡ self.old.path }
+        ensures sure { IsTrue (is_sure S.Store self.new) → IsTrue (is_sure S.Store self.old) }
+        ensures made { OnOk result (IsTrue (is_sure S.Store self.new) → (rows : List Row)
+            → HoldsRows S.Store self.old rows → HoldsRows S.Store self.new (after_changes changes.now rows)) }
+        ensures unchanged { OnErr result (IsTrue (is_sure S.Store self.new) → (rows : List Row)
+            → HoldsRows S.Store self.old rows → HoldsRows S.Store self.new rows) }
+        ensures cause { HasKeepCause self.old.faults self.new.faults result }
+    {
+        let Some(connection) = &mut self.connection else {
+            return Err(self.fail(false));
+        };
+        match make_all(connection, changes) {
+            Ok(()) => Ok(()),
+            Err(error) => Err(self.fail(is_want_of_memory(error))),
+        }
+    }
+
+    /// One select within the kind and, where that shows none, one over the greater kinds. Fails at a row that is none of
+    /// a book.
+    fn next_row(&mut self, after: Option<RowKey>) -> Result<Option<Row>, KeepError> {
+        let Some(connection) = &mut self.connection else {
+            return Err(self.fail(false));
+        };
+        match row_after(connection, after) {
+            Ok(found) => Ok(found),
+            Err(error) => Err(self.fail(is_want_of_memory(error))),
+        }
+    }
+}
