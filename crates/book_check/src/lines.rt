@@ -25,7 +25,8 @@ const MAX_AMOUNT: u64 = 1_000_000_000_000;
 /// The key of a line: its account, day and amount; its type, its references and its text; its ordinal.
 type LineParts<'a> = ((u64, i32, i64), (&'a str, &'a str, &'a str, &'a str), u64);
 
-/// The first number at which a line breaks a rule of its kind, or is one too many.
+/// The first number at which a line breaks a rule of its kind, or is one too many. Where there are lines, a map of all
+/// splits is made for those that are matched.
 pub(crate) fn first_line(
     alloc: Global,
     accounts: &Tree,
@@ -37,6 +38,9 @@ pub(crate) fn first_line(
         (line_rules accounts.now.entries statements.now.entries transactions.now.entries lines.now.entries)
         1000000 lines.now.entries) }
 {
+    if lines.len() == 0 {
+        return Ok(None);
+    }
     let splits = Splits::of(alloc, transactions)?;
     let mut keys = Seen::new(alloc);
     let mut matched = Seen::new(alloc);

@@ -28,7 +28,7 @@ impl<W, T: Field<W>> Field<W> for Many<T> {
             Err(error) => return Err(error),
         };
         match read_all::<W, T>(alloc, count, rest) {
-            Ok((items, rest)) => Ok((items, rest)),
+            Ok((items, rest)) => Ok((in_fitting_room(items), rest)),
             Err(error) => Err(error),
         }
     }
@@ -71,4 +71,13 @@ fn read_all<W, T: Field<W>>(
         rest = left;
     }
     Ok((items, rest))
+}
+
+/// The same items, in no more room than they take: most lists are short, and room was made for more.
+fn in_fitting_room<T>(items: Many<T>) -> Many<T>
+    ensures { result ≡ items }
+{
+    let mut items = items.into_vec();
+    items.shrink_to_fit();
+    Many::of(items)
 }
