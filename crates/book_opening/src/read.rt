@@ -1,11 +1,11 @@
-ghost use Rattle.std.specs.Prelude.{◌≡◌, ◌<◌, List, Some, Option, IfOk, IfErr, IfSome, IfNone, OnOk, IsTrue, map};
+ghost use Rattle.std.specs.Prelude.{◌≡◌, ◌≢◌, ◌<◌, List, Some, Option, IfOk, IfErr, IfSome, IfNone, OnOk, IsTrue, map};
 ghost use Rattle.std.specs.List.{AllByRecursion};
 ghost use Rattle.book_keeper.specs.Rows.{rank};
 ghost use Rattle.book_keeper.specs.declared.row.Row.{Row as HeldRow};
 ghost use Rattle.book_undo.specs.Book.{book_of, with_thing};
 ghost use Rattle.book_rows.specs.Row.{IsWithin, kind_of};
 ghost use Rattle.book_opening.specs.BookRows.{behind_head, record_of, row_of};
-ghost use Rattle.book_opening.specs.Opening.{Answers, Begins, HasOpenCause, IsBadFor, IsBadHead, IsBadThing};
+ghost use Rattle.book_opening.specs.Opening.{Answers, Begins, HasNoSteps, HasOpenCause, IsBadFor, IsBadHead, IsBadThing};
 ghost use Rattle.book_opening.specs.Opening.{IsOnlyRecord, IsOpened, OpenAs, WasRead, head_key};
 ghost use Rattle.book_opening.specs.State.{State, state_of, head_of};
 
@@ -145,13 +145,13 @@ fn read_thing(alloc: Global, row: &Row) -> Result<Thing, OpenFault>
     }
 }
 
-/// The thing of the record; None where it is a head.
+/// The thing of the record; None where it is a head or a step.
 fn thing_of(it: Record) -> Option<Thing>
     ensures thing { IfSome result (λ thing. it ≡ record_of thing) }
-    ensures none { IfNone result (kind_of it ≡ 1) }
+    ensures none { IfNone result (kind_of it ≢ 1 → HasNoSteps it → ⊥) }
 {
     match it {
-        Record::Head(_) => None,
+        Record::Head(_) | Record::Back(_) | Record::Forth(_) => None,
         Record::Commodity(it) => Some(Thing::Commodity(it)),
         Record::Account(it) => Some(Thing::Account(it)),
         Record::Txn(it) => Some(Thing::Txn(it)),
