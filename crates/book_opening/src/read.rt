@@ -80,10 +80,33 @@ fn read_head(alloc: Global, row: &Row) -> Result<Head, OpenFault>
         return Err(OpenFault::BadRows { kind: 1, id: 0 });
     }
     match read_row(alloc, row.key, row.body.as_slice()) {
-        Ok(Record::Head(head)) if head.past == 0 && head.later == 0 => Ok(head),
-        Ok(_) => Err(bad(row.key)),
+        Ok(it) => match head_in(it) {
+            Some(head) if head.past == 0 && head.later == 0 => Ok(head),
+            Some(_) | None => Err(bad(row.key)),
+        },
         Err(RowError::Bad { .. }) => Err(bad(row.key)),
         Err(RowError::OutOfMemory) => Err(OpenFault::OutOfMemory),
+    }
+}
+
+/// The head that a record is; None where it is another record.
+fn head_in(it: Record) -> Option<Head>
+    ensures head { IfSome result (λ head. it ≡ Record.Head head) }
+    ensures none { IfNone result (kind_of it ≢ 1) }
+{
+    match it {
+        Record::Head(head) => Some(head),
+        Record::Commodity(_)
+        | Record::Account(_)
+        | Record::Txn(_)
+        | Record::Price(_)
+        | Record::Schedule(_)
+        | Record::Held(_)
+        | Record::Line(_)
+        | Record::Binding(_)
+        | Record::Recon(_)
+        | Record::Back(_)
+        | Record::Forth(_) => None,
     }
 }
 
