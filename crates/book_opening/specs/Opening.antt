@@ -16,12 +16,14 @@ use Rattle.book_opening.specs.declared.fault.OpenFault.{OpenFault}
 use Rattle.book_opening.specs.declared.fault.OpenFault.TheVariants as fault
 use Rattle.book_opening.specs.declared.saved.Saved.{Saved}
 
--- A head that counts no steps back or forth. None are kept yet.
+-- No step back or forth, and no head that counts any. None are kept yet.
 abbrev pub HasNoSteps : Record → Type 0
 HasNoSteps (kept.Head head) = (head.past ≡ 0) × (head.later ≡ 0)
+HasNoSteps (kept.Back edit) = ⊥
+HasNoSteps (kept.Forth edit) = ⊥
 HasNoSteps _ = ⊤
 
--- A row can be opened as a record: it stands for it, and where it is the head, no steps are kept.
+-- A row can be opened as a record: it stands for it, and no steps are kept.
 abbrev pub OpensAs : Row → Record → Type 0
 OpensAs row it = StandsFor row.key row.body it × HasNoSteps it
 

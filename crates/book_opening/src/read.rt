@@ -1,11 +1,11 @@
-ghost use Rattle.std.specs.Prelude.{◌≡◌, ◌<◌, List, Some, Option, IfOk, IfErr, IfSome, IfNone, OnOk, IsTrue, map};
+ghost use Rattle.std.specs.Prelude.{◌≡◌, ◌≢◌, ◌<◌, List, Some, Option, IfOk, IfErr, IfSome, IfNone, OnOk, IsTrue, map};
 ghost use Rattle.std.specs.List.{AllByRecursion};
 ghost use Rattle.book_keeper.specs.Rows.{rank};
 ghost use Rattle.book_keeper.specs.declared.row.Row.{Row as HeldRow};
 ghost use Rattle.book_undo.specs.Book.{book_of, with_thing};
 ghost use Rattle.book_rows.specs.Row.{IsWithin, kind_of};
 ghost use Rattle.book_opening.specs.BookRows.{behind_head, record_of, row_of};
-ghost use Rattle.book_opening.specs.Opening.{Answers, Begins, HasOpenCause, IsBadFor, IsBadHead, IsBadThing};
+ghost use Rattle.book_opening.specs.Opening.{Answers, Begins, HasNoSteps, HasOpenCause, IsBadFor, IsBadHead, IsBadThing};
 ghost use Rattle.book_opening.specs.Opening.{IsOnlyRecord, IsOpened, OpenAs, WasRead, head_key};
 ghost use Rattle.book_opening.specs.State.{State, state_of, head_of};
 
@@ -80,10 +80,33 @@ fn read_head(alloc: Global, row: &Row) -> Result<Head, OpenFault>
         return Err(OpenFault::BadRows { kind: 1, id: 0 });
     }
     match read_row(alloc, row.key, row.body.as_slice()) {
-        Ok(Record::Head(head)) if head.past == 0 && head.later == 0 => Ok(head),
-        Ok(_) => Err(bad(row.key)),
+        Ok(it) => match head_in(it) {
+            Some(head) if head.past == 0 && head.later == 0 => Ok(head),
+            Some(_) | None => Err(bad(row.key)),
+        },
         Err(RowError::Bad { .. }) => Err(bad(row.key)),
         Err(RowError::OutOfMemory) => Err(OpenFault::OutOfMemory),
+    }
+}
+
+/// The head that a record is; None where it is another record.
+fn head_in(it: Record) -> Option<Head>
+    ensures head { IfSome result (λ head. it ≡ Record.Head head) }
+    ensures none { IfNone result (kind_of it ≢ 1) }
+{
+    match it {
+        Record::Head(head) => Some(head),
+        Record::Commodity(_)
+        | Record::Account(_)
+        | Record::Txn(_)
+        | Record::Price(_)
+        | Record::Schedule(_)
+        | Record::Held(_)
+        | Record::Line(_)
+        | Record::Binding(_)
+        | Record::Recon(_)
+        | Record::Back(_)
+        | Record::Forth(_) => None,
     }
 }
 
@@ -145,13 +168,13 @@ fn read_thing(alloc: Global, row: &Row) -> Result<Thing, OpenFault>
     }
 }
 
-/// The thing of the record; None where it is a head.
+/// The thing of the record; None where it is a head or a step.
 fn thing_of(it: Record) -> Option<Thing>
     ensures thing { IfSome result (λ thing. it ≡ record_of thing) }
-    ensures none { IfNone result (kind_of it ≡ 1) }
+    ensures none { IfNone result (kind_of it ≢ 1 → HasNoSteps it → ⊥) }
 {
     match it {
-        Record::Head(_) => None,
+        Record::Head(_) | Record::Back(_) | Record::Forth(_) => None,
         Record::Commodity(it) => Some(Thing::Commodity(it)),
         Record::Account(it) => Some(Thing::Account(it)),
         Record::Txn(it) => Some(Thing::Txn(it)),

@@ -5,6 +5,9 @@
 
 mod account;
 mod commodity;
+mod edit;
+#[cfg(test)]
+mod edit_tests;
 mod head;
 mod price;
 mod reconciliation;
@@ -14,6 +17,7 @@ mod schedule;
 mod statement;
 #[cfg(test)]
 mod tests;
+mod thing;
 mod transaction;
 
 pub use head::Head;

@@ -1,6 +1,6 @@
 ghost use Rattle.std.specs.Prelude.{◌≡◌, ◌∷◌, ◌^◌, ◌<◌, List, ℕ, IfOk, IfErr, OnOk};
 ghost use Rattle.std.specs.Bool.{Decides};
-ghost use Rattle.book_rows.specs.Row.{kind_of, body_of, IsRecord, IsHeadWithin, IsKeyOf, IsReadAs, StandsFor};
+ghost use Rattle.book_rows.specs.Row.{kind_of, body_of, IsRecord, IsBounded, IsKeyOf, IsReadAs, StandsFor};
 ghost use Rattle.book_rows.specs.Row.{IsErrorAt};
 ghost use Rattle.book_rows.specs.Row.{IsSpelledBy};
 ghost use Rattle.book_rows.specs.Row.{IsWithin, error_at};
@@ -12,7 +12,9 @@ ghost use Rattle.book_rows.specs.ScheduleBytes.{schedule_bytes, IsSchedule};
 ghost use Rattle.book_rows.specs.StatementBytes.{held_bytes, IsHeld, line_bytes, IsLine, binding_bytes, IsBinding};
 ghost use Rattle.book_rows.specs.ReconciliationBytes.{recon_bytes, IsRecon};
 ghost use Rattle.book_rows.specs.HeadBytes.{head_bytes, IsHead};
+ghost use Rattle.book_rows.specs.EditBytes.{edit_bytes, IsEdit};
 
+use crate::edit::{read_edit, write_edit};
 use crate::{Head, Rows};
 use book_accounts::Account;
 use book_codec::{DecodeError, read_whole, write_whole};
@@ -21,7 +23,7 @@ use book_keeper::RowKey;
 use book_prices::Price;
 use book_splits::{Recon, Txn};
 use book_statement::{Binding, Held, Line};
-use book_undo::Schedule;
+use book_undo::{Edit, Schedule};
 use std::alloc::Global;
 
 /// The bound of ids and of the numbers of a head, 2^62.
@@ -40,6 +42,10 @@ pub enum Record {
     Line(Line),
     Binding(Binding),
     Recon(Recon),
+    /// Leads from the book at the position that is the row's id to the book before.
+    Back(Edit),
+    /// Leads to the book at the position that is the row's id from the book before.
+    Forth(Edit),
 }
 
 /// Why a row is not read: its body is no spelling of a record of its kind, or its key is none of a record; or the
@@ -50,9 +56,10 @@ pub enum RowError {
     OutOfMemory,
 }
 
-/// The body of the record's row. The numbers of a head are below 2^62.
+/// The body of the record's row. The numbers of a head are below 2^62, and at most eight lists of an edit stand in one
+/// another.
 pub fn write_row(alloc: Global, what: &Record) -> Result<Bytes, OutOfMemory>
-    requires { IsHeadWithin what.now }
+    requires { IsBounded what.now }
     ensures body { IfOk result (λ body. body ≡ body_of what.now) }
     ensures fits { IfOk result (λ body. IsRecord what.now) }
 {
@@ -67,6 +74,7 @@ pub fn write_row(alloc: Global, what: &Record) -> Result<Bytes, OutOfMemory>
         Record::Line(it) => write_whole::<Rows, Line>(alloc, it),
         Record::Binding(it) => write_whole::<Rows, Binding>(alloc, it),
         Record::Recon(it) => write_whole::<Rows, Recon>(alloc, it),
+        Record::Back(it) | Record::Forth(it) => write_edit(alloc, it),
     }
 }
 
@@ -92,6 +100,8 @@ pub fn read_row(alloc: Global, key: RowKey, body: &[u8]) -> Result<Record, RowEr
         8 => read_line(alloc, key, body),
         9 => read_binding(alloc, key, body),
         10 => read_recon(alloc, key, body),
+        11 => read_back(alloc, key, body),
+        12 => read_forth(alloc, key, body),
         _ => Err(bad(key)),
     }
 }
@@ -273,6 +283,36 @@ fn read_recon(alloc: Global, key: RowKey, body: &[u8]) -> Result<Record, RowErro
 {
     match read_whole::<Rows, Recon>(alloc, body) {
         Ok(it) => Ok(Record::Recon(it)),
+        Err(error) => Err(row_error(key, error)),
+    }
+}
+
+/// Reads a row of kind 11.
+fn read_back(alloc: Global, key: RowKey, body: &[u8]) -> Result<Record, RowError>
+    requires kind { key.kind ≡ 11 }
+    requires id { key.id < 2 ^ 62 }
+    ensures found { IfOk result (λ it. IsSpelledBy key body.now it) }
+    ensures fits { IfOk result IsRecord }
+    ensures again { (it : Edit) → IsEdit it → body.now ≡ 1 ∷ edit_bytes it → IsReadAs result (Record.Back it) }
+    ensures error { IfErr result (IsErrorAt key) }
+{
+    match read_edit(alloc, body) {
+        Ok(it) => Ok(Record::Back(it)),
+        Err(error) => Err(row_error(key, error)),
+    }
+}
+
+/// Reads a row of kind 12.
+fn read_forth(alloc: Global, key: RowKey, body: &[u8]) -> Result<Record, RowError>
+    requires kind { key.kind ≡ 12 }
+    requires id { key.id < 2 ^ 62 }
+    ensures found { IfOk result (λ it. IsSpelledBy key body.now it) }
+    ensures fits { IfOk result IsRecord }
+    ensures again { (it : Edit) → IsEdit it → body.now ≡ 1 ∷ edit_bytes it → IsReadAs result (Record.Forth it) }
+    ensures error { IfErr result (IsErrorAt key) }
+{
+    match read_edit(alloc, body) {
+        Ok(it) => Ok(Record::Forth(it)),
         Err(error) => Err(row_error(key, error)),
     }
 }

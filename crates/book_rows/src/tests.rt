@@ -2,7 +2,7 @@ use crate::{RowError, read_row, write_row};
 use book_keeper::RowKey;
 use std::alloc::Global;
 
-/// A kind, an id and a body for each kind, made by hand from the table of rows in docs/FORMATS.md.
+/// A kind, an id and a body for the head and for each kind of things, made by hand from the table of rows in docs/FORMATS.md.
 const KEPT: [(u8, u64, &[u8]); 10] = [
     // Head.
     (
@@ -118,8 +118,8 @@ const BAD: [(u8, u64, &[u8]); 11] = [
     ),
     // The format 2.
     (9, 11, b"\x02\0\0\0\0\0\0\0\x04NL01\0\0\0\0\0\0\0\x03"),
-    // The kind 11.
-    (11, 11, b"\x01\0\0\0\0\0\0\0\x04NL01\0\0\0\0\0\0\0\x03"),
+    // The kind 13.
+    (13, 11, b"\x01\0\0\0\0\0\0\0\x04NL01\0\0\0\0\0\0\0\x03"),
     // A head that is not at 0.
     (
         1,

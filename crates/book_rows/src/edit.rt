@@ -1,0 +1,208 @@
+ghost use Rattle.std.specs.Prelude.{◌≡◌, ◌∷◌, ◌++◌, ◌<◌, ◌^◌, List, ℕ, length, flat_map, IfOk, OnOk};
+ghost use Rattle.std.specs.List.{AllByRecursion};
+ghost use Rattle.book_codec.specs.Read.{Gives};
+ghost use Rattle.book_rows.specs.EditBytes.{HasValues, IsEdit, IsEditWithin, edit_bytes};
+
+use crate::Rows;
+use crate::thing::{read_thing, spell_thing};
+use book_codec::{DecodeError, Field};
+use book_commodity::{Bytes, Many, OutOfMemory};
+use book_undo::{Edit, ThingKind};
+use std::alloc::Global;
+
+/// How many lists of an edit may stand in one another.
+const MAX_DEPTH: u32 = 8;
+
+/// The body of an edit: the format byte 1 and then its spelling.
+pub(crate) fn write_edit(alloc: Global, edit: &Edit) -> Result<Bytes, OutOfMemory>
+    ensures spelled { IfOk result (λ body. body ≡ 1 ∷ edit_bytes edit.now) }
+    ensures fits { IfOk result (λ body. HasValues edit.now) }
+{
+    let mut out = Vec::new(alloc);
+    out.push(1)?;
+    spell_edit(edit, &mut out)?;
+    Ok(Bytes::of(out))
+}
+
+/// Writes the edit behind the bytes.
+#[cycle(spelling)]
+#[tactic(auto, using(crate::proofs::EditLemmas::all_of_values), unfolding(crate::specs::EditBytes::edit_bytes))]
+fn spell_edit(edit: &Edit, out: &mut Vec<u8>) -> Result<(), OutOfMemory>
+    ensures spelled { OnOk result (out.new.items ≡ out.old.items ++ edit_bytes edit.now) }
+    ensures fits { OnOk result (HasValues edit.now) }
+{
+    match edit {
+        Edit::All(parts) => {
+            out.push(0)?;
+            let count = parts.len() as u64;
+            Field::<Rows>::spell(&count, out)?;
+            spell_parts(parts.as_slice(), out)
+        }
+        Edit::Put(number, thing) => {
+            out.push(1)?;
+            Field::<Rows>::spell(&thing.kind(), out)?;
+            Field::<Rows>::spell(number, out)?;
+            spell_thing(thing, out)
+        }
+        Edit::Gone(kind, number) => {
+            out.push(2)?;
+            Field::<Rows>::spell(kind, out)?;
+            Field::<Rows>::spell(number, out)
+        }
+        Edit::Currency(currency) => {
+            out.push(3)?;
+            Field::<Rows>::spell(currency, out)
+        }
+    }
+}
+
+/// Writes the edits behind the bytes, one after another.
+#[cycle(spelling)]
+fn spell_parts(parts: &[Edit], out: &mut Vec<u8>) -> Result<(), OutOfMemory>
+    ensures spelled { OnOk result (out.new.items ≡ out.old.items ++ flat_map edit_bytes parts.now) }
+    ensures fits { OnOk result (AllByRecursion HasValues parts.now) }
+{
+    for part in parts {
+        spell_edit(part, out)?;
+    }
+    Ok(())
+}
+
+/// The edit whose body these bytes are.
+/// Bad: they are no edit's body.
+pub(crate) fn read_edit(alloc: Global, body: &[u8]) -> Result<Edit, DecodeError>
+    ensures found { IfOk result (λ edit. body.now ≡ 1 ∷ edit_bytes edit) }
+    ensures fits { IfOk result IsEdit }
+    ensures again { (edit : Edit) → IsEdit edit → body.now ≡ 1 ∷ edit_bytes edit → Gives (λ x. x) result edit }
+{
+    let [1, bytes @ ..] = body else {
+        return Err(DecodeError::Bad);
+    };
+    let (edit, left) = match read_within(alloc, bytes, MAX_DEPTH) {
+        Ok(found) => found,
+        Err(error) => return Err(error),
+    };
+    if !left.is_empty() {
+        return Err(DecodeError::Bad);
+    }
+    Ok(edit)
+}
+
+/// Reads an edit at the front of the bytes, at most `most` of whose lists stand in one another, and gives the bytes
+/// behind it.
+/// Bad: the bytes begin with no such edit.
+#[cycle(reading)]
+fn read_within(alloc: Global, bytes: &[u8], most: u32) -> Result<(Edit, &[u8]), DecodeError>
+    ensures found { IfOk result (λ found. bytes.now ≡ edit_bytes found.0 ++ found.1.now) }
+    ensures fits { IfOk result (λ found. IsEditWithin most found.0) }
+    ensures again { (edit : Edit) (rest : List ℕ) → IsEditWithin most edit → bytes.now ≡ edit_bytes edit ++ rest
+        → Gives {Y = Edit × List ℕ} (λ found. (found.0, found.1.now)) result (edit, rest) }
+{
+    let [first, rest @ ..] = bytes else {
+        return Err(DecodeError::Bad);
+    };
+    match *first {
+        0 => read_list(alloc, rest, most),
+        1 => read_put(alloc, rest),
+        2 => read_gone(alloc, rest),
+        3 => read_currency(alloc, rest),
+        _ => Err(DecodeError::Bad),
+    }
+}
+
+/// Reads the list of an edit behind its byte 0.
+#[cycle(reading)]
+fn read_list(alloc: Global, bytes: &[u8], most: u32) -> Result<(Edit, &[u8]), DecodeError>
+    ensures found { IfOk result (λ found. 0 ∷ bytes.now ≡ edit_bytes found.0 ++ found.1.now) }
+    ensures fits { IfOk result (λ found. IsEditWithin most found.0) }
+    ensures again { (edit : Edit) (rest : List ℕ) → IsEditWithin most edit → 0 ∷ bytes.now ≡ edit_bytes edit ++ rest
+        → Gives {Y = Edit × List ℕ} (λ found. (found.0, found.1.now)) result (edit, rest) }
+{
+    let Some(less) = most.checked_sub(1) else {
+        return Err(DecodeError::Bad);
+    };
+    let (count, rest) = match <u64 as Field<Rows>>::read(alloc, bytes) {
+        Ok(found) => found,
+        Err(error) => return Err(error),
+    };
+    match read_parts(alloc, count, rest, less) {
+        Ok((parts, rest)) => Ok((Edit::All(parts), rest)),
+        Err(error) => Err(error),
+    }
+}
+
+/// Reads so many edits. Memory is taken for a part when it has been read, and not by the count.
+#[cycle(reading)]
+fn read_parts(
+    alloc: Global,
+    count: u64,
+    bytes: &[u8],
+    most: u32,
+) -> Result<(Many<Edit>, &[u8]), DecodeError>
+    ensures count { IfOk result (λ found. length found.0 ≡ count) }
+    ensures found { IfOk result (λ found. bytes.now ≡ flat_map edit_bytes found.0 ++ found.1.now) }
+    ensures fits { IfOk result (λ found. AllByRecursion (IsEditWithin most) found.0) }
+    ensures again { (parts : List Edit) (rest : List ℕ) → AllByRecursion (IsEditWithin most) parts
+        → length parts ≡ count → bytes.now ≡ flat_map edit_bytes parts ++ rest
+        → Gives {Y = List Edit × List ℕ} (λ found. (found.0, found.1.now)) result (parts, rest) }
+{
+    let mut parts = Many::new(alloc);
+    let mut rest = bytes;
+    for _place in 0..count {
+        let (part, left) = match read_within(alloc, rest, most) {
+            Ok(found) => found,
+            Err(error) => return Err(error),
+        };
+        let Ok(()) = parts.push(part) else {
+            return Err(DecodeError::OutOfMemory);
+        };
+        rest = left;
+    }
+    Ok((parts, rest))
+}
+
+/// Reads the number and the thing of an edit behind its byte 1.
+#[tactic(auto, unfolding(crate::specs::EditBytes::edit_bytes))]
+fn read_put(alloc: Global, bytes: &[u8]) -> Result<(Edit, &[u8]), DecodeError>
+    ensures found { IfOk result (λ found. 1 ∷ bytes.now ≡ edit_bytes found.0 ++ found.1.now) }
+    ensures fits { IfOk result (λ found. IsEditWithin 0 found.0) }
+    ensures again { (edit : Edit) (rest : List ℕ) → HasValues edit → 1 ∷ bytes.now ≡ edit_bytes edit ++ rest
+        → Gives {Y = Edit × List ℕ} (λ found. (found.0, found.1.now)) result (edit, rest) }
+{
+    let ((kind, number), rest) = match <(ThingKind, u64) as Field<Rows>>::read(alloc, bytes) {
+        Ok(found) => found,
+        Err(error) => return Err(error),
+    };
+    match read_thing(alloc, kind, rest) {
+        Ok((thing, rest)) => Ok((Edit::Put(number, thing), rest)),
+        Err(error) => Err(error),
+    }
+}
+
+/// Reads the kind and the number of an edit behind its byte 2.
+#[tactic(auto, unfolding(crate::specs::EditBytes::edit_bytes))]
+fn read_gone(alloc: Global, bytes: &[u8]) -> Result<(Edit, &[u8]), DecodeError>
+    ensures found { IfOk result (λ found. 2 ∷ bytes.now ≡ edit_bytes found.0 ++ found.1.now) }
+    ensures fits { IfOk result (λ found. IsEditWithin 0 found.0) }
+    ensures again { (edit : Edit) (rest : List ℕ) → HasValues edit → 2 ∷ bytes.now ≡ edit_bytes edit ++ rest
+        → Gives {Y = Edit × List ℕ} (λ found. (found.0, found.1.now)) result (edit, rest) }
+{
+    match <(ThingKind, u64) as Field<Rows>>::read(alloc, bytes) {
+        Ok(((kind, number), rest)) => Ok((Edit::Gone(kind, number), rest)),
+        Err(error) => Err(error),
+    }
+}
+
+/// Reads the currency of an edit behind its byte 3.
+#[tactic(auto, unfolding(crate::specs::EditBytes::edit_bytes))]
+fn read_currency(alloc: Global, bytes: &[u8]) -> Result<(Edit, &[u8]), DecodeError>
+    ensures found { IfOk result (λ found. 3 ∷ bytes.now ≡ edit_bytes found.0 ++ found.1.now) }
+    ensures fits { IfOk result (λ found. IsEditWithin 0 found.0) }
+    ensures again { (edit : Edit) (rest : List ℕ) → HasValues edit → 3 ∷ bytes.now ≡ edit_bytes edit ++ rest
+        → Gives {Y = Edit × List ℕ} (λ found. (found.0, found.1.now)) result (edit, rest) }
+{
+    match <u64 as Field<Rows>>::read(alloc, bytes) {
+        Ok((currency, rest)) => Ok((Edit::Currency(currency), rest)),
+        Err(error) => Err(error),
+    }
+}

@@ -1,0 +1,149 @@
+use crate::edit::write_edit;
+use crate::{Record, RowError, read_row, write_row};
+use book_commodity::{Many, OutOfMemory, Text};
+use book_keeper::RowKey;
+use book_statement::Binding;
+use book_undo::{Edit, Thing, ThingKind};
+use std::alloc::Global;
+use std::test::Fail;
+
+/// A list of three parts, made by hand from docs/FORMATS.md: the currency 2; a list in which the transaction 5 is deleted and the binding 11
+/// is put; and the empty list.
+const TREE: &[u8] = b"\x01\0\0\0\0\0\0\0\0\x03\
+    \x03\0\0\0\0\0\0\0\x02\
+    \0\0\0\0\0\0\0\0\x02\
+    \x02\x04\0\0\0\0\0\0\0\x05\
+    \x01\x09\0\0\0\0\0\0\0\x0b\0\0\0\0\0\0\0\x04NL01\0\0\0\0\0\0\0\x03\
+    \0\0\0\0\0\0\0\0\0";
+
+/// Bodies of edits.
+const EDITS: [&[u8]; 3] = [
+    // The empty list.
+    b"\x01\0\0\0\0\0\0\0\0\0",
+    // A number of 2^64 - 1.
+    b"\x01\x02\x0a\xff\xff\xff\xff\xff\xff\xff\xff",
+    // Eight lists in one another, and in them a currency.
+    b"\x01\0\0\0\0\0\0\0\0\x01\0\0\0\0\0\0\0\0\x01\0\0\0\0\0\0\0\0\x01\0\0\0\0\0\0\0\0\x01\
+    \0\0\0\0\0\0\0\0\x01\0\0\0\0\0\0\0\0\x01\0\0\0\0\0\0\0\0\x01\0\0\0\0\0\0\0\0\x01\
+    \x03\0\0\0\0\0\0\0\x01",
+];
+
+/// Bodies of no edits.
+const NO_EDITS: [&[u8]; 7] = [
+    // Nine lists in one another.
+    b"\x01\0\0\0\0\0\0\0\0\x01\0\0\0\0\0\0\0\0\x01\0\0\0\0\0\0\0\0\x01\0\0\0\0\0\0\0\0\x01\
+    \0\0\0\0\0\0\0\0\x01\0\0\0\0\0\0\0\0\x01\0\0\0\0\0\0\0\0\x01\0\0\0\0\0\0\0\0\x01\
+    \0\0\0\0\0\0\0\0\0",
+    // A byte behind the edit.
+    b"\x01\0\0\0\0\0\0\0\0\0\0",
+    // A count larger than the body.
+    b"\x01\0\x80\0\0\0\0\0\0\0\x03\0\0\0\0\0\0\0\x01",
+    // The kind 1 is deleted.
+    b"\x01\x02\x01\0\0\0\0\0\0\0\0",
+    // A thing of the kind 11 is put.
+    b"\x01\x01\x0b\0\0\0\0\0\0\0\x0b\0\0\0\0\0\0\0\x04NL01\0\0\0\0\0\0\0\x03",
+    // The byte 4 in front.
+    b"\x01\x04\0\0\0\0\0\0\0\x01",
+    // Nothing.
+    b"\x01",
+];
+
+/// The edit that `TREE` spells.
+fn tree(alloc: Global) -> Result<Edit, OutOfMemory> {
+    let binding = Binding {
+        text: Text::of(String::from_str(alloc, "NL01")?),
+        account: 3,
+    };
+    let mut inner = Many::new(alloc);
+    inner.push(Edit::Gone(ThingKind::Txn, 5))?;
+    inner.push(Edit::Put(11, Thing::Binding(binding)))?;
+    let mut parts = Many::new(alloc);
+    parts.push(Edit::Currency(2))?;
+    parts.push(Edit::All(inner))?;
+    parts.push(Edit::nothing(alloc))?;
+    Ok(Edit::All(parts))
+}
+
+/// Whether the edit is that which `TREE` spells.
+fn is_tree(edit: &Edit) -> bool {
+    let Edit::All(parts) = edit else {
+        return false;
+    };
+    match parts.as_slice() {
+        [Edit::Currency(2), Edit::All(inner), Edit::All(none)] => is_inner(inner.as_slice())
+            && none.is_empty(),
+        _ => false,
+    }
+}
+
+/// Whether these are the parts of the inner list.
+fn is_inner(parts: &[Edit]) -> bool {
+    match parts {
+        [
+            Edit::Gone(ThingKind::Txn, 5),
+            Edit::Put(11, Thing::Binding(binding)),
+        ] => { binding.text.as_str() == "NL01" && binding.account == 3 }
+        _ => false,
+    }
+}
+
+/// Whether the bytes are the body of the edit.
+fn is_written(alloc: Global, edit: &Edit, body: &[u8]) -> bool {
+    match write_edit(alloc, edit) {
+        Ok(written) => written.as_slice() == body,
+        Err(_) => false,
+    }
+}
+
+/// Whether the body of the kind is read as the edit that `TREE` spells.
+fn is_read(alloc: Global, kind: u8, body: &[u8]) -> bool {
+    match read_row(alloc, RowKey { kind, id: 3 }, body) {
+        Ok(Record::Back(edit)) => kind == 11 && is_tree(&edit),
+        Ok(Record::Forth(edit)) => kind == 12 && is_tree(&edit),
+        _ => false,
+    }
+}
+
+#[test]
+fn tree_both_ways(rt: HostRuntime) -> Result<(), Fail> {
+    let edit = tree(rt.alloc())?;
+    assert!(rt; is_written(rt.alloc(), &edit, TREE));
+    assert!(rt; is_read(rt.alloc(), 11, TREE));
+    assert!(rt; is_read(rt.alloc(), 12, TREE));
+    Ok(())
+}
+
+/// Whether the body of the kind is read, and written as the same body again.
+fn is_kept(alloc: Global, kind: u8, body: &[u8]) -> bool {
+    match read_row(alloc, RowKey { kind, id: 3 }, body) {
+        Ok(record) => match write_row(alloc, &record) {
+            Ok(again) => again.as_slice() == body,
+            Err(_) => false,
+        },
+        Err(_) => false,
+    }
+}
+
+#[test]
+fn bodies_of_edits(rt: HostRuntime) {
+    for body in EDITS {
+        assert!(rt; is_kept(rt.alloc(), 11, body));
+        assert!(rt; is_kept(rt.alloc(), 12, body));
+    }
+}
+
+/// Whether the row of the kind is bad.
+fn is_bad(alloc: Global, kind: u8, body: &[u8]) -> bool {
+    match read_row(alloc, RowKey { kind, id: 3 }, body) {
+        Err(RowError::Bad { .. }) => true,
+        _ => false,
+    }
+}
+
+#[test]
+fn bodies_of_no_edits(rt: HostRuntime) {
+    for body in NO_EDITS {
+        assert!(rt; is_bad(rt.alloc(), 11, body));
+        assert!(rt; is_bad(rt.alloc(), 12, body));
+    }
+}

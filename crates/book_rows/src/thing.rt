@@ -1,0 +1,166 @@
+ghost use Rattle.std.specs.Prelude.{◌≡◌, ◌++◌, ◌≤◌, List, ℕ, Some, IfOk, OnOk, IfSome, IfNone};
+ghost use Rattle.book_codec.specs.Read.{Gives};
+ghost use Rattle.book_undo.specs.Thing.{kind_of, row_kind};
+ghost use Rattle.book_rows.specs.ThingBytes.{IsThing, IsThingKind, thing_bytes, thing_kind_bytes};
+
+use crate::Rows;
+use book_accounts::Account;
+use book_codec::{DecodeError, Field};
+use book_commodity::{Commodity, OutOfMemory};
+use book_prices::Price;
+use book_splits::{Recon, Txn};
+use book_statement::{Binding, Held, Line};
+use book_undo::{Schedule, Thing, ThingKind};
+use std::alloc::Global;
+
+/// A kind of things as one byte: the kind of its rows.
+impl Field<Rows> for ThingKind {
+    ghost fits = { IsThingKind };
+
+    ghost spelling = { thing_kind_bytes };
+
+    fn spell(&self, out: &mut Vec<u8>) -> Result<(), OutOfMemory> {
+        out.push(byte_of_thing_kind(*self))?;
+        Ok(())
+    }
+
+    fn read(_alloc: Global, bytes: &[u8]) -> Result<(ThingKind, &[u8]), DecodeError> {
+        let [byte, rest @ ..] = bytes else {
+            return Err(DecodeError::Bad);
+        };
+        match thing_kind_of(*byte) {
+            Some(variant) => Ok((variant, rest)),
+            None => Err(DecodeError::Bad),
+        }
+    }
+}
+
+/// The kind of the rows of a kind of things.
+fn byte_of_thing_kind(variant: ThingKind) -> u8
+    ensures { result ≡ row_kind variant }
+{
+    match variant {
+        ThingKind::Commodity => 2,
+        ThingKind::Account => 3,
+        ThingKind::Txn => 4,
+        ThingKind::Price => 5,
+        ThingKind::Schedule => 6,
+        ThingKind::Held => 7,
+        ThingKind::Line => 8,
+        ThingKind::Binding => 9,
+        ThingKind::Recon => 10,
+    }
+}
+
+/// The kind of things whose rows have this kind; None where it is that of no things.
+fn thing_kind_of(byte: u8) -> Option<ThingKind>
+    ensures found { IfSome result (λ variant. byte ≡ row_kind variant) }
+    ensures none { IfNone result ((variant : ThingKind) → byte ≡ row_kind variant → ⊥) }
+    ensures again { (variant : ThingKind) → byte ≡ row_kind variant → result ≡ Some variant }
+{
+    match byte {
+        2 => Some(ThingKind::Commodity),
+        3 => Some(ThingKind::Account),
+        4 => Some(ThingKind::Txn),
+        5 => Some(ThingKind::Price),
+        6 => Some(ThingKind::Schedule),
+        7 => Some(ThingKind::Held),
+        8 => Some(ThingKind::Line),
+        9 => Some(ThingKind::Binding),
+        10 => Some(ThingKind::Recon),
+        _ => None,
+    }
+}
+
+/// Writes the fields of the thing behind the bytes.
+pub(crate) fn spell_thing(thing: &Thing, out: &mut Vec<u8>) -> Result<(), OutOfMemory>
+    ensures spelled { OnOk result (out.new.items ≡ out.old.items ++ thing_bytes thing.now) }
+    ensures fits { OnOk result (IsThing thing.now) }
+{
+    match thing {
+        Thing::Commodity(it) => Field::<Rows>::spell(it, out),
+        Thing::Account(it) => Field::<Rows>::spell(it, out),
+        Thing::Txn(it) => Field::<Rows>::spell(it, out),
+        Thing::Price(it) => Field::<Rows>::spell(it, out),
+        Thing::Schedule(it) => Field::<Rows>::spell(it, out),
+        Thing::Held(it) => Field::<Rows>::spell(it, out),
+        Thing::Line(it) => Field::<Rows>::spell(it, out),
+        Thing::Binding(it) => Field::<Rows>::spell(it, out),
+        Thing::Recon(it) => Field::<Rows>::spell(it, out),
+    }
+}
+
+/// Reads the fields of a thing of the kind at the front of the bytes, and gives the bytes behind them.
+/// Bad: the bytes begin with no fields of such a thing.
+pub(crate) fn read_thing(
+    alloc: Global,
+    kind: ThingKind,
+    bytes: &[u8],
+) -> Result<(Thing, &[u8]), DecodeError>
+    ensures kind { IfOk result (λ found. kind_of found.0 ≡ kind) }
+    ensures found { IfOk result (λ found. bytes.now ≡ thing_bytes found.0 ++ found.1.now) }
+    ensures fits { IfOk result (λ found. IsThing found.0) }
+    ensures again { (thing : Thing) (rest : List ℕ) → kind_of thing ≡ kind → IsThing thing
+        → bytes.now ≡ thing_bytes thing ++ rest
+        → Gives {Y = Thing × List ℕ} (λ found. (found.0, found.1.now)) result (thing, rest) }
+{
+    match kind {
+        ThingKind::Commodity => match <Commodity as Field<Rows>>::read(alloc, bytes) {
+            Ok((it, rest)) => Ok((Thing::Commodity(it), rest)),
+            Err(error) => Err(error),
+        },
+        ThingKind::Account => match <Account as Field<Rows>>::read(alloc, bytes) {
+            Ok((it, rest)) => Ok((Thing::Account(it), rest)),
+            Err(error) => Err(error),
+        },
+        ThingKind::Txn => match <Txn as Field<Rows>>::read(alloc, bytes) {
+            Ok((it, rest)) => Ok((Thing::Txn(it), rest)),
+            Err(error) => Err(error),
+        },
+        ThingKind::Price => match <Price as Field<Rows>>::read(alloc, bytes) {
+            Ok((it, rest)) => Ok((Thing::Price(it), rest)),
+            Err(error) => Err(error),
+        },
+        ThingKind::Schedule => match <Schedule as Field<Rows>>::read(alloc, bytes) {
+            Ok((it, rest)) => Ok((Thing::Schedule(it), rest)),
+            Err(error) => Err(error),
+        },
+        ThingKind::Held | ThingKind::Line | ThingKind::Binding | ThingKind::Recon => {
+            read_bank_thing(alloc, kind, bytes)
+        }
+    }
+}
+
+/// The same for the kinds that come with statements.
+fn read_bank_thing(
+    alloc: Global,
+    kind: ThingKind,
+    bytes: &[u8],
+) -> Result<(Thing, &[u8]), DecodeError>
+    requires { 7 ≤ row_kind kind }
+    ensures kind { IfOk result (λ found. kind_of found.0 ≡ kind) }
+    ensures found { IfOk result (λ found. bytes.now ≡ thing_bytes found.0 ++ found.1.now) }
+    ensures fits { IfOk result (λ found. IsThing found.0) }
+    ensures again { (thing : Thing) (rest : List ℕ) → kind_of thing ≡ kind → IsThing thing
+        → bytes.now ≡ thing_bytes thing ++ rest
+        → Gives {Y = Thing × List ℕ} (λ found. (found.0, found.1.now)) result (thing, rest) }
+{
+    match kind {
+        ThingKind::Held => match <Held as Field<Rows>>::read(alloc, bytes) {
+            Ok((it, rest)) => Ok((Thing::Held(it), rest)),
+            Err(error) => Err(error),
+        },
+        ThingKind::Line => match <Line as Field<Rows>>::read(alloc, bytes) {
+            Ok((it, rest)) => Ok((Thing::Line(it), rest)),
+            Err(error) => Err(error),
+        },
+        ThingKind::Binding => match <Binding as Field<Rows>>::read(alloc, bytes) {
+            Ok((it, rest)) => Ok((Thing::Binding(it), rest)),
+            Err(error) => Err(error),
+        },
+        _ => match <Recon as Field<Rows>>::read(alloc, bytes) {
+            Ok((it, rest)) => Ok((Thing::Recon(it), rest)),
+            Err(error) => Err(error),
+        },
+    }
+}
