@@ -62,8 +62,8 @@ fn open_book<K: Keeper>(alloc: Global, keeper: &mut K, book: &str) -> Result<Eng
 /// Does what the words ask: `run BOOK` opens the keeper at BOOK and answers the lines of the input, from the state as
 /// which its rows open on. Usage comes exactly where the words are not these; Memory where it is out of memory before
 /// the first line; KeeperFault where the keeper failed before it, and its count of faults rose; BadRows and UnsoundBook
-/// where the rows are no rows of a sound book, which then ends by no status but these four. InputFault and OutputFault come exactly where the input or the
-/// output failed in this call.
+/// where the rows are no rows of a sound book; over such rows the run ends by one of these five alone. InputFault and
+/// OutputFault come exactly where the input or the output failed in this call.
 pub fn book_main<K: Keeper, S: Source, O: Sink>(
     alloc: Global,
     words: &[Text],

@@ -103,7 +103,7 @@ impl Engine {
 
     /// Finishes what was prepared and hands out its answer: where the plan commits, the keeper makes its changes of
     /// rows, and then the state is changed, which can't fail and takes no memory. An error is that of the commit, and
-    /// then all is as before.
+    /// then all is as before, the keeper's rows too.
     pub fn finish<K: Keeper>(&mut self, keeper: &mut K, plan: Plan) -> Result<Answer, KeepError>
         requires made { IsPlanFor self.old.state self.old.position self.old.saved plan }
         requires room { HasRoom self.old.plain plan.edit }
@@ -117,6 +117,8 @@ impl Engine {
         ensures path { K.path_given keeper.new ≡ K.path_given keeper.old }
         ensures sure { IsTrue (K.sure keeper.new) → IsTrue (K.sure keeper.old) }
         ensures stands { Stands K.sure K.holds keeper.old self.old → Stands K.sure K.holds keeper.new self.new }
+        ensures rows { OnErr result (IsTrue (K.sure keeper.new) → (rows : List HeldRow) → K.holds keeper.old rows
+            → K.holds keeper.new rows) }
         ensures cause { HasKeepCause (K.faults keeper.old) (K.faults keeper.new) result }
     {
         self.sound();
@@ -172,6 +174,8 @@ impl Engine {
         ensures path { K.path_given keeper.new ≡ K.path_given keeper.old }
         ensures sure { IsTrue (K.sure keeper.new) → IsTrue (K.sure keeper.old) }
         ensures stands { Stands K.sure K.holds keeper.old self.old → Stands K.sure K.holds keeper.new self.new }
+        ensures rows { OnErr result (IsTrue (K.sure keeper.new) → (rows : List HeldRow) → K.holds keeper.old rows
+            → K.holds keeper.new rows) }
         ensures cause { HasActCause self.old.state (step_from self.old.state command)
             (K.faults keeper.old) (K.faults keeper.new) result }
     {
