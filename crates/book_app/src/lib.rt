@@ -1,6 +1,6 @@
 //! The program's work as one call, generic over what keeps the book, where the lines come from and where the answers
-//! go: `book_main` takes the words, opens the keeper, reads the input to its end, and says how it ended. Its clause `run`
-//! is the whole promise of a run: what was written is what the machine of whole books answers to the lines that were
+//! go: `book_main` takes the words, opens the keeper, reads the input to its end, and says how it ended. Its clause
+//! `run` is the whole promise of a run: what was written is what the machine of whole books answers to the lines that were
 //! read, from the state as which the keeper's rows opened on, and the rows that the keeper then holds open as the last
 //! state. `run_over` says the same over any reader and writer of std. `run_program` does so over a program's own words
 //! and standard streams, and `Ended` is what the program's `main` answers.

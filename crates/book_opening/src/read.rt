@@ -5,8 +5,8 @@ ghost use Rattle.book_keeper.specs.declared.row.Row.{Row as HeldRow};
 ghost use Rattle.book_undo.specs.Book.{book_of, with_thing};
 ghost use Rattle.book_rows.specs.Row.{IsWithin, kind_of};
 ghost use Rattle.book_opening.specs.BookRows.{behind_head, record_of, row_of};
-ghost use Rattle.book_opening.specs.Opening.{Answers, Begins, HasNoSteps, HasOpenCause, IsBadFor, IsBadHead, IsBadThing};
-ghost use Rattle.book_opening.specs.Opening.{IsOnlyRecord, IsOpened, OpenAs, WasRead, head_key};
+ghost use Rattle.book_opening.specs.Opening.{Answers, Begins, HasNoSteps, HasOpenCause, IsBadFor, IsBadHead};
+ghost use Rattle.book_opening.specs.Opening.{IsBadThing, IsOnlyRecord, IsOpened, OpenAs, WasRead, head_key};
 ghost use Rattle.book_opening.specs.State.{State, state_of, head_of};
 
 use crate::{OpenFault, Saved};

@@ -7,8 +7,8 @@ use book_undo::{Edit, Thing, ThingKind};
 use std::alloc::Global;
 use std::test::Fail;
 
-/// A list of three parts, made by hand from docs/FORMATS.md: the currency 2; a list in which the transaction 5 is deleted and the binding 11
-/// is put; and the empty list.
+/// A list of three parts, made by hand from docs/FORMATS.md: the currency 2; a list in which the transaction 5 is
+/// deleted and the binding 11 is put; and the empty list.
 const TREE: &[u8] = b"\x01\0\0\0\0\0\0\0\0\x03\
     \x03\0\0\0\0\0\0\0\x02\
     \0\0\0\0\0\0\0\0\x02\
