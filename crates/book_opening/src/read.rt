@@ -80,10 +80,23 @@ fn read_head(alloc: Global, row: &Row) -> Result<Head, OpenFault>
         return Err(OpenFault::BadRows { kind: 1, id: 0 });
     }
     match read_row(alloc, row.key, row.body.as_slice()) {
-        Ok(Record::Head(head)) if head.past == 0 && head.later == 0 => Ok(head),
-        Ok(_) => Err(bad(row.key)),
+        Ok(it) => match head_in(&it) {
+            Some(head) => Ok(head),
+            None => Err(bad(row.key)),
+        },
         Err(RowError::Bad { .. }) => Err(bad(row.key)),
         Err(RowError::OutOfMemory) => Err(OpenFault::OutOfMemory),
+    }
+}
+
+/// The head that the record is; None where it is none, or one that counts steps.
+fn head_in(it: &Record) -> Option<Head>
+    ensures head { IfSome result (λ head. (it.now ≡ Record.Head head) × HasNoSteps (Record.Head head)) }
+    ensures none { IfNone result (kind_of it.now ≡ 1 → HasNoSteps it.now → ⊥) }
+{
+    match it {
+        Record::Head(head) if head.past == 0 && head.later == 0 => Some(*head),
+        _ => None,
     }
 }
 

@@ -2,7 +2,8 @@ use crate::{RowError, read_row, write_row};
 use book_keeper::RowKey;
 use std::alloc::Global;
 
-/// A kind, an id and a body for the head and for each kind of things, made by hand from the table of rows in docs/FORMATS.md.
+/// A kind, an id and a body for the head and for each kind of things, made by hand from the table of rows in
+/// docs/FORMATS.md.
 const KEPT: [(u8, u64, &[u8]); 10] = [
     // Head.
     (
