@@ -1,6 +1,7 @@
-ghost use Rattle.std.specs.Prelude.{◌≡◌, ◌∷◌, ◌++◌, ◌<◌, ◌^◌, List, ℕ, length, flat_map, IfOk, OnOk};
+ghost use Rattle.std.specs.Prelude.{◌≡◌, ◌∷◌, ◌++◌, ◌<◌, ◌^◌, ◌≤◌, List, ℕ, length, flat_map, IfOk, OnOk};
 ghost use Rattle.std.specs.List.{AllByRecursion};
 ghost use Rattle.book_codec.specs.Read.{Gives};
+ghost use Rattle.book_undo.specs.Edit.{depth};
 ghost use Rattle.book_rows.specs.EditBytes.{HasValues, IsEdit, IsEditWithin, edit_bytes};
 
 use crate::Rows;
@@ -13,10 +14,11 @@ use std::alloc::Global;
 /// How many lists of an edit may stand in one another.
 const MAX_DEPTH: u32 = 8;
 
-/// The body of an edit: the format byte 1 and then its spelling.
-pub(crate) fn write_edit(alloc: Global, edit: &Edit) -> Result<Bytes, OutOfMemory>
-    ensures spelled { IfOk result (λ body. body ≡ 1 ∷ edit_bytes edit.now) }
-    ensures fits { IfOk result (λ body. HasValues edit.now) }
+/// The body of the row of an edit, back or forth. At most eight of its lists stand in one another.
+pub fn write_edit(alloc: Global, edit: &Edit) -> Result<Bytes, OutOfMemory>
+    requires { depth edit.now ≤ 8 }
+    ensures body { IfOk result (λ body. body ≡ 1 ∷ edit_bytes edit.now) }
+    ensures fits { IfOk result (λ body. IsEdit edit.now) }
 {
     let mut out = Vec::new(alloc);
     out.push(1)?;
@@ -24,10 +26,10 @@ pub(crate) fn write_edit(alloc: Global, edit: &Edit) -> Result<Bytes, OutOfMemor
     Ok(Bytes::of(out))
 }
 
-/// Writes the edit behind the bytes.
+/// Writes the spelling of the edit behind the bytes.
 #[cycle(spelling)]
 #[tactic(auto, using(crate::proofs::EditLemmas::all_of_values), unfolding(crate::specs::EditBytes::edit_bytes))]
-fn spell_edit(edit: &Edit, out: &mut Vec<u8>) -> Result<(), OutOfMemory>
+pub(crate) fn spell_edit(edit: &Edit, out: &mut Vec<u8>) -> Result<(), OutOfMemory>
     ensures spelled { OnOk result (out.new.items ≡ out.old.items ++ edit_bytes edit.now) }
     ensures fits { OnOk result (HasValues edit.now) }
 {

@@ -1,4 +1,4 @@
-use crate::edit::write_edit;
+use crate::edit::spell_edit;
 use crate::{Record, RowError, read_row, write_row};
 use book_commodity::{Many, OutOfMemory, Text};
 use book_keeper::RowKey;
@@ -7,8 +7,8 @@ use book_undo::{Edit, Thing, ThingKind};
 use std::alloc::Global;
 use std::test::Fail;
 
-/// A list of three parts, made by hand from docs/FORMATS.md: the currency 2; a list in which the transaction 5 is
-/// deleted and the binding 11 is put; and the empty list.
+/// A body made by hand from the tables in docs/FORMATS.md: the list of the currency 2; a list in which the
+/// transaction 5 is deleted and the binding 11 put; and the empty list.
 const TREE: &[u8] = b"\x01\0\0\0\0\0\0\0\0\x03\
     \x03\0\0\0\0\0\0\0\x02\
     \0\0\0\0\0\0\0\0\x02\
@@ -16,7 +16,7 @@ const TREE: &[u8] = b"\x01\0\0\0\0\0\0\0\0\x03\
     \x01\x09\0\0\0\0\0\0\0\x0b\0\0\0\0\0\0\0\x04NL01\0\0\0\0\0\0\0\x03\
     \0\0\0\0\0\0\0\0\0";
 
-/// Bodies of edits.
+/// Bodies of other edits, made by hand.
 const EDITS: [&[u8]; 3] = [
     // The empty list.
     b"\x01\0\0\0\0\0\0\0\0\0",
@@ -87,10 +87,11 @@ fn is_inner(parts: &[Edit]) -> bool {
     }
 }
 
-/// Whether the bytes are the body of the edit.
-fn is_written(alloc: Global, edit: &Edit, body: &[u8]) -> bool {
-    match write_edit(alloc, edit) {
-        Ok(written) => written.as_slice() == body,
+/// Whether the bytes are the spelling of the edit.
+fn is_spelling(alloc: Global, edit: &Edit, bytes: &[u8]) -> bool {
+    let mut out = Vec::new(alloc);
+    match spell_edit(edit, &mut out) {
+        Ok(()) => out.as_slice() == bytes,
         Err(_) => false,
     }
 }
@@ -107,7 +108,7 @@ fn is_read(alloc: Global, kind: u8, body: &[u8]) -> bool {
 #[test]
 fn tree_both_ways(rt: HostRuntime) -> Result<(), Fail> {
     let edit = tree(rt.alloc())?;
-    assert!(rt; is_written(rt.alloc(), &edit, TREE));
+    assert!(rt; is_spelling(rt.alloc(), &edit, &TREE[1..]));
     assert!(rt; is_read(rt.alloc(), 11, TREE));
     assert!(rt; is_read(rt.alloc(), 12, TREE));
     Ok(())

@@ -1,6 +1,7 @@
-//! The rows of a book as bytes. Each thing of a book, and the head of its rows, is a row: a key and a body.
-//! `write_row` gives the body of a record, and `read_row` reads exactly the bodies that are spelled so; a record has
-//! one spelling.
+//! The rows of a book as bytes. The head of a book's rows, each of its things, and each edit that leads a step back or
+//! forth is a row: a key and a body. `write_row` gives the body of a record, and `read_row` reads exactly the bodies
+//! that are spelled so; a record has one spelling. `write_edit` gives the body
+//! of an edit that is only borrowed.
 #![tactic(auto)]
 
 mod account;
@@ -20,6 +21,7 @@ mod tests;
 mod thing;
 mod transaction;
 
+pub use edit::write_edit;
 pub use head::Head;
 pub use record::{Record, RowError, read_row, write_row};
 pub use rows::Rows;

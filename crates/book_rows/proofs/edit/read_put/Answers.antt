@@ -23,7 +23,8 @@ pub returns-in-Err-read_thing-clause-again : goal.returns-in-Err-read_thing-clau
 returns-in-Err-read_thing-clause-again c edit rest has e =
     let at = put_at edit _ rest e in
     let values = subst HasValues at.is has in
-    let same = c.in-Ok.ensures.again (kind_of at.thing, at.it) (thing_bytes at.thing ++ rest) (tt, values.0) at.spelled in
+    let behind = thing_bytes at.thing ++ rest in
+    let same = c.in-Ok.ensures.again (kind_of at.thing, at.it) behind (tt, values.0) at.spelled in
     c.in-Err-read_thing.ensures.again at.thing rest (sym (ap (λ (p : Keyed). p.0.0) same)) values.1
     (ap (λ (p : Keyed). p.1) same)
 
@@ -31,7 +32,8 @@ pub returns-in-Ok-read_thing-clause-again : goal.returns-in-Ok-read_thing-clause
 returns-in-Ok-read_thing-clause-again c edit rest has e =
     let at = put_at edit _ rest e in
     let values = subst HasValues at.is has in
-    let same = c.in-Ok.ensures.again (kind_of at.thing, at.it) (thing_bytes at.thing ++ rest) (tt, values.0) at.spelled in
+    let behind = thing_bytes at.thing ++ rest in
+    let same = c.in-Ok.ensures.again (kind_of at.thing, at.it) behind (tt, values.0) at.spelled in
     let thing = c.in-Ok-read_thing.ensures.again at.thing rest (sym (ap (λ (p : Keyed). p.0.0) same)) values.1
     (ap (λ (p : Keyed). p.1) same) in
     made_edit (λ (p : ℕ × Thing). Put p.0 p.1) (c.in-Ok.found.0.1, c.in-Ok-read_thing.thing) (at.it, at.thing) edit _ _
