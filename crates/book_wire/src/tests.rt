@@ -1,5 +1,5 @@
 //! Lines written by hand beside what they are read as: the fault that each is answered, or the values it gives.
-use crate::{WireError, command_of, wire_text};
+use crate::{KEEPER, MEMORY, WireError, command_of, wire_text};
 use book_accounts::AccountKind;
 use book_command::{Command, GivenAccount, What};
 use book_commodity::{Bytes, OutOfMemory};
@@ -8,7 +8,7 @@ use std::alloc::Global;
 /// A line, and the member that fails in it, or in brackets what else comes of it.
 type Row = (&'static str, &'static str);
 
-static ROWS: [Row; 56] = [
+static ROWS: [Row; 75] = [
     (r#"{"do":"account_drop","account":3}"#, "(read)"),
     (r#" { "account" : 3 , "do" : "account_drop" } "#, "(read)"),
     (
@@ -143,6 +143,73 @@ static ROWS: [Row; 56] = [
     (r#"{"do":"drop","force":false}"#, "transaction"),
     (r#"{"do":"drop","transaction":5,"force":null}"#, "force"),
     (r#"{"do":"drop","transaction":5,"day":"2024-02-29"}"#, "day"),
+    (
+        r#"{"do":"commodity_add","space":"X","name":"Y","fraction":"100"}"#,
+        "fraction",
+    ),
+    (
+        r#"{"do":"account_add","name":"A","kind":"BANK","commodity":"1","parent":2}"#,
+        "commodity",
+    ),
+    (
+        r#"{"do":"account_add","name":"A","kind":"BANK","commodity":1,"parent":2,"code":1}"#,
+        "code",
+    ),
+    (
+        r#"{"do":"account_add","name":"A","kind":"BANK","commodity":1,"parent":2,"note":1}"#,
+        "note",
+    ),
+    (
+        r#"{"do":"account_add","name":"A","kind":"BANK","commodity":1,"parent":2,"hidden":1}"#,
+        "hidden",
+    ),
+    (
+        r#"{"do":"account_add","name":"A","kind":"BANK","commodity":1,"parent":2,"placeholder":"true"}"#,
+        "placeholder",
+    ),
+    (r#"{"do":"account_edit","account":"3"}"#, "account"),
+    (
+        r#"{"do":"account_edit","account":3,"parent":"2"}"#,
+        "parent",
+    ),
+    (r#"{"do":"account_edit","account":3,"code":1}"#, "code"),
+    (r#"{"do":"account_edit","account":3,"note":1}"#, "note"),
+    (
+        r#"{"do":"account_edit","account":3,"hidden":"no"}"#,
+        "hidden",
+    ),
+    (
+        r#"{"do":"account_edit","account":3,"placeholder":0}"#,
+        "placeholder",
+    ),
+    (
+        r#"{"do":"post","day":"2024-01-05","currency":"1","splits":[{"account":3,"value":1}]}"#,
+        "currency",
+    ),
+    (
+        r#"{"do":"post","day":"2024-01-05","currency":1,"description":1,"splits":[{"account":3,"value":1}]}"#,
+        "description",
+    ),
+    (
+        r#"{"do":"edit","transaction":5,"day":"2024-02-30","currency":1,"splits":[{"account":3,"value":1}]}"#,
+        "day",
+    ),
+    (
+        r#"{"do":"edit","transaction":5,"day":"2024-01-05","currency":"1","splits":[{"account":3,"value":1}]}"#,
+        "currency",
+    ),
+    (
+        r#"{"do":"edit","transaction":5,"day":"2024-01-05","currency":1,"num":1,"splits":[{"account":3,"value":1}]}"#,
+        "num",
+    ),
+    (
+        r#"{"do":"edit","transaction":5,"day":"2024-01-05","currency":1,"description":1,"splits":[{"account":3,"value":1}]}"#,
+        "description",
+    ),
+    (
+        r#"{"do":"edit","transaction":5,"day":"2024-01-05","currency":1,"num":"7","splits":[{"account":3,"value":1,"action":"Buy"}]}"#,
+        "(read)",
+    ),
 ];
 
 const LATER: &str =
@@ -377,5 +444,7 @@ fn lines_are_read_as_commands(rt: HostRuntime) -> Result<(), OutOfMemory> {
         outcome(alloc, b"{\"do\":\"\xff\"}")?.as_slice(),
         r#"{"refused":"not json"}"#.as_bytes()
     );
+    assert_eq!(rt; MEMORY, r#"{"refused":"memory"}"#.as_bytes());
+    assert_eq!(rt; KEEPER, r#"{"refused":"keeper"}"#.as_bytes());
     Ok(())
 }
