@@ -1,6 +1,6 @@
 //! Tests alone: whole runs through `book_main`, over inputs, outputs and keepers in memory. What a run answers is
 //! proved; these show that it is answered at all, where memory is ample, and that inputs and outputs may fail at any
-//! call, and keepers at any commit.
+//! call, and keepers at any call.
 #![tactic(auto)]
 
 #[cfg(test)]
@@ -29,3 +29,5 @@ mod runs;
 mod sizes;
 #[cfg(test)]
 mod texts;
+#[cfg(test)]
+mod unopened;

@@ -7,6 +7,7 @@ pub mod MarkLemmas
 pub mod NumberLemmas
 pub mod OnceLemmas
 pub mod ReconciliationLemmas
+pub mod RisingLemmas
 pub mod RowKeyLemmas
 pub mod SeenLemmas
 pub mod SplitMapLemmas

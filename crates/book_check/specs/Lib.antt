@@ -4,5 +4,6 @@ pub mod Keys
 pub mod LineWalk
 pub mod Marks
 pub mod Numbers
+pub mod Rising
 pub mod Seen
 pub mod Splits

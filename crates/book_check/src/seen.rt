@@ -1,4 +1,4 @@
-ghost use Rattle.std.specs.Prelude.{◌≡◌, [], IfOk, OnOk};
+ghost use Rattle.std.specs.Prelude.{◌≡◌, [], IfOk, OnOk, OnErr};
 ghost use Rattle.book_check.specs.Seen.{Adds, is_seen};
 
 use book_commodity::OutOfMemory;
@@ -34,6 +34,7 @@ impl<K: Ord + Drop> Seen<K> {
     pub(crate) fn insert(&mut self, key: K) -> Result<bool, OutOfMemory>
         ensures before { IfOk result (λ before. before ≡ is_seen K.cmp self.old key) }
         ensures adds { OnOk result (Adds K.cmp self.old key self.new) }
+        ensures unchanged { OnErr result (self.new ≡ self.old) }
     {
         let is_new = self.keys.insert(key)?;
         Ok(!is_new)

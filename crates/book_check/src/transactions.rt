@@ -9,6 +9,7 @@ ghost use Rattle.book_check.specs.Marks.{HasMarks};
 ghost use Rattle.book_check.specs.Numbers.{AddsAll, are_new};
 
 use crate::marks::{MarkKey, are_marked, marks_of};
+use crate::numbers::Numbers;
 use crate::passes::passes_check;
 use crate::seen::Seen;
 use book_accounts::Tree;
@@ -36,7 +37,7 @@ pub(crate) fn first_transaction(
         200000 splits_in 1000000 0 0 transactions.now.entries) }
 {
     let marks = marks_of(alloc, reconciliations)?;
-    let mut seen = Seen::new(alloc);
+    let mut seen = Numbers::new(alloc);
     let mut sum = 0;
     for place in 0..transactions.len() {
         let number = transactions.number_at(place);
@@ -81,7 +82,7 @@ fn is_kept(
 }
 
 /// Adds the numbers of the splits, and says whether each is new.
-fn add_new(seen: &mut Seen<u64>, splits: &[Split]) -> Result<bool, OutOfMemory>
+fn add_new(seen: &mut Numbers, splits: &[Split]) -> Result<bool, OutOfMemory>
     ensures new { IfOk result (λ new. new ≡ are_new seen.old (numbers_of splits.now)) }
     ensures adds { IfOk result (λ new. OnTrue new (AddsAll seen.old (numbers_of splits.now) seen.new)) }
 {
