@@ -1,5 +1,5 @@
-use crate::edit::spell_edit;
-use crate::{Record, RowError, read_row, write_row};
+use crate::edit::{read_edit, spell_edit};
+use crate::tests::{is_bad, is_kept};
 use book_commodity::{Many, OutOfMemory, Text};
 use book_keeper::RowKey;
 use book_statement::Binding;
@@ -96,12 +96,11 @@ fn is_spelling(alloc: Global, edit: &Edit, bytes: &[u8]) -> bool {
     }
 }
 
-/// Whether the body of the kind is read as the edit that `TREE` spells.
-fn is_read(alloc: Global, kind: u8, body: &[u8]) -> bool {
-    match read_row(alloc, RowKey { kind, id: 3 }, body) {
-        Ok(Record::Back(edit)) => kind == 11 && is_tree(&edit),
-        Ok(Record::Forth(edit)) => kind == 12 && is_tree(&edit),
-        _ => false,
+/// Whether the body is read as the edit that `TREE` spells.
+fn is_read(alloc: Global, body: &[u8]) -> bool {
+    match read_edit(alloc, body) {
+        Ok(edit) => is_tree(&edit),
+        Err(_) => false,
     }
 }
 
@@ -109,42 +108,27 @@ fn is_read(alloc: Global, kind: u8, body: &[u8]) -> bool {
 fn tree_both_ways(rt: HostRuntime) -> Result<(), Fail> {
     let edit = tree(rt.alloc())?;
     assert!(rt; is_spelling(rt.alloc(), &edit, &TREE[1..]));
-    assert!(rt; is_read(rt.alloc(), 11, TREE));
-    assert!(rt; is_read(rt.alloc(), 12, TREE));
+    assert!(rt; is_read(rt.alloc(), TREE));
     Ok(())
 }
 
-/// Whether the body of the kind is read, and written as the same body again.
-fn is_kept(alloc: Global, kind: u8, body: &[u8]) -> bool {
-    match read_row(alloc, RowKey { kind, id: 3 }, body) {
-        Ok(record) => match write_row(alloc, &record) {
-            Ok(again) => again.as_slice() == body,
-            Err(_) => false,
-        },
-        Err(_) => false,
-    }
+/// The key of a step of the kind.
+fn step_key(kind: u8) -> RowKey {
+    RowKey { kind, id: 3 }
 }
 
 #[test]
 fn bodies_of_edits(rt: HostRuntime) {
     for body in EDITS {
-        assert!(rt; is_kept(rt.alloc(), 11, body));
-        assert!(rt; is_kept(rt.alloc(), 12, body));
-    }
-}
-
-/// Whether the row of the kind is bad.
-fn is_bad(alloc: Global, kind: u8, body: &[u8]) -> bool {
-    match read_row(alloc, RowKey { kind, id: 3 }, body) {
-        Err(RowError::Bad { .. }) => true,
-        _ => false,
+        assert!(rt; is_kept(rt.alloc(), step_key(11), body));
+        assert!(rt; is_kept(rt.alloc(), step_key(12), body));
     }
 }
 
 #[test]
 fn bodies_of_no_edits(rt: HostRuntime) {
     for body in NO_EDITS {
-        assert!(rt; is_bad(rt.alloc(), 11, body));
-        assert!(rt; is_bad(rt.alloc(), 12, body));
+        assert!(rt; is_bad(rt.alloc(), step_key(11), body));
+        assert!(rt; is_bad(rt.alloc(), step_key(12), body));
     }
 }

@@ -137,12 +137,16 @@ const BAD: [(u8, u64, &[u8]); 11] = [
 ];
 
 /// Whether the body is read, and written as the same body again.
-fn is_kept(alloc: Global, key: RowKey, body: &[u8]) -> bool {
+pub(crate) fn is_kept(alloc: Global, key: RowKey, body: &[u8]) -> bool {
     match read_row(alloc, key, body) {
-        Ok(record) => match write_row(alloc, &record) {
-            Ok(again) => again.as_slice() == body,
-            Err(_) => false,
-        },
+        Ok(record) => {
+            let again = write_row(alloc, &record);
+            drop(record);
+            match again {
+                Ok(again) => again.as_slice() == body,
+                Err(_) => false,
+            }
+        }
         Err(_) => false,
     }
 }
@@ -155,9 +159,9 @@ fn bodies_of_each_kind(rt: HostRuntime) {
 }
 
 /// Whether the row is bad.
-fn is_bad(alloc: Global, key: RowKey, body: &[u8]) -> bool {
-    match read_row(alloc, key, body) {
-        Err(RowError::Bad { .. }) => true,
+pub(crate) fn is_bad(alloc: Global, key: RowKey, body: &[u8]) -> bool {
+    match read_row(alloc, key, body).err() {
+        Some(RowError::Bad { .. }) => true,
         _ => false,
     }
 }
