@@ -1,5 +1,5 @@
 use crate::{OpenFault, Saved, all_rows, changes_of, read_rows};
-use book_commodity::{Bytes, Many, OutOfMemory, Text};
+use book_commodity::{Bytes, Many, Text};
 use book_keeper::{Change, Keeper, MemKeeper, Row, RowKey};
 use book_rows::Head;
 use book_statement::Binding;
@@ -246,68 +246,6 @@ fn changed_rows(rt: HostRuntime) -> Result<(), Fail> {
     let _ = keeper.commit(changes_of(alloc, head, &Edit::All(parts))?.as_slice());
     assert_eq!(rt; keeper.rows().len(), 10);
     assert!(rt; counted(alloc, &mut keeper) == Some((0, 2, 4)));
-    Ok(())
-}
-
-/// The things of the rows that are kept, by kind and number.
-const THINGS: [(ThingKind, u64); 9] = [
-    (ThingKind::Commodity, 1),
-    (ThingKind::Account, 3),
-    (ThingKind::Txn, 5),
-    (ThingKind::Price, 7),
-    (ThingKind::Schedule, 8),
-    (ThingKind::Held, 9),
-    (ThingKind::Line, 10),
-    (ThingKind::Binding, 11),
-    (ThingKind::Recon, 12),
-];
-
-/// The changes that put back all things of a keeper's rows, once they are deleted; none where that can't be.
-fn put_back(
-    alloc: Global,
-    keeper: &mut MemKeeper,
-    head: Head,
-) -> Result<Many<Change>, OutOfMemory> {
-    let Ok(Some(saved)) = read_rows(alloc, keeper) else {
-        return Ok(Many::new(alloc));
-    };
-    let mut parts = Many::new(alloc);
-    for (kind, number) in THINGS {
-        parts.push(Edit::Gone(kind, number))?;
-    }
-    let gone = Edit::All(parts);
-    match saved.plain.check_edit(&gone) {
-        Ok(()) => changes_of(alloc, head, &saved.plain.inverse(alloc, &gone)?),
-        Err(_) => Ok(Many::new(alloc)),
-    }
-}
-
-/// Whether the changes put the rows that are kept, one after another.
-fn are_rows_kept(changes: &[Change]) -> bool {
-    for (change, (kind, id, body)) in changes.iter().zip(KEPT) {
-        match change {
-            Change::Put(row) if row.key == (RowKey { kind, id }) && row.body.as_slice() == body =>
-                {}
-            _ => return false,
-        }
-    }
-    changes.len() == KEPT.len()
-}
-
-// A thing of each kind that is put back has the row that it had.
-#[test]
-fn rows_that_are_put_back(rt: HostRuntime) -> Result<(), Fail> {
-    let head = Head {
-        next: 13,
-        version: 3,
-        position: 3,
-        past: 0,
-        later: 0,
-        currency: 1,
-    };
-    let mut keeper = kept(rt.alloc())?;
-    let changes = put_back(rt.alloc(), &mut keeper, head)?;
-    assert!(rt; are_rows_kept(changes.as_slice()));
     Ok(())
 }
 
