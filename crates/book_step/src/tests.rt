@@ -2,7 +2,7 @@ ghost use Rattle.std.specs.Prelude.{◌≡◌, IfOk};
 ghost use Rattle.book_undo.specs.Book.{book_of};
 ghost use Rattle.book_step.specs.State.{euro, fresh_book, root};
 
-use crate::{Answer, Command, GivenAccount, GivenSplit, GivenTxn, Refusal, Rule, What, step_of};
+use crate::{Answer, GivenAccount, GivenSplit, GivenTxn, Refusal, Rule, Update, step_of};
 use book_accounts::{Account, AccountKind};
 use book_commodity::{Commodity, Day, Many, OutOfMemory, Text};
 use book_undo::Plain;
@@ -87,15 +87,8 @@ impl Machine {
     }
 
     /// Takes the command, and changes the book by its step.
-    fn take(&mut self, alloc: Global, what: What) -> Result<Answer, Refusal> {
-        let at = Some(self.version);
-        let step = step_of(
-            alloc,
-            &self.plain,
-            self.next,
-            self.version,
-            Command { at, what },
-        )?;
+    fn take(&mut self, alloc: Global, update: Update) -> Result<Answer, Refusal> {
+        let step = step_of(alloc, &self.plain, self.next, self.version, update)?;
         self.plain.reserve_for(&step.edit)?;
         self.version = step.version_after(self.version);
         self.next = step.next;
@@ -109,7 +102,7 @@ impl Machine {
     }
 }
 
-fn bank(alloc: Global, name: &str) -> Result<What, OutOfMemory> {
+fn bank(alloc: Global, name: &str) -> Result<Update, OutOfMemory> {
     let account = Account {
         name: text(alloc, name)?,
         kind: AccountKind::Bank,
@@ -117,7 +110,7 @@ fn bank(alloc: Global, name: &str) -> Result<What, OutOfMemory> {
         placeholder: false,
         ..root(alloc)?
     };
-    Ok(What::AccountAdd { account })
+    Ok(Update::AccountAdd { account })
 }
 
 fn renamed(alloc: Global, name: &str) -> Result<GivenAccount, OutOfMemory> {
@@ -154,10 +147,10 @@ fn nothing_moved(alloc: Global, account: u64) -> Result<GivenTxn, OutOfMemory> {
 fn commodities_are_taken(rt: HostRuntime) -> Result<(), Fail> {
     let alloc = rt.alloc();
     let mut machine = Machine::begin(alloc)?;
-    let euro = machine.take(alloc, What::BookCurrency { commodity: 1 })?;
+    let euro = machine.take(alloc, Update::BookCurrency { commodity: 1 })?;
     assert!(rt; matches!(euro, Answer::BookCurrency));
     let commodity = commodity(alloc, "NYSE", "ACME")?;
-    let added = machine.take(alloc, What::CommodityAdd { commodity })?;
+    let added = machine.take(alloc, Update::CommodityAdd { commodity })?;
     assert!(rt; matches!(added, Answer::CommodityAdd { commodity: 3 }));
     assert!(rt; machine.is_at(4, 1));
     Ok(())
@@ -170,9 +163,9 @@ fn accounts_are_taken(rt: HostRuntime) -> Result<(), Fail> {
     let bank = machine.take(alloc, bank(alloc, "Bank")?)?;
     assert!(rt; matches!(bank, Answer::AccountAdd { account: 3 }));
     let given = renamed(alloc, "Checking")?;
-    let edited = machine.take(alloc, What::AccountEdit { account: 3, given })?;
+    let edited = machine.take(alloc, Update::AccountEdit { account: 3, given })?;
     assert!(rt; matches!(edited, Answer::AccountEdit));
-    let dropped = machine.take(alloc, What::AccountDrop { account: 3 })?;
+    let dropped = machine.take(alloc, Update::AccountDrop { account: 3 })?;
     assert!(rt; matches!(dropped, Answer::AccountDrop));
     assert!(rt; machine.is_at(4, 3));
     Ok(())
@@ -186,9 +179,9 @@ fn posts_are_taken(rt: HostRuntime) -> Result<(), Fail> {
     let bank = machine.take(alloc, bank(alloc, "Bank")?)?;
     assert!(rt; matches!(bank, Answer::AccountAdd { account: 3 }));
     let given = nothing_moved(alloc, 3)?;
-    let posted = machine.take(alloc, What::Post { day, given })?;
+    let posted = machine.take(alloc, Update::Post { day, given })?;
     assert!(rt; matches!(posted, Answer::Post { transaction: 4, .. }));
-    let kept = machine.take(alloc, What::AccountDrop { account: 3 });
+    let kept = machine.take(alloc, Update::AccountDrop { account: 3 });
     assert!(rt; matches!(kept, Err(Refusal::Broken(Rule::NotEmpty { account: 3 }))));
     Ok(())
 }
