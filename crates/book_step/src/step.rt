@@ -90,19 +90,12 @@ pub fn step_of(
     requires { IsSound (state_of plain.now next version) }
     ensures { StepsTo (state_of plain.now next version) (outcome (state_of plain.now next version) update) result }
 {
-    let present = Present {
+    let present = &Present {
         alloc,
         plain,
         next,
         version,
     };
-    step_of_update(&present, update)
-}
-
-/// The same in the present state.
-fn step_of_update(present: &Present, update: Update) -> Result<Step, Refusal>
-    ensures { StepsTo present.now (outcome present.now update) result }
-{
     match update {
         Update::BookCurrency { commodity } => book_currency(present, commodity),
         Update::CommodityAdd { commodity } => commodity_add(present, commodity),
@@ -120,7 +113,8 @@ fn step_of_update(present: &Present, update: Update) -> Result<Step, Refusal>
     }
 }
 
-/// A command at this version is for it, where it is for one: else it is broken with `Stale`.
+/// A command may be for one version alone. Where that is another than the present one it breaks `Stale`, before all
+/// other rules.
 pub fn check_version(version: u64, at: Option<u64>) -> Result<(), Rule>
     ensures { ReportsFirst (stale version at ∷ []) result }
 {
@@ -143,3 +137,6 @@ fn check_numbers(present: &Present, drawn: u64) -> Result<(), Rule>
     }
     Ok(())
 }
+
+#[cfg(test)]
+mod tests;
