@@ -1,4 +1,4 @@
-ghost use Rattle.std.specs.Prelude.{◌≡◌, ◌∷◌, [], IfOk, map};
+ghost use Rattle.std.specs.Prelude.{◌≡◌, IfOk, map};
 ghost use Rattle.book_command.specs.declared.word.Word.TheVariants as word;
 ghost use Rattle.book_texts.specs.Fields.{answered, members_of};
 ghost use Rattle.book_texts.specs.Shown.{number_data};

@@ -1,4 +1,4 @@
-use Rattle.std.proofs.Common.{◌≡◌, ◌∙◌, ℕ, Some, ap, subst, sym}
+use Rattle.std.proofs.Common.{◌≡◌, ◌∙◌, ℕ, ap, subst, sym}
 use Rattle.book_undo.specs.Book.{Book, book_of}
 use Rattle.book_undo.specs.Edit.{edited}
 use Rattle.book_step.specs.AnswerBalances.{with_balances}
