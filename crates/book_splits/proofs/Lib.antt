@@ -3,6 +3,7 @@ pub mod BalanceTableLemmas
 pub mod CheckLemmas
 pub mod CountLemmas
 pub mod NamedLemmas
+pub mod OwnerLemmas
 pub mod ReplacedLemmas
 pub mod SplitLemmas
 pub mod SuitsLemmas

@@ -2,5 +2,6 @@ pub mod Balance
 pub mod Balances
 pub mod Check
 pub mod Counted
+pub mod Owner
 pub mod SplitCount
 pub mod TransactionRules

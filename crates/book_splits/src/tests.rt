@@ -56,10 +56,20 @@ fn accounts(alloc: Global) -> Result<Tree, OutOfMemory> {
 
 /// A transaction in euros with these splits, each an account, a value and a quantity.
 fn transaction(alloc: Global, day: Day, given: &[(u64, i64, i64)]) -> Result<Txn, OutOfMemory> {
+    numbered(alloc, day, 7, given)
+}
+
+/// The same with splits that have this number and those behind it.
+fn numbered(
+    alloc: Global,
+    day: Day,
+    first: u64,
+    given: &[(u64, i64, i64)],
+) -> Result<Txn, OutOfMemory> {
     let mut splits = Many::new(alloc);
-    for (account, value, quantity) in given {
+    for (place, (account, value, quantity)) in given.iter().enumerate() {
         splits.push(Split {
-            id: 0,
+            id: first.wrapping_add(place as u64),
             account: *account,
             memo: Text::new(alloc),
             action: Text::new(alloc),
@@ -111,5 +121,23 @@ fn rules_of_transactions(rt: HostRuntime) -> Result<(), Fail> {
     assert!(rt; answer(rt.alloc(), day, &too_large)? == Err(limit));
     let uneven = [(CASH, 100, 100), (CASH, -99, -99)];
     assert!(rt; answer(rt.alloc(), day, &uneven)? == Err(TxnRule::Unbalanced { sum: 1 }));
+    Ok(())
+}
+
+/// Whose the split is, where the transactions 6 and 9 have the splits 7 and 8, and 10 and 11.
+fn owner(alloc: Global, day: Day, split: u64) -> Result<Option<(u64, usize)>, OutOfMemory> {
+    let given = [(CASH, 5, 5), (CASH, -5, -5)];
+    let mut transactions = Txns::new(alloc);
+    transactions.reserve(2)?;
+    transactions.put(6, numbered(alloc, day, 7, &given)?);
+    transactions.put(9, numbered(alloc, day, 10, &given)?);
+    Ok(transactions.owner(split))
+}
+
+#[test]
+fn owners_of_splits(rt: HostRuntime) -> Result<(), Fail> {
+    let day = Day::of_number(19_732).ok_or("a day of the range")?;
+    assert_eq!(rt; owner(rt.alloc(), day, 11)?, Some((9, 1)));
+    assert_eq!(rt; owner(rt.alloc(), day, 9)?, None);
     Ok(())
 }

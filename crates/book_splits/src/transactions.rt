@@ -1,11 +1,13 @@
 ghost use Rattle.std.specs.Prelude.{◌≡◌, ◌+◌, ◌<◌, ◌≤◌, ◌^◌, [], length, if◌then◌else◌, is_none, is_some, IsNone};
-ghost use Rattle.std.specs.Prelude.{Some, OnOk, OnErr, slice_get, option_map};
+ghost use Rattle.std.specs.Prelude.{◌==◌, Some, IfSome, OnOk, OnErr, not, position, slice_get, option_map};
 ghost use Rattle.std.specs.Option.{option_copied};
 ghost use Rattle.book_commodity.specs.Table.{Rises, value_of, with_entry, without_entry};
 ghost use Rattle.book_splits.specs.Balance.{splits_of};
+ghost use Rattle.book_splits.specs.Owner.{owner, split_at};
 ghost use Rattle.book_splits.specs.SplitCount.{splits_in};
+ghost use Rattle.book_splits.specs.TransactionRules.{is_among, numbers_of};
 
-use crate::Txn;
+use crate::{Split, Txn};
 use book_commodity::{OutOfMemory, Table};
 use std::alloc::Global;
 use std::marker::Model;
@@ -63,6 +65,21 @@ impl Txns {
         ensures { option_copied result ≡ value_of number self.now.entries }
     {
         self.transactions.find(number)
+    }
+
+    /// The number of the transaction that has the split with this number, and the split's place in it: the first of
+    /// them, if there are several. None exactly where no transaction has it.
+    pub fn owner(&self, split: u64) -> Option<(u64, usize)>
+        ensures owner { result ≡ owner split self.now.entries }
+        ensures there { IfSome result (λ at. option_map (λ one. one.id) (split_at at self.now.entries) ≡ Some split) }
+        ensures none { is_none result ≡ not (is_among (numbers_of (splits_of self.now.entries)) split) }
+    {
+        for (number, transaction) in self.as_slice() {
+            if let Some(place) = place_of(transaction.splits.as_slice(), split) {
+                return Some((*number, place));
+            }
+        }
+        None
     }
 
     /// The entries, borrowed.
@@ -135,4 +152,11 @@ fn count_in(transaction: &Option<Txn>) -> u64
         Some(transaction) => transaction.splits.len() as u64,
         None => 0,
     }
+}
+
+/// The place of the first split with this number; `None` where there is none.
+fn place_of(splits: &[Split], number: u64) -> Option<usize>
+    ensures { result ≡ position (λ split. split.id == number) splits.now }
+{
+    splits.iter().position(|split| split.id == number)
 }

@@ -96,10 +96,65 @@ impl Machine {
         Ok(step.answer)
     }
 
-    /// Whether these are the next number and the version.
-    fn is_at(&self, next: u64, version: u64) -> bool {
-        self.next == next && self.version == version
+    /// The same, but of the answer only what is seen.
+    fn see(&mut self, alloc: Global, update: Update) -> Result<Seen, Refusal> {
+        Ok(Seen::of(self.take(alloc, update)?))
     }
+
+    /// The next number and the version.
+    fn at(&self) -> (u64, u64) {
+        (self.next, self.version)
+    }
+}
+
+/// What an answer says, without its lists.
+#[derive(Clone, Copy, PartialEq, Eq)]
+enum Seen {
+    BookCurrency,
+    CommodityAdd(u64),
+    AccountAdd(u64),
+    AccountEdit,
+    AccountDrop,
+    Post(u64),
+    Other,
+}
+
+impl Seen {
+    fn of(answer: Answer) -> Seen {
+        match answer {
+            Answer::BookCurrency => Seen::BookCurrency,
+            Answer::CommodityAdd { commodity } => Seen::CommodityAdd(commodity),
+            Answer::AccountAdd { account } => Seen::AccountAdd(account),
+            Answer::AccountEdit => Seen::AccountEdit,
+            Answer::AccountDrop => Seen::AccountDrop,
+            Answer::Post { transaction, .. } => Seen::Post(transaction),
+            _ => Seen::Other,
+        }
+    }
+}
+
+/// What is seen of the answers to the commands.
+fn answers(
+    alloc: Global,
+    machine: &mut Machine,
+    commands: Many<Update>,
+) -> Result<Many<Result<Seen, Refusal>>, OutOfMemory> {
+    let mut answers = Many::new(alloc);
+    for update in commands.into_vec() {
+        answers.push(machine.see(alloc, update))?;
+    }
+    Ok(answers)
+}
+
+/// The same where a run begins with them, and the next number and the version after it. The tests hold no machine,
+/// since each way out of them would drop its tables.
+fn run(
+    alloc: Global,
+    commands: Many<Update>,
+) -> Result<(Many<Result<Seen, Refusal>>, (u64, u64)), OutOfMemory> {
+    let mut machine = Machine::begin(alloc)?;
+    let answers = answers(alloc, &mut machine, commands)?;
+    Ok((answers, machine.at()))
 }
 
 fn bank(alloc: Global, name: &str) -> Result<Update, OutOfMemory> {
@@ -142,46 +197,67 @@ fn nothing_moved(alloc: Global, account: u64) -> Result<GivenTxn, OutOfMemory> {
     })
 }
 
+/// The currency that the book has, and a security.
+fn commodities(alloc: Global) -> Result<Many<Update>, OutOfMemory> {
+    let mut commands = Many::new(alloc);
+    commands.push(Update::BookCurrency { commodity: 1 })?;
+    let commodity = commodity(alloc, "NYSE", "ACME")?;
+    commands.push(Update::CommodityAdd { commodity })?;
+    Ok(commands)
+}
+
+/// An account that is added, renamed and deleted.
+fn accounts(alloc: Global) -> Result<Many<Update>, OutOfMemory> {
+    let mut commands = Many::new(alloc);
+    commands.push(bank(alloc, "Bank")?)?;
+    let given = renamed(alloc, "Checking")?;
+    commands.push(Update::AccountEdit { account: 3, given })?;
+    commands.push(Update::AccountDrop { account: 3 })?;
+    Ok(commands)
+}
+
+/// An account with a transaction, which is then to be deleted.
+fn posts(alloc: Global, day: Day) -> Result<Many<Update>, OutOfMemory> {
+    let mut commands = Many::new(alloc);
+    commands.push(bank(alloc, "Bank")?)?;
+    let given = nothing_moved(alloc, 3)?;
+    commands.push(Update::Post { day, given })?;
+    commands.push(Update::AccountDrop { account: 3 })?;
+    Ok(commands)
+}
+
 // Edits and deletions of transactions are run by `examples/household.jsonl`.
 #[test]
 fn commodities_are_taken(rt: HostRuntime) -> Result<(), Fail> {
-    let alloc = rt.alloc();
-    let mut machine = Machine::begin(alloc)?;
-    let euro = machine.take(alloc, Update::BookCurrency { commodity: 1 })?;
-    assert!(rt; matches!(euro, Answer::BookCurrency));
-    let commodity = commodity(alloc, "NYSE", "ACME")?;
-    let added = machine.take(alloc, Update::CommodityAdd { commodity })?;
-    assert!(rt; matches!(added, Answer::CommodityAdd { commodity: 3 }));
-    assert!(rt; machine.is_at(4, 1));
+    let (answers, at) = run(rt.alloc(), commodities(rt.alloc())?)?;
+    let taken = [Ok(Seen::BookCurrency), Ok(Seen::CommodityAdd(3))];
+    assert!(rt; answers.as_slice() == taken.as_slice());
+    assert_eq!(rt; at, (4, 1));
     Ok(())
 }
 
 #[test]
 fn accounts_are_taken(rt: HostRuntime) -> Result<(), Fail> {
-    let alloc = rt.alloc();
-    let mut machine = Machine::begin(alloc)?;
-    let bank = machine.take(alloc, bank(alloc, "Bank")?)?;
-    assert!(rt; matches!(bank, Answer::AccountAdd { account: 3 }));
-    let given = renamed(alloc, "Checking")?;
-    let edited = machine.take(alloc, Update::AccountEdit { account: 3, given })?;
-    assert!(rt; matches!(edited, Answer::AccountEdit));
-    let dropped = machine.take(alloc, Update::AccountDrop { account: 3 })?;
-    assert!(rt; matches!(dropped, Answer::AccountDrop));
-    assert!(rt; machine.is_at(4, 3));
+    let (answers, at) = run(rt.alloc(), accounts(rt.alloc())?)?;
+    let taken = [
+        Ok(Seen::AccountAdd(3)),
+        Ok(Seen::AccountEdit),
+        Ok(Seen::AccountDrop),
+    ];
+    assert!(rt; answers.as_slice() == taken.as_slice());
+    assert_eq!(rt; at, (4, 3));
     Ok(())
 }
 
 #[test]
 fn posts_are_taken(rt: HostRuntime) -> Result<(), Fail> {
-    let alloc = rt.alloc();
     let day = Day::of_number(19_732).ok_or("a day of the range")?;
-    let mut machine = Machine::begin(alloc)?;
-    let bank = machine.take(alloc, bank(alloc, "Bank")?)?;
-    assert!(rt; matches!(bank, Answer::AccountAdd { account: 3 }));
-    let given = nothing_moved(alloc, 3)?;
-    let posted = machine.take(alloc, Update::Post { day, given })?;
-    assert!(rt; matches!(posted, Answer::Post { transaction: 4, .. }));
-    let kept = machine.take(alloc, Update::AccountDrop { account: 3 });
-    assert!(rt; matches!(kept, Err(Refusal::Broken(Rule::NotEmpty { account: 3 }))));
+    let (answers, _) = run(rt.alloc(), posts(rt.alloc(), day)?)?;
+    let taken = [
+        Ok(Seen::AccountAdd(3)),
+        Ok(Seen::Post(4)),
+        Err(Refusal::Broken(Rule::NotEmpty { account: 3 })),
+    ];
+    assert!(rt; answers.as_slice() == taken.as_slice());
     Ok(())
 }

@@ -90,28 +90,67 @@ fn is_dismissed(line: &Line, number: u64) -> bool {
         && line.body.text.as_str() == "Rent"
 }
 
-/// Whether the edit dismisses the line of this number.
-fn dismisses(edit: &Edit, number: u64) -> bool {
-    match edit {
-        Edit::Put(at, Thing::Line(line)) => *at == number && is_dismissed(line, number),
-        _ => false,
+/// What is seen of an edit: the number of the transaction that it deletes or of the line that it dismisses, or how
+/// many edits it is the list of.
+#[derive(Clone, Copy, Debug, PartialEq, Eq)]
+enum Seen {
+    Deletes(u64),
+    Dismisses(u64),
+    Lists(usize),
+    Other,
+}
+
+impl Seen {
+    fn of(edit: &Edit) -> Seen {
+        match edit {
+            Edit::Gone(ThingKind::Txn, number) => Seen::Deletes(*number),
+            Edit::Put(number, Thing::Line(line)) if is_dismissed(line, *number) => {
+                Seen::Dismisses(*number)
+            }
+            Edit::All(parts) => Seen::Lists(parts.len()),
+            _ => Seen::Other,
+        }
     }
+}
+
+/// What is seen of each edit.
+fn all_seen(alloc: Global, edits: &[Edit]) -> Result<Many<Seen>, OutOfMemory> {
+    let mut all = Many::new(alloc);
+    for edit in edits {
+        all.push(Seen::of(edit))?;
+    }
+    Ok(all)
+}
+
+/// What is seen of an edit's parts.
+fn parts_seen(alloc: Global, edit: &Edit) -> Result<Many<Seen>, OutOfMemory> {
+    match edit {
+        Edit::All(parts) => all_seen(alloc, parts.as_slice()),
+        _ => Ok(Many::new(alloc)),
+    }
+}
+
+/// What is seen of the dismissals where these splits stand in the place of the old ones.
+fn dismissals(alloc: Global, new: &[Given]) -> Result<Many<Seen>, Fail> {
+    let edits = edits(alloc, new)?;
+    Ok(all_seen(alloc, edits.as_slice())?)
+}
+
+/// What is seen of the transaction's deletion together with these dismissals, and of its parts.
+fn deletion(alloc: Global, new: &[Given]) -> Result<(Seen, Many<Seen>), Fail> {
+    let whole = together(Edit::Gone(ThingKind::Txn, 4), edits(alloc, new)?)?;
+    Ok((Seen::of(&whole), parts_seen(alloc, &whole)?))
 }
 
 #[test]
 fn lines_of_a_deleted_transaction_are_dismissed(rt: HostRuntime) -> Result<(), Fail> {
-    let alloc = rt.alloc();
-    let dismissals = edits(alloc, &[])?;
-    assert_eq!(rt; dismissals.len(), 2);
-    assert!(rt; dismisses(&dismissals[0], 10) && dismisses(&dismissals[1], 14));
-    let whole = together(Edit::Gone(ThingKind::Txn, 4), dismissals)?;
-    let Edit::All(parts) = whole else {
-        return Err("a list of edits".into());
-    };
-    let parts = parts.as_slice();
-    assert_eq!(rt; parts.len(), 3);
-    assert!(rt; matches!(parts[0], Edit::Gone(ThingKind::Txn, 4)));
-    assert!(rt; dismisses(&parts[1], 10) && dismisses(&parts[2], 14));
+    let alone = dismissals(rt.alloc(), &[])?;
+    let (whole, parts) = deletion(rt.alloc(), &[])?;
+    let lines = [Seen::Dismisses(10), Seen::Dismisses(14)];
+    assert_eq!(rt; alone.as_slice(), lines.as_slice());
+    assert_eq!(rt; whole, Seen::Lists(3));
+    let parted = [Seen::Deletes(4), Seen::Dismisses(10), Seen::Dismisses(14)];
+    assert_eq!(rt; parts.as_slice(), parted.as_slice());
     Ok(())
 }
 
@@ -123,11 +162,10 @@ fn lines_of_kept_splits_stay(rt: HostRuntime) -> Result<(), Fail> {
         ([(5, 3, -300), (6, 3, 501)], 14),
         ([(6, 3, 500), (5, 2, -300)], 10),
     ] {
-        let dismissals = edits(alloc, &new)?;
-        assert_eq!(rt; dismissals.len(), 1);
-        assert!(rt; dismisses(&dismissals[0], number), "the line {number}");
+        let dismissals = dismissals(alloc, &new)?;
+        assert_eq!(rt; dismissals.as_slice(), [Seen::Dismisses(number)].as_slice());
     }
-    let alone = together(Edit::Gone(ThingKind::Txn, 4), edits(alloc, &OLD)?)?;
-    assert!(rt; matches!(alone, Edit::Gone(ThingKind::Txn, 4)));
+    let (alone, _) = deletion(alloc, &OLD)?;
+    assert_eq!(rt; alone, Seen::Deletes(4));
     Ok(())
 }
