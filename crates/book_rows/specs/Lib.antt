@@ -1,10 +1,12 @@
 pub mod AccountBytes
 pub mod CommodityBytes
+pub mod EditBytes
 pub mod HeadBytes
 pub mod PriceBytes
 pub mod ReconciliationBytes
 pub mod Row
 pub mod ScheduleBytes
 pub mod StatementBytes
+pub mod ThingBytes
 pub mod TransactionBytes
 pub mod Values

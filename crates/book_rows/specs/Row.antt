@@ -1,5 +1,5 @@
 -- Rows: which body stands for which record.
-use Rattle.std.specs.Prelude.{ℕ, ◌≡◌, ◌^◌, ◌<◌, List, ◌∷◌, Result, Ok, Err, ⊤}
+use Rattle.std.specs.Prelude.{ℕ, ◌≡◌, ◌^◌, ◌<◌, ◌≤◌, List, ◌∷◌, Result, Ok, Err, ⊤}
 use Rattle.book_rows.specs.declared.record.Record.{Record}
 use Rattle.book_rows.specs.declared.record.Record.TheVariants as record_of
 use Rattle.book_rows.specs.declared.record.RowError.{RowError}
@@ -16,6 +16,8 @@ use Rattle.book_rows.specs.ScheduleBytes.{schedule_bytes, IsSchedule}
 use Rattle.book_rows.specs.StatementBytes.{held_bytes, IsHeld, line_bytes, IsLine, binding_bytes, IsBinding}
 use Rattle.book_rows.specs.ReconciliationBytes.{recon_bytes, IsRecon}
 use Rattle.book_rows.specs.HeadBytes.{head_bytes, IsHead}
+use Rattle.book_rows.specs.EditBytes.{edit_bytes, IsEdit}
+use Rattle.book_undo.specs.Edit.{depth}
 
 -- The kind of a record's row.
 abbrev pub kind_of : Record → ℕ
@@ -29,6 +31,8 @@ kind_of (record_of.Held it) = 7
 kind_of (record_of.Line it) = 8
 kind_of (record_of.Binding it) = 9
 kind_of (record_of.Recon it) = 10
+kind_of (record_of.Back it) = 11
+kind_of (record_of.Forth it) = 12
 
 -- The fields of a record as bytes.
 abbrev pub fields_of : Record → List ℕ
@@ -42,6 +46,8 @@ fields_of (record_of.Held it) = held_bytes it
 fields_of (record_of.Line it) = line_bytes it
 fields_of (record_of.Binding it) = binding_bytes it
 fields_of (record_of.Recon it) = recon_bytes it
+fields_of (record_of.Back it) = edit_bytes it
+fields_of (record_of.Forth it) = edit_bytes it
 
 -- The body of a record: the format byte 1 and then its fields.
 abbrev pub body_of : Record → List ℕ
@@ -51,10 +57,13 @@ body_of it = 1 ∷ fields_of it
 abbrev pub IsWithin : Head → Type 0
 IsWithin head = (head.next < 2 ^ 62) × ((head.version < 2 ^ 62) × (head.position < 2 ^ 62))
 
--- Only a head is held to these bounds.
-abbrev pub IsHeadWithin : Record → Type 0
-IsHeadWithin (record_of.Head head) = IsWithin head
-IsHeadWithin _ = ⊤
+-- The bounds of a record: those of a head's numbers, and that at most eight lists of an edit stand in one another. No
+-- other record is held to bounds.
+abbrev pub IsBounded : Record → Type 0
+IsBounded (record_of.Head head) = IsWithin head
+IsBounded (record_of.Back edit) = depth edit ≤ 8
+IsBounded (record_of.Forth edit) = depth edit ≤ 8
+IsBounded _ = ⊤
 
 -- A record that has a spelling.
 abbrev pub IsRecord : Record → Type 0
@@ -68,6 +77,8 @@ IsRecord (record_of.Held it) = IsHeld it
 IsRecord (record_of.Line it) = IsLine it
 IsRecord (record_of.Binding it) = IsBinding it
 IsRecord (record_of.Recon it) = IsRecon it
+IsRecord (record_of.Back it) = IsEdit it
+IsRecord (record_of.Forth it) = IsEdit it
 
 -- A key under which a record may stand: ids are below 2 ^ 62, and the head stands at 0.
 abbrev pub IsKeyOf : RowKey → Record → Type 0
@@ -79,7 +90,7 @@ StandsFor key body it = IsKeyOf key it × IsRecord it × (body ≡ body_of it)
 
 -- The key and the body are those of the record.
 abbrev pub IsSpelledBy : RowKey → List ℕ → Record → Type 0
-IsSpelledBy key body it = IsKeyOf key it × IsHeadWithin it × (body ≡ body_of it)
+IsSpelledBy key body it = IsKeyOf key it × IsBounded it × (body ≡ body_of it)
 
 -- The row is read as this record unless the program is out of memory. In no case is it bad.
 abbrev pub IsReadAs : Result Record RowError → Record → Type 0

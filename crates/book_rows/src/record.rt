@@ -1,6 +1,6 @@
 ghost use Rattle.std.specs.Prelude.{◌≡◌, ◌∷◌, ◌^◌, ◌<◌, List, ℕ, IfOk, IfErr, OnOk};
 ghost use Rattle.std.specs.Bool.{Decides};
-ghost use Rattle.book_rows.specs.Row.{kind_of, body_of, IsRecord, IsHeadWithin, IsKeyOf, IsReadAs, StandsFor};
+ghost use Rattle.book_rows.specs.Row.{kind_of, body_of, IsRecord, IsBounded, IsKeyOf, IsReadAs, StandsFor};
 ghost use Rattle.book_rows.specs.Row.{IsErrorAt};
 ghost use Rattle.book_rows.specs.Row.{IsSpelledBy};
 ghost use Rattle.book_rows.specs.Row.{IsWithin, error_at};
@@ -21,7 +21,7 @@ use book_keeper::RowKey;
 use book_prices::Price;
 use book_splits::{Recon, Txn};
 use book_statement::{Binding, Held, Line};
-use book_undo::Schedule;
+use book_undo::{Edit, Schedule};
 use std::alloc::Global;
 
 /// The bound of ids and of the numbers of a head, 2^62.
@@ -40,6 +40,10 @@ pub enum Record {
     Line(Line),
     Binding(Binding),
     Recon(Recon),
+    /// Leads from the book with this count of steps to the one before it.
+    Back(Edit),
+    /// Leads to the book with this count of steps from the one before it.
+    Forth(Edit),
 }
 
 /// Why a row is not read: its body is no spelling of a record of its kind, or its key is none of a record; or the
@@ -50,9 +54,10 @@ pub enum RowError {
     OutOfMemory,
 }
 
-/// The body of the record's row. The numbers of a head are below 2^62.
+/// The body of the record's row. The numbers of a head are below 2^62, and at most eight lists of an edit stand in one
+/// another.
 pub fn write_row(alloc: Global, what: &Record) -> Result<Bytes, OutOfMemory>
-    requires { IsHeadWithin what.now }
+    requires { IsBounded what.now }
     ensures body { IfOk result (λ body. body ≡ body_of what.now) }
     ensures fits { IfOk result (λ body. IsRecord what.now) }
 {
@@ -67,6 +72,7 @@ pub fn write_row(alloc: Global, what: &Record) -> Result<Bytes, OutOfMemory>
         Record::Line(it) => write_whole::<Rows, Line>(alloc, it),
         Record::Binding(it) => write_whole::<Rows, Binding>(alloc, it),
         Record::Recon(it) => write_whole::<Rows, Recon>(alloc, it),
+        Record::Back(_) | Record::Forth(_) => Err(OutOfMemory),
     }
 }
 
@@ -92,6 +98,7 @@ pub fn read_row(alloc: Global, key: RowKey, body: &[u8]) -> Result<Record, RowEr
         8 => read_line(alloc, key, body),
         9 => read_binding(alloc, key, body),
         10 => read_recon(alloc, key, body),
+        11 | 12 => Err(RowError::OutOfMemory),
         _ => Err(bad(key)),
     }
 }

@@ -1,0 +1,45 @@
+-- The bytes of things.
+use Rattle.std.specs.Prelude.{ℕ, List, [], ◌∷◌}
+use Rattle.book_undo.specs.Thing.{row_kind}
+use Rattle.book_undo.specs.declared.thing.Thing.{Thing}
+use Rattle.book_undo.specs.declared.thing.Thing.TheVariants as thing
+use Rattle.book_undo.specs.declared.thing.ThingKind.{ThingKind}
+use Rattle.book_rows.specs.CommodityBytes.{commodity_bytes, IsCommodity}
+use Rattle.book_rows.specs.AccountBytes.{account_bytes, IsAccount}
+use Rattle.book_rows.specs.TransactionBytes.{txn_bytes, IsTxn}
+use Rattle.book_rows.specs.PriceBytes.{price_bytes, IsPrice}
+use Rattle.book_rows.specs.ScheduleBytes.{schedule_bytes, IsSchedule}
+use Rattle.book_rows.specs.StatementBytes.{held_bytes, IsHeld, line_bytes, IsLine, binding_bytes, IsBinding}
+use Rattle.book_rows.specs.ReconciliationBytes.{recon_bytes, IsRecon}
+
+-- A kind of things as one byte, the kind of its rows.
+abbrev pub thing_kind_bytes : ThingKind → List ℕ
+thing_kind_bytes variant = row_kind variant ∷ []
+
+-- Each kind of things has a spelling.
+abbrev pub IsThingKind : ThingKind → Type 0
+IsThingKind variant = Unit {0}
+
+-- The fields of a thing as bytes, by its kind.
+abbrev pub thing_bytes : Thing → List ℕ
+thing_bytes (thing.Commodity it) = commodity_bytes it
+thing_bytes (thing.Account it) = account_bytes it
+thing_bytes (thing.Txn it) = txn_bytes it
+thing_bytes (thing.Price it) = price_bytes it
+thing_bytes (thing.Schedule it) = schedule_bytes it
+thing_bytes (thing.Held it) = held_bytes it
+thing_bytes (thing.Line it) = line_bytes it
+thing_bytes (thing.Binding it) = binding_bytes it
+thing_bytes (thing.Recon it) = recon_bytes it
+
+-- A thing whose fields have a spelling.
+abbrev pub IsThing : Thing → Type 0
+IsThing (thing.Commodity it) = IsCommodity it
+IsThing (thing.Account it) = IsAccount it
+IsThing (thing.Txn it) = IsTxn it
+IsThing (thing.Price it) = IsPrice it
+IsThing (thing.Schedule it) = IsSchedule it
+IsThing (thing.Held it) = IsHeld it
+IsThing (thing.Line it) = IsLine it
+IsThing (thing.Binding it) = IsBinding it
+IsThing (thing.Recon it) = IsRecon it
