@@ -1,6 +1,7 @@
 -- One row more is read: the state so far has what it stands for, and has exactly what the rows so far stand for.
 use Rattle.std.proofs.Common.{◌≡◌, ℕ, Bool, List, [], ◌∷◌, ◌++◌, map, Some, None, Ok, Err, IsTrue}
-use Rattle.std.proofs.Common.{inl, inr, refl, sym, ap, ◌∙◌, subst}
+use Rattle.std.proofs.Common.{inl, inr, refl, sym, ap, ◌∙◌, subst, ◌≤◌, arith}
+use Rattle.book_rows.specs.Row.{kind_of}
 use Rattle.std.specs.List.{AllByRecursion}
 use Rattle.book_keeper.specs.declared.row.Row.{Row}
 use Rattle.book_keeper.specs.declared.row.RowKey.{RowKey}
@@ -226,3 +227,18 @@ next_bad rows last row s first rise next so_far only begins none is =
 pub begins_as :
     (rows : List Row) (s : State) (head : Head) → head_of s ≡ head → Begins rows head → Begins rows (head_of s)
 begins_as rows s head same begins = subst (Begins rows) (sym same) begins
+
+-- What a row of kind 1 stands for is a head.
+pub first_kind : (it : Record) → kind_of it ≤ 1 → (head : Head) × (it ≡ kept.Head head)
+first_kind (kept.Head head) low = (head, refl)
+first_kind (kept.Commodity it) low = absurd (omega (arith, low))
+first_kind (kept.Account it) low = absurd (omega (arith, low))
+first_kind (kept.Txn it) low = absurd (omega (arith, low))
+first_kind (kept.Price it) low = absurd (omega (arith, low))
+first_kind (kept.Schedule it) low = absurd (omega (arith, low))
+first_kind (kept.Held it) low = absurd (omega (arith, low))
+first_kind (kept.Line it) low = absurd (omega (arith, low))
+first_kind (kept.Binding it) low = absurd (omega (arith, low))
+first_kind (kept.Recon it) low = absurd (omega (arith, low))
+first_kind (kept.Back it) low = absurd (omega (arith, low))
+first_kind (kept.Forth it) low = absurd (omega (arith, low))

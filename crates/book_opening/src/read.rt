@@ -1,9 +1,10 @@
-ghost use Rattle.std.specs.Prelude.{◌≡◌, ◌↔◌, ◌<◌, List, Some, None, Option, IfOk, IfErr, IfSome, OnOk, IsTrue};
+ghost use Rattle.std.specs.Prelude.{◌≡◌, ◌≢◌, ◌↔◌, ◌<◌, List, Some, None, Option, IfOk, IfErr, IfSome, IfNone, OnOk};
+ghost use Rattle.std.specs.Prelude.{IsTrue};
 ghost use Rattle.std.specs.List.{AllByRecursion};
 ghost use Rattle.book_keeper.specs.Rows.{rank};
 ghost use Rattle.book_keeper.specs.declared.row.Row.{Row as HeldRow};
 ghost use Rattle.book_undo.specs.Book.{empty_book};
-ghost use Rattle.book_rows.specs.Row.{IsWithin};
+ghost use Rattle.book_rows.specs.Row.{IsWithin, kind_of};
 ghost use Rattle.book_opening.specs.BookRows.{records_of, row_of, rows_of};
 ghost use Rattle.book_opening.specs.Item.{record_of_item, with_item};
 ghost use Rattle.book_opening.specs.Opening.{Answers, Begins, HasOpenCause, IsBadFor, IsBadHead, IsBadThing};
@@ -86,10 +87,33 @@ fn read_head(alloc: Global, row: &Row) -> Result<Head, OpenFault>
         return Err(OpenFault::BadRows { kind: 1, id: 0 });
     }
     match read_row(alloc, row.key, row.body.as_slice()) {
-        Ok(Record::Head(head)) => Ok(head),
-        Ok(_) => Err(bad(row.key)),
+        Ok(it) => match head_in(it) {
+            Some(head) => Ok(head),
+            None => Err(bad(row.key)),
+        },
         Err(RowError::Bad { .. }) => Err(bad(row.key)),
         Err(RowError::OutOfMemory) => Err(OpenFault::OutOfMemory),
+    }
+}
+
+/// The head that a record is; None where it is another record.
+fn head_in(it: Record) -> Option<Head>
+    ensures head { IfSome result (λ head. it ≡ Record.Head head) }
+    ensures none { IfNone result (kind_of it ≢ 1) }
+{
+    match it {
+        Record::Head(head) => Some(head),
+        Record::Commodity(_)
+        | Record::Account(_)
+        | Record::Txn(_)
+        | Record::Price(_)
+        | Record::Schedule(_)
+        | Record::Held(_)
+        | Record::Line(_)
+        | Record::Binding(_)
+        | Record::Recon(_)
+        | Record::Back(_)
+        | Record::Forth(_) => None,
     }
 }
 

@@ -10,7 +10,7 @@ use book_codec::write_whole;
 use book_commodity::{Bytes, Commodity, OutOfMemory};
 use book_keeper::{Row, RowKey};
 use book_prices::Price;
-use book_rows::{Head, Record, Rows, write_row};
+use book_rows::{Head, Record, Rows};
 use book_splits::{Recon, Txn};
 use book_statement::{Binding, Held, Line};
 use book_undo::{Edit, Schedule, Thing, ThingKind};
@@ -22,7 +22,7 @@ pub(crate) fn head_row(alloc: Global, head: Head) -> Result<Row, OutOfMemory>
     ensures row { IfOk result (λ row. row ≡ row_of (0, Record.Head head)) }
     ensures fits { IfOk result (λ row. IsRecord (Record.Head head)) }
 {
-    let body = write_row(alloc, &Record::Head(head))?;
+    let body = write_whole::<Rows, Head>(alloc, &head)?;
     Ok(Row {
         key: RowKey { kind: 1, id: 0 },
         body,
