@@ -10,7 +10,7 @@ use book_codec::write_whole;
 use book_commodity::{Bytes, Commodity, OutOfMemory};
 use book_keeper::{Row, RowKey};
 use book_prices::Price;
-use book_rows::{Head, Record, Rows};
+use book_rows::{Head, Record, Rows, write_edit};
 use book_splits::{Recon, Txn};
 use book_statement::{Binding, Held, Line};
 use book_undo::{Edit, Schedule, Thing, ThingKind};
@@ -69,7 +69,11 @@ fn step_row(alloc: Global, kind: u8, number: u64, edit: &Edit) -> Result<Row, Ou
     ensures body { IfOk result (λ row. row.body ≡ 1 ∷ edit_bytes edit.now) }
     ensures fits { IfOk result (λ row. IsEdit edit.now) }
 {
-    Err(OutOfMemory)
+    let body = write_edit(alloc, edit)?;
+    Ok(Row {
+        key: RowKey { kind, id: number },
+        body,
+    })
 }
 
 /// The kind of the rows of a kind of things.

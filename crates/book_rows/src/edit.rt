@@ -14,7 +14,7 @@ use std::alloc::Global;
 const MAX_DEPTH: u32 = 8;
 
 /// The body of an edit: the format byte 1 and then its spelling.
-pub(crate) fn write_edit(alloc: Global, edit: &Edit) -> Result<Bytes, OutOfMemory>
+pub fn write_edit(alloc: Global, edit: &Edit) -> Result<Bytes, OutOfMemory>
     ensures spelled { IfOk result (λ body. body ≡ 1 ∷ edit_bytes edit.now) }
     ensures fits { IfOk result (λ body. HasValues edit.now) }
 {

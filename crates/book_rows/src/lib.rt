@@ -20,6 +20,7 @@ mod tests;
 mod thing;
 mod transaction;
 
+pub use edit::write_edit;
 pub use head::Head;
 pub use record::{Record, RowError, read_row, write_row};
 pub use rows::Rows;
