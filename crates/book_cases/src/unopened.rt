@@ -98,7 +98,7 @@ struct Ended {
 }
 
 /// The same where the keeper fails at this call.
-fn ended(alloc: Global, fails: u64) -> Result<Ended, OutOfMemory> {
+fn ending_at(alloc: Global, fails: u64) -> Result<Ended, OutOfMemory> {
     let mut keeper = Failing {
         keeper: ran_over(alloc, empty_keeper(alloc, &[])?, SALARY)?.keeper,
         calls: 0,
@@ -136,7 +136,7 @@ fn a_keeper_that_fails_before_the_first_line(rt: HostRuntime) -> Result<(), Fail
             unread: DROP.len(),
             rows: 6,
         };
-        assert_eq!(rt; ended(rt.alloc(), call)?, unopened, "at {call}");
+        assert_eq!(rt; ending_at(rt.alloc(), call)?, unopened, "at {call}");
     }
     let refused = Ended {
         status: Status::Done,
@@ -144,6 +144,6 @@ fn a_keeper_that_fails_before_the_first_line(rt: HostRuntime) -> Result<(), Fail
         unread: 0,
         rows: 6,
     };
-    assert_eq!(rt; ended(rt.alloc(), 9)?, refused);
+    assert_eq!(rt; ending_at(rt.alloc(), 9)?, refused);
     Ok(())
 }
