@@ -29,4 +29,18 @@ pub enum Answer {
         balances: Many<i128>,
     },
     Drop,
+    Undo,
+    Redo,
+    /// The counts of the present book's accounts, the root among them, of its lines of statements, reconciliations,
+    /// splits and transactions; and how many books came before it and can come back (`past`), and how many were undone
+    /// and can come again (`later`).
+    Status {
+        accounts: u64,
+        later: u64,
+        lines: u64,
+        past: u64,
+        recons: u64,
+        splits: u64,
+        transactions: u64,
+    },
 }

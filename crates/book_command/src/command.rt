@@ -1,16 +1,29 @@
 use book_accounts::Account;
 use book_commodity::{Commodity, Day, Many, Text};
 
-/// What one line asks: a change of the book, and at which version, where that is given.
+/// What one line asks, and at which version, where that is given.
 #[derive(Drop)]
 pub struct Command {
     pub at: Option<u64>,
     pub what: What,
 }
 
-/// A change of the book, by the command's word.
+/// What one line asks.
 #[derive(Drop)]
 pub enum What {
+    /// A change of the book.
+    Update(Update),
+    /// The book before the last change that was not undone becomes the present one.
+    Undo,
+    /// The change that was undone last is made again.
+    Redo,
+    /// How much of each kind the book has, and how many steps can be undone and redone.
+    Status,
+}
+
+/// A change of the book, by the command's word.
+#[derive(Drop)]
+pub enum Update {
     /// The book's currency becomes this commodity.
     BookCurrency {
         commodity: u64,

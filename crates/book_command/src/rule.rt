@@ -41,6 +41,10 @@ pub enum Rule {
     Unbalanced { sum: i128 },
     /// This split is reconciled with a statement, and would be removed, or have another account or quantity.
     Reconciled { split: u64 },
+    /// There is no change that could be undone.
+    NothingToUndo,
+    /// There is no undone change that could be made again.
+    NothingToRedo,
     /// What is counted would pass its limit, which is `at`.
     Limit { which: Counted, at: u64 },
 }

@@ -1,7 +1,9 @@
 pub mod Acting
 pub mod Balances
+pub mod Chain
 pub mod Changes
 pub mod Kept
+pub mod Machine
 pub mod Opening
 pub mod Opens
 pub mod Planned

@@ -6,14 +6,15 @@ use Rattle.std.specs.List.{AllByRecursion}
 use Rattle.book_keeper.specs.declared.row.Row.{Row}
 use Rattle.book_keeper.specs.declared.row.Change.TheVariants as change
 use Rattle.book_keeper.specs.Rows.{AllAbove, AreRising, AreRisingFrom, Rises, after_changes, rank, with_row}
-use Rattle.book_undo.specs.Book.{IsRising}
 use Rattle.book_rows.specs.declared.record.Record.{Record}
-use Rattle.book_opening.specs.BookRows.{records_of, row_of, rows_of, things_of}
+use Rattle.book_opening.specs.BookRows.{behind_head, records_of, row_of, rows_of}
 use Rattle.book_opening.specs.Changes.{all_put}
 use Rattle.book_opening.specs.Opening.{CanBeRow, OpenAs}
 use Rattle.book_opening.specs.State.{State}
+use Rattle.book_opening.specs.Steps.{AreCounted}
 use Rattle.book_opening.proofs.Ranked.{RisesBy}
-use Rattle.book_opening.proofs.ThingRecords.{IsSmall, rank_of, things_behind, things_rise}
+use Rattle.book_opening.proofs.StateRecords.{TablesRise, records_behind, records_rise}
+use Rattle.book_opening.proofs.ThingRecords.{IsSmall, rank_of}
 use Rattle.book_opening.proofs.ChangeLaws.{small_numbers}
 
 above_mapped :
@@ -26,10 +27,10 @@ rises_mapped [] h = tt
 rises_mapped (e ∷ es) h = (above_mapped (rank_of e) es h.0, rises_mapped es h.1)
 
 -- The keys of a state's rows rise, so that each stands once.
-pub rows_rise : (s : State) → IsRising s.book → AllByRecursion IsSmall (things_of s.book) → Rises (rows_of s)
+pub rows_rise : (s : State) → TablesRise s → AllByRecursion IsSmall (behind_head s) → Rises (rows_of s)
 rows_rise s rise small = (
-  above_mapped (1 * 2 ^ 64 + 0) (things_of s.book) (things_behind s.book small),
-  rises_mapped (things_of s.book) (things_rise s.book rise small),
+  above_mapped (1 * 2 ^ 64 + 0) (behind_head s) (records_behind s small),
+  rises_mapped (behind_head s) (records_rise s rise small),
 )
 
 front_below :
@@ -54,12 +55,15 @@ put_behind front (row ∷ rest) rise =
     ∙ put_behind (front ++ row ∷ []) rest (subst Rises (sym joined) rise)
     ∙ joined
 
--- Where there were no rows, they open as a state once all its rows are put.
+-- Where there were no rows, they open as a state once all its rows are put, where its steps are those that its head
+-- counts.
 pub opens_from_none :
-    (s : State) → IsRising s.book → AllByRecursion CanBeRow (records_of s) → OpenAs (after_changes (all_put s) []) s
-opens_from_none s rise can = record {
-  are = put_behind [] (rows_of s) (rows_rise s rise (small_numbers (things_of s.book) can.1));
+    (s : State) → TablesRise s → AllByRecursion CanBeRow (records_of s) → AreCounted s
+    → OpenAs (after_changes (all_put s) []) s
+opens_from_none s rise can counted = record {
+  are = put_behind [] (rows_of s) (rows_rise s rise (small_numbers (behind_head s) can.1));
   spelled = can;
+  counted = counted;
 }
 
 put_rise :
@@ -80,7 +84,7 @@ all_positive (e ∷ es) = (omega arith, all_positive es)
 
 -- And the keys of these changes rise, as a commit wants it.
 pub all_put_rise :
-    (s : State) → IsRising s.book → AllByRecursion CanBeRow (records_of s) → AreRising (all_put s)
+    (s : State) → TablesRise s → AllByRecursion CanBeRow (records_of s) → AreRising (all_put s)
 all_put_rise s rise can =
-    put_rise 0 (records_of s) (rows_rise s rise (small_numbers (things_of s.book) can.1)) (all_positive (records_of s))
+    put_rise 0 (records_of s) (rows_rise s rise (small_numbers (behind_head s) can.1)) (all_positive (records_of s))
     (small_numbers (records_of s) can)

@@ -8,7 +8,8 @@ use Rattle.std.specs.List.{AllByRecursion, flat_map}
 use Rattle.book_keeper.specs.declared.row.RowKey.{RowKey}
 use Rattle.book_keeper.specs.declared.row.Row.{Row}
 use Rattle.book_keeper.specs.declared.row.Change.{Change}
-use Rattle.book_keeper.specs.Rows.{AreRising, AreRisingFrom, after_changes, rank, with_row, without_row}
+use Rattle.book_keeper.specs.Rows.{AreRising, AreRisingFrom, after_change, after_changes, changed_key, rank}
+use Rattle.book_keeper.specs.Rows.{with_row, without_row}
 use Rattle.book_commodity.proofs.ListLemmas.{mapped_none}
 use Rattle.book_undo.specs.Book.{Book, with_currency, with_thing, without_thing}
 use Rattle.book_undo.specs.Edit.{Leaf, OfCurrency, OfPut, OfGone, leaves, edited, key_at}
@@ -25,23 +26,19 @@ use Rattle.book_rows.specs.declared.head.Head.{Head}
 use Rattle.book_rows.specs.declared.record.Record.{Record}
 use Rattle.book_rows.specs.declared.record.Record.TheVariants as kept
 use Rattle.book_opening.specs.BookRows.{behind_head, record_of, row_of, things_of}
+use Rattle.book_opening.specs.Changes.{GoneBack, GoneForth, PutBack, PutForth, StepChange, StepFits, step_change}
+use Rattle.book_opening.specs.Changes.{step_number, with_step, with_steps}
+use Rattle.book_opening.specs.Item.{record_of_item, with_item}
 use Rattle.book_opening.specs.Changes.{LeafFits, IsSmallLeaf, changes_of, leaf_changes}
-use Rattle.book_opening.specs.Opening.{CanBeRow, HasNoSteps, OpenAs}
+use Rattle.book_opening.specs.Opening.{CanBeRow, OpenAs}
 use Rattle.book_opening.specs.State.{State, head_of}
+use Rattle.book_opening.specs.Steps.{AreCounted}
+use Rattle.book_opening.specs.declared.item.Item.{Item}
+use Rattle.book_opening.specs.declared.item.Item.TheVariants as item
 use Rattle.book_opening.proofs.Ranked.{put_in, take_out, all_both, all_put, all_take, all_weak, pushed, pushed_one}
-use Rattle.book_opening.proofs.ThingRecords.{rank_of, IsSmall, things_with, things_without}
-
--- the kind of a thing's record is that of the thing, and none is the head's
-pub kind-record : (t : Thing) → kind_of (record_of t) ≡ row_kind (thing_kind t)
-kind-record (thing.Commodity x) = refl
-kind-record (thing.Account x) = refl
-kind-record (thing.Txn x) = refl
-kind-record (thing.Price x) = refl
-kind-record (thing.Schedule x) = refl
-kind-record (thing.Held x) = refl
-kind-record (thing.Line x) = refl
-kind-record (thing.Binding x) = refl
-kind-record (thing.Recon x) = refl
+use Rattle.book_opening.proofs.StateRecords.{kind-record, kind_most, put_item, record_most, steps_of, take_back, take_forth, take_thing}
+use Rattle.book_opening.proofs.StateRecords.{with_book, without_back, without_forth}
+use Rattle.book_opening.proofs.ThingRecords.{rank_of, IsSmall}
 
 pub kind_least : (k : ThingKind) → 2 ≤ row_kind k
 kind_least kind.Commodity = omega arith
@@ -54,19 +51,14 @@ kind_least kind.Line = omega arith
 kind_least kind.Binding = omega arith
 kind_least kind.Recon = omega arith
 
-no_steps : (t : Thing) → HasNoSteps (record_of t)
-no_steps (thing.Commodity x) = tt
-no_steps (thing.Account x) = tt
-no_steps (thing.Txn x) = tt
-no_steps (thing.Price x) = tt
-no_steps (thing.Schedule x) = tt
-no_steps (thing.Held x) = tt
-no_steps (thing.Line x) = tt
-no_steps (thing.Binding x) = tt
-no_steps (thing.Recon x) = tt
-
 pub record_least : (t : Thing) → 2 ≤ kind_of (record_of t)
 record_least t = let same = kind-record t in let least = kind_least (thing_kind t) in omega (arith, same, least)
+
+-- the kind of what stands behind the head is not the head's
+pub item_least : (it : Item) → 2 ≤ kind_of (record_of_item it)
+item_least (item.Thing t) = record_least t
+item_least (item.Back e) = omega arith
+item_least (item.Forth e) = omega arith
 
 -- ---- rows of records
 mapped_put :
@@ -99,107 +91,180 @@ left_first key first rows lt = grind (arith, nat_tests)
 past_head : (k n : ℕ) → 2 ≤ k → 1 * 2 ^ 64 + 0 < k * 2 ^ 64 + n
 past_head k n least = omega arith
 
--- the rows with that of a thing are those of the book with the thing
+-- The rows of a state under a head.
+abbrev pub rows_under : Head → State → List Row
+rows_under head s = map row_of ((0, kept.Head head) ∷ behind_head s)
+
+-- The rows with one more are those of the state with what it stands for.
 pub put_row :
-    (head : Head) (n : ℕ) (t : Thing) (b : Book) → n < 2 ^ 62 → AllByRecursion IsSmall (things_of b)
-    → with_row (row_of (n, record_of t)) (map row_of (behind_head head b))
-    ≡ map row_of (behind_head head (with_thing n t b))
-put_row head n t b small all =
-    behind_first (row_of (n, record_of t)) (row_of (0, kept.Head head)) (map row_of (things_of b))
-    (past_head (kind_of (record_of t)) n (record_least t))
+    (head : Head) (n : ℕ) (it : Item) (s : State) → n < 2 ^ 62 → AllByRecursion IsSmall (behind_head s)
+    → with_row (row_of (n, record_of_item it)) (rows_under head s) ≡ rows_under head (with_item n it s)
+put_row head n it s small all =
+    behind_first (row_of (n, record_of_item it)) (row_of (0, kept.Head head)) (map row_of (behind_head s))
+    (past_head (kind_of (record_of_item it)) n (item_least it))
     ∙ ap (λ (l : List Row). row_of (0, kept.Head head) ∷ l)
-    (mapped_put (n, record_of t) (things_of b) ∙ ap (map row_of) (sym (things_with n t b small all)))
+    (mapped_put (n, record_of_item it) (behind_head s) ∙ ap (map row_of) (put_item n it s small all))
 
-take_row :
-    (head : Head) (k : ThingKind) (n : ℕ) (b : Book) → n < 2 ^ 62 → AllByRecursion IsSmall (things_of b)
-    → without_row (record { kind = row_kind k; id = n }) (map row_of (behind_head head b))
-    ≡ map row_of (behind_head head (without_thing k n b))
-take_row head k n b small all =
-    left_first (record { kind = row_kind k; id = n }) (row_of (0, kept.Head head)) (map row_of (things_of b))
-    (past_head (row_kind k) n (kind_least k))
+gone_row :
+    (head : Head) (key : RowKey) (s t : State) → 2 ≤ key.kind
+    → take_out rank_of (rank key) (behind_head s) ≡ behind_head t
+    → without_row key (rows_under head s) ≡ rows_under head t
+gone_row head key s t least taken =
+    left_first key (row_of (0, kept.Head head)) (map row_of (behind_head s)) (past_head key.kind key.id least)
     ∙ ap (λ (l : List Row). row_of (0, kept.Head head) ∷ l)
-    (mapped_take (record { kind = row_kind k; id = n }) (things_of b)
-    ∙ ap (map row_of) (sym (things_without k n b small all)))
+    (mapped_take key (behind_head s) ∙ ap (map row_of) taken)
 
--- what holds of all records still does with one more
+-- What holds of all records still does with one more.
 pub all_with :
-    (P : ℕ × Record → Type 0) (n : ℕ) (t : Thing) (b : Book) → n < 2 ^ 62 → AllByRecursion IsSmall (things_of b)
-    → P (n, record_of t) → AllByRecursion P (things_of b) → AllByRecursion P (things_of (with_thing n t b))
-all_with P n t b small all here h =
-    subst (AllByRecursion P) (sym (things_with n t b small all))
-    (all_put P rank_of (n, record_of t) (things_of b) here h)
+    (P : ℕ × Record → Type 0) (n : ℕ) (it : Item) (s : State) → n < 2 ^ 62 → AllByRecursion IsSmall (behind_head s)
+    → P (n, record_of_item it) → AllByRecursion P (behind_head s) → AllByRecursion P (behind_head (with_item n it s))
+all_with P n it s small all here h =
+    subst (AllByRecursion P) (put_item n it s small all)
+    (all_put P rank_of (n, record_of_item it) (behind_head s) here h)
 
-all_without :
-    (P : ℕ × Record → Type 0) (k : ThingKind) (n : ℕ) (b : Book) → n < 2 ^ 62
-    → AllByRecursion IsSmall (things_of b) → AllByRecursion P (things_of b)
-    → AllByRecursion P (things_of (without_thing k n b))
-all_without P k n b small all h =
-    subst (AllByRecursion P) (sym (things_without k n b small all))
-    (all_take P rank_of (row_kind k * 2 ^ 64 + n) (things_of b) h)
+all_gone :
+    (P : ℕ × Record → Type 0) (n : ℕ) (s t : State) → take_out rank_of n (behind_head s) ≡ behind_head t
+    → AllByRecursion P (behind_head s) → AllByRecursion P (behind_head t)
+all_gone P n s t taken h = subst (AllByRecursion P) taken (all_take P rank_of n (behind_head s) h)
 
 same_with_currency : (c : ℕ) (b : Book) → things_of (with_currency c b) ≡ things_of b
 unfolding things_of
 same_with_currency c b = refl
 
+-- another currency changes no record behind the head
+same_behind : (c : ℕ) (s : State) → behind_head s ≡ behind_head (with_book (with_currency c s.book) s)
+same_behind c s = ap (λ (l : List (ℕ × Record)). l ++ steps_of s) (sym (same_with_currency c s.book))
+
 -- ---- leaves
 rows_after_leaves :
-    (ls : List Leaf) (head : Head) (b : Book) → AllByRecursion IsSmall (things_of b) → AllByRecursion IsSmallLeaf ls
-    → after_changes (flat_map leaf_changes ls) (map row_of (behind_head head b))
-    ≡ map row_of (behind_head head (after_leaves ls b))
-rows_after_leaves [] head b all small = refl
-rows_after_leaves (OfCurrency c ∷ ls) head b all small =
-    ap (λ (es : List (ℕ × Record)). after_changes (flat_map leaf_changes ls) (map row_of ((0, kept.Head head) ∷ es)))
-    (sym (same_with_currency c b))
-    ∙ rows_after_leaves ls head (with_currency c b)
-    (subst (AllByRecursion IsSmall) (sym (same_with_currency c b)) all) small.1
-rows_after_leaves (OfPut n t ∷ ls) head b all small =
-    ap (after_changes (flat_map leaf_changes ls)) (put_row head n t b small.0 all)
-    ∙ rows_after_leaves ls head (with_thing n t b) (all_with IsSmall n t b small.0 all small.0 all) small.1
-rows_after_leaves (OfGone k n ∷ ls) head b all small =
-    ap (after_changes (flat_map leaf_changes ls)) (take_row head k n b small.0 all)
-    ∙ rows_after_leaves ls head (without_thing k n b) (all_without IsSmall k n b small.0 all all) small.1
+    (ls : List Leaf) (head : Head) (s : State) → AllByRecursion IsSmall (behind_head s) → AllByRecursion IsSmallLeaf ls
+    → after_changes (flat_map leaf_changes ls) (rows_under head s)
+    ≡ rows_under head (with_book (after_leaves ls s.book) s)
+rows_after_leaves [] head s all small = refl
+rows_after_leaves (OfCurrency c ∷ ls) head s all small =
+    let same = same_behind c s in
+    ap (λ (es : List (ℕ × Record)). after_changes (flat_map leaf_changes ls) (map row_of ((0, kept.Head head) ∷ es))) same
+    ∙ rows_after_leaves ls head (with_book (with_currency c s.book) s) (subst (AllByRecursion IsSmall) same all) small.1
+rows_after_leaves (OfPut n t ∷ ls) head s all small =
+    ap (after_changes (flat_map leaf_changes ls)) (put_row head n (item.Thing t) s small.0 all)
+    ∙ rows_after_leaves ls head (with_item n (item.Thing t) s)
+    (all_with IsSmall n (item.Thing t) s small.0 all small.0 all) small.1
+rows_after_leaves (OfGone k n ∷ ls) head s all small =
+    let next = with_book (without_thing k n s.book) s in
+    let taken = take_thing k n s small.0 all in
+    ap (after_changes (flat_map leaf_changes ls))
+    (gone_row head (record { kind = row_kind k; id = n }) s next (kind_least k) taken)
+    ∙ rows_after_leaves ls head next (all_gone IsSmall (row_kind k * 2 ^ 64 + n) s next taken all) small.1
+
+can_be : (n : ℕ) (it : Record) → 2 ≤ kind_of it → n < 2 ^ 62 → IsRecord it → CanBeRow (n, it)
+can_be n it least small fits = ((refl, small, (λ one. absurd (omega (arith, one, least)))), fits, refl)
+
+-- The numbers of records that can be rows are small.
+pub small_numbers : (es : List (ℕ × Record)) → AllByRecursion CanBeRow es → AllByRecursion IsSmall es
+small_numbers es can = all_weak CanBeRow IsSmall (λ e h. h.0.1) es can
 
 spelled_after :
-    (ls : List Leaf) (b : Book) → AllByRecursion IsSmall (things_of b) → AllByRecursion IsSmallLeaf ls
-    → AllByRecursion LeafFits ls → AllByRecursion CanBeRow (things_of b)
-    → AllByRecursion CanBeRow (things_of (after_leaves ls b))
-spelled_after [] b all small fit can = can
-spelled_after (OfCurrency c ∷ ls) b all small fit can =
-    let same = sym (same_with_currency c b) in
-    spelled_after ls (with_currency c b) (subst (AllByRecursion IsSmall) same all) small.1 fit.1
-    (subst (AllByRecursion CanBeRow) same can)
-spelled_after (OfPut n t ∷ ls) b all small fit can =
-    let least = record_least t in
-    let here : CanBeRow (n, record_of t) =
-    (((refl, small.0, (λ one. absurd (omega (arith, one, least)))), fit.0, refl), no_steps t) in
-    spelled_after ls (with_thing n t b) (all_with IsSmall n t b small.0 all small.0 all) small.1 fit.1
-    (all_with CanBeRow n t b small.0 all here can)
-spelled_after (OfGone k n ∷ ls) b all small fit can =
-    spelled_after ls (without_thing k n b) (all_without IsSmall k n b small.0 all all) small.1 fit.1
-    (all_without CanBeRow k n b small.0 all can)
+    (ls : List Leaf) (s : State) → AllByRecursion IsSmallLeaf ls → AllByRecursion LeafFits ls
+    → AllByRecursion CanBeRow (behind_head s)
+    → AllByRecursion CanBeRow (behind_head (with_book (after_leaves ls s.book) s))
+spelled_after [] s small fit can = can
+spelled_after (OfCurrency c ∷ ls) s small fit can =
+    spelled_after ls (with_book (with_currency c s.book) s) small.1 fit.1
+    (subst (AllByRecursion CanBeRow) (same_behind c s) can)
+spelled_after (OfPut n t ∷ ls) s small fit can =
+    let all = small_numbers (behind_head s) can in
+    spelled_after ls (with_item n (item.Thing t) s) small.1 fit.1
+    (all_with CanBeRow n (item.Thing t) s small.0 all (can_be n (record_of t) (record_least t) small.0 fit.0) can)
+spelled_after (OfGone k n ∷ ls) s small fit can =
+    let all = small_numbers (behind_head s) can in
+    let next = with_book (without_thing k n s.book) s in
+    spelled_after ls next small.1 fit.1
+    (all_gone CanBeRow (row_kind k * 2 ^ 64 + n) s next (take_thing k n s small.0 all) can)
 
--- the numbers of records that can be rows are small
-pub small_numbers : (es : List (ℕ × Record)) → AllByRecursion CanBeRow es → AllByRecursion IsSmall es
-small_numbers es can = all_weak CanBeRow IsSmall (λ e h. h.0.0.1) es can
+-- ---- steps
+-- The number of a step that changes can be that of a row.
+abbrev pub IsSmallStep : StepChange → Type 0
+IsSmallStep step = step_number step < 2 ^ 62
 
--- With the changes of a step made, the rows that opened as the state before it open as the state after it.
+step_row :
+    (step : StepChange) (head : Head) (s : State) → IsSmallStep step → AllByRecursion IsSmall (behind_head s)
+    → after_change (step_change step) (rows_under head s) ≡ rows_under head (with_step step s)
+step_row (PutBack n e) head s small all = put_row head n (item.Back e) s small all
+step_row (GoneBack n) head s small all =
+    gone_row head (record { kind = 11; id = n }) s (without_back n s) (omega arith) (take_back n s small all)
+step_row (PutForth n e) head s small all = put_row head n (item.Forth e) s small all
+step_row (GoneForth n) head s small all =
+    gone_row head (record { kind = 12; id = n }) s (without_forth n s) (omega arith) (take_forth n s all)
+
+step_all :
+    (P : ℕ × Record → Type 0) (step : StepChange) (s : State) → IsSmallStep step
+    → AllByRecursion IsSmall (behind_head s)
+    → ((it : Record) → 2 ≤ kind_of it → IsRecord it → P (step_number step, it)) → StepFits step
+    → AllByRecursion P (behind_head s) → AllByRecursion P (behind_head (with_step step s))
+step_all P (PutBack n e) s small all here fits h =
+    all_with P n (item.Back e) s small all (here (kept.Back e) (omega arith) fits) h
+step_all P (GoneBack n) s small all here fits h =
+    all_gone P (11 * 2 ^ 64 + n) s (without_back n s) (take_back n s small all) h
+step_all P (PutForth n e) s small all here fits h =
+    all_with P n (item.Forth e) s small all (here (kept.Forth e) (omega arith) fits) h
+step_all P (GoneForth n) s small all here fits h =
+    all_gone P (12 * 2 ^ 64 + n) s (without_forth n s) (take_forth n s all) h
+
+rows_after_steps :
+    (steps : List StepChange) (head : Head) (s : State) → AllByRecursion IsSmallStep steps
+    → AllByRecursion StepFits steps → AllByRecursion IsSmall (behind_head s)
+    → after_changes (map step_change steps) (rows_under head s) ≡ rows_under head (with_steps steps s)
+rows_after_steps [] head s small fit all = refl
+rows_after_steps (step ∷ steps) head s small fit all =
+    ap (after_changes (map step_change steps)) (step_row step head s small.0 all)
+    ∙ rows_after_steps steps head (with_step step s) small.1 fit.1
+    (step_all IsSmall step s small.0 all (λ it least fits. small.0) fit.0 all)
+
+spelled_steps :
+    (steps : List StepChange) (s : State) → AllByRecursion IsSmallStep steps → AllByRecursion StepFits steps
+    → AllByRecursion CanBeRow (behind_head s) → AllByRecursion CanBeRow (behind_head (with_steps steps s))
+spelled_steps [] s small fit can = can
+spelled_steps (step ∷ steps) s small fit can =
+    spelled_steps steps (with_step step s) small.1 fit.1
+    (step_all CanBeRow step s small.0 (small_numbers (behind_head s) can)
+    (λ it least fits. can_be (step_number step) it least small.0 fits) fit.0 can)
+
+after_both :
+    (xs ys : List Change) (rows : List Row) → after_changes (xs ++ ys) rows ≡ after_changes ys (after_changes xs rows)
+after_both [] ys rows = refl
+after_both (x ∷ xs) ys rows = after_both xs ys (after_change x rows)
+
+-- With the changes of an edit and of steps made, the rows that opened as the state before them open as the state after
+-- them, where its steps are those that its head counts.
 pub opens_after :
-    (rows : List Row) (s t : State) (edit : Edit) → OpenAs rows s → t.book ≡ edited edit s.book
+    (rows : List Row) (s t : State) (edit : Edit) (steps : List StepChange) → OpenAs rows s
+    → behind_head t ≡ behind_head (with_steps steps (with_book (edited edit s.book) s))
     → AllByRecursion IsSmallLeaf (leaves edit) → AllByRecursion LeafFits (leaves edit)
-    → IsRecord (kept.Head (head_of t)) → OpenAs (after_changes (changes_of (head_of t) edit) rows) t
-opens_after rows s t edit open_as is small fit head_fits =
+    → AllByRecursion IsSmallStep steps → AllByRecursion StepFits steps
+    → IsRecord (kept.Head (head_of t)) → AreCounted t
+    → OpenAs (after_changes (changes_of (head_of t) edit ++ map step_change steps) rows) t
+opens_after rows s t edit steps open_as is small fit small_steps fit_steps head_fits counted =
+    let head = head_of t in
     let can = open_as.spelled.1 in
-    let all = small_numbers (things_of s.book) can in
-    let book : after_leaves (leaves edit) s.book ≡ t.book = sym (edited-leaves edit s.book) ∙ sym is in
+    let all = small_numbers (behind_head s) can in
+    let book : after_leaves (leaves edit) s.book ≡ edited edit s.book = sym (edited-leaves edit s.book) in
+    let middle : State = with_book (edited edit s.book) s in
+    let can_middle : AllByRecursion CanBeRow (behind_head middle) =
+    subst (λ (b : Book). AllByRecursion CanBeRow (behind_head (with_book b s))) book
+    (spelled_after (leaves edit) s small fit can) in
     record {
-      are = ap (after_changes (changes_of (head_of t) edit)) open_as.are
-          ∙ rows_after_leaves (leaves edit) (head_of t) s.book all small
-          ∙ ap (λ (b : Book). map row_of (behind_head (head_of t) b)) book;
+      are = after_both (changes_of head edit) (map step_change steps) rows
+          ∙ ap (λ (l : List Row). after_changes (map step_change steps) (after_changes (changes_of head edit) l))
+          open_as.are
+          ∙ ap (after_changes (map step_change steps)) (rows_after_leaves (leaves edit) head s all small)
+          ∙ ap (λ (b : Book). after_changes (map step_change steps) (rows_under head (with_book b s))) book
+          ∙ rows_after_steps steps head middle small_steps fit_steps (small_numbers (behind_head middle) can_middle)
+          ∙ ap (λ (es : List (ℕ × Record)). map row_of ((0, kept.Head head) ∷ es)) (sym is);
       spelled = (
-        (((refl, omega arith, (λ one. refl)), head_fits, refl), (refl, refl)),
-        subst (λ (b : Book). AllByRecursion CanBeRow (things_of b)) book
-            (spelled_after (leaves edit) s.book all small fit can),
+        ((refl, omega arith, (λ one. refl)), head_fits, refl),
+        subst (AllByRecursion CanBeRow) (sym is) (spelled_steps steps middle small_steps fit_steps can_middle),
       );
+      counted = counted;
     }
 
 -- ---- the keys of the changes rise
@@ -251,6 +316,35 @@ pub changes_rise :
 changes_rise head edit e small =
     let order = mapped_none _ (first_unordered (key_at 0 0) (leaves edit)) e in
     (omega arith, omega arith, rise_from 0 0 (leaves edit) (1 * 2 ^ 64 + 0 + 1) order small (omega arith) (omega arith))
+
+rise_both :
+    (n m : ℕ) (xs ys : List Change) → AreRisingFrom n xs → n ≤ m → AllByRecursion (λ c. rank (changed_key c) < m) xs
+    → AreRisingFrom m ys → AreRisingFrom n (xs ++ ys)
+rise_both n m [] [] rise le below more = tt
+rise_both n m [] (y ∷ ys) rise le below more =
+    let first = more.0 in (omega (arith, le, first), more.1, more.2)
+rise_both n m (x ∷ xs) ys rise le below more =
+    let past = below.0 in
+    (rise.0, rise.1, rise_both (rank (changed_key x) + 1) m xs ys rise.2 (omega (arith, past)) below.1 more)
+
+leaves_below :
+    (ls : List Leaf) → AllByRecursion IsSmallLeaf ls
+    → AllByRecursion (λ c. rank (changed_key c) < 11 * 2 ^ 64) (flat_map leaf_changes ls)
+leaves_below [] small = tt
+leaves_below (OfCurrency c ∷ ls) small = leaves_below ls small.1
+leaves_below (OfPut n t ∷ ls) small =
+    let most = record_most t in let low = small.0 in (omega (arith, most, low), leaves_below ls small.1)
+leaves_below (OfGone k n ∷ ls) small =
+    let most = kind_most k in let low = small.0 in (omega (arith, most, low), leaves_below ls small.1)
+
+-- And so do those of the steps behind them, where their keys do.
+pub all_rise :
+    (head : Head) (edit : Edit) (steps : List StepChange) → out_of_order (leaves edit) ≡ None
+    → AllByRecursion IsSmallLeaf (leaves edit) → AreRisingFrom (11 * 2 ^ 64) (map step_change steps)
+    → AreRising (changes_of head edit ++ map step_change steps)
+all_rise head edit steps e small more =
+    rise_both 0 (11 * 2 ^ 64) (changes_of head edit) (map step_change steps) (changes_rise head edit e small) (omega arith)
+    (omega arith, leaves_below (leaves edit) small) more
 
 -- ---- the leaves of some edits, edit by edit
 pub step_added :

@@ -1,9 +1,12 @@
 pub mod AllRowLaws
 pub mod ChangeLaws
+pub mod FirstOff
 pub mod OpenLaws
 pub mod Ranked
 pub mod ReadLaws
 pub mod SameRecords
+pub mod StateRecords
+pub mod StepLaws
 pub mod TableLaws
 pub mod ThingRecords
 pub mod UpTo

@@ -114,35 +114,35 @@ take_entry k f r h n m is (e ∷ es) =
     (ap (λ l. f e ∷ l) (take_entry k f r h n m is es))
 
 -- ---- pieces
-put_pass :
+pub put_pass :
     {X : Type 0} (r : X → ℕ) (x : X) (xs ys : List X) → AllByRecursion (λ y. r y < r x) xs
     → put_in r x (xs ++ ys) ≡ xs ++ put_in r x ys
 put_pass r x [] ys h = refl
 put_pass r x (y ∷ xs) ys h = grind (arith, nat_tests, h.0, put_pass r x xs ys h.1)
 
-put_front :
+pub put_front :
     {X : Type 0} (r : X → ℕ) (x : X) (ys : List X) → AllByRecursion (λ y. r x < r y) ys → put_in r x ys ≡ x ∷ ys
 put_front r x [] h = refl
 put_front r x (y ∷ ys) h = grind (arith, nat_tests, h.0)
 
-put_stop :
+pub put_stop :
     {X : Type 0} (r : X → ℕ) (x : X) (xs ys : List X) → AllByRecursion (λ y. r x < r y) ys
     → put_in r x (xs ++ ys) ≡ put_in r x xs ++ ys
 put_stop r x [] ys h = put_front r x ys h
 put_stop r x (y ∷ xs) ys h = grind (arith, nat_tests, put_stop r x xs ys h)
 
-take_pass :
+pub take_pass :
     {X : Type 0} (r : X → ℕ) (n : ℕ) (xs ys : List X) → AllByRecursion (λ y. r y < n) xs
     → take_out r n (xs ++ ys) ≡ xs ++ take_out r n ys
 take_pass r n [] ys h = refl
 take_pass r n (y ∷ xs) ys h = grind (arith, nat_tests, h.0, take_pass r n xs ys h.1)
 
-take_front :
+pub take_front :
     {X : Type 0} (r : X → ℕ) (n : ℕ) (ys : List X) → AllByRecursion (λ y. n < r y) ys → take_out r n ys ≡ ys
 take_front r n [] h = refl
 take_front r n (y ∷ ys) h = grind (arith, nat_tests, h.0, take_front r n ys h.1)
 
-take_stop :
+pub take_stop :
     {X : Type 0} (r : X → ℕ) (n : ℕ) (xs ys : List X) → AllByRecursion (λ y. n < r y) ys
     → take_out r n (xs ++ ys) ≡ take_out r n xs ++ ys
 take_stop r n [] ys h = take_front r n ys h
@@ -234,7 +234,7 @@ abbrev pub RisesBy : {X : Type 0} → (X → ℕ) → List X → Type 0
 RisesBy r [] = Unit {0}
 RisesBy r (x ∷ xs) = AllByRecursion (λ y. r x < r y) xs × RisesBy r xs
 
-rises_both :
+pub rises_both :
     {X : Type 0} (r : X → ℕ) (xs ys : List X) → RisesBy r xs → RisesBy r ys
     → AllByRecursion (λ x. AllByRecursion (λ y. r x < r y) ys) xs → RisesBy r (xs ++ ys)
 rises_both r [] ys p q h = q
@@ -271,3 +271,17 @@ pub above_first_edge :
     {X : Type 0} (r : X → ℕ) (edge : ℕ → ℕ) → ((i : ℕ) → edge i ≤ edge (suc i)) → (k : ℕ) (ss : List (List X))
     → InOrder r edge k ss → (n : ℕ) → n < edge k → AllByRecursion (λ y. n < r y) (joined ss)
 above_first_edge r edge up k ss o n lt = above_edge r edge up k ss o n lt
+
+-- the items of pieces in order are below the edge behind the last
+pub below_edge :
+    {X : Type 0} (r : X → ℕ) (edge : ℕ → ℕ) → ((i : ℕ) → edge i ≤ edge (suc i)) → (k : ℕ) (ss : List (List X))
+    → InOrder r edge k ss → AllByRecursion (λ y. r y < edge (k + length ss)) (joined ss)
+below_edge r edge up k [] o = tt
+below_edge {X} r edge up k (s ∷ ss) o =
+    let same : suc k + length ss ≡ k + suc (length ss) = omega arith in
+    let past = edge_up edge up (suc k) (length ss) in
+    all_both (λ (y : X). r y < edge (k + suc (length ss))) s (joined ss)
+    (all_weak (λ (x : X). (edge k ≤ r x) × (r x < edge (suc k))) (λ (y : X). r y < edge (k + suc (length ss)))
+    (λ x h. subst (λ (i : ℕ). r x < edge i) same (let high = h.1 in omega (arith, high, past))) s o.0)
+    (subst (λ (i : ℕ). AllByRecursion (λ (y : X). r y < edge i) (joined ss)) same
+    (below_edge r edge up (suc k) ss o.1))

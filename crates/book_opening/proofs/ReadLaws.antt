@@ -1,62 +1,84 @@
--- One row more is read: the book so far has its thing, and has exactly the things of the rows so far.
-use Rattle.std.proofs.Common.{◌≡◌, ℕ, Bool, List, [], ◌∷◌, map, Some, None}
-use Rattle.std.proofs.Common.{inl, inr, refl, sym, ap, ◌∙◌, subst}
+-- One row more is read: the state so far has what it stands for, and has exactly what the rows so far stand for.
+use Rattle.std.proofs.Common.{◌≡◌, ℕ, Bool, List, [], ◌∷◌, ◌++◌, map, Some, None, Ok, Err, IsTrue}
+use Rattle.std.proofs.Common.{inl, inr, refl, sym, ap, ◌∙◌, subst, ◌≤◌, arith}
+use Rattle.book_rows.specs.Row.{kind_of}
 use Rattle.std.specs.List.{AllByRecursion}
 use Rattle.book_keeper.specs.declared.row.Row.{Row}
 use Rattle.book_keeper.specs.declared.row.RowKey.{RowKey}
 use Rattle.book_keeper.specs.Rows.{Rises, rank, first_above, first_row, with_row}
-use Rattle.book_undo.specs.Book.{Book, empty_book, with_thing}
-use Rattle.book_undo.specs.declared.thing.Thing.{Thing}
+use Rattle.book_undo.specs.Book.{Book, empty_book}
+use Rattle.book_undo.specs.declared.edit.Edit.{Edit}
 use Rattle.book_undo.proofs.BookLaws.{currency-with}
 use Rattle.book_rows.specs.declared.head.Head.{Head}
 use Rattle.book_rows.specs.declared.record.Record.{Record}
 use Rattle.book_rows.specs.declared.record.Record.TheVariants as kept
-use Rattle.book_opening.specs.BookRows.{behind_head, record_of, row_of, things_of}
-use Rattle.book_opening.specs.Opening.{Begins, IsBadFor, IsBadHead, IsBadThing, IsLeastBad, IsOnlyRecord}
-use Rattle.book_opening.specs.Opening.{WasRead, head_key}
+use Rattle.book_opening.specs.BookRows.{back_records, behind_head, forth_records, records_of, row_of, rows_of, things_of}
+use Rattle.book_opening.specs.FirstOdd.{IsFirstOdd}
+use Rattle.book_opening.specs.Item.{record_of_item, with_item}
+use Rattle.book_opening.specs.Opening.{Answers, Begins, IsBadFor, IsBadHead, IsBadThing, IsLeastBad, IsNoRecord}
+use Rattle.book_opening.specs.Opening.{IsOnlyRecord, IsOpened, OpenAs, WasRead, head_key}
+use Rattle.book_opening.specs.Reading.{IsBegun, IsFirstBad, IsWhole, bad_key}
+use Rattle.book_opening.specs.State.{State, head_of, state_of}
 use Rattle.book_opening.specs.declared.fault.OpenFault.{OpenFault}
 use Rattle.book_opening.specs.declared.fault.OpenFault.TheVariants as fault
+use Rattle.book_opening.specs.declared.item.Item.{Item}
+use Rattle.book_opening.specs.declared.item.Item.TheVariants as item
+use Rattle.book_opening.specs.declared.saved.Saved.{Saved}
 use Rattle.book_opening.proofs.Ranked.{all_weak}
 use Rattle.book_opening.proofs.ThingRecords.{IsSmall}
-use Rattle.book_opening.proofs.ChangeLaws.{all_with, put_row}
-use Rattle.book_opening.proofs.UpTo.{up_to, up_to_next, up_to_end, up_to_first, good_rows, bad_next, bad_first}
-use Rattle.book_opening.proofs.UpTo.{bad_head}
-use Rattle.book_opening.proofs.UpTo.{IsGood}
+use Rattle.book_opening.proofs.ChangeLaws.{all_with, put_row, rows_under}
+use Rattle.book_opening.proofs.StepLaws.{part_bad, whole_bad, whole_opens}
+use Rattle.book_opening.proofs.UpTo.{up_to, up_to_next, up_to_end, up_to_first, bad_first, bad_head}
 
 small_records : (es : List (ℕ × Record)) → AllByRecursion IsOnlyRecord es → AllByRecursion IsSmall es
-small_records es h = all_weak IsOnlyRecord IsSmall (λ e only. only.0.0.0.1) es h
+small_records es h = all_weak IsOnlyRecord IsSmall (λ e only. only.0.0.1) es h
+
+-- The head stays with one more.
+pub head_with : (n : ℕ) (it : Item) (s : State) → head_of (with_item n it s) ≡ head_of s
+head_with n (item.Thing t) s =
+    ap
+    (λ (c : ℕ). record {
+      next = s.next;
+      version = s.version;
+      position = s.position;
+      past = s.past;
+      later = s.later;
+      currency = c;
+    })
+    (currency-with n t s.book)
+head_with n (item.Back e) s = refl
+head_with n (item.Forth e) s = refl
+
+pub next_head :
+    (s t : State) (n : ℕ) (it : Item) (head : Head) → t ≡ with_item n it s → head_of s ≡ head → head_of t ≡ head
+next_head s t n it head is same = ap head_of is ∙ head_with n it s ∙ same
 
 pub next_read :
-    (head : Head) (b c : Book) (n : ℕ) (t : Thing) → c ≡ with_thing n t b → IsOnlyRecord (n, record_of t)
-    → AllByRecursion IsOnlyRecord (behind_head head b) → AllByRecursion IsOnlyRecord (behind_head head c)
-next_read head b c n t is here h = (
-  h.0,
-  subst (λ (x : Book). AllByRecursion IsOnlyRecord (things_of x)) (sym is)
-      (all_with IsOnlyRecord n t b here.0.0.0.1 (small_records (things_of b) h.1) here h.1),
-)
-
-pub next_currency :
-    (b c : Book) (n : ℕ) (t : Thing) (currency : ℕ) → c ≡ with_thing n t b → b.currency ≡ currency
-    → c.currency ≡ currency
-next_currency b c n t currency is same = ap (λ (x : Book). x.currency) is ∙ currency-with n t b ∙ same
+    (s t : State) (n : ℕ) (it : Item) → t ≡ with_item n it s → IsOnlyRecord (n, record_of_item it)
+    → AllByRecursion IsOnlyRecord (records_of s) → AllByRecursion IsOnlyRecord (records_of t)
+next_read s t n it is here h =
+    subst (λ (x : State). AllByRecursion IsOnlyRecord (records_of x)) (sym is) (
+      subst (λ (x : Head). IsOnlyRecord (0, kept.Head x)) (sym (head_with n it s)) h.0,
+      all_with IsOnlyRecord n it s here.0.0.1 (small_records (behind_head s) h.1) here h.1,
+    )
 
 pub next_rows :
-    (rows : List Row) (last : ℕ) (row : Row) (head : Head) (b c : Book) (n : ℕ) (t : Thing) → Rises rows
-    → first_above last rows ≡ Some row → up_to last rows ≡ map row_of (behind_head head b)
-    → row ≡ row_of (n, record_of t) → c ≡ with_thing n t b → IsOnlyRecord (n, record_of t)
-    → AllByRecursion IsOnlyRecord (behind_head head b)
-    → up_to (rank row.key) rows ≡ map row_of (behind_head head c)
-next_rows rows last row head b c n t rise next so_far is book here h =
+    (rows : List Row) (last : ℕ) (row : Row) (s t : State) (n : ℕ) (it : Item) → Rises rows
+    → first_above last rows ≡ Some row → up_to last rows ≡ rows_of s → row ≡ row_of (n, record_of_item it)
+    → t ≡ with_item n it s → IsOnlyRecord (n, record_of_item it) → AllByRecursion IsOnlyRecord (records_of s)
+    → up_to (rank row.key) rows ≡ rows_of t
+next_rows rows last row s t n it rise next so_far row_is is here h =
     up_to_next last rows row rise next
     ∙ ap (with_row row) so_far
-    ∙ ap (λ (r : Row). with_row r (map row_of (behind_head head b))) is
-    ∙ put_row head n t b here.0.0.0.1 (small_records (things_of b) h.1)
-    ∙ ap (λ (x : Book). map row_of (behind_head head x)) (sym book)
+    ∙ ap (λ (r : Row). with_row r (rows_of s)) row_is
+    ∙ put_row (head_of s) n it s here.0.0.1 (small_records (behind_head s) h.1)
+    ∙ ap (λ (h : Head). rows_under h (with_item n it s)) (sym (head_with n it s))
+    ∙ ap rows_of (sym is)
 
 pub last_rows :
-    (rows : List Row) (last : ℕ) (head : Head) (b : Book) → first_above last rows ≡ None
-    → up_to last rows ≡ map row_of (behind_head head b) → rows ≡ map row_of (behind_head head b)
-last_rows rows last head b none so_far = sym (up_to_end last rows none) ∙ so_far
+    (rows : List Row) (last : ℕ) (s : State) → first_above last rows ≡ None → up_to last rows ≡ rows_of s
+    → rows ≡ rows_of s
+last_rows rows last s none so_far = sym (up_to_end last rows none) ∙ so_far
 
 -- a keeper that was read once more was read
 pub read_more :
@@ -68,24 +90,42 @@ read_more path sure holds a b c first second = record {
   same_rows = λ now rows held. second.same_rows now rows (first.same_rows (second.still_sure now) rows held);
 }
 
+pub read_none :
+    {K : Type 0} (path : K → List ℕ) (sure : K → Bool) (holds : K → List Row → Type 0) (a : K)
+    → WasRead path sure holds a a
+read_none path sure holds a =
+    record { same_path = refl; still_sure = λ now. now; same_rows = λ now rows held. held }
+
+-- ---- faults
+-- A fault without a key says nothing of the rows.
+pub unread_bad : (rows : List Row) (error : OpenFault) → bad_key error ≡ None → IsBadFor rows error
+unread_bad rows (fault.BadRows kind id) none = absurd cc
+unread_bad rows fault.Keeper none = tt
+unread_bad rows fault.OutOfMemory none = tt
+
+pub unread_opens : (state : State) (error : OpenFault) → bad_key error ≡ None → IsOpened state (Err error)
+unread_opens state (fault.BadRows kind id) none = absurd cc
+unread_opens state fault.Keeper none = tt
+unread_opens state fault.OutOfMemory none = tt
+
 abbrev key_of : ℕ → ℕ → RowKey
 key_of kind id = record { kind = kind; id = id }
 
--- a row behind the head that can't be opened is the least bad one
-pub bad_row :
-    (rows : List Row) (last : ℕ) (row : Row) (head : Head) (b : Book) (error : OpenFault) → Rises rows
-    → first_above last rows ≡ Some row → up_to last rows ≡ map row_of (behind_head head b)
-    → AllByRecursion IsOnlyRecord (behind_head head b) → Begins rows head → IsBadThing row error
+-- a fault with the least bad key
+pub least_for :
+    (rows : List Row) (error : OpenFault) (key : RowKey) → bad_key error ≡ Some key → IsLeastBad rows key
     → IsBadFor rows error
-bad_row rows last row head b (fault.BadRows kind id) rise next so_far h begins bad =
-    let good = subst (AllByRecursion IsGood) (sym so_far) (good_rows (behind_head head b) h) in
-    let least = bad_next last rows row (row_of (0, kept.Head head)) rise next good begins refl bad.2 in
-    let key : row.key ≡ record { kind = kind; id = id } =
-    ap (λ (k : ℕ). key_of k row.key.id) (sym bad.0)
-    ∙ ap (λ (i : ℕ). key_of kind i) (sym bad.1) in
-    subst (λ (k : RowKey). IsLeastBad rows k) key least
-bad_row rows last row head b fault.Keeper rise next so_far h begins bad = absurd bad
-bad_row rows last row head b fault.OutOfMemory rise next so_far h begins bad = tt
+least_for rows (fault.BadRows kind id) key is least =
+    let same : key ≡ key_of kind id = cc in subst (IsLeastBad rows) same least
+least_for rows fault.Keeper key is least = absurd cc
+least_for rows fault.OutOfMemory key is least = absurd cc
+
+-- that the row of a bad thing stands for nothing
+pub bad_thing : (row : Row) (error : OpenFault) (kind id : ℕ) → error ≡ fault.BadRows kind id → IsBadThing row error
+    → IsNoRecord row
+bad_thing row (fault.BadRows kind id) k i is bad = bad.2
+bad_thing row fault.Keeper k i is bad = absurd bad
+bad_thing row fault.OutOfMemory k i is bad = absurd cc
 
 -- and so is a first row that is no head
 pub bad_start :
@@ -104,29 +144,101 @@ bad_start rows row (fault.BadRows kind id) rise first (inr h) =
 bad_start rows row fault.Keeper rise first bad = absurd bad
 bad_start rows row fault.OutOfMemory rise first bad = tt
 
+-- ---- before the first row behind the head
 empty_things : (currency : ℕ) → things_of (empty_book currency) ≡ []
 unfolding things_of
 empty_things currency = refl
 
--- ---- before the first row behind the head
+-- A state of a head and of empty tables has nothing behind the head.
+pub begun_state :
+    (head : Head) (b : Book) (back forth : List (ℕ × Edit)) → b ≡ empty_book head.currency → back ≡ [] → forth ≡ []
+    → IsBegun head (record {
+      book = b;
+      next = head.next;
+      version = head.version;
+      position = head.position;
+      past = head.past;
+      later = head.later;
+      back = back;
+      forth = forth;
+    })
+begun_state head b back forth is no_back no_forth = record {
+  head_is = ap
+      (λ (x : Book). record {
+        next = head.next;
+        version = head.version;
+        position = head.position;
+        past = head.past;
+        later = head.later;
+        currency = x.currency;
+      })
+      is;
+  nothing = ap (λ (x : Book). things_of x ++ (back_records back ++ forth_records forth)) is
+      ∙ ap (λ (l : List (ℕ × Record)). l ++ (back_records back ++ forth_records forth)) (empty_things head.currency)
+      ∙ ap (λ (l : List (ℕ × Edit)). back_records l ++ forth_records forth) no_back
+      ∙ ap forth_records no_forth;
+}
+
 pub start_read :
-    (head : Head) (b : Book) (currency : ℕ) → b ≡ empty_book currency → IsOnlyRecord (0, kept.Head head)
-    → AllByRecursion IsOnlyRecord (behind_head head b)
-start_read head b currency is only = (
-  only,
-  subst (AllByRecursion IsOnlyRecord) (sym (ap things_of is ∙ empty_things currency)) tt,
+    (s : State) (head : Head) → IsBegun head s → IsOnlyRecord (0, kept.Head head)
+    → AllByRecursion IsOnlyRecord (records_of s)
+start_read s head begun only = (
+  subst (λ (h : Head). IsOnlyRecord (0, kept.Head h)) (sym begun.head_is) only,
+  subst (AllByRecursion IsOnlyRecord) (sym begun.nothing) tt,
 )
 
 pub start_rows :
-    (rows : List Row) (head : Head) (b : Book) (currency : ℕ) → b ≡ empty_book currency → Rises rows
-    → Begins rows head → up_to (rank head_key) rows ≡ map row_of (behind_head head b)
-start_rows rows head b currency is rise begins =
-    up_to_first rows (row_of (0, kept.Head head)) rise begins
-    ∙ ap (λ (es : List (ℕ × Record)). row_of (0, kept.Head head) ∷ map row_of es)
-    (sym (ap things_of is ∙ empty_things currency))
+    (rows : List Row) (s : State) → IsBegun (head_of s) s → Rises rows → Begins rows (head_of s)
+    → up_to (rank head_key) rows ≡ rows_of s
+start_rows rows s begun rise begins =
+    up_to_first rows (row_of (0, kept.Head (head_of s))) rise begins
+    ∙ ap (λ (es : List (ℕ × Record)). row_of (0, kept.Head (head_of s)) ∷ map row_of es) (sym begun.nothing)
 
-pub read_none :
-    {K : Type 0} (path : K → List ℕ) (sure : K → Bool) (holds : K → List Row → Type 0) (a : K)
-    → WasRead path sure holds a a
-read_none path sure holds a =
-    record { same_path = refl; still_sure = λ now. now; same_rows = λ now rows held. held }
+-- ---- all rows were read
+pub whole_ok :
+    (rows : List Row) (s : State) (saved : Saved) (head : Head) → rows ≡ rows_of s
+    → AllByRecursion IsOnlyRecord (records_of s) → head_of s ≡ head → IsWhole s (Ok saved)
+    → OpenAs rows (state_of saved) × (AllByRecursion IsOnlyRecord (records_of (state_of saved))
+    × (head_of (state_of saved) ≡ head))
+whole_ok rows s saved head are only same whole = (
+  subst (OpenAs rows) (sym whole.0) (whole_opens rows s are only whole.1),
+  (
+    subst (λ (x : State). AllByRecursion IsOnlyRecord (records_of x)) (sym whole.0) only,
+    ap head_of whole.0 ∙ same,
+  ),
+)
+
+pub whole_err :
+    (rows : List Row) (s : State) (error : OpenFault) → Rises rows → Begins rows (head_of s) → rows ≡ rows_of s
+    → AllByRecursion IsOnlyRecord (records_of s) → IsWhole s (Err error) → IsBadFor rows error
+whole_err rows s error rise begins are only whole =
+    least_for rows error whole.0 whole.1 (whole_bad rows s whole.0 rise begins are only whole.2)
+
+-- ---- the next row is bad
+pub next_bad :
+    (rows : List Row) (last : ℕ) (row : Row) (s : State) (first : RowKey) → Rises rows
+    → first_above last rows ≡ Some row → up_to last rows ≡ rows_of s → AllByRecursion IsOnlyRecord (records_of s)
+    → Begins rows (head_of s) → IsNoRecord row → IsFirstBad s row.key first
+    → IsBadFor rows (fault.BadRows first.kind first.id)
+next_bad rows last row s first rise next so_far only begins none is =
+    part_bad rows last row s first rise next so_far only begins none is
+
+-- rows that begin with a head begin with that of a state with this head
+pub begins_as :
+    (rows : List Row) (s : State) (head : Head) → head_of s ≡ head → Begins rows head → Begins rows (head_of s)
+begins_as rows s head same begins = subst (Begins rows) (sym same) begins
+
+-- What a row of kind 1 stands for is a head.
+pub first_kind : (it : Record) → kind_of it ≤ 1 → (head : Head) × (it ≡ kept.Head head)
+first_kind (kept.Head head) low = (head, refl)
+first_kind (kept.Commodity it) low = absurd (omega (arith, low))
+first_kind (kept.Account it) low = absurd (omega (arith, low))
+first_kind (kept.Txn it) low = absurd (omega (arith, low))
+first_kind (kept.Price it) low = absurd (omega (arith, low))
+first_kind (kept.Schedule it) low = absurd (omega (arith, low))
+first_kind (kept.Held it) low = absurd (omega (arith, low))
+first_kind (kept.Line it) low = absurd (omega (arith, low))
+first_kind (kept.Binding it) low = absurd (omega (arith, low))
+first_kind (kept.Recon it) low = absurd (omega (arith, low))
+first_kind (kept.Back it) low = absurd (omega (arith, low))
+first_kind (kept.Forth it) low = absurd (omega (arith, low))

@@ -1,14 +1,20 @@
 -- Books with the same records are the same: each table is what its kind has among the records.
-use Rattle.std.proofs.Common.{◌≡◌, ℕ, List, [], ◌∷◌, ◌++◌, map, Option, Some, None, refl, sym, ap, ◌∙◌, append-nil}
+use Rattle.std.proofs.Common.{◌≡◌, ℕ, ◌≤◌, List, [], ◌∷◌, ◌++◌, map, Option, Some, None, refl, sym, ap, ◌∙◌, append-nil}
+use Rattle.std.proofs.Common.{arith}
+use Rattle.std.specs.List.{AllByRecursion}
 use Rattle.book_undo.specs.Book.{Book}
+use Rattle.book_undo.specs.declared.edit.Edit.{Edit}
 use Rattle.book_undo.specs.declared.thing.Thing.{Thing}
 use Rattle.book_undo.specs.declared.thing.Thing.TheVariants as thing
+use Rattle.book_rows.specs.Row.{kind_of}
 use Rattle.book_rows.specs.declared.head.Head.{Head}
 use Rattle.book_rows.specs.declared.record.Record.{Record}
 use Rattle.book_rows.specs.declared.record.Record.TheVariants as kept
-use Rattle.book_opening.specs.BookRows.{record_of, records_in, records_of, tables_of, things_of}
+use Rattle.book_opening.specs.BookRows.{back_records, behind_head, forth_records, record_of, records_in, records_of}
+use Rattle.book_opening.specs.BookRows.{tables_of, things_of}
 use Rattle.book_opening.specs.State.{State, head_of}
-use Rattle.book_opening.proofs.Ranked.{joined}
+use Rattle.book_opening.proofs.Ranked.{all_weak, joined}
+use Rattle.book_opening.proofs.ThingRecords.{things_kinds}
 use Rattle.book_commodity.specs.declared.commodity.Commodity.{Commodity}
 use Rattle.book_accounts.specs.declared.account.Account.{Account}
 use Rattle.book_splits.specs.declared.transaction.Txn.{Txn}
@@ -258,11 +264,148 @@ same_things b c same currency =
     sym (reconciliations_in b) ∙ ap (pick as_recon) same ∙ reconciliations_in c in
     let left = made_is b in let right = made_is c in cc
 
-state_made : Book → ℕ → ℕ → ℕ → State
-state_made book next version position =
-    record { book = book; next = next; version = version; position = position }
+-- ---- states
+abbrev IsThing : ℕ × Record → Type 0
+IsThing e = (2 ≤ kind_of e.1) × (kind_of e.1 ≤ 10)
 
-state_made_is : (s : State) → state_made s.book s.next s.version s.position ≡ s
+abbrev as_thing : Record → Option Record
+as_thing (kept.Head it) = None
+as_thing (kept.Back it) = None
+as_thing (kept.Forth it) = None
+as_thing it = Some it
+
+abbrev as_back : Record → Option Edit
+as_back (kept.Back it) = Some it
+as_back _ = None
+
+abbrev as_forth : Record → Option Edit
+as_forth (kept.Forth it) = Some it
+as_forth _ = None
+
+thing_all : (it : Record) → 2 ≤ kind_of it → kind_of it ≤ 10 → as_thing it ≡ Some it
+thing_all (kept.Head it) low high = absurd (omega (arith, low))
+thing_all (kept.Back it) low high = absurd (omega (arith, high))
+thing_all (kept.Forth it) low high = absurd (omega (arith, high))
+thing_all (kept.Commodity it) low high = refl
+thing_all (kept.Account it) low high = refl
+thing_all (kept.Txn it) low high = refl
+thing_all (kept.Price it) low high = refl
+thing_all (kept.Schedule it) low high = refl
+thing_all (kept.Held it) low high = refl
+thing_all (kept.Line it) low high = refl
+thing_all (kept.Binding it) low high = refl
+thing_all (kept.Recon it) low high = refl
+
+thing_back : (it : Record) → kind_of it ≤ 10 → as_back it ≡ None
+thing_back (kept.Back it) high = absurd (omega (arith, high))
+thing_back (kept.Head it) high = refl
+thing_back (kept.Forth it) high = refl
+thing_back (kept.Commodity it) high = refl
+thing_back (kept.Account it) high = refl
+thing_back (kept.Txn it) high = refl
+thing_back (kept.Price it) high = refl
+thing_back (kept.Schedule it) high = refl
+thing_back (kept.Held it) high = refl
+thing_back (kept.Line it) high = refl
+thing_back (kept.Binding it) high = refl
+thing_back (kept.Recon it) high = refl
+
+thing_forth : (it : Record) → kind_of it ≤ 10 → as_forth it ≡ None
+thing_forth (kept.Forth it) high = absurd (omega (arith, high))
+thing_forth (kept.Head it) high = refl
+thing_forth (kept.Back it) high = refl
+thing_forth (kept.Commodity it) high = refl
+thing_forth (kept.Account it) high = refl
+thing_forth (kept.Txn it) high = refl
+thing_forth (kept.Price it) high = refl
+thing_forth (kept.Schedule it) high = refl
+thing_forth (kept.Held it) high = refl
+thing_forth (kept.Line it) high = refl
+thing_forth (kept.Binding it) high = refl
+thing_forth (kept.Recon it) high = refl
+
+pick-none :
+    {T : Type 0} (f : Record → Option T) (es : List (ℕ × Record)) → AllByRecursion (λ e. f e.1 ≡ None) es
+    → pick f es ≡ []
+pick-none f [] none = refl
+pick-none {T} f (e ∷ es) none =
+    ap (λ (o : Option T). kept_by o e.0 (pick f es)) none.0 ∙ pick-none f es none.1
+
+pick-all : (es : List (ℕ × Record)) → AllByRecursion IsThing es → pick as_thing es ≡ es
+pick-all [] are = refl
+pick-all (e ∷ es) are =
+    ap (λ (o : Option Record). kept_by o e.0 (pick as_thing es)) (thing_all e.1 are.0.0 are.0.1)
+    ∙ ap (λ (l : List (ℕ × Record)). e ∷ l) (pick-all es are.1)
+
+no_back_things : (es : List (ℕ × Edit)) → pick as_thing (back_records es) ≡ []
+no_back_things [] = refl
+no_back_things (e ∷ es) = no_back_things es
+
+no_forth_things : (es : List (ℕ × Edit)) → pick as_thing (forth_records es) ≡ []
+no_forth_things [] = refl
+no_forth_things (e ∷ es) = no_forth_things es
+
+all_back : (es : List (ℕ × Edit)) → pick as_back (back_records es) ≡ es
+all_back [] = refl
+all_back (e ∷ es) = ap (λ (l : List (ℕ × Edit)). e ∷ l) (all_back es)
+
+no_forth_back : (es : List (ℕ × Edit)) → pick as_back (forth_records es) ≡ []
+no_forth_back [] = refl
+no_forth_back (e ∷ es) = no_forth_back es
+
+no_back_forth : (es : List (ℕ × Edit)) → pick as_forth (back_records es) ≡ []
+no_back_forth [] = refl
+no_back_forth (e ∷ es) = no_back_forth es
+
+all_forth : (es : List (ℕ × Edit)) → pick as_forth (forth_records es) ≡ es
+all_forth [] = refl
+all_forth (e ∷ es) = ap (λ (l : List (ℕ × Edit)). e ∷ l) (all_forth es)
+
+three_parts :
+    {T : Type 0} (f : Record → Option T) (s : State)
+    → pick f (behind_head s)
+    ≡ pick f (things_of s.book) ++ (pick f (back_records s.back) ++ pick f (forth_records s.forth))
+three_parts {T} f s =
+    pick-both f (things_of s.book) (back_records s.back ++ forth_records s.forth)
+    ∙ ap (λ (l : List (ℕ × T)). pick f (things_of s.book) ++ l)
+    (pick-both f (back_records s.back) (forth_records s.forth))
+
+book_in : (s : State) → pick as_thing (behind_head s) ≡ things_of s.book
+book_in s =
+    three_parts as_thing s
+    ∙ own (pick-all (things_of s.book) (things_kinds s.book))
+    (skip (no_back_things s.back) (no_forth_things s.forth))
+
+back_in : (s : State) → pick as_back (behind_head s) ≡ s.back
+back_in s =
+    three_parts as_back s
+    ∙ skip (pick-none as_back (things_of s.book)
+    (all_weak IsThing (λ (e : ℕ × Record). as_back e.1 ≡ None) (λ e are. thing_back e.1 are.1) (things_of s.book)
+    (things_kinds s.book)))
+    (own (all_back s.back) (no_forth_back s.forth))
+
+forth_in : (s : State) → pick as_forth (behind_head s) ≡ s.forth
+forth_in s =
+    three_parts as_forth s
+    ∙ skip (pick-none as_forth (things_of s.book)
+    (all_weak IsThing (λ (e : ℕ × Record). as_forth e.1 ≡ None) (λ e are. thing_forth e.1 are.1) (things_of s.book)
+    (things_kinds s.book)))
+    (skip (no_back_forth s.back) (all_forth s.forth))
+
+state_made : Book → ℕ → ℕ → ℕ → ℕ → ℕ → List (ℕ × Edit) → List (ℕ × Edit) → State
+state_made book next version position past later back forth = record {
+  book = book;
+  next = next;
+  version = version;
+  position = position;
+  past = past;
+  later = later;
+  back = back;
+  forth = forth;
+}
+
+state_made_is :
+    (s : State) → state_made s.book s.next s.version s.position s.past s.later s.back s.forth ≡ s
 unfolding state_made
 state_made_is s = refl
 
@@ -272,9 +415,14 @@ same_state s t same =
     let first : ◌≡◌ {A = ℕ × Record} (0, kept.Head (head_of s)) (0, kept.Head (head_of t)) = cc in
     let records : kept.Head (head_of s) ≡ kept.Head (head_of t) = ap (λ (e : ℕ × Record). e.1) first in
     let heads : head_of s ≡ head_of t = cc in
-    let things : things_of s.book ≡ things_of t.book = cc in
+    let behind : behind_head s ≡ behind_head t = cc in
+    let things : things_of s.book ≡ things_of t.book = sym (book_in s) ∙ ap (pick as_thing) behind ∙ book_in t in
+    let back : s.back ≡ t.back = sym (back_in s) ∙ ap (pick as_back) behind ∙ back_in t in
+    let forth : s.forth ≡ t.forth = sym (forth_in s) ∙ ap (pick as_forth) behind ∙ forth_in t in
     let next : s.next ≡ t.next = ap (λ (h : Head). h.next) heads in
     let version : s.version ≡ t.version = ap (λ (h : Head). h.version) heads in
     let position : s.position ≡ t.position = ap (λ (h : Head). h.position) heads in
+    let past : s.past ≡ t.past = ap (λ (h : Head). h.past) heads in
+    let later : s.later ≡ t.later = ap (λ (h : Head). h.later) heads in
     let book : s.book ≡ t.book = same_things s.book t.book things (ap (λ (h : Head). h.currency) heads) in
     let left = state_made_is s in let right = state_made_is t in cc

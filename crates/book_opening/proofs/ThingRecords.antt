@@ -1,5 +1,5 @@
 -- The records of a book by kind: what a thing that is put or deleted changes of them.
-use Rattle.std.proofs.Common.{◌≡◌, ℕ, suc, ◌+◌, ◌*◌, ◌^◌, ◌<◌, ◌≤◌, List, [], ◌∷◌, refl}
+use Rattle.std.proofs.Common.{◌≡◌, ℕ, suc, ◌+◌, ◌*◌, ◌^◌, ◌<◌, ◌≤◌, List, [], ◌∷◌, length, refl}
 use Rattle.std.proofs.Common.{sym, ap, ◌∙◌, subst, arith}
 use Rattle.std.specs.List.{AllByRecursion}
 use Rattle.book_commodity.specs.Table.{Rises, with_entry, without_entry}
@@ -13,8 +13,9 @@ use Rattle.book_rows.specs.Row.{kind_of}
 use Rattle.book_rows.specs.declared.record.Record.{Record}
 use Rattle.book_opening.specs.BookRows.{record_of, records_in, tables_of, things_of}
 use Rattle.book_opening.proofs.Ranked.{put_in, take_out, put_at, take_at, joined, InOrder, put_entry, take_entry}
+use Rattle.book_opening.proofs.Ranked.{all_both, all_weak}
 use Rattle.book_opening.proofs.Ranked.{put_joined, take_joined, all_first, all_last, RisesBy, rises_entries}
-use Rattle.book_opening.proofs.Ranked.{rises_joined, above_first_edge}
+use Rattle.book_opening.proofs.Ranked.{rises_joined, above_first_edge, below_edge}
 
 -- The place of a record under a number among all, as one number.
 abbrev pub rank_of : ℕ × Record → ℕ
@@ -423,3 +424,25 @@ unfolding things_of
 things_behind b small =
     above_first_edge rank_of edge edges_rise 2 (tables_of b) (in_order 2 (tables_of b) (kinds_of b) small)
     (1 * 2 ^ 64 + 0) (omega arith)
+
+-- and before the steps
+pub things_below : (b : Book) → AllByRecursion IsSmall (things_of b)
+    → AllByRecursion (λ e. rank_of e < 11 * 2 ^ 64) (things_of b)
+unfolding things_of
+things_below b small =
+    below_edge rank_of edge edges_rise 2 (tables_of b) (in_order 2 (tables_of b) (kinds_of b) small)
+
+kinds_within :
+    (k : ℕ) (ss : List (List (ℕ × Record))) → AreOfKinds k ss → 2 ≤ k → k + length ss ≤ 11
+    → AllByRecursion (λ e. (2 ≤ kind_of e.1) × (kind_of e.1 ≤ 10)) (joined ss)
+kinds_within k [] same low high = tt
+kinds_within k (s ∷ ss) same low high =
+    all_both (λ e. (2 ≤ kind_of e.1) × (kind_of e.1 ≤ 10)) s (joined ss)
+    (all_weak (λ (e : ℕ × Record). kind_of e.1 ≡ k) (λ (e : ℕ × Record). (2 ≤ kind_of e.1) × (kind_of e.1 ≤ 10))
+    (λ e is. (omega (arith, is, low), omega (arith, is, high))) s same.0)
+    (kinds_within (suc k) ss same.1 (omega (arith, low)) (omega (arith, high)))
+
+-- The kinds of things are those from 2 to 10.
+pub things_kinds : (b : Book) → AllByRecursion (λ e. (2 ≤ kind_of e.1) × (kind_of e.1 ≤ 10)) (things_of b)
+unfolding things_of
+things_kinds b = kinds_within 2 (tables_of b) (kinds_of b) (omega arith) (omega arith)

@@ -1,5 +1,5 @@
 -- Rows that are read one after another: those up to a rank, the next one, and whether one is bad.
-use Rattle.std.proofs.Common.{◌≡◌, ℕ, ◌<◌, ◌≤◌, nat_lt, Bool, true, false, if◌then◌else◌, List, []}
+use Rattle.std.proofs.Common.{◌≡◌, ℕ, ◌<◌, ◌≤◌, ◌==◌, ◌&&◌, ◌||◌, nat_lt, Bool, true, false, if◌then◌else◌, List, []}
 use Rattle.std.proofs.Common.{◌∷◌, map, Option, Some, None, IfSome, inl, inr, ◌⊎◌, refl, sym, ap, ◌∙◌, subst, arith}
 use Rattle.std.proofs.lemmas.Bool.Decides.{nat_tests}
 use Rattle.std.specs.List.{AllByRecursion}
@@ -7,10 +7,11 @@ use Rattle.book_keeper.specs.declared.row.RowKey.{RowKey}
 use Rattle.book_keeper.specs.declared.row.Row.{Row}
 use Rattle.book_keeper.specs.Rows.{AllAbove, Rises, rank, with_row, first_above, first_row}
 use Rattle.book_keeper.proofs.RowLemmas.{first_is_above}
+use Rattle.book_rows.specs.Row.{StandsFor}
 use Rattle.book_rows.specs.declared.record.Record.{Record}
 use Rattle.book_opening.specs.BookRows.{row_of}
-use Rattle.book_opening.specs.Opening.{CanBeRow, IsLeastBad, IsNoRecord, IsOnlyRecord, LacksHead, OpensAs}
-use Rattle.book_opening.specs.Opening.{SomeRow, head_key}
+use Rattle.book_opening.specs.Opening.{CanBeRow, IsBad, IsLeastBad, IsNoRecord, IsOnlyRecord, LacksHead, head_key}
+use Rattle.book_opening.specs.Steps.{IsOdd, SomeRow, is_step, stands_at}
 
 -- The rows whose keys are at most at a rank.
 abbrev pub up_to : ℕ → List Row → List Row
@@ -63,10 +64,50 @@ pub up_to_end : (n : ℕ) (rows : List Row) → first_above n rows ≡ None → 
 up_to_end n [] e = refl
 up_to_end n (r ∷ rows) e = end_by n r rows (nat_lt n (rank r.key)) e (up_to_end n rows)
 
+-- ---- steps that stand at keys
+both_false : (s t : Bool) → s ≡ false → t ≡ false → (s || t) ≡ false
+both_false false t e f = f
+both_false true t e f = absurd cc
+
+-- keys of different ranks are different
+other_key :
+    (key other : RowKey) → rank key < rank other → ((key.kind == other.kind) && (key.id == other.id)) ≡ false
+other_key key other lt = grind (arith, nat_tests)
+
+none_beyond :
+    (n : ℕ) (key : RowKey) (rows : List Row) → AllAbove n rows → rank key ≤ n → stands_at key rows ≡ false
+none_beyond n key [] above low = refl
+none_beyond n key (r ∷ rows) above low =
+    let past = above.0 in
+    both_false ((key.kind == r.key.kind) && (key.id == r.key.id)) (stands_at key rows)
+    (other_key key r.key (omega (arith, past, low))) (none_beyond n key rows above.1 low)
+
+stands_by :
+    (n : ℕ) (key : RowKey) (r : Row) (rows : List Row) (row : Row) (t : Bool) → Rises (r ∷ rows)
+    → (if t then Some r else first_above n rows) ≡ Some row → rank key < rank row.key
+    → (first_above n rows ≡ Some row → stands_at key rows ≡ stands_at key (up_to n rows))
+    → stands_at key (r ∷ rows) ≡ stands_at key (if t then [] else r ∷ up_to n rows)
+stands_by n key r rows row true rise e low more =
+    let same : r ≡ row = cc in
+    let below : rank key < rank r.key = subst (λ (x : Row). rank key < rank x.key) (sym same) low in
+    both_false ((key.kind == r.key.kind) && (key.id == r.key.id)) (stands_at key rows) (other_key key r.key below)
+    (none_beyond (rank r.key) key rows rise.0 (omega (arith, below)))
+stands_by n key r rows row false rise e low more =
+    ap (λ (b : Bool). ((key.kind == r.key.kind) && (key.id == r.key.id)) || b) (more e)
+
+-- Whether a row stands at a key below the next row is seen of the rows before that.
+pub stands_up_to :
+    (n : ℕ) (key : RowKey) (rows : List Row) (row : Row) → Rises rows → first_above n rows ≡ Some row
+    → rank key < rank row.key → stands_at key rows ≡ stands_at key (up_to n rows)
+stands_up_to n key [] row rise e low = refl
+stands_up_to n key (r ∷ rows) row rise e low =
+    stands_by n key r rows row (nat_lt n (rank r.key)) rise e low
+    (λ f. stands_up_to n key rows row rise.1 f low)
+
 -- ---- bad rows
 -- A row that can be opened.
 abbrev pub IsGood : Row → Type 0
-IsGood row = (it : Record) × OpensAs row it
+IsGood row = (it : Record) × StandsFor row.key row.body it
 
 -- That the row of a key can't be opened.
 abbrev pub IsBadAt : RowKey → Row → Type 0
@@ -121,18 +162,73 @@ pub first_among :
 first_among P [] row e here = absurd cc
 first_among P (r ∷ rows) row e here = let same : row ≡ r = cc in inl (subst P same here)
 
--- the next row is the least bad one, where the rows before it are good and begin with a head
+-- The rows have their head.
+abbrev pub HasHead : List Row → Type 0
+HasHead rows = (head : Row) × (first_row rows ≡ Some head) × (head.key ≡ head_key)
+
+no_lack : (rows : List Row) → HasHead rows → LacksHead rows → ⊥
+no_lack rows has lacks = lacks.1 (first_among (λ r. r.key ≡ head_key) rows has.0 has.1 has.2)
+
+-- The next row is the least bad one, where the rows before it are good and begin with a head, and no step below it is
+-- missing or not counted.
 pub bad_next :
-    (n : ℕ) (rows : List Row) (row head : Row) → Rises rows → first_above n rows ≡ Some row
-    → AllByRecursion IsGood (up_to n rows) → first_row rows ≡ Some head → head.key ≡ head_key → IsNoRecord row
-    → IsLeastBad rows row.key
-bad_next n rows row head rise e good first at none = record {
+    (n : ℕ) (rows : List Row) (row : Row) → Rises rows → first_above n rows ≡ Some row
+    → AllByRecursion IsGood (up_to n rows) → HasHead rows → IsNoRecord row
+    → ((other : RowKey) → IsOdd rows other → rank row.key ≤ rank other) → IsLeastBad rows row.key
+bad_next n rows row rise e good has none odd = record {
   bad = inl (next_among (IsBadAt row.key) n rows row e (refl, none));
   least = λ other bad. elim bad as (λ _. rank row.key ≤ rank other) [
     | inl some ↦ least_next n rows row other rise e good some
-    | inr lacks ↦ absurd (lacks.1.1 (first_among (λ r. r.key ≡ head_key) rows head first at))
+    | inr more ↦ elim more as (λ _. rank row.key ≤ rank other) [
+      | inl lacks ↦ absurd (no_lack rows has lacks.1)
+      | inr step ↦ odd other step
+    ]
   ];
 }
+
+-- A step that is missing or not counted is the least bad key, where it is below the next row, and none is below it.
+pub bad_step_before :
+    (n : ℕ) (rows : List Row) (row : Row) (key : RowKey) → Rises rows → first_above n rows ≡ Some row
+    → AllByRecursion IsGood (up_to n rows) → HasHead rows → rank key < rank row.key → IsOdd rows key
+    → ((other : RowKey) → IsOdd rows other → rank key ≤ rank other) → IsLeastBad rows key
+bad_step_before n rows row key rise e good has low here odd = record {
+  bad = inr (inr here);
+  least = λ other bad. elim bad as (λ _. rank key ≤ rank other) [
+    | inl some ↦ (let past = least_next n rows row other rise e good some in omega (arith, past, low))
+    | inr more ↦ elim more as (λ _. rank key ≤ rank other) [
+      | inl lacks ↦ absurd (no_lack rows has lacks.1)
+      | inr step ↦ odd other step
+    ]
+  ];
+}
+
+none_bad : (key : RowKey) (rows : List Row) → AllByRecursion IsGood rows → SomeRow (IsBadAt key) rows → ⊥
+none_bad key [] good some = some
+none_bad key (r ∷ rows) good (inl h) = h.1 good.0.0 good.0.1
+none_bad key (r ∷ rows) good (inr h) = none_bad key rows good.1 h
+
+-- And it is where all rows are good.
+pub bad_step :
+    (rows : List Row) (key : RowKey) → AllByRecursion IsGood rows → HasHead rows → IsOdd rows key
+    → ((other : RowKey) → IsOdd rows other → rank key ≤ rank other) → IsLeastBad rows key
+bad_step rows key good has here odd = record {
+  bad = inr (inr here);
+  least = λ other bad. elim bad as (λ _. rank key ≤ rank other) [
+    | inl some ↦ absurd (none_bad other rows good some)
+    | inr more ↦ elim more as (λ _. rank key ≤ rank other) [
+      | inl lacks ↦ absurd (no_lack rows has lacks.1)
+      | inr step ↦ odd other step
+    ]
+  ];
+}
+
+-- Good rows with a head and without such a step are not bad.
+pub not_bad :
+    (rows : List Row) (key : RowKey) → AllByRecursion IsGood rows → HasHead rows → (IsOdd rows key → ⊥)
+    → IsBad rows key → ⊥
+not_bad rows key good has even (inl some) = none_bad key rows good some
+not_bad rows key good has even (inr (inl lacks)) = no_lack rows has lacks.1
+not_bad rows key good has even (inr (inr odd)) = even odd
 
 keys_above : (n : ℕ) (key : RowKey) (rows : List Row) → AllAbove n rows → SomeRow (λ r. r.key ≡ key) rows → n < rank key
 keys_above n key [] a some = absurd some
@@ -151,6 +247,9 @@ first_least (r ∷ rows) row key rise e (inr h) =
     let above = bad_above (rank r.key) key rows rise.0 h in
     subst (λ (x : Row). rank x.key ≤ rank key) same (omega (arith, above))
 
+step_behind : (key : RowKey) → is_step key ≡ true → rank head_key < rank key
+step_behind key step = grind (arith, nat_tests)
+
 -- a first row that can't be opened is the least bad one, where it is not behind the place of the head
 pub bad_first :
     (rows : List Row) (row : Row) → Rises rows → first_row rows ≡ Some row → rank row.key ≤ rank head_key
@@ -159,7 +258,10 @@ bad_first rows row rise e low none = record {
   bad = inl (first_among (IsBadAt row.key) rows row e (refl, none));
   least = λ other bad. elim bad as (λ _. rank row.key ≤ rank other) [
     | inl some ↦ first_least rows row other rise e some
-    | inr lacks ↦ subst (λ (k : RowKey). rank row.key ≤ rank k) (sym lacks.0) low
+    | inr more ↦ elim more as (λ _. rank row.key ≤ rank other) [
+      | inl lacks ↦ subst (λ (k : RowKey). rank row.key ≤ rank k) (sym lacks.0) low
+      | inr odd ↦ (let past = step_behind other odd.step in omega (arith, low, past))
+    ]
   ];
 }
 
@@ -183,10 +285,13 @@ pub bad_head :
     (rows : List Row) (row : Row) → Rises rows → first_row rows ≡ Some row → rank head_key < rank row.key
     → IsLeastBad rows head_key
 bad_head rows row rise e past = record {
-  bad = inr (refl, lacks_head rows row rise e past);
+  bad = inr (inl (refl, lacks_head rows row rise e past));
   least = λ other bad. elim bad as (λ _. rank head_key ≤ rank other) [
     | inl some ↦ (let low = first_least rows row other rise e some in omega (arith, low, past))
-    | inr lacks ↦ subst (λ (k : RowKey). rank head_key ≤ rank k) (sym lacks.0) (omega arith)
+    | inr more ↦ elim more as (λ _. rank head_key ≤ rank other) [
+      | inl lacks ↦ subst (λ (k : RowKey). rank head_key ≤ rank k) (sym lacks.0) (omega arith)
+      | inr odd ↦ (let behind = step_behind other odd.step in omega (arith, behind))
+    ]
   ];
 }
 
@@ -199,7 +304,7 @@ good_rows (e ∷ es) h = ((e.1, h.0.0), good_rows es h.1)
 only_by :
     (e f : ℕ × Record) → row_of e ≡ row_of f → IsOnlyRecord e → CanBeRow f → f ≡ e
 only_by e f same only can =
-    let record_same : f.1 ≡ e.1 = only.1 f.1 (subst (λ (r : Row). OpensAs r f.1) (sym same) can) in
+    let record_same : f.1 ≡ e.1 = only.1 f.1 (subst (λ (r : Row). StandsFor r.key r.body f.1) (sym same) can) in
     let number_same : f.0 ≡ e.0 = ap (λ (r : Row). r.key.id) (sym same) in
     ap (λ (n : ℕ). (n, f.1)) number_same ∙ ap (λ (it : Record). (e.0, it)) record_same
 
@@ -215,11 +320,3 @@ only_records (e ∷ es) (f ∷ fs) same only can =
     let more : map row_of es ≡ map row_of fs = cc in
     ap (λ (x : ℕ × Record). x ∷ fs) (only_by e f first only.0 can.0)
     ∙ ap (λ (l : List (ℕ × Record)). e ∷ l) (only_records es fs more only.1 can.1)
-
--- the row of a record among rows
-mapped_if :
-    (s t : Bool) (a b c : List (ℕ × Record)) (d : List Row) → d ≡ map row_of c
-    → (if s then map row_of a else (if t then map row_of b else d)) ≡ map row_of (if s then a else (if t then b else c))
-mapped_if true t a b c d e = refl
-mapped_if false true a b c d e = refl
-mapped_if false false a b c d e = e

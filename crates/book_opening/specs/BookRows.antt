@@ -1,11 +1,11 @@
--- The rows of a book: one for its head and one for each thing, in rising order of their keys.
-use Rattle.std.specs.Prelude.{ℕ, List, [], ◌∷◌, map, flat_map}
+-- The rows of a state: one for its head, one for each thing and one for each step, in rising order of their keys.
+use Rattle.std.specs.Prelude.{ℕ, List, [], ◌∷◌, ◌++◌, map, flat_map}
 use Rattle.book_keeper.specs.declared.row.Row.{Row}
 use Rattle.book_undo.specs.Book.{Book}
+use Rattle.book_undo.specs.declared.edit.Edit.{Edit}
 use Rattle.book_undo.specs.declared.thing.Thing.{Thing}
 use Rattle.book_undo.specs.declared.thing.Thing.TheVariants as thing
 use Rattle.book_rows.specs.Row.{kind_of, body_of}
-use Rattle.book_rows.specs.declared.head.Head.{Head}
 use Rattle.book_rows.specs.declared.record.Record.{Record}
 use Rattle.book_rows.specs.declared.record.Record.TheVariants as kept
 use Rattle.book_opening.specs.State.{State, head_of}
@@ -44,9 +44,17 @@ tables_of book =
 unfoldable pub things_of : Book → List (ℕ × Record)
 things_of book = flat_map (λ table. table) (tables_of book)
 
--- A head, and behind it the records of a book.
-abbrev pub behind_head : Head → Book → List (ℕ × Record)
-behind_head head book = (0, kept.Head head) ∷ things_of book
+-- The records of the steps back, each with its number.
+abbrev pub back_records : List (ℕ × Edit) → List (ℕ × Record)
+back_records steps = map (λ step. (step.0, kept.Back step.1)) steps
+
+-- The records of the steps forth, each with its number.
+abbrev pub forth_records : List (ℕ × Edit) → List (ℕ × Record)
+forth_records steps = map (λ step. (step.0, kept.Forth step.1)) steps
+
+-- The records of a state behind its head: those of its book, and then those of its steps.
+abbrev pub behind_head : State → List (ℕ × Record)
+behind_head state = things_of state.book ++ (back_records state.back ++ forth_records state.forth)
 
 -- The row of a record under a number.
 abbrev pub row_of : ℕ × Record → Row
@@ -54,8 +62,8 @@ row_of entry = record { key = record { kind = kind_of entry.1; id = entry.0 }; b
 
 -- The records of a state.
 abbrev pub records_of : State → List (ℕ × Record)
-records_of state = behind_head (head_of state) state.book
+records_of state = (0, kept.Head (head_of state)) ∷ behind_head state
 
--- The rows of a state: that of its head, and one for each thing.
+-- The rows of a state: that of its head, one for each thing, and one for each step.
 abbrev pub rows_of : State → List Row
 rows_of state = map row_of (records_of state)

@@ -1,9 +1,10 @@
 -- What an edit of a book changes in its rows.
-use Rattle.std.specs.Prelude.{ℕ, ◌^◌, ◌<◌, ⊤, List, [], ◌∷◌, flat_map, map}
+use Rattle.std.specs.Prelude.{ℕ, ◌^◌, ◌<◌, ◌≤◌, ⊤, List, [], ◌∷◌, flat_map, map}
 use Rattle.std.specs.List.{AllByRecursion}
+use Rattle.book_commodity.specs.Table.{with_entry, without_entry}
 use Rattle.book_keeper.specs.declared.row.Change.{Change}
 use Rattle.book_keeper.specs.declared.row.Change.TheVariants as change
-use Rattle.book_undo.specs.Edit.{Leaf, OfCurrency, OfPut, OfGone, leaves}
+use Rattle.book_undo.specs.Edit.{Leaf, OfCurrency, OfPut, OfGone, depth, leaves}
 use Rattle.book_undo.specs.Thing.{row_kind}
 use Rattle.book_undo.specs.declared.edit.Edit.{Edit}
 use Rattle.book_rows.specs.Row.{IsRecord}
@@ -51,6 +52,50 @@ entry_put kind bytes entry = change.Put (record {
   body = 1 ∷ bytes entry.1;
 })
 
+-- Of a step at most eight lists stand in one another.
+abbrev pub IsShallow : ℕ × Edit → Type 0
+IsShallow step = depth step.1 ≤ 8
+
 -- Each of these records has a spelling.
 abbrev pub AreRecords : List (ℕ × Record) → Type 0
 AreRecords entries = AllByRecursion (λ entry. IsRecord entry.1) entries
+
+-- A change of the steps that a state keeps.
+pub data StepChange : Type 0 where
+  PutBack : ℕ → Edit → StepChange
+  GoneBack : ℕ → StepChange
+  PutForth : ℕ → Edit → StepChange
+  GoneForth : ℕ → StepChange
+
+-- The change of rows that it comes to.
+abbrev pub step_change : StepChange → Change
+step_change (PutBack number edit) = change.Put (row_of (number, kept.Back edit))
+step_change (GoneBack number) = change.Gone (record { kind = 11; id = number })
+step_change (PutForth number edit) = change.Put (row_of (number, kept.Forth edit))
+step_change (GoneForth number) = change.Gone (record { kind = 12; id = number })
+
+-- The state after it.
+abbrev pub with_step : StepChange → State → State
+with_step (PutBack number edit) state = record state { back = with_entry number edit state.back }
+with_step (GoneBack number) state = record state { back = without_entry number state.back }
+with_step (PutForth number edit) state = record state { forth = with_entry number edit state.forth }
+with_step (GoneForth number) state = record state { forth = without_entry number state.forth }
+
+-- The state after such changes, one after another.
+abbrev pub with_steps : List StepChange → State → State
+with_steps [] state = state
+with_steps (step ∷ steps) state = with_steps steps (with_step step state)
+
+-- What such a change writes has a spelling.
+abbrev pub StepFits : StepChange → Type 0
+StepFits (PutBack number edit) = IsRecord (kept.Back edit)
+StepFits (GoneBack number) = ⊤
+StepFits (PutForth number edit) = IsRecord (kept.Forth edit)
+StepFits (GoneForth number) = ⊤
+
+-- The number of such a step.
+abbrev pub step_number : StepChange → ℕ
+step_number (PutBack number edit) = number
+step_number (GoneBack number) = number
+step_number (PutForth number edit) = number
+step_number (GoneForth number) = number

@@ -1,4 +1,8 @@
 pub mod BookRows
 pub mod Changes
+pub mod FirstOdd
+pub mod Item
 pub mod Opening
+pub mod Reading
 pub mod State
+pub mod Steps

@@ -12,29 +12,14 @@ use Rattle.book_rows.specs.declared.record.Record.{Record}
 use Rattle.book_rows.specs.declared.record.Record.TheVariants as kept
 use Rattle.book_opening.specs.BookRows.{records_of, row_of, rows_of}
 use Rattle.book_opening.specs.State.{State, state_of}
+use Rattle.book_opening.specs.Steps.{AreCounted, IsOdd, SomeRow}
 use Rattle.book_opening.specs.declared.fault.OpenFault.{OpenFault}
 use Rattle.book_opening.specs.declared.fault.OpenFault.TheVariants as fault
 use Rattle.book_opening.specs.declared.saved.Saved.{Saved}
 
--- No step back or forth, and no head that counts any. None are kept yet.
-abbrev pub HasNoSteps : Record → Type 0
-HasNoSteps (kept.Head head) = (head.past ≡ 0) × (head.later ≡ 0)
-HasNoSteps (kept.Back edit) = ⊥
-HasNoSteps (kept.Forth edit) = ⊥
-HasNoSteps _ = ⊤
-
--- A row can be opened as a record: it stands for it, and no steps are kept.
-abbrev pub OpensAs : Row → Record → Type 0
-OpensAs row it = StandsFor row.key row.body it × HasNoSteps it
-
 -- A row can't be opened as any record.
 abbrev pub IsNoRecord : Row → Type 0
-IsNoRecord row = (it : Record) → OpensAs row it → ⊥
-
--- One of the rows is such a one.
-abbrev pub SomeRow : (Row → Type 0) → List Row → Type 0
-SomeRow P [] = ⊥
-SomeRow P (row ∷ rows) = P row ⊎ SomeRow P rows
+IsNoRecord row = (it : Record) → StandsFor row.key row.body it → ⊥
 
 -- The key of the head.
 abbrev pub head_key : RowKey
@@ -44,10 +29,11 @@ head_key = record { kind = 1; id = 0 }
 abbrev pub LacksHead : List Row → Type 0
 LacksHead rows = (rows ≡ [] → ⊥) × (SomeRow (λ row. row.key ≡ head_key) rows → ⊥)
 
--- Rows are bad at a key: the row there can't be opened, or it is the head and missing. So far a row of kind 11 or 12
--- is bad, since no steps are kept.
+-- Rows are bad at a key: the row there can't be opened; or it is the head and missing; or it is a step that is missing
+-- or that the head doesn't count.
 abbrev pub IsBad : List Row → RowKey → Type 0
-IsBad rows key = SomeRow (λ row. (row.key ≡ key) × IsNoRecord row) rows ⊎ ((key ≡ head_key) × LacksHead rows)
+IsBad rows key =
+    SomeRow (λ row. (row.key ≡ key) × IsNoRecord row) rows ⊎ (((key ≡ head_key) × LacksHead rows) ⊎ IsOdd rows key)
 
 -- The least key at which rows are bad.
 pub record IsLeastBad (rows : List Row) (key : RowKey) : Type 0 where
@@ -56,16 +42,19 @@ pub record IsLeastBad (rows : List Row) (key : RowKey) : Type 0 where
 
 -- A record under a number can be a row.
 abbrev pub CanBeRow : ℕ × Record → Type 0
-CanBeRow entry = OpensAs (row_of entry) entry.1
+CanBeRow entry = StandsFor (row_of entry).key (row_of entry).body entry.1
 
 -- A record under a number is the one as which its row opens.
 abbrev pub IsOnlyRecord : ℕ × Record → Type 0
-IsOnlyRecord entry = CanBeRow entry × ((it : Record) → OpensAs (row_of entry) it → it ≡ entry.1)
+IsOnlyRecord entry =
+    CanBeRow entry × ((it : Record) → StandsFor (row_of entry).key (row_of entry).body it → it ≡ entry.1)
 
--- Rows open as a state: they are its rows, and each of its records can be a row.
+-- Rows open as a state: they are its rows, each of its records can be a row, and its steps are those that its head
+-- counts.
 pub record OpenAs (rows : List Row) (state : State) : Type 0 where
   pub are : rows ≡ rows_of state
   pub spelled : AllByRecursion CanBeRow (records_of state)
+  pub counted : AreCounted state
 
 -- What is answered of rows: that there are none; the state that they open as; or the least key at which they are bad.
 -- That the keeper failed, or the program is out of memory, says nothing of them.

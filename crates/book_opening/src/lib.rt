@@ -6,8 +6,10 @@
 
 mod changes;
 mod fault;
+mod item;
 mod read;
 mod saved;
+mod steps;
 #[cfg(test)]
 mod tests;
 mod thing_row;
@@ -17,4 +19,5 @@ pub use changes::changes_of;
 pub use fault::OpenFault;
 pub use read::read_rows;
 pub use saved::Saved;
+pub use thing_row::{back_row, forth_row};
 pub use whole::all_rows;

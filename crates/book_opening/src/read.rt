@@ -1,25 +1,31 @@
-ghost use Rattle.std.specs.Prelude.{◌≡◌, ◌≢◌, ◌<◌, List, Some, Option, IfOk, IfErr, IfSome, IfNone, OnOk, IsTrue, map};
+ghost use Rattle.std.specs.Prelude.{◌≡◌, ◌≢◌, ◌↔◌, ◌<◌, List, Some, None, Option, IfOk, IfErr, IfSome, IfNone, OnOk};
+ghost use Rattle.std.specs.Prelude.{IsTrue};
 ghost use Rattle.std.specs.List.{AllByRecursion};
 ghost use Rattle.book_keeper.specs.Rows.{rank};
 ghost use Rattle.book_keeper.specs.declared.row.Row.{Row as HeldRow};
-ghost use Rattle.book_undo.specs.Book.{book_of, with_thing};
+ghost use Rattle.book_undo.specs.Book.{empty_book};
 ghost use Rattle.book_rows.specs.Row.{IsWithin, kind_of};
-ghost use Rattle.book_opening.specs.BookRows.{behind_head, record_of, row_of};
-ghost use Rattle.book_opening.specs.Opening.{Answers, Begins, HasNoSteps, HasOpenCause, IsBadFor, IsBadHead};
-ghost use Rattle.book_opening.specs.Opening.{IsBadThing, IsOnlyRecord, IsOpened, OpenAs, WasRead, head_key};
+ghost use Rattle.book_opening.specs.BookRows.{records_of, row_of, rows_of};
+ghost use Rattle.book_opening.specs.Item.{record_of_item, with_item};
+ghost use Rattle.book_opening.specs.Opening.{Answers, Begins, HasOpenCause, IsBadFor, IsBadHead, IsBadThing};
+ghost use Rattle.book_opening.specs.Opening.{IsOnlyRecord, IsOpened, OpenAs, WasRead, head_key};
+ghost use Rattle.book_opening.specs.Reading.{IsBegun, IsFirstBad, IsWhole, bad_key};
 ghost use Rattle.book_opening.specs.State.{State, state_of, head_of};
 
+use crate::item::Item;
+use crate::steps::first_odd;
 use crate::{OpenFault, Saved};
-use book_commodity::OutOfMemory;
+use book_commodity::Table;
 use book_keeper::{KeepError, Keeper, Row, RowKey};
 use book_rows::{Head, Record, RowError, read_row};
-use book_undo::{Edit, Plain, Thing};
+use book_undo::Plain;
 use std::alloc::Global;
 
 /// The state as which the rows of the keeper open; None exactly where it holds none. Each row is asked for and read
 /// once. Whether the keeper knows its rows or not, the numbers of the state's head are those that a row can hold.
 /// Keeper: the keeper failed, and its count of faults rose in this call.
-/// BadRows: the least key whose row can't be opened or, of the head, is missing.
+/// BadRows: the least key whose row can't be opened, or is needed and missing, or is that of a step which the head
+/// doesn't count.
 pub fn read_rows<K: Keeper>(alloc: Global, keeper: &mut K) -> Result<Option<Saved>, OpenFault>
     ensures keeper { WasRead K.path_given K.sure K.holds keeper.old keeper.new }
     ensures answer { IsTrue (K.sure keeper.new) → (rows : List HeldRow) → K.holds keeper.old rows
@@ -38,8 +44,8 @@ pub fn read_rows<K: Keeper>(alloc: Global, keeper: &mut K) -> Result<Option<Save
         Ok(head) => head,
         Err(fault) => return Err(fault),
     };
-    match read_things(alloc, keeper, &head) {
-        Ok(plain) => Ok(Some(saved_of(&head, plain))),
+    match read_behind(alloc, keeper, begun(alloc, &head)) {
+        Ok(saved) => Ok(Some(saved)),
         Err(fault) => Err(fault),
     }
 }
@@ -47,7 +53,7 @@ pub fn read_rows<K: Keeper>(alloc: Global, keeper: &mut K) -> Result<Option<Save
 /// Why the keeper answered no row.
 fn keeper_fault(error: KeepError) -> OpenFault
     ensures failed { result ≡ OpenFault.Keeper → error ≡ KeepError.Failed }
-    ensures unread { (rows : List HeldRow) → IsBadFor rows result }
+    ensures unread { bad_key result ≡ None }
 {
     match error {
         KeepError::Failed => OpenFault::Keeper,
@@ -55,18 +61,19 @@ fn keeper_fault(error: KeepError) -> OpenFault
     }
 }
 
-/// The saved state with this head and this book.
-fn saved_of(head: &Head, plain: Plain) -> Saved
-    ensures book { book_of result.plain ≡ book_of plain }
-    ensures next { result.next ≡ head.now.next }
-    ensures version { result.version ≡ head.now.version }
-    ensures position { result.position ≡ head.now.position }
+/// The state of this head before a row behind it was read.
+fn begun(alloc: Global, head: &Head) -> Saved
+    ensures { IsBegun head.now (state_of result) }
 {
     Saved {
-        plain,
+        plain: Plain::new(alloc, head.currency),
         next: head.next,
         version: head.version,
         position: head.position,
+        past: head.past,
+        later: head.later,
+        back: Table::new(alloc),
+        forth: Table::new(alloc),
     }
 }
 
@@ -81,8 +88,8 @@ fn read_head(alloc: Global, row: &Row) -> Result<Head, OpenFault>
     }
     match read_row(alloc, row.key, row.body.as_slice()) {
         Ok(it) => match head_in(it) {
-            Some(head) if head.past == 0 && head.later == 0 => Ok(head),
-            Some(_) | None => Err(bad(row.key)),
+            Some(head) => Ok(head),
+            None => Err(bad(row.key)),
         },
         Err(RowError::Bad { .. }) => Err(bad(row.key)),
         Err(RowError::OutOfMemory) => Err(OpenFault::OutOfMemory),
@@ -120,79 +127,81 @@ fn bad(key: RowKey) -> OpenFault
     }
 }
 
-/// The book of the rows behind the head.
-fn read_things<K: Keeper>(alloc: Global, keeper: &mut K, head: &Head) -> Result<Plain, OpenFault>
-    requires { IsOnlyRecord (0, Record.Head head.now) }
+/// The state with what the rows behind the head stand for.
+fn read_behind<K: Keeper>(alloc: Global, keeper: &mut K, state: Saved) -> Result<Saved, OpenFault>
+    requires only { AllByRecursion IsOnlyRecord (records_of (state_of state)) }
+    requires begun { IsBegun (head_of (state_of state)) (state_of state) }
     ensures keeper { WasRead K.path_given K.sure K.holds keeper.old keeper.new }
-    ensures read { IfOk result (λ plain. AllByRecursion IsOnlyRecord (behind_head head.now (book_of plain))) }
-    ensures currency { IfOk result (λ plain. plain.currency ≡ head.now.currency) }
-    ensures rows { IfOk result (λ plain. IsTrue (K.sure keeper.new) → (rows : List HeldRow) → K.holds keeper.old rows
-        → Begins rows head.now → rows ≡ map row_of (behind_head head.now (book_of plain))) }
+    ensures head { IfOk result (λ saved. head_of (state_of saved) ≡ head_of (state_of state)) }
+    ensures read { IfOk result (λ saved. AllByRecursion IsOnlyRecord (records_of (state_of saved))) }
+    ensures rows { IfOk result (λ saved. IsTrue (K.sure keeper.new) → (rows : List HeldRow) → K.holds keeper.old rows
+        → Begins rows (head_of (state_of state)) → OpenAs rows (state_of saved)) }
     ensures bad { IfErr result (λ fault. IsTrue (K.sure keeper.new) → (rows : List HeldRow)
-        → K.holds keeper.old rows → Begins rows head.now → IsBadFor rows fault) }
+        → K.holds keeper.old rows → Begins rows (head_of (state_of state)) → IsBadFor rows fault) }
     ensures cause { HasOpenCause (K.faults keeper.old) (K.faults keeper.new) result }
 {
-    let mut plain = Plain::new(alloc, head.currency);
+    let mut saved = state;
     let mut last = RowKey { kind: 1, id: 0 };
     'rows: loop {
         let row = match keeper.next_row(Some(last)) {
             Ok(Some(row)) => row,
-            Ok(None) => return Ok(plain),
+            Ok(None) => return whole(saved),
             Err(error) => return Err(keeper_fault(error)),
         };
-        let thing = match read_thing(alloc, &row) {
-            Ok(thing) => thing,
+        let item = match read_item(alloc, &row) {
+            Ok(item) => item,
+            Err(OpenFault::BadRows { .. }) => return Err(bad(first_bad(&saved, row.key))),
             Err(fault) => return Err(fault),
         };
-        let Ok(()) = put_thing(&mut plain, row.key.id, thing) else {
+        let Ok(()) = item.put(row.key.id, &mut saved) else {
             return Err(OpenFault::OutOfMemory);
         };
         last = row.key;
     }
 }
 
-/// The thing that a row behind the head stands for.
-fn read_thing(alloc: Global, row: &Row) -> Result<Thing, OpenFault>
+/// The state of which all rows were read, or the first step that is missing, or that its head doesn't count.
+fn whole(saved: Saved) -> Result<Saved, OpenFault>
+    requires { IsWithin (head_of (state_of saved)) }
+    ensures { IsWhole (state_of saved) result }
+{
+    match first_odd(&saved) {
+        Some(key) => Err(bad(key)),
+        None => Ok(saved),
+    }
+}
+
+/// The first bad key where the row of a key is bad: a step below it may be missing, or one that the head doesn't count.
+fn first_bad(saved: &Saved, key: RowKey) -> RowKey
+    requires { IsWithin (head_of (state_of saved.now)) }
+    ensures { IsFirstBad (state_of saved.now) key result }
+{
+    match first_odd(saved) {
+        Some(odd) if is_before(odd, key) => odd,
+        Some(_) | None => key,
+    }
+}
+
+/// Whether a key stands before another.
+fn is_before(key: RowKey, other: RowKey) -> bool
+    ensures { IsTrue result ↔ (rank key < rank other) }
+{
+    key.kind < other.kind || (key.kind == other.kind && key.id < other.id)
+}
+
+/// What a row behind the head stands for.
+fn read_item(alloc: Global, row: &Row) -> Result<Item, OpenFault>
     requires { rank head_key < rank row.now.key }
-    ensures found { IfOk result (λ thing. row.now ≡ row_of (row.now.key.id, record_of thing)) }
-    ensures read { IfOk result (λ thing. IsOnlyRecord (row.now.key.id, record_of thing)) }
+    ensures found { IfOk result (λ item. row.now ≡ row_of (row.now.key.id, record_of_item item)) }
+    ensures read { IfOk result (λ item. IsOnlyRecord (row.now.key.id, record_of_item item)) }
     ensures bad { IfErr result (IsBadThing row.now) }
 {
     match read_row(alloc, row.key, row.body.as_slice()) {
-        Ok(it) => match thing_of(it) {
-            Some(thing) => Ok(thing),
+        Ok(it) => match Item::of(it) {
+            Some(item) => Ok(item),
             None => Err(bad(row.key)),
         },
         Err(RowError::Bad { .. }) => Err(bad(row.key)),
         Err(RowError::OutOfMemory) => Err(OpenFault::OutOfMemory),
     }
-}
-
-/// The thing of the record; None where it is a head or a step.
-fn thing_of(it: Record) -> Option<Thing>
-    ensures thing { IfSome result (λ thing. it ≡ record_of thing) }
-    ensures none { IfNone result (kind_of it ≢ 1 → HasNoSteps it → ⊥) }
-{
-    match it {
-        Record::Head(_) | Record::Back(_) | Record::Forth(_) => None,
-        Record::Commodity(it) => Some(Thing::Commodity(it)),
-        Record::Account(it) => Some(Thing::Account(it)),
-        Record::Txn(it) => Some(Thing::Txn(it)),
-        Record::Price(it) => Some(Thing::Price(it)),
-        Record::Schedule(it) => Some(Thing::Schedule(it)),
-        Record::Held(it) => Some(Thing::Held(it)),
-        Record::Line(it) => Some(Thing::Line(it)),
-        Record::Binding(it) => Some(Thing::Binding(it)),
-        Record::Recon(it) => Some(Thing::Recon(it)),
-    }
-}
-
-/// Puts the thing under the number, with memory for it.
-fn put_thing(plain: &mut Plain, number: u64, thing: Thing) -> Result<(), OutOfMemory>
-    ensures { OnOk result (book_of plain.new ≡ with_thing number thing (book_of plain.old)) }
-{
-    let edit = Edit::Put(number, thing);
-    plain.reserve_for(&edit)?;
-    plain.apply(edit);
-    Ok(())
 }

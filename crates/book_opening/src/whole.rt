@@ -5,12 +5,12 @@ ghost use Rattle.book_undo.specs.declared.thing.Thing.TheVariants as thing;
 ghost use Rattle.book_rows.specs.AccountBytes.{account_bytes, IsAccount};
 ghost use Rattle.book_rows.specs.PriceBytes.{price_bytes, IsPrice};
 ghost use Rattle.book_rows.specs.Row.{IsWithin};
-ghost use Rattle.book_opening.specs.BookRows.{records_in, records_of};
-ghost use Rattle.book_opening.specs.Changes.{AreRecords, all_put, entry_put, puts_of};
+ghost use Rattle.book_opening.specs.BookRows.{back_records, forth_records, records_in, records_of};
+ghost use Rattle.book_opening.specs.Changes.{AreRecords, IsShallow, all_put, entry_put, puts_of};
 ghost use Rattle.book_opening.specs.State.{head_of, state_of};
 
 use crate::Saved;
-use crate::thing_row::head_row;
+use crate::thing_row::{back_row, forth_row, head_row};
 use book_accounts::{Account, Tree};
 use book_codec::{Field, write_whole};
 use book_commodity::{Commodity, Many, OutOfMemory};
@@ -19,12 +19,14 @@ use book_prices::{Price, Prices};
 use book_rows::{Head, Rows};
 use book_splits::{Recon, Txn};
 use book_statement::{Binding, Held, Line};
-use book_undo::{Plain, Schedule};
+use book_undo::{Edit, Plain, Schedule};
 use std::alloc::Global;
 
 /// The changes by which the rows of a state come to be where there were none: each of its rows is put.
 pub fn all_rows(alloc: Global, saved: &Saved) -> Result<Many<Change>, OutOfMemory>
-    requires { IsWithin (head_of (state_of saved.now)) }
+    requires within { IsWithin (head_of (state_of saved.now)) }
+    requires back { AllByRecursion IsShallow saved.now.back.entries }
+    requires forth { AllByRecursion IsShallow saved.now.forth.entries }
     ensures changes { IfOk result (λ changes. changes ≡ all_put (state_of saved.now)) }
     ensures fit { IfOk result (λ changes. AreRecords (records_of (state_of saved.now))) }
 {
@@ -33,6 +35,7 @@ pub fn all_rows(alloc: Global, saved: &Saved) -> Result<Many<Change>, OutOfMemor
     add_ledger(alloc, &saved.plain, &mut changes)?;
     add_plans(alloc, &saved.plain, &mut changes)?;
     add_bank(alloc, &saved.plain, &mut changes)?;
+    add_steps(alloc, saved, &mut changes)?;
     Ok(changes)
 }
 
@@ -44,8 +47,8 @@ fn head_of(saved: &Saved) -> Head
         next: saved.next,
         version: saved.version,
         position: saved.position,
-        past: 0,
-        later: 0,
+        past: saved.past,
+        later: saved.later,
         currency: saved.plain.currency,
     }
 }
@@ -100,6 +103,53 @@ fn add_bank(alloc: Global, plain: &Plain, changes: &mut Many<Change>) -> Result<
     put_entries::<Line>(alloc, 8, plain.lines.as_slice(), changes)?;
     put_entries::<Binding>(alloc, 9, plain.bindings.as_slice(), changes)?;
     put_entries::<Recon>(alloc, 10, plain.reconciliations.as_slice(), changes)?;
+    Ok(())
+}
+
+/// Adds the changes that put the steps back and the steps forth.
+fn add_steps(alloc: Global, saved: &Saved, changes: &mut Many<Change>) -> Result<(), OutOfMemory>
+    requires back { AllByRecursion IsShallow saved.now.back.entries }
+    requires forth { AllByRecursion IsShallow saved.now.forth.entries }
+    ensures added { OnOk result (changes.new ≡ changes.old
+        ++ puts_of (back_records saved.now.back.entries)
+        ++ puts_of (forth_records saved.now.forth.entries)) }
+    ensures back { OnOk result (AreRecords (back_records saved.now.back.entries)) }
+    ensures forth { OnOk result (AreRecords (forth_records saved.now.forth.entries)) }
+{
+    put_back(alloc, saved.back.as_slice(), changes)?;
+    put_forth(alloc, saved.forth.as_slice(), changes)?;
+    Ok(())
+}
+
+/// Adds the changes that put steps back.
+fn put_back(
+    alloc: Global,
+    steps: &[(u64, Edit)],
+    changes: &mut Many<Change>,
+) -> Result<(), OutOfMemory>
+    requires { AllByRecursion IsShallow steps.now }
+    ensures added { OnOk result (changes.new ≡ changes.old ++ puts_of (back_records steps.now)) }
+    ensures fit { OnOk result (AreRecords (back_records steps.now)) }
+{
+    for step in steps {
+        changes.push(Change::Put(back_row(alloc, step.0, &step.1)?))?;
+    }
+    Ok(())
+}
+
+/// Adds the changes that put steps forth.
+fn put_forth(
+    alloc: Global,
+    steps: &[(u64, Edit)],
+    changes: &mut Many<Change>,
+) -> Result<(), OutOfMemory>
+    requires { AllByRecursion IsShallow steps.now }
+    ensures added { OnOk result (changes.new ≡ changes.old ++ puts_of (forth_records steps.now)) }
+    ensures fit { OnOk result (AreRecords (forth_records steps.now)) }
+{
+    for step in steps {
+        changes.push(Change::Put(forth_row(alloc, step.0, &step.1)?))?;
+    }
     Ok(())
 }
 

@@ -27,14 +27,13 @@ use Rattle.book_step.specs.SameTransaction.{same_transaction}
 use Rattle.book_step.specs.Soundness.{IsSound}
 use Rattle.book_splits.proofs.ReplacedLemmas.{with_there}
 use Rattle.book_step.specs.State.{State}
-use Rattle.book_step.specs.Step.{outcome, stale, step}
+use Rattle.book_step.specs.Step.{outcome}
 use Rattle.book_command.specs.declared.answer.Answer.{Answer}
 use Rattle.book_command.specs.declared.answer.Answer.TheVariants as answer
-use Rattle.book_command.specs.declared.command.Command.{Command}
 use Rattle.book_command.specs.declared.command.GivenAccount.{GivenAccount}
-use Rattle.book_command.specs.declared.command.What.{What}
-use Rattle.book_command.specs.declared.command.What.TheVariants.{BookCurrency, CommodityAdd, AccountAdd}
-use Rattle.book_command.specs.declared.command.What.TheVariants.{AccountEdit, AccountDrop, Drop, Edit, Post}
+use Rattle.book_command.specs.declared.command.Update.{Update}
+use Rattle.book_command.specs.declared.command.Update.TheVariants.{BookCurrency, CommodityAdd, AccountAdd}
+use Rattle.book_command.specs.declared.command.Update.TheVariants.{AccountEdit, AccountDrop, Drop, Edit, Post}
 use Rattle.book_command.specs.declared.command.GivenTxn.{GivenTxn}
 use Rattle.book_command.specs.declared.rule.Rule.{Rule}
 
@@ -142,7 +141,7 @@ taken_answered state n force (Some old) new reply e =
     changing_answered state (reconciled force old.splits [] ∷ []) (book_without state.book n old) 0 answer.Drop new
     reply tt e
 
-answered : (state : State) (what : What) (new : State) (reply : Answer) → outcome state what ≡ Done new reply
+answered : (state : State) (update : Update) (new : State) (reply : Answer) → outcome state update ≡ Done new reply
     → HasBalances state new reply
 answered state (BookCurrency commodity) new reply e =
     either_answered (commodity == state.book.currency) state (commodities.currency_rules state.book commodity)
@@ -180,6 +179,9 @@ filled old new answer.AccountDrop has = refl
 filled old new (answer.Post n splits balances) has = ap (λ (bs : List ℤ). answer.Post n splits bs) (sym has.1)
 filled old new (answer.Edit n splits balances) has = ap (λ (bs : List ℤ). answer.Edit n splits bs) (sym has.1)
 filled old new answer.Drop has = refl
+filled old new answer.Undo has = refl
+filled old new answer.Redo has = refl
+filled old new (answer.Status accounts later lines past recons splits transactions) has = refl
 
 filled_again : (book : Book) (whole : Answer) → with_balances book (without_balances whole) ≡ with_balances book whole
 filled_again book answer.BookCurrency = refl
@@ -190,6 +192,9 @@ filled_again book answer.AccountDrop = refl
 filled_again book (answer.Post n splits balances) = refl
 filled_again book (answer.Edit n splits balances) = refl
 filled_again book answer.Drop = refl
+filled_again book answer.Undo = refl
+filled_again book answer.Redo = refl
+filled_again book (answer.Status accounts later lines past recons splits transactions) = refl
 
 -- An outcome but for its balances is one with balances.
 pub whole_of : (given : Outcome) (new : State) (short : Answer) → but_balances given ≡ Done new short
@@ -200,25 +205,15 @@ whole_of (Done state whole) new short e =
     let left : without_balances whole ≡ short = cc in
     (whole, ap (λ (s : State). Done s whole) same, left)
 
-step_answered : (state : State) (command : Command) (new : State) (reply : Answer)
-    → step state command ≡ Done new reply → HasBalances state new reply
-step_answered state command new reply e = answered state command.what new reply
-    (past_version (stale state command.at) (outcome state command.what) new reply e)
-  where
-    past_version : (rule : Option Rule) (given : Outcome) (new : State) (reply : Answer)
-        → unless_broken rule given ≡ Done new reply → given ≡ Done new reply
-    past_version None given new reply e = e
-    past_version (Some rule) given new reply e = absurd cc
-
--- The machine's answer is what the step answers, with the balances of the new book.
-pub whole_step :
-    (state : State) (command : Command) (new : State) (short : Answer)
-    → but_balances (step state command) ≡ Done new short
-    → step state command ≡ Done new (with_balances new.book short)
-whole_step state command new short e =
-    let w = whole_of (step state command) new short e in
+-- The answer to a change is what its step answers, with the balances of the new book.
+pub whole_outcome :
+    (state : State) (update : Update) (new : State) (short : Answer)
+    → but_balances (outcome state update) ≡ Done new short
+    → outcome state update ≡ Done new (with_balances new.book short)
+whole_outcome state update new short e =
+    let w = whole_of (outcome state update) new short e in
     let same : with_balances new.book short ≡ w.0 = ap (with_balances new.book) (sym w.2)
-    ∙ filled_again new.book w.0 ∙ filled state new w.0 (step_answered state command new w.0 w.1) in
+    ∙ filled_again new.book w.0 ∙ filled state new w.0 (answered state update new w.0 w.1) in
     w.1 ∙ ap (λ (a : Answer). Done new a) (sym same)
 
 -- ---- what an edit puts
@@ -241,13 +236,16 @@ puts_whole state new change answer.AccountDrop is book has = tt
 puts_whole state new change (answer.Post n splits balances) is book has = puts state new change n balances is book has
 puts_whole state new change (answer.Edit n splits balances) is book has = puts state new change n balances is book has
 puts_whole state new change answer.Drop is book has = tt
+puts_whole state new change answer.Undo is book has = tt
+puts_whole state new change answer.Redo is book has = tt
+puts_whole state new change (answer.Status accounts later lines past recons splits transactions) is book has = tt
 
 -- Where a step answers with balances, its edit puts the answer's transaction.
 pub puts_answered :
-    (state : State) (command : Command) (new : State) (change : edits.Edit) (short : Answer) → IsSound state
+    (state : State) (update : Update) (new : State) (change : edits.Edit) (short : Answer) → IsSound state
     → new.book ≡ edited change state.book
-    → but_balances (step state command) ≡ Done new short → PutsAnswered state.book change short
-puts_answered state command new change short is book e =
-    let w = whole_of (step state command) new short e in
+    → but_balances (outcome state update) ≡ Done new short → PutsAnswered state.book change short
+puts_answered state update new change short is book e =
+    let w = whole_of (outcome state update) new short e in
     subst (λ (a : Answer). PutsAnswered state.book change a) w.2
-    (puts_whole state new change w.0 is book (step_answered state command new w.0 w.1))
+    (puts_whole state new change w.0 is book (answered state update new w.0 w.1))

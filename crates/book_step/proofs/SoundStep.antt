@@ -1,4 +1,4 @@
--- Every step from a sound state leads to a sound state, and the fresh state is sound.
+-- Every change of a sound state leads to a sound state, and the fresh state is sound.
 use Rattle.std.proofs.Common.{◌≡◌, ℕ, ◌<◌, ◌≤◌, Bool, All, List, [], ◌∷◌, refl, sym, subst, arith}
 use Rattle.std.proofs.lemmas.List.Elements.{All-nil, All-cons}
 use Rattle.book_commodity.specs.CommodityRules.{commodity_rules}
@@ -22,23 +22,22 @@ use Rattle.book_sound.specs.ReconciliationRules.{reconciliation_rules}
 use Rattle.book_sound.specs.ScheduleRules.{schedule_rules}
 use Rattle.book_sound.specs.StatementRules.{statement_rules}
 use Rattle.book_command.specs.declared.answer.Answer.{Answer}
-use Rattle.book_command.specs.declared.command.Command.{Command}
-use Rattle.book_command.specs.declared.command.What.{What}
-use Rattle.book_command.specs.declared.command.What.TheVariants.{BookCurrency, CommodityAdd, AccountAdd, AccountEdit}
-use Rattle.book_command.specs.declared.command.What.TheVariants.{AccountDrop, Drop, Edit, Post}
+use Rattle.book_command.specs.declared.command.Update.{Update}
+use Rattle.book_command.specs.declared.command.Update.TheVariants.{BookCurrency, CommodityAdd, AccountAdd, AccountEdit}
+use Rattle.book_command.specs.declared.command.Update.TheVariants.{AccountDrop, Drop, Edit, Post}
 use Rattle.book_step.specs.Outcome.{Done}
 use Rattle.book_step.specs.Soundness.{IsSound}
 use Rattle.book_step.specs.State.{State, fresh_state, fresh_book, euro, root}
-use Rattle.book_step.specs.Step.{outcome, stale, step}
+use Rattle.book_step.specs.Step.{outcome}
 use Rattle.book_step.proofs.SoundAccounts.{account_add-sound, account_drop-sound, account_edit-sound}
 use Rattle.book_step.proofs.SoundCommodities.{book_currency-sound, commodity_add-sound}
 use Rattle.book_step.proofs.SoundEditing.{drop_transaction-sound, edit_transaction-sound}
-use Rattle.book_step.proofs.SoundOutcome.{unless_done}
 use Rattle.book_step.proofs.SoundPosting.{post-sound}
 
-outcome-sound :
-    (state : State) (what : What) (new : State) (answered : Answer) → IsSound state
-    → outcome state what ≡ Done new answered
+-- A change that is done leads from a sound state to a sound one.
+pub outcome-sound :
+    (state : State) (update : Update) (new : State) (answered : Answer) → IsSound state
+    → outcome state update ≡ Done new answered
     → IsSound new
 outcome-sound state (BookCurrency commodity) new answered is e = book_currency-sound state commodity new answered is e
 outcome-sound state (CommodityAdd commodity) new answered is e = commodity_add-sound state commodity new answered is e
@@ -51,14 +50,6 @@ outcome-sound state (Edit transaction force day given) new answered is e =
     edit_transaction-sound state transaction force day given new answered is e
 outcome-sound state (Drop transaction force) new answered is e =
     drop_transaction-sound state transaction force new answered is e
-
--- A step that is done leads from a sound state to a sound one.
-pub step-sound :
-    (state : State) (command : Command) (new : State) (answer : Answer) → IsSound state
-    → step state command ≡ Done new answer → IsSound new
-step-sound state command new answer is e =
-    let done = unless_done (stale state command.at) (outcome state command.what) new answer e in
-    outcome-sound state command.what new answer is done.1
 
 -- ---- the fresh state
 

@@ -1,4 +1,4 @@
--- The step on command lines whose answers are known, from the fresh state on.
+-- Changes whose answers are known, from the fresh state on.
 use Rattle.std.proofs.Common.{◌≡◌, ℕ, ℤ, pos, negsuc, List, [], ◌∷◌, Option, Some, None, true, false, codes, refl}
 use Rattle.book_commodity.specs.declared.counted.Counted.TheVariants.{Amount}
 use Rattle.book_commodity.specs.declared.kind.Kind.TheVariants as kind
@@ -15,22 +15,18 @@ use Rattle.book_undo.specs.Book.{Book}
 use Rattle.book_step.specs.Editing.{reconciled}
 use Rattle.book_step.specs.Outcome.{Outcome, Broken, Done}
 use Rattle.book_step.specs.State.{State, fresh_state}
-use Rattle.book_step.specs.Step.{step}
+use Rattle.book_step.specs.Step.{outcome, stale}
 use Rattle.book_command.specs.declared.answer.Answer.{Answer}
 use Rattle.book_command.specs.declared.answer.Answer.TheVariants as answer
-use Rattle.book_command.specs.declared.command.Command.{Command}
 use Rattle.book_command.specs.declared.command.GivenAccount.{GivenAccount}
 use Rattle.book_command.specs.declared.command.GivenSplit.{GivenSplit}
-use Rattle.book_command.specs.declared.command.What.{What}
-use Rattle.book_command.specs.declared.command.What.TheVariants.{BookCurrency, CommodityAdd, AccountAdd}
-use Rattle.book_command.specs.declared.command.What.TheVariants.{AccountEdit, AccountDrop, Post, Edit, Drop}
+use Rattle.book_command.specs.declared.command.Update.{Update}
+use Rattle.book_command.specs.declared.command.Update.TheVariants.{BookCurrency, CommodityAdd, AccountAdd}
+use Rattle.book_command.specs.declared.command.Update.TheVariants.{AccountEdit, AccountDrop, Post, Edit, Drop}
 use Rattle.book_command.specs.declared.rule.Rule.{Rule}
 use Rattle.book_command.specs.declared.rule.Rule.TheVariants.{Stale, NameTaken, Root, Cycle, SplitCount, Unbalanced}
 use Rattle.book_command.specs.declared.rule.Rule.TheVariants.{Limit, Unknown}
 use Rattle.book_command.specs.declared.rule.Rule.TheVariants as rule
-
-abbrev now : What → Command
-now what = record { at = None; what = what }
 
 -- what an outcome says: a rule, or an answer with the version after
 data Reply : Type 0 where
@@ -45,15 +41,15 @@ abbrev after : State → Outcome → State
 after state (Broken rule) = state
 after state (Done new answer) = new
 
-abbrev run : State → List What → State
+abbrev run : State → List Update → State
 run state [] = state
-run state (what ∷ more) = run (after state (step state (now what))) more
+run state (update ∷ more) = run (after state (outcome state update)) more
 
--- what the last command comes to after the others
-abbrev last : List What → What → Reply
-last before what = reply (step (run fresh_state before) (now what))
+-- what the last change comes to after the others
+abbrev last : List Update → Update → Reply
+last before update = reply (outcome (run fresh_state before) update)
 
-abbrev account : List ℕ → AccountKind → Option ℕ → What
+abbrev account : List ℕ → AccountKind → Option ℕ → Update
 account name kind basis = AccountAdd (record {
   name = name;
   kind = kind;
@@ -66,7 +62,7 @@ account name kind basis = AccountAdd (record {
   basis = basis;
 })
 
-abbrev broker : What
+abbrev broker : Update
 broker = AccountAdd (record {
   name = codes "Broker";
   kind = Stock;
@@ -83,11 +79,11 @@ abbrev given : ℕ → ℤ → ℤ → GivenSplit
 given account value quantity = record
     { account = account; value = value; quantity = quantity; memo = []; action = []; id = None }
 
-abbrev paid : ℤ → ℤ → What
+abbrev paid : ℤ → ℤ → Update
 paid to from = Post (pos 19727)
     (record { currency = 1; num = []; description = codes "Pay"; splits = given 3 to to ∷ given 4 from from ∷ [] })
 
-abbrev two_accounts : List What
+abbrev two_accounts : List Update
 two_accounts = account (codes "Bank") Bank None ∷ account (codes "Salary") Income None ∷ []
 
 salary :
@@ -102,10 +98,10 @@ amount_limit : last two_accounts (paid (pos 1000000000001) (negsuc 1000000000000
     ≡ Refused (Limit Amount 1000000000000)
 amount_limit = refl
 
-abbrev acme : What
+abbrev acme : Update
 acme = CommodityAdd (record { space = codes "NYSE"; name = codes "ACME"; full_name = []; fraction = 1 })
 
-abbrev security : List What
+abbrev security : List Update
 security = acme ∷ broker ∷ account (codes "Cash") Bank None ∷ []
 
 stock_split :
@@ -148,12 +144,17 @@ same_currency = refl
 name_taken : last two_accounts (account (codes "Bank") Bank None) ≡ Refused (NameTaken 3)
 name_taken = refl
 
-earlier_version : reply (step (run fresh_state two_accounts) (record { at = Some 1; what = AccountDrop 9 }))
-    ≡ Refused (Stale 2)
+earlier_version : stale 2 (Some 1) ≡ Some (Stale 2)
 earlier_version = refl
 
+later_version : stale 2 (Some 3) ≡ Some (Stale 2)
+later_version = refl
+
+present_version : stale 2 (Some 2) ≡ None
+present_version = refl
+
 -- the book after the salary, with transaction 5 and its splits 6 and 7
-abbrev paid_book : List What
+abbrev paid_book : List Update
 paid_book = account (codes "Bank") Bank None ∷ account (codes "Salary") Income None
     ∷ paid (pos 250000) (negsuc 249999) ∷ []
 
@@ -161,11 +162,11 @@ abbrev given_with : Option ℕ → ℕ → ℤ → GivenSplit
 given_with number account value = record
     { account = account; value = value; quantity = value; memo = []; action = []; id = number }
 
-abbrev given_anew : List GivenSplit → What
+abbrev given_anew : List GivenSplit → Update
 given_anew splits = Edit 5 false (pos 19728)
     (record { currency = 1; num = []; description = []; splits = splits })
 
-abbrev corrected : What
+abbrev corrected : Update
 corrected = given_anew (given_with (Some 6) 3 (pos 100) ∷ given_with None 4 (negsuc 99) ∷ [])
 
 -- one split stays and one comes
@@ -193,7 +194,7 @@ given_again :
     ≡ Answered (answer.Edit 5 (6 ∷ 7 ∷ []) (pos 250000 ∷ negsuc 249999 ∷ [])) 3
 given_again = refl
 
-abbrev edited_book : List What
+abbrev edited_book : List Update
 edited_book = account (codes "Bank") Bank None ∷ account (codes "Salary") Income None
     ∷ paid (pos 250000) (negsuc 249999) ∷ corrected ∷ []
 
@@ -254,9 +255,9 @@ lined state book = record book { lines = (8, matched state) ∷ [] }
 abbrev with_line : LineState → State → State
 with_line state old = record { book = lined state old.book; next = old.next; version = old.version }
 
--- what the last command comes to after the others, with a line of account 3 that is matched with split 6
-abbrev last_lined : List What → What → Outcome
-last_lined before what = step (with_line (Matched 6) (run fresh_state before)) (now what)
+-- what the last change comes to after the others, with a line of account 3 that is matched with split 6
+abbrev last_lined : List Update → Update → Outcome
+last_lined before update = outcome (with_line (Matched 6) (run fresh_state before)) update
 
 abbrev lines_of : Outcome → List (ℕ × Line)
 lines_of (Broken rule) = []

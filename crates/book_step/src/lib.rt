@@ -1,6 +1,7 @@
-//! The step that each command takes on a book. In `specs/` stands what a command comes to, family by family, and the
-//! state of the machine; `step_of` reports what a command comes to in a book, and changes nothing. The types of
-//! commands, answers and rules come from `book_command`. Public are these, `Step` and `step_of`.
+//! The step that each change of a book takes. In `specs/` stands what such a command comes to, family by family, and
+//! the state that it is asked in; `step_of` reports what it comes to in a book, and changes nothing. `check_version`
+//! asks of any command whether it is for the present version. The types of commands, answers and rules come from
+//! `book_command`. Public are these, `Step`, `step_of` and `check_version`.
 #![tactic(auto)]
 
 mod account_edit;
@@ -17,5 +18,7 @@ mod step;
 #[cfg(test)]
 mod tests;
 
-pub use book_command::{Answer, Command, GivenAccount, GivenSplit, GivenTxn, Refusal, Rule, What};
-pub use step::{Step, step_of};
+pub use book_command::{
+    Answer, Command, GivenAccount, GivenSplit, GivenTxn, Refusal, Rule, Update, What,
+};
+pub use step::{Step, check_version, step_of};

@@ -5,7 +5,7 @@ ghost use Rattle.book_undo.specs.Exact.{IsExact};
 ghost use Rattle.book_step.specs.Outcome.{ChangesBy, LeavesBy, StepsTo, numbers, version_after};
 ghost use Rattle.book_step.specs.Soundness.{IsSound};
 ghost use Rattle.book_step.specs.State.{state_of};
-ghost use Rattle.book_step.specs.Step.{outcome, stale, step};
+ghost use Rattle.book_step.specs.Step.{outcome, stale};
 
 use crate::account_edit::account_edit;
 use crate::accounts::{account_add, account_drop};
@@ -13,7 +13,7 @@ use crate::commodities::{book_currency, commodity_add};
 use crate::editing::{drop, edit};
 use crate::posting::post;
 use crate::present::Present;
-use crate::{Answer, Command, Refusal, Rule, What};
+use crate::{Answer, Refusal, Rule, Update};
 use book_commodity::Counted;
 use book_undo::{Edit, Plain};
 use std::alloc::Global;
@@ -75,61 +75,51 @@ impl Step {
     }
 }
 
-/// What the command comes to in a book with this next number and this version, all of which stay as they are. It is
-/// broken with the first rule in its order that it breaks, the version being asked first; else it is done by the step,
-/// whose edit has a leaf for each key at which the book becomes different and for no other. The version is the same
-/// after it if the edit changes nothing, and one more if not. The answer is whole but for its balances. Out of memory
-/// where there is none for texts, for the edit or for the answer.
+/// What a change comes to that is asked of a book with this next number and this version, all of which stay as they
+/// are. It is broken with the first rule in its order that it breaks; else it is done by the step, whose edit has a
+/// leaf for each key at which the book becomes different and for no other. The version is the same after it if the edit
+/// changes nothing, and one more if not. The answer is whole but for its balances. Out of memory where there is none
+/// for texts, for the edit or for the answer. Whether the change is for this version is asked by `check_version`.
 pub fn step_of(
     alloc: Global,
     plain: &Plain,
     next: u64,
     version: u64,
-    command: Command,
+    update: Update,
 ) -> Result<Step, Refusal>
     requires { IsSound (state_of plain.now next version) }
-    ensures { StepsTo (state_of plain.now next version) (step (state_of plain.now next version) command) result }
+    ensures { StepsTo (state_of plain.now next version) (outcome (state_of plain.now next version) update) result }
 {
-    let present = Present {
+    let present = &Present {
         alloc,
         plain,
         next,
         version,
     };
-    let Command { at, what } = command;
-    check_version(&present, at)?;
-    step_of_what(&present, what)
-}
-
-/// The same of what is asked, at the present version.
-fn step_of_what(present: &Present, what: What) -> Result<Step, Refusal>
-    ensures { StepsTo present.now (outcome present.now what) result }
-{
-    match what {
-        What::BookCurrency { commodity } => book_currency(present, commodity),
-        What::CommodityAdd { commodity } => commodity_add(present, commodity),
-        What::AccountAdd { account } => account_add(present, account),
-        What::AccountEdit { account, given } => account_edit(present, account, given),
-        What::AccountDrop { account } => account_drop(present, account),
-        What::Post { day, given } => post(present, day, given),
-        What::Edit {
+    match update {
+        Update::BookCurrency { commodity } => book_currency(present, commodity),
+        Update::CommodityAdd { commodity } => commodity_add(present, commodity),
+        Update::AccountAdd { account } => account_add(present, account),
+        Update::AccountEdit { account, given } => account_edit(present, account, given),
+        Update::AccountDrop { account } => account_drop(present, account),
+        Update::Post { day, given } => post(present, day, given),
+        Update::Edit {
             transaction,
             force,
             day,
             given,
         } => edit(present, transaction, force, day, given),
-        What::Drop { transaction, force } => drop(present, transaction, force),
+        Update::Drop { transaction, force } => drop(present, transaction, force),
     }
 }
 
-/// The command is for the present version, where it is for one.
-fn check_version(present: &Present, at: Option<u64>) -> Result<(), Rule>
-    ensures { ReportsFirst (stale present.now at ∷ []) result }
+/// A command may be for one version alone. Where that is another than the present one it breaks `Stale`, before all
+/// other rules.
+pub fn check_version(version: u64, at: Option<u64>) -> Result<(), Rule>
+    ensures { ReportsFirst (stale version at ∷ []) result }
 {
     match at {
-        Some(at) if at != present.version => Err(Rule::Stale {
-            now: present.version,
-        }),
+        Some(at) if at != version => Err(Rule::Stale { now: version }),
         _ => Ok(()),
     }
 }
@@ -147,3 +137,6 @@ fn check_numbers(present: &Present, drawn: u64) -> Result<(), Rule>
     }
     Ok(())
 }
+
+#[cfg(test)]
+mod tests;

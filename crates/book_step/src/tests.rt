@@ -2,7 +2,7 @@ ghost use Rattle.std.specs.Prelude.{◌≡◌, IfOk};
 ghost use Rattle.book_undo.specs.Book.{book_of};
 ghost use Rattle.book_step.specs.State.{euro, fresh_book, root};
 
-use crate::{Answer, Command, GivenAccount, GivenSplit, GivenTxn, Refusal, Rule, What, step_of};
+use crate::{Answer, GivenAccount, GivenSplit, GivenTxn, Refusal, Rule, Update, step_of};
 use book_accounts::{Account, AccountKind};
 use book_commodity::{Commodity, Day, Many, OutOfMemory, Text};
 use book_undo::Plain;
@@ -87,15 +87,8 @@ impl Machine {
     }
 
     /// Takes the command, and changes the book by its step.
-    fn take(&mut self, alloc: Global, what: What) -> Result<Answer, Refusal> {
-        let at = Some(self.version);
-        let step = step_of(
-            alloc,
-            &self.plain,
-            self.next,
-            self.version,
-            Command { at, what },
-        )?;
+    fn take(&mut self, alloc: Global, update: Update) -> Result<Answer, Refusal> {
+        let step = step_of(alloc, &self.plain, self.next, self.version, update)?;
         self.plain.reserve_for(&step.edit)?;
         self.version = step.version_after(self.version);
         self.next = step.next;
@@ -104,8 +97,8 @@ impl Machine {
     }
 
     /// The same, but of the answer only what is seen.
-    fn see(&mut self, alloc: Global, what: What) -> Result<Seen, Refusal> {
-        Ok(Seen::of(self.take(alloc, what)?))
+    fn see(&mut self, alloc: Global, update: Update) -> Result<Seen, Refusal> {
+        Ok(Seen::of(self.take(alloc, update)?))
     }
 
     /// The next number and the version.
@@ -144,11 +137,11 @@ impl Seen {
 fn answers(
     alloc: Global,
     machine: &mut Machine,
-    commands: Many<What>,
+    commands: Many<Update>,
 ) -> Result<Many<Result<Seen, Refusal>>, OutOfMemory> {
     let mut answers = Many::new(alloc);
-    for what in commands.into_vec() {
-        answers.push(machine.see(alloc, what))?;
+    for update in commands.into_vec() {
+        answers.push(machine.see(alloc, update))?;
     }
     Ok(answers)
 }
@@ -157,14 +150,14 @@ fn answers(
 /// since each way out of them would drop its tables.
 fn run(
     alloc: Global,
-    commands: Many<What>,
+    commands: Many<Update>,
 ) -> Result<(Many<Result<Seen, Refusal>>, (u64, u64)), OutOfMemory> {
     let mut machine = Machine::begin(alloc)?;
     let answers = answers(alloc, &mut machine, commands)?;
     Ok((answers, machine.at()))
 }
 
-fn bank(alloc: Global, name: &str) -> Result<What, OutOfMemory> {
+fn bank(alloc: Global, name: &str) -> Result<Update, OutOfMemory> {
     let account = Account {
         name: text(alloc, name)?,
         kind: AccountKind::Bank,
@@ -172,7 +165,7 @@ fn bank(alloc: Global, name: &str) -> Result<What, OutOfMemory> {
         placeholder: false,
         ..root(alloc)?
     };
-    Ok(What::AccountAdd { account })
+    Ok(Update::AccountAdd { account })
 }
 
 fn renamed(alloc: Global, name: &str) -> Result<GivenAccount, OutOfMemory> {
@@ -205,31 +198,31 @@ fn nothing_moved(alloc: Global, account: u64) -> Result<GivenTxn, OutOfMemory> {
 }
 
 /// The currency that the book has, and a security.
-fn commodities(alloc: Global) -> Result<Many<What>, OutOfMemory> {
+fn commodities(alloc: Global) -> Result<Many<Update>, OutOfMemory> {
     let mut commands = Many::new(alloc);
-    commands.push(What::BookCurrency { commodity: 1 })?;
+    commands.push(Update::BookCurrency { commodity: 1 })?;
     let commodity = commodity(alloc, "NYSE", "ACME")?;
-    commands.push(What::CommodityAdd { commodity })?;
+    commands.push(Update::CommodityAdd { commodity })?;
     Ok(commands)
 }
 
 /// An account that is added, renamed and deleted.
-fn accounts(alloc: Global) -> Result<Many<What>, OutOfMemory> {
+fn accounts(alloc: Global) -> Result<Many<Update>, OutOfMemory> {
     let mut commands = Many::new(alloc);
     commands.push(bank(alloc, "Bank")?)?;
     let given = renamed(alloc, "Checking")?;
-    commands.push(What::AccountEdit { account: 3, given })?;
-    commands.push(What::AccountDrop { account: 3 })?;
+    commands.push(Update::AccountEdit { account: 3, given })?;
+    commands.push(Update::AccountDrop { account: 3 })?;
     Ok(commands)
 }
 
 /// An account with a transaction, which is then to be deleted.
-fn posts(alloc: Global, day: Day) -> Result<Many<What>, OutOfMemory> {
+fn posts(alloc: Global, day: Day) -> Result<Many<Update>, OutOfMemory> {
     let mut commands = Many::new(alloc);
     commands.push(bank(alloc, "Bank")?)?;
     let given = nothing_moved(alloc, 3)?;
-    commands.push(What::Post { day, given })?;
-    commands.push(What::AccountDrop { account: 3 })?;
+    commands.push(Update::Post { day, given })?;
+    commands.push(Update::AccountDrop { account: 3 })?;
     Ok(commands)
 }
 

@@ -1,9 +1,9 @@
 -- Lines at values written by hand.
-use Rattle.std.proofs.Common.{◌≡◌, [], ◌∷◌, Some, codes, refl, pos, negsuc}
+use Rattle.std.proofs.Common.{◌≡◌, [], ◌∷◌, ◌++◌, Some, codes, refl, pos, negsuc}
 use Rattle.std.specs.Fmt.{digits}
 use Rattle.serde_json.proofs.OnLiterals.{serde_json_on_literals}
-use Rattle.book_command.specs.declared.answer.Answer.TheVariants.{Edit}
-use Rattle.book_command.specs.declared.rule.Rule.TheVariants.{Reconciled, Unknown}
+use Rattle.book_command.specs.declared.answer.Answer.TheVariants.{Edit, Redo, Status}
+use Rattle.book_command.specs.declared.rule.Rule.TheVariants.{NothingToRedo, Reconciled, Unknown}
 use Rattle.book_command.specs.declared.wire_error.WireError.TheVariants.{NotCommand}
 use Rattle.book_commodity.specs.declared.counted.Counted.TheVariants.{Numbers}
 use Rattle.book_commodity.specs.declared.kind.Kind.TheVariants.{Reconciliation}
@@ -40,3 +40,18 @@ edit_bytes = refl
 reconciled_bytes : rule_bytes (Reconciled 6) 5 ≡ codes "{\"broken\":\"Reconciled\",\"split\":6,\"version\":5}"
 unfolding digits serde_json_on_literals
 reconciled_bytes = refl
+
+redo_bytes : answer_bytes Redo 5 ≡ codes "{\"ok\":\"redo\",\"version\":5}"
+unfolding digits word_text serde_json_on_literals
+redo_bytes = refl
+
+-- the counts stand among the answer's other members, in byte order
+status_bytes : answer_bytes (Status 3 0 4 256 5 2 1) 300
+    ≡ codes "{\"accounts\":3,\"later\":0,\"lines\":4,\"ok\":\"status\",\"past\":256,"
+    ++ codes "\"recons\":5,\"splits\":2,\"transactions\":1,\"version\":300}"
+unfolding digits word_text serde_json_on_literals
+status_bytes = refl
+
+nothing_undone_bytes : rule_bytes NothingToRedo 5 ≡ codes "{\"broken\":\"NothingToRedo\",\"version\":5}"
+unfolding digits serde_json_on_literals
+nothing_undone_bytes = refl

@@ -2,6 +2,7 @@ pub mod Accounts
 pub mod AnswerText
 pub mod Commodities
 pub mod Fields
+pub mod History
 pub mod Posting
 pub mod RefusedText
 pub mod RuleText

@@ -6,7 +6,8 @@ use Rattle.book_command.specs.declared.rule.Rule.{Rule}
 use Rattle.book_command.specs.declared.rule.Rule.TheVariants.{Stale, Unknown, NameTaken, Cycle, ParentKind, Root}
 use Rattle.book_command.specs.declared.rule.Rule.TheVariants.{Placeholder, NotEmpty, InUse, FractionShape}
 use Rattle.book_command.specs.declared.rule.Rule.TheVariants.{BasisShape, SplitCount, WrongCurrency, Basis}
-use Rattle.book_command.specs.declared.rule.Rule.TheVariants.{ValueNotQuantity, Unbalanced, Reconciled, Limit}
+use Rattle.book_command.specs.declared.rule.Rule.TheVariants.{ValueNotQuantity, Unbalanced, Reconciled}
+use Rattle.book_command.specs.declared.rule.Rule.TheVariants.{NothingToUndo, NothingToRedo, Limit}
 use Rattle.book_texts.specs.Fields.{broken, line_of}
 use Rattle.book_texts.specs.Shown.{number_data, sum_data}
 use Rattle.book_texts.specs.Words.{kind_data, limit_data}
@@ -35,6 +36,8 @@ rule_members (Basis account) = broken (codes "Basis") ((codes "account", number_
 rule_members (ValueNotQuantity place) = broken (codes "ValueNotQuantity") ((codes "place", number_data place) ∷ [])
 rule_members (Unbalanced sum) = broken (codes "Unbalanced") ((codes "sum", sum_data sum) ∷ [])
 rule_members (Reconciled split) = broken (codes "Reconciled") ((codes "split", number_data split) ∷ [])
+rule_members NothingToUndo = broken (codes "NothingToUndo") []
+rule_members NothingToRedo = broken (codes "NothingToRedo") []
 rule_members (Limit which at) = broken (codes "Limit")
     ((codes "which", limit_data which) ∷ (codes "at", number_data at) ∷ [])
 

@@ -5,6 +5,7 @@ ghost use Rattle.book_texts.specs.Fields.{members_of};
 use crate::accounts::account_add;
 use crate::commodities::commodity_add;
 use crate::fields::Fields;
+use crate::history::status;
 use crate::posting::{edit, post};
 use book_command::{Answer, Word};
 use book_commodity::{Bytes, OutOfMemory};
@@ -38,5 +39,27 @@ fn answer_fields(alloc: Global, answer: &Answer, version: u64) -> Result<Fields,
             balances,
         } => edit(alloc, splits, balances, version),
         Answer::Drop => Fields::answered(alloc, Word::Drop, version),
+        Answer::Undo => Fields::answered(alloc, Word::Undo, version),
+        Answer::Redo => Fields::answered(alloc, Word::Redo, version),
+        Answer::Status {
+            accounts,
+            later,
+            lines,
+            past,
+            recons,
+            splits,
+            transactions,
+        } => {
+            let counts = [
+                ("accounts", *accounts),
+                ("later", *later),
+                ("lines", *lines),
+                ("past", *past),
+                ("recons", *recons),
+                ("splits", *splits),
+                ("transactions", *transactions),
+            ];
+            status(alloc, &counts, version)
+        }
     }
 }

@@ -7,6 +7,7 @@ mod accounts;
 mod answers;
 mod commodities;
 mod fields;
+mod history;
 mod posting;
 mod refused;
 mod rules;

@@ -7,7 +7,7 @@ use std::alloc::Global;
 /// A rule, the version that stands with it, and the line.
 type Row = (Rule, u64, &'static str);
 
-static RULES: [Row; 18] = [
+static RULES: [Row; 20] = [
     (
         Rule::Stale { now: 42 },
         42,
@@ -92,6 +92,16 @@ static RULES: [Row; 18] = [
         r#"{"broken":"Reconciled","split":6,"version":5}"#,
     ),
     (
+        Rule::NothingToUndo,
+        0,
+        r#"{"broken":"NothingToUndo","version":0}"#,
+    ),
+    (
+        Rule::NothingToRedo,
+        5,
+        r#"{"broken":"NothingToRedo","version":5}"#,
+    ),
+    (
         Rule::Limit {
             which: Counted::Amount,
             at: 1_000_000_000_000,
@@ -151,6 +161,26 @@ fn writes_answers(rt: HostRuntime) -> Result<(), OutOfMemory> {
     let edit = r#"{"balances":["3","-3"],"ok":"edit","splits":[6,9],"version":4}"#;
     assert!(rt; answered(alloc, &edited, 4, edit)?);
     assert!(rt; answered(alloc, &Answer::Drop, 5, r#"{"ok":"drop","version":5}"#)?);
+    Ok(())
+}
+
+#[test]
+fn writes_answers_of_the_history(rt: HostRuntime) -> Result<(), OutOfMemory> {
+    let alloc = rt.alloc();
+    let counts = Answer::Status {
+        accounts: 3,
+        later: 0,
+        lines: 4,
+        past: 256,
+        recons: 5,
+        splits: 2,
+        transactions: 1,
+    };
+    let status = "{\"accounts\":3,\"later\":0,\"lines\":4,\"ok\":\"status\",\"past\":256,\
+         \"recons\":5,\"splits\":2,\"transactions\":1,\"version\":300}";
+    assert!(rt; answered(alloc, &Answer::Undo, 4, r#"{"ok":"undo","version":4}"#)?);
+    assert!(rt; answered(alloc, &Answer::Redo, 5, r#"{"ok":"redo","version":5}"#)?);
+    assert!(rt; answered(alloc, &counts, 300, status)?);
     Ok(())
 }
 

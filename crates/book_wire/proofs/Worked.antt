@@ -1,7 +1,8 @@
 -- What lines ask at values written by hand.
 use Rattle.std.proofs.Common.{◌≡◌, [], Some, None, Ok, Err, codes, false, refl, pos}
 use Rattle.serde_json.specs.Data.{Members, null, number, string, array, object, no_items, no_members, member, unsigned}
-use Rattle.book_command.specs.declared.command.What.TheVariants as what
+use Rattle.book_command.specs.declared.command.Update.TheVariants as update
+use Rattle.book_command.specs.declared.command.What.TheVariants.{Redo, Update}
 use Rattle.book_wire.specs.Asked.{Asks, NotCommand, NotBuilt, asked_of_data}
 use Rattle.book_wire.specs.Commands.{word_form}
 use Rattle.book_wire.specs.Posting.{split, kept_split}
@@ -17,7 +18,7 @@ no_word = refl
 
 -- whether a command is built is asked before its other members are read
 later_word : asked_of_data
-    (object (member (codes "at") null (member (codes "do") (string (codes "undo")) no_members))) ≡ NotBuilt
+    (object (member (codes "at") null (member (codes "do") (string (codes "mark")) no_members))) ≡ NotBuilt
 unfolding needed word_form
 later_word = refl
 
@@ -32,9 +33,22 @@ version_first = refl
 unforced : asked_of_data
     (object
     (member (codes "do") (string (codes "drop")) (member (codes "transaction") (number (unsigned 5)) no_members)))
-    ≡ Asks (record { at = None; what = what.Drop 5 false })
+    ≡ Asks (record { at = None; what = Update (update.Drop 5 false) })
 unfolding needed optional flag ends word_form whole
 unforced = refl
+
+-- a command on the history has no member but the version
+redone : asked_of_data
+    (object (member (codes "at") (number (unsigned 4)) (member (codes "do") (string (codes "redo")) no_members)))
+    ≡ Asks (record { at = Some 4; what = Redo })
+unfolding needed optional ends word_form whole
+redone = refl
+
+nothing_more : asked_of_data
+    (object (member (codes "a") null (member (codes "do") (string (codes "redo")) no_members)))
+    ≡ NotCommand (codes "a")
+unfolding needed optional ends word_form whole
+nothing_more = refl
 
 abbrev numbered : Members
 numbered =

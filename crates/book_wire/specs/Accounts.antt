@@ -3,8 +3,8 @@ use Rattle.std.specs.Prelude.{Some, codes}
 use Rattle.book_accounts.specs.declared.account.Account.{Account}
 use Rattle.book_json.specs.Members.{Reader, needed, optional, text, flag, gives, ◌>>=◌}
 use Rattle.book_json.specs.Forms.{whole, flag_form, text_form, filled}
-use Rattle.book_command.specs.declared.command.What.{What}
-use Rattle.book_command.specs.declared.command.What.TheVariants as what
+use Rattle.book_command.specs.declared.command.Update.{Update}
+use Rattle.book_command.specs.declared.command.Update.TheVariants as update
 use Rattle.book_wire.specs.Kinds.{kind_form}
 use Rattle.book_wire.specs.declared.accounts.AccountCommand.{AccountCommand}
 use Rattle.book_wire.specs.declared.accounts.AccountCommand.TheVariants.{AccountAdd, AccountEdit, AccountDrop}
@@ -34,10 +34,10 @@ account = do
   })
 
 -- The account that is added; an account with what it is to have from now on; the account that is deleted.
-abbrev pub account_members : AccountCommand → Reader What
+abbrev pub account_members : AccountCommand → Reader Update
 account_members AccountAdd = do
   given ← account
-  gives (what.AccountAdd given)
+  gives (update.AccountAdd given)
 account_members AccountEdit = do
   account ← needed whole (codes "account")
   name ← optional filled (codes "name")
@@ -46,7 +46,7 @@ account_members AccountEdit = do
   note ← optional text_form (codes "note")
   hidden ← optional flag_form (codes "hidden")
   placeholder ← optional flag_form (codes "placeholder")
-  gives (what.AccountEdit account
+  gives (update.AccountEdit account
       (record {
         name = name;
         parent = parent;
@@ -57,4 +57,4 @@ account_members AccountEdit = do
       }))
 account_members AccountDrop = do
   account ← needed whole (codes "account")
-  gives (what.AccountDrop account)
+  gives (update.AccountDrop account)

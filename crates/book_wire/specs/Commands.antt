@@ -1,19 +1,23 @@
 -- The commands: the members that each reads after its word.
 use Rattle.std.specs.Prelude.{Option, Some, None, codes}
-use Rattle.book_json.specs.Members.{Form, Reader, optional, ends, ◌>>=◌}
+use Rattle.book_json.specs.Members.{Form, Reader, optional, ends, gives, ◌>>=◌}
 use Rattle.book_json.specs.Forms.{whole, among}
 use Rattle.book_command.specs.Words.{words}
 use Rattle.book_command.specs.declared.command.Command.{Command}
+use Rattle.book_command.specs.declared.command.Update.{Update}
 use Rattle.book_command.specs.declared.command.What.{What}
+use Rattle.book_command.specs.declared.command.What.TheVariants as what
 use Rattle.book_command.specs.declared.word.Word.{Word}
 use Rattle.book_command.specs.declared.word.Word.TheVariants as word
 use Rattle.book_wire.specs.Accounts.{account_members}
 use Rattle.book_wire.specs.Commodities.{commodity_members}
+use Rattle.book_wire.specs.History.{history_asked}
 use Rattle.book_wire.specs.Posting.{posting_members}
 use Rattle.book_wire.specs.declared.accounts.AccountCommand.TheVariants.{AccountAdd, AccountEdit, AccountDrop}
 use Rattle.book_wire.specs.declared.commands.Built.{Built}
-use Rattle.book_wire.specs.declared.commands.Built.TheVariants.{Commodities, Accounts, Posting}
+use Rattle.book_wire.specs.declared.commands.Built.TheVariants.{Commodities, Accounts, Posting, History}
 use Rattle.book_wire.specs.declared.commodities.CommodityCommand.TheVariants.{BookCurrency, CommodityAdd}
+use Rattle.book_wire.specs.declared.history.HistoryCommand.TheVariants.{Undo, Redo, Status}
 use Rattle.book_wire.specs.declared.posting.PostingCommand.TheVariants.{Post, Edit, Drop}
 
 -- The text of a command's word.
@@ -30,13 +34,23 @@ built_of word.AccountDrop = Some (Accounts AccountDrop)
 built_of word.Post = Some (Posting Post)
 built_of word.Edit = Some (Posting Edit)
 built_of word.Drop = Some (Posting Drop)
+built_of word.Undo = Some (History Undo)
+built_of word.Redo = Some (History Redo)
+built_of word.Status = Some (History Status)
 built_of _ = None
+
+-- A command that asks for a change of the book, whose members are read so.
+abbrev pub changing : Reader Update → Reader What
+changing members = do
+  update ← members
+  gives (what.Update update)
 
 -- What a command asks, by its family.
 abbrev pub what_of : Built → Reader What
-what_of (Commodities command) = commodity_members command
-what_of (Accounts command) = account_members command
-what_of (Posting command) = posting_members command
+what_of (Commodities command) = changing (commodity_members command)
+what_of (Accounts command) = changing (account_members command)
+what_of (Posting command) = changing (posting_members command)
+what_of (History command) = gives (history_asked command)
 
 -- A command, read to the end of its line: the version that it is for may be given, and is read before its own members.
 abbrev pub command : Built → Reader Command

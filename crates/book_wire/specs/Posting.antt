@@ -4,8 +4,8 @@ use Rattle.book_json.specs.Members.{Reader, needed, optional, text, flag, gives,
 use Rattle.book_json.specs.Forms.{whole, whole_signed, day_form, list, inner}
 use Rattle.book_command.specs.declared.command.GivenSplit.{GivenSplit}
 use Rattle.book_command.specs.declared.command.GivenTxn.{GivenTxn}
-use Rattle.book_command.specs.declared.command.What.{What}
-use Rattle.book_command.specs.declared.command.What.TheVariants as what
+use Rattle.book_command.specs.declared.command.Update.{Update}
+use Rattle.book_command.specs.declared.command.Update.TheVariants as update
 use Rattle.book_wire.specs.declared.posting.PostingCommand.{PostingCommand}
 use Rattle.book_wire.specs.declared.posting.PostingCommand.TheVariants.{Post, Edit, Drop}
 
@@ -44,18 +44,18 @@ transaction split = do
 
 -- A new transaction on a day; a transaction with what it is to be from now on, on a day; the transaction that is
 -- deleted. Only an edit gives numbers of splits. An absent `force` is false.
-abbrev pub posting_members : PostingCommand → Reader What
+abbrev pub posting_members : PostingCommand → Reader Update
 posting_members Post = do
   day ← needed day_form (codes "day")
   given ← transaction split
-  gives (what.Post day given)
+  gives (update.Post day given)
 posting_members Edit = do
   number ← needed whole (codes "transaction")
   force ← flag (codes "force")
   day ← needed day_form (codes "day")
   given ← transaction kept_split
-  gives (what.Edit number force day given)
+  gives (update.Edit number force day given)
 posting_members Drop = do
   number ← needed whole (codes "transaction")
   force ← flag (codes "force")
-  gives (what.Drop number force)
+  gives (update.Drop number force)

@@ -4,7 +4,7 @@ ghost use Rattle.book_wire.specs.Accounts.{account, account_members};
 
 use crate::kinds::kind;
 use book_accounts::Account;
-use book_command::{GivenAccount, What};
+use book_command::{GivenAccount, Update};
 use book_commodity::Text;
 use book_json::{Fault, Filled, Reading};
 
@@ -17,8 +17,8 @@ pub(crate) enum AccountCommand {
 }
 
 impl AccountCommand {
-    /// What the command asks, of its members.
-    pub(crate) fn read(self, members: &mut Reading) -> Result<What, Fault>
+    /// The change that the command asks for, of its members.
+    pub(crate) fn read(self, members: &mut Reading) -> Result<Update, Fault>
         ensures { Gives (account_members self (rest members.old)) result (rest members.new) }
     {
         match self {
@@ -29,11 +29,11 @@ impl AccountCommand {
     }
 }
 
-fn account_add(members: &mut Reading) -> Result<What, Fault>
+fn account_add(members: &mut Reading) -> Result<Update, Fault>
     ensures { Gives (account_members AccountCommand.AccountAdd (rest members.old)) result (rest members.new) }
 {
     let account = account(members)?;
-    Ok(What::AccountAdd { account })
+    Ok(Update::AccountAdd { account })
 }
 
 /// A new account.
@@ -63,7 +63,7 @@ fn account(members: &mut Reading) -> Result<Account, Fault>
     })
 }
 
-fn account_edit(members: &mut Reading) -> Result<What, Fault>
+fn account_edit(members: &mut Reading) -> Result<Update, Fault>
     ensures { Gives (account_members AccountCommand.AccountEdit (rest members.old)) result (rest members.new) }
 {
     let account = members.needed("account")?;
@@ -81,7 +81,7 @@ fn account_edit(members: &mut Reading) -> Result<What, Fault>
         hidden,
         placeholder,
     };
-    Ok(What::AccountEdit { account, given })
+    Ok(Update::AccountEdit { account, given })
 }
 
 /// The text, where one is given.
@@ -91,9 +91,9 @@ fn text_of(filled: Option<Filled>) -> Option<Text>
     filled.map(|filled| filled.into_text())
 }
 
-fn account_drop(members: &mut Reading) -> Result<What, Fault>
+fn account_drop(members: &mut Reading) -> Result<Update, Fault>
     ensures { Gives (account_members AccountCommand.AccountDrop (rest members.old)) result (rest members.new) }
 {
     let account = members.needed("account")?;
-    Ok(What::AccountDrop { account })
+    Ok(Update::AccountDrop { account })
 }

@@ -5,8 +5,9 @@ ghost use Rattle.book_wire.specs.Commands.{built_of, command, what_of, word_form
 
 use crate::accounts::AccountCommand::{self, AccountAdd, AccountDrop, AccountEdit};
 use crate::commodities::CommodityCommand::{self, BookCurrency, CommodityAdd};
+use crate::history::HistoryCommand::{self, Redo, Status, Undo};
 use crate::posting::PostingCommand::{self, Drop, Edit, Post};
-use Built::{Accounts, Commodities, Posting};
+use Built::{Accounts, Commodities, History, Posting};
 use book_command::{Command, What, Word, words};
 use book_json::{Fault, Reading};
 
@@ -16,6 +17,7 @@ pub(crate) enum Built {
     Commodities(CommodityCommand),
     Accounts(AccountCommand),
     Posting(PostingCommand),
+    History(HistoryCommand),
 }
 
 /// The word of a line.
@@ -39,6 +41,9 @@ pub(crate) fn built_of(word: Word) -> Option<Built>
         Word::Post => Some(Posting(Post)),
         Word::Edit => Some(Posting(Edit)),
         Word::Drop => Some(Posting(Drop)),
+        Word::Undo => Some(History(Undo)),
+        Word::Redo => Some(History(Redo)),
+        Word::Status => Some(History(Status)),
         _ => None,
     }
 }
@@ -56,9 +61,11 @@ pub(crate) fn command(built: Built, members: &mut Reading) -> Result<Command, Fa
 fn what_of(built: Built, members: &mut Reading) -> Result<What, Fault>
     ensures { Gives (what_of built (rest members.old)) result (rest members.new) }
 {
-    match built {
-        Commodities(command) => command.read(members),
-        Accounts(command) => command.read(members),
-        Posting(command) => command.read(members),
-    }
+    let update = match built {
+        Commodities(command) => command.read(members)?,
+        Accounts(command) => command.read(members)?,
+        Posting(command) => command.read(members)?,
+        History(command) => return Ok(command.what()),
+    };
+    Ok(What::Update(update))
 }

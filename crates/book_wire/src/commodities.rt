@@ -1,7 +1,7 @@
 ghost use Rattle.book_json.specs.Reads.{rest, Gives};
 ghost use Rattle.book_wire.specs.Commodities.{commodity_members};
 
-use book_command::What;
+use book_command::Update;
 use book_commodity::Commodity;
 use book_json::{Fault, Filled, Reading};
 
@@ -13,8 +13,8 @@ pub(crate) enum CommodityCommand {
 }
 
 impl CommodityCommand {
-    /// What the command asks, of its members.
-    pub(crate) fn read(self, members: &mut Reading) -> Result<What, Fault>
+    /// The change that the command asks for, of its members.
+    pub(crate) fn read(self, members: &mut Reading) -> Result<Update, Fault>
         ensures { Gives (commodity_members self (rest members.old)) result (rest members.new) }
     {
         match self {
@@ -24,14 +24,14 @@ impl CommodityCommand {
     }
 }
 
-fn book_currency(members: &mut Reading) -> Result<What, Fault>
+fn book_currency(members: &mut Reading) -> Result<Update, Fault>
     ensures { Gives (commodity_members CommodityCommand.BookCurrency (rest members.old)) result (rest members.new) }
 {
     let commodity = members.needed("commodity")?;
-    Ok(What::BookCurrency { commodity })
+    Ok(Update::BookCurrency { commodity })
 }
 
-fn commodity_add(members: &mut Reading) -> Result<What, Fault>
+fn commodity_add(members: &mut Reading) -> Result<Update, Fault>
     ensures { Gives (commodity_members CommodityCommand.CommodityAdd (rest members.old)) result (rest members.new) }
 {
     let space = members.needed::<Filled>("space")?;
@@ -44,5 +44,5 @@ fn commodity_add(members: &mut Reading) -> Result<What, Fault>
         full_name,
         fraction,
     };
-    Ok(What::CommodityAdd { commodity })
+    Ok(Update::CommodityAdd { commodity })
 }

@@ -6,6 +6,7 @@
 mod accounts;
 mod commands;
 mod commodities;
+mod history;
 mod kinds;
 mod line;
 mod posting;

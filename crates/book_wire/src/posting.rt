@@ -3,7 +3,7 @@ ghost use Rattle.book_json.specs.Members.{flag};
 ghost use Rattle.book_json.specs.Reads.{rest, Gives};
 ghost use Rattle.book_wire.specs.Posting.{kept_split, posting_members, split, transaction};
 
-use book_command::{GivenSplit, GivenTxn, What};
+use book_command::{GivenSplit, GivenTxn, Update};
 use book_json::{Fault, Object, Reading};
 
 /// The commands on transactions.
@@ -15,8 +15,8 @@ pub(crate) enum PostingCommand {
 }
 
 impl PostingCommand {
-    /// What the command asks, of its members.
-    pub(crate) fn read(self, members: &mut Reading) -> Result<What, Fault>
+    /// The change that the command asks for, of its members.
+    pub(crate) fn read(self, members: &mut Reading) -> Result<Update, Fault>
         ensures { Gives (posting_members self (rest members.old)) result (rest members.new) }
     {
         match self {
@@ -27,22 +27,22 @@ impl PostingCommand {
     }
 }
 
-fn post(members: &mut Reading) -> Result<What, Fault>
+fn post(members: &mut Reading) -> Result<Update, Fault>
     ensures { Gives (posting_members PostingCommand.Post (rest members.old)) result (rest members.new) }
 {
     let day = members.needed("day")?;
     let given = transaction_of::<NewSplit>(members)?;
-    Ok(What::Post { day, given })
+    Ok(Update::Post { day, given })
 }
 
-fn edit(members: &mut Reading) -> Result<What, Fault>
+fn edit(members: &mut Reading) -> Result<Update, Fault>
     ensures { Gives (posting_members PostingCommand.Edit (rest members.old)) result (rest members.new) }
 {
     let transaction = members.needed("transaction")?;
     let force = forced(members)?;
     let day = members.needed("day")?;
     let given = transaction_of::<KeptSplit>(members)?;
-    Ok(What::Edit {
+    Ok(Update::Edit {
         transaction,
         force,
         day,
@@ -50,12 +50,12 @@ fn edit(members: &mut Reading) -> Result<What, Fault>
     })
 }
 
-fn drop_transaction(members: &mut Reading) -> Result<What, Fault>
+fn drop_transaction(members: &mut Reading) -> Result<Update, Fault>
     ensures { Gives (posting_members PostingCommand.Drop (rest members.old)) result (rest members.new) }
 {
     let transaction = members.needed("transaction")?;
     let force = forced(members)?;
-    Ok(What::Drop { transaction, force })
+    Ok(Update::Drop { transaction, force })
 }
 
 /// Whether reconciled splits may change or go; where nothing is said they may not.

@@ -1,14 +1,14 @@
 //! Lines written by hand beside what they are read as: the fault that each is answered, or the values it gives.
 use crate::{KEEPER, MEMORY, WireError, command_of, wire_text};
 use book_accounts::AccountKind;
-use book_command::{Command, GivenAccount, What};
+use book_command::{Command, GivenAccount, Update, What};
 use book_commodity::{Bytes, OutOfMemory};
 use std::alloc::Global;
 
 /// A line, and the member that fails in it, or in brackets what else comes of it.
 type Row = (&'static str, &'static str);
 
-static ROWS: [Row; 75] = [
+static ROWS: [Row; 78] = [
     (r#"{"do":"account_drop","account":3}"#, "(read)"),
     (r#" { "account" : 3 , "do" : "account_drop" } "#, "(read)"),
     (
@@ -46,7 +46,7 @@ static ROWS: [Row; 75] = [
     (r#"{"do":null,"at":"x"}"#, "do"),
     (r#"{"do":"Post","at":"x"}"#, "do"),
     (r#"{"do":"","at":"x"}"#, "do"),
-    (r#"{"do":"undo","at":"x","z":1}"#, "(not built)"),
+    (r#"{"do":"mark","at":"x","z":1}"#, "(not built)"),
     (r#"{"do":"account_drop","account":3"#, "(not JSON)"),
     ("", "(not JSON)"),
     (r#"{"do":"book_currency","commodity":-1}"#, "commodity"),
@@ -210,12 +210,15 @@ static ROWS: [Row; 75] = [
         r#"{"do":"edit","transaction":5,"day":"2024-01-05","currency":1,"num":"7","splits":[{"account":3,"value":1,"action":"Buy"}]}"#,
         "(read)",
     ),
+    (r#"{"do":"undo"}"#, "(read)"),
+    (r#"{"do":"redo","at":null,"a":1}"#, "at"),
+    (r#"{"do":"status","version":3,"at":3}"#, "version"),
 ];
 
 const LATER: &str =
     "mark price_set price_drop schedule_add schedule_drop schedule_run bind import line_match line_add \
-     line_dismiss line_reopen match_auto reconcile reconcile_statement undo redo register trial sheet income lots \
-     gains lines statements recons due price status";
+     line_dismiss line_reopen match_auto reconcile reconcile_statement register trial sheet income lots gains \
+     lines statements recons due price";
 
 const KINDS: &str =
     "ROOT ASSET BANK CASH CREDIT LIABILITY STOCK MUTUAL RECEIVABLE PAYABLE INCOME EXPENSE EQUITY";
@@ -299,14 +302,22 @@ fn asked(alloc: Global, line: &str) -> Option<What> {
     if at == Some(6) { Some(what) } else { None }
 }
 
+/// The change that a line asks for, where it is a command for version 6.
+fn asked_update(alloc: Global, line: &str) -> Option<Update> {
+    match asked(alloc, line) {
+        Some(What::Update(update)) => Some(update),
+        _ => None,
+    }
+}
+
 fn commodities_are_read(alloc: Global) -> bool {
-    let Some(What::BookCurrency { commodity }) = asked(
+    let Some(Update::BookCurrency { commodity }) = asked_update(
         alloc,
         r#"{"do":"book_currency","at":6,"commodity":2}"#,
     ) else {
         return false;
     };
-    let Some(What::CommodityAdd { commodity: euro }) = asked(
+    let Some(Update::CommodityAdd { commodity: euro }) = asked_update(
         alloc,
         r#"{"do":"commodity_add","at":6,"space":"CURRENCY","name":"EUR","fraction":100}"#,
     ) else {
@@ -320,7 +331,7 @@ fn commodities_are_read(alloc: Global) -> bool {
 }
 
 fn an_account_is_read(alloc: Global) -> bool {
-    let Some(What::AccountAdd { account }) = asked(
+    let Some(Update::AccountAdd { account }) = asked_update(
         alloc,
         r#"{"do":"account_add","at":6,"name":"Bank","kind":"STOCK","commodity":3,"parent":2,"hidden":true,"basis":1}"#,
     ) else {
@@ -335,7 +346,7 @@ fn an_account_is_read(alloc: Global) -> bool {
 }
 
 fn what_is_given_of_an_account_is_read(alloc: Global) -> bool {
-    let Some(What::AccountEdit { account, given }) = asked(
+    let Some(Update::AccountEdit { account, given }) = asked_update(
         alloc,
         r#"{"do":"account_edit","at":6,"account":5,"note":"","hidden":false}"#,
     ) else {
@@ -360,14 +371,14 @@ fn what_is_given_of_an_account_is_read(alloc: Global) -> bool {
 }
 
 fn a_post_is_read(alloc: Global) -> bool {
-    let Some(what) = asked(
+    let Some(update) = asked_update(
         alloc,
         r#"{"do":"post","at":6,"day":"1970-01-02","currency":1,"description":"Pay\u00e9",
             "splits":[{"account":3,"value":-5},{"action":"Buy","memo":"m","quantity":7,"value":5,"account":4}]}"#,
     ) else {
         return false;
     };
-    let What::Post { day, given } = what else {
+    let Update::Post { day, given } = update else {
         return false;
     };
     let [first, second] = given.splits.as_slice() else {
@@ -385,19 +396,19 @@ fn a_post_is_read(alloc: Global) -> bool {
 }
 
 fn an_edit_is_read(alloc: Global) -> bool {
-    let Some(what) = asked(
+    let Some(update) = asked_update(
         alloc,
         r#"{"do":"edit","at":6,"transaction":5,"day":"1970-01-02","currency":1,
             "splits":[{"account":3,"value":-5,"id":7},{"account":4,"value":5}]}"#,
     ) else {
         return false;
     };
-    let What::Edit {
+    let Update::Edit {
         transaction,
         force,
         day,
         given,
-    } = what
+    } = update
     else {
         return false;
     };
@@ -410,13 +421,22 @@ fn an_edit_is_read(alloc: Global) -> bool {
 }
 
 fn a_drop_is_read(alloc: Global) -> bool {
-    let Some(What::Drop { transaction, force }) = asked(
+    let Some(Update::Drop { transaction, force }) = asked_update(
         alloc,
         r#"{"do":"drop","at":6,"transaction":5,"force":true}"#,
     ) else {
         return false;
     };
     (transaction, force) == (5, true)
+}
+
+fn the_history_is_read(alloc: Global) -> bool {
+    let undo = asked(alloc, r#"{"do":"undo","at":6}"#);
+    let redo = asked(alloc, r#"{"do":"redo","at":6}"#);
+    let status = asked(alloc, r#"{"do":"status","at":6}"#);
+    matches!(undo, Some(What::Undo))
+        && matches!(redo, Some(What::Redo))
+        && matches!(status, Some(What::Status))
 }
 
 #[test]
@@ -431,7 +451,7 @@ fn lines_are_read_as_commands(rt: HostRuntime) -> Result<(), OutOfMemory> {
     assert_eq!(rt; misread_word(alloc, KINDS, before, "\"}", "(read)")?, None);
     assert!(rt; commodities_are_read(alloc) && an_account_is_read(alloc));
     assert!(rt; what_is_given_of_an_account_is_read(alloc) && a_post_is_read(alloc));
-    assert!(rt; an_edit_is_read(alloc) && a_drop_is_read(alloc));
+    assert!(rt; an_edit_is_read(alloc) && a_drop_is_read(alloc) && the_history_is_read(alloc));
     assert_eq!(rt;
         nested(alloc, 126)?.as_slice(),
         r#"{"field":"do","refused":"not command"}"#.as_bytes()

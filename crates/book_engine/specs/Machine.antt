@@ -1,0 +1,109 @@
+-- The machine of whole books: what a command comes to. No edit and no inverse stands here.
+use Rattle.std.specs.Prelude.{ℕ, ◌+◌, ◌-◌, ◌==◌, if◌then◌else◌, List, [], ◌∷◌, Option, Some, None, length, take}
+use Rattle.book_undo.specs.Book.{Book}
+use Rattle.book_splits.specs.Balance.{splits_of}
+use Rattle.book_command.specs.declared.answer.Answer.{Answer}
+use Rattle.book_command.specs.declared.answer.Answer.TheVariants as answer
+use Rattle.book_command.specs.declared.command.Command.{Command}
+use Rattle.book_command.specs.declared.command.What.{What}
+use Rattle.book_command.specs.declared.command.What.TheVariants.{Update, Undo, Redo, Status}
+use Rattle.book_command.specs.declared.rule.Rule.{Rule}
+use Rattle.book_command.specs.declared.rule.Rule.TheVariants.{NothingToUndo, NothingToRedo}
+use Rattle.book_step.specs.Outcome.{Outcome, numbers}
+use Rattle.book_step.specs.Outcome as outcome
+use Rattle.book_step.specs.State.{State, fresh_book}
+use Rattle.book_step.specs.Step.{outcome as outcome_of, stale}
+
+-- The past books, the nearest first; the present book; the later ones, the nearest first; the number that the next
+-- thing gets; the count of the changes so far; and how many steps lead from the fresh book to the present one.
+pub record Machine : Type 0 where
+  pub past : List Book
+  pub book : Book
+  pub later : List Book
+  pub next : ℕ
+  pub version : ℕ
+  pub position : ℕ
+
+-- The machine of a fresh book.
+abbrev pub fresh : Machine
+fresh = record { past = []; book = fresh_book; later = []; next = 3; version = 0; position = 0 }
+
+-- The state from which a command steps.
+abbrev pub present : Machine → State
+present machine = record { book = machine.book; next = machine.next; version = machine.version }
+
+-- What a command comes to: a broken rule, or a machine and an answer.
+pub data Reply : Type 0 where
+  Broken : Rule → Reply
+  Done : Machine → Answer → Reply
+
+-- The rule, if one is broken, or else what follows.
+abbrev pub unless_broken : Option Rule → Reply → Reply
+unless_broken (Some rule) reply = Broken rule
+unless_broken None reply = reply
+
+-- The machine after a change: the book before it is a past one, of which the last 256 stay, and there are no later
+-- books any more.
+abbrev pub changed : Machine → State → Machine
+changed machine new = record {
+  past = take 256 (machine.book ∷ machine.past);
+  book = new.book;
+  later = [];
+  next = new.next;
+  version = new.version;
+  position = machine.position + 1;
+}
+
+-- An update that leaves the version leaves all, the later books too.
+abbrev pub updated : Machine → Outcome → Reply
+updated machine (outcome.Broken rule) = Broken rule
+updated machine (outcome.Done new answer) =
+    Done (if new.version == machine.version then machine else changed machine new) answer
+
+-- The nearest past book becomes the present one, which becomes the nearest later one. The version counts this too.
+abbrev pub undone : List Book → Machine → Reply
+undone [] machine = Broken NothingToUndo
+undone (book ∷ past) machine =
+    unless_broken (numbers (present machine) 0)
+    (Done (record {
+      past = past;
+      book = book;
+      later = machine.book ∷ machine.later;
+      next = machine.next;
+      version = machine.version + 1;
+      position = machine.position - 1;
+    })
+    answer.Undo)
+
+-- And the other way.
+abbrev pub redone : List Book → Machine → Reply
+redone [] machine = Broken NothingToRedo
+redone (book ∷ later) machine =
+    unless_broken (numbers (present machine) 0)
+    (Done (record {
+      past = machine.book ∷ machine.past;
+      book = book;
+      later = later;
+      next = machine.next;
+      version = machine.version + 1;
+      position = machine.position + 1;
+    })
+    answer.Redo)
+
+-- How much of each kind there is.
+abbrev pub status : Machine → Answer
+status machine =
+    answer.Status (length machine.book.accounts) (length machine.later) (length machine.book.lines)
+    (length machine.past) (length machine.book.reconciliations) (length (splits_of machine.book.transactions))
+    (length machine.book.transactions)
+
+-- What is asked comes to this.
+abbrev pub reply : Machine → What → Reply
+reply machine (Update update) = updated machine (outcome_of (present machine) update)
+reply machine Undo = undone machine.past machine
+reply machine Redo = redone machine.later machine
+reply machine Status = Done machine (status machine)
+
+-- The step of a command: the version is asked first.
+abbrev pub step : Machine → Command → Reply
+step machine command = unless_broken (stale machine.version command.at) (reply machine command.what)
