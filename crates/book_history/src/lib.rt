@@ -1,0 +1,8 @@
+//! The steps that are kept to go back to earlier books and forth again to later ones: edits, each with its number.
+//! `first_fault_back` and `first_fault_forth` give the number of the first kept step that is broken, asked outward from
+//! the present book; they go along the steps on the book itself, and come back by their inverses.
+#![tactic(auto)]
+
+mod walk;
+
+pub use walk::{first_fault_back, first_fault_forth};
