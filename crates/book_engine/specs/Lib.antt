@@ -1,6 +1,5 @@
 pub mod Acting
 pub mod Balances
-pub mod Chain
 pub mod Changes
 pub mod Kept
 pub mod Machine
@@ -8,3 +7,4 @@ pub mod Opening
 pub mod Opens
 pub mod Planned
 pub mod Standing
+pub mod Turned

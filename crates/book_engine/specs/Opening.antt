@@ -3,11 +3,10 @@ use Rattle.std.specs.Prelude.{ℕ, ◌≡◌, ◌≤◌, ⊤, true, false, List,
 use Rattle.book_keeper.specs.Faults.{Rose}
 use Rattle.book_keeper.specs.declared.row.Row.{Row}
 use Rattle.book_keeper.specs.declared.row.RowKey.{RowKey}
-use Rattle.book_step.specs.State.{fresh_state}
-use Rattle.book_opening.specs.State.{State as SavedState}
+use Rattle.book_opening.specs.State.{State}
 use Rattle.book_opening.specs.declared.fault.OpenFault.{OpenFault}
 use Rattle.book_opening.specs.declared.fault.OpenFault.TheVariants as fault
-use Rattle.book_engine.specs.Kept.{Kept, placed, state_kept}
+use Rattle.book_engine.specs.Kept.{Kept, fresh_state}
 use Rattle.book_engine.specs.Opens.{Bad, OpensTo, Unsound, unsound_at}
 use Rattle.book_engine.specs.Standing.{StandForKept}
 use Rattle.book_engine.specs.declared.fault.OpenError.{OpenError}
@@ -28,8 +27,8 @@ Opened rows (Err error.OutOfMemory) = ⊤
 
 -- The answer is this state, or the first key at which it is unsound, unless the keeper failed or the program is out of
 -- memory.
-abbrev pub IsOpenedAs : SavedState → Result Kept OpenError → Type 0
-IsOpenedAs state (Ok kept) = state_kept kept ≡ state
+abbrev pub IsOpenedAs : State → Result Kept OpenError → Type 0
+IsOpenedAs state (Ok kept) = kept.state ≡ state
 IsOpenedAs state (Err (error.BadRows kind id)) = ⊥
 IsOpenedAs state (Err (error.UnsoundBook kind id)) = unsound_at state ≡ Some (row_key kind id)
 IsOpenedAs state (Err error.Keeper) = ⊤
@@ -37,7 +36,7 @@ IsOpenedAs state (Err error.OutOfMemory) = ⊤
 
 -- What is answered without rows: an engine that keeps the fresh state, before a keeper was given rows.
 abbrev pub IsBegun : Result Kept OpenError → Type 0
-IsBegun (Ok kept) = (state_kept kept ≡ placed fresh_state 0) × (kept.saved ≡ false)
+IsBegun (Ok kept) = (kept.state ≡ fresh_state) × (kept.saved ≡ false)
 IsBegun (Err (error.BadRows kind id)) = ⊥
 IsBegun (Err (error.UnsoundBook kind id)) = ⊥
 IsBegun (Err error.Keeper) = ⊥
@@ -51,9 +50,9 @@ open_error fault.OutOfMemory = error.OutOfMemory
 
 -- What is answered of a state that was read: an engine that keeps it, for which rows were given; or the first key at
 -- which it is unsound.
-abbrev pub IsChecked : SavedState → Result Kept OpenError → Type 0
+abbrev pub IsChecked : State → Result Kept OpenError → Type 0
 IsChecked state (Ok kept) =
-    (state_kept kept ≡ state) × (kept.saved ≡ true) × (unsound_at state ≡ None)
+    (kept.state ≡ state) × (kept.saved ≡ true) × (unsound_at state ≡ None)
 IsChecked state (Err (error.BadRows kind id)) = ⊥
 IsChecked state (Err (error.UnsoundBook kind id)) = unsound_at state ≡ Some (row_key kind id)
 IsChecked state (Err error.Keeper) = ⊥

@@ -1,95 +1,152 @@
 -- A plan: what finishing it makes of the state and of the rows, and the answer.
-use Rattle.std.specs.Prelude.{◌≡◌, ◌≢◌, ◌↔◌, ℕ, ⊤, not, if◌then◌else◌, Bool, true, IsTrue, List, []}
+use Rattle.std.specs.Prelude.{◌≡◌, ◌≢◌, ◌↔◌, ℕ, ◌≤◌, ⊤, ◌||◌, if◌then◌else◌, Bool, IsTrue, List, []}
+use Rattle.std.specs.Prelude.{Some}
 use Rattle.book_keeper.specs.Rows.{AreRising, after_changes}
 use Rattle.book_keeper.specs.declared.row.Change.{Change}
 use Rattle.book_keeper.specs.declared.row.Row.{Row}
-use Rattle.book_undo.specs.Edit.{edited, is_nothing}
-use Rattle.book_undo.specs.Exact.{IsExact}
-use Rattle.book_undo.specs.declared.edit.Edit.{Edit}
 use Rattle.book_undo.specs.Book.{Book}
+use Rattle.book_undo.specs.Edit.{depth, edited, outline}
+use Rattle.book_undo.specs.EditRules.{IsAllowed}
+use Rattle.book_undo.specs.Inverse.{LeadsBack}
+use Rattle.book_undo.specs.Exact.{IsExact}
+use Rattle.book_undo.specs.Room.{HasRoom}
+use Rattle.book_undo.specs.declared.edit.Edit.{Edit, All}
 use Rattle.book_step.specs.AnswerBalances.{with_balances}
-use Rattle.book_step.specs.Outcome.{Outcome, Broken, Done, after as after_step, version_after}
-use Rattle.book_step.specs.State.{State}
-use Rattle.book_step.specs.Step.{step}
+use Rattle.book_step.specs.Outcome.{Outcome, Broken as StepBroken, Done as Stepped, after as after_step, numbers}
+use Rattle.book_step.specs.Soundness.{IsSound}
+use Rattle.book_step.specs.Step.{outcome}
+use Rattle.book_step.specs.State.{State as StepState}
 use Rattle.book_step.specs.declared.step.Step.{Step}
 use Rattle.book_command.specs.declared.answer.Answer.{Answer}
 use Rattle.book_command.specs.declared.command.Command.{Command}
+use Rattle.book_command.specs.declared.command.Update.{Update}
 use Rattle.book_command.specs.declared.refusal.Refusal.{Refusal}
 use Rattle.book_command.specs.declared.refusal.Refusal.TheVariants as refusal
-use Rattle.book_opening.specs.State.{State as SavedState}
-use Rattle.book_engine.specs.Changes.{changes_to}
-use Rattle.book_engine.specs.Kept.{placed}
+use Rattle.book_opening.specs.Opening.{OpenAs}
+use Rattle.book_opening.specs.State.{State}
+use Rattle.book_engine.specs.Kept.{IsWhole, Kept, step_state}
+use Rattle.book_engine.specs.Machine.{Broken, Done, Reply, machine_of, step}
 use Rattle.book_engine.specs.Standing.{StandFor}
+use Rattle.book_engine.specs.Turned.{CanTurn, HaveSpellings, changes_to, is_moving, turned}
 use Rattle.book_engine.specs.declared.plan.Plan.TheInside.{Inside}
+use Rattle.book_engine.specs.declared.turn.Turn.{Turn}
+use Rattle.book_engine.specs.declared.turn.Way.{Way}
+use Rattle.book_engine.specs.declared.turn.Way.TheVariants.{Change as ToNew, Stay}
 
--- The edit of the book; the next number, the version and the position after it; the answer; and the changes of the
--- rows.
+-- What becomes of the state; the version after it; the answer; and the changes of the rows.
 pub record Planned : Type 0 where
-  pub edit : Edit
-  pub next : ℕ
+  pub turn : Turn
   pub version : ℕ
-  pub position : ℕ
   pub answer : Answer
   pub changes : List Change
 
--- What a plan holds: its step, the version and the position after it, and the changes.
+-- What a plan holds.
 abbrev pub planned_by : Inside → Planned
-planned_by plan = record {
-  edit = plan.step.edit;
-  next = plan.step.next;
-  version = plan.version;
-  position = plan.position;
-  answer = plan.step.answer;
-  changes = plan.changes;
-}
+planned_by plan = record { turn = plan.turn; version = plan.version; answer = plan.answer; changes = plan.changes }
 
 -- The state after a plan.
 abbrev pub after : State → Planned → State
-after state plan = record { book = edited plan.edit state.book; next = plan.next; version = plan.version }
+after state plan = turned plan.turn state
 
--- The state after a plan, with its position.
-abbrev pub placed_after : State → Planned → SavedState
-placed_after state plan = placed (after state plan) plan.position
-
--- Whether a plan commits: its edit changes something.
+-- Whether a plan commits: it moves from the state.
 abbrev pub commits : Planned → Bool
-commits plan = not (is_nothing plan.edit)
+commits plan = is_moving plan.turn.way
 
--- The plan is the machine's step of a command from this state, with its whole answer.
-abbrev pub IsStepOf : State → Command → Planned → Type 0
-IsStepOf state command plan = step state command ≡ Done (after state plan) plan.answer
+-- The plan that leaves a state as it is.
+abbrev pub stay_plan : State → Answer → Planned
+stay_plan state answer = record {
+  turn = record { way = Stay; edit = All []; inverse = All []; next = state.next };
+  version = state.version;
+  answer = answer;
+  changes = [];
+}
 
--- The plan is the step of a command from this state at this position. It commits exactly where the step changes the
--- state; then version and position rise by one, and with its changes made the rows that stand for the state before
--- stand for the state after.
-pub record IsPlanOf (state : State) (position : ℕ) (saved : Bool) (command : Command) (plan : Planned) : Type 0 where
-  pub made : IsStepOf state command plan
-  pub exact : IsExact state.book plan.edit
-  pub version_is : plan.version ≡ version_after (is_nothing plan.edit) state.version
-  pub position_is : plan.position ≡ version_after (is_nothing plan.edit) position
-  pub changes_where : IsTrue (commits plan) ↔ (after state plan ≢ state)
-  pub changes_are :
-      plan.changes ≡ (if is_nothing plan.edit then [] else changes_to saved (placed_after state plan) plan.edit)
+-- The plan of a turn.
+abbrev pub turn_plan : Bool → State → Turn → Answer → Planned
+turn_plan saved state turn answer = record {
+  turn = turn;
+  version = (turned turn state).version;
+  answer = answer;
+  changes = changes_to saved state turn;
+}
+
+-- A change of the book has a leaf for each key at which the books before and after it differ, and for no other; and so
+-- has the edit that leads back.
+abbrev pub IsExactTurn : State → Turn → Type 0
+IsExactTurn state turn =
+    turn.way ≡ ToNew → IsExact state.book turn.edit × IsExact (edited turn.edit state.book) turn.inverse
+
+-- A plan for a state comes to this reply of the machine. It commits exactly where the machine becomes another. Then
+-- with its changes made the rows that stand for the state before stand for the state after.
+pub record IsPlanTo (state : State) (saved : Bool) (reply : Reply) (plan : Planned) : Type 0 where
+  pub made : reply ≡ Done (machine_of (after state plan)) plan.answer
+  pub whole : IsWhole (after state plan) (saved || commits plan)
+  pub shallow : depth plan.turn.edit ≤ 8
+  pub can : CanTurn plan.turn.way state
+  pub exact : IsExactTurn state plan.turn
+  pub version_is : plan.version ≡ (after state plan).version
+  pub changes_where : IsTrue (commits plan) ↔ (machine_of (after state plan) ≢ machine_of state)
+  pub changes_are : plan.changes ≡ (if commits plan then changes_to saved state plan.turn else [])
   pub rise : AreRising plan.changes
-  pub stand : (rows : List Row) → IsTrue (commits plan) → StandFor saved (placed state position) rows
-      → StandFor true (placed_after state plan) (after_changes plan.changes rows)
+  pub stand : (rows : List Row) → IsTrue (commits plan) → StandFor saved state rows
+      → OpenAs (after_changes plan.changes rows) (after state plan)
+
+-- The plan is the machine's step of a command.
+abbrev pub IsPlanOf : State → Bool → Command → Planned → Type 0
+IsPlanOf state saved command plan = IsPlanTo state saved (step (machine_of state) command) plan
 
 -- The plan is that of some command.
-pub record IsPlanFor (state : State) (position : ℕ) (saved : Bool) (plan : Planned) : Type 0 where
+pub record IsPlanFor (state : State) (saved : Bool) (plan : Planned) : Type 0 where
   pub command : Command
-  pub plan_of : IsPlanOf state position saved command plan
+  pub plan_of : IsPlanOf state saved command plan
+
+-- There is room for what a plan puts: in the tables of the book, and for one more step back or forth.
+pub record HasRoomFor (kept : Kept) (plan : Planned) : Type 0 where
+  pub things : HasRoom kept.plain plan.turn.edit
+  pub back : 1 ≤ kept.back_room
+  pub forth : 1 ≤ kept.forth_room
+
+-- A change of the book by an edit, after which this is the next number, leads to a sound state.
+pub record IsChangeTo (state : State) (edit : Edit) (next : ℕ) : Type 0 where
+  pub allowed : IsAllowed state.book edit
+  pub later : state.next ≤ next
+  pub sound : IsSound (record { book = edited edit state.book; next = next; version = state.version + 1 })
+
+-- The plan of a turn on this way by an edit: the turn has the edit that leads back, and what the changes write has
+-- spellings.
+pub record IsTurnPlan (state : State) (saved : Bool) (way : Way) (edit : Edit) (next : ℕ) (answer : Answer)
+    (plan : Planned) : Type 0 where
+  pub inverse : Edit
+  pub leads : LeadsBack state.book edit inverse
+  pub form : outline inverse ≡ outline edit
+  pub plan_is :
+      plan
+      ≡ turn_plan saved state (record { way = way; edit = edit; inverse = inverse; next = next }) answer
+  pub fits : HaveSpellings saved state (record { way = way; edit = edit; inverse = inverse; next = next })
 
 -- The step with the balances in its answer, which are those of the book that it leads to.
 abbrev pub whole_step : Book → Step → Step
 whole_step book step = record step { answer = with_balances (edited step.edit book) step.answer }
 
--- A step is the machine's of a command from this state, with its whole answer, and its edit is exact for the book.
-pub record IsWholeStep (state : State) (command : Command) (taken : Step) : Type 0 where
-  pub done : step state command ≡ Done (after_step state taken) taken.answer
+-- A step is that of a change from this state, with its whole answer, and its edit is exact for the book.
+pub record IsWholeStep (state : StepState) (update : Update) (taken : Step) : Type 0 where
+  pub done : outcome state update ≡ Stepped (after_step state taken) taken.answer
   pub exact : IsExact state.book taken.edit
 
--- A refusal comes where the step is that broken rule, or out of memory. No keeper is asked.
-abbrev pub IsRefusal : Outcome → Refusal → Type 0
-IsRefusal outcome (refusal.Broken rule) = outcome ≡ Broken rule
-IsRefusal outcome refusal.Keeper = ⊥
-IsRefusal outcome refusal.OutOfMemory = ⊤
+-- A refusal of a change comes where its outcome is that broken rule, or out of memory. No keeper is asked.
+abbrev pub IsStepRefusal : Outcome → Refusal → Type 0
+IsStepRefusal outcome (refusal.Broken rule) = outcome ≡ StepBroken rule
+IsStepRefusal outcome refusal.Keeper = ⊥
+IsStepRefusal outcome refusal.OutOfMemory = ⊤
+
+-- A refusal of a turn comes where one more version goes past the limit, or out of memory.
+abbrev pub IsLimitRefusal : State → Refusal → Type 0
+IsLimitRefusal state (refusal.Broken rule) = numbers (step_state state) 0 ≡ Some rule
+IsLimitRefusal state refusal.Keeper = ⊥
+IsLimitRefusal state refusal.OutOfMemory = ⊤
+
+-- A refusal comes where the machine's reply is that broken rule, or out of memory. No keeper is asked.
+abbrev pub IsRefusal : Reply → Refusal → Type 0
+IsRefusal reply (refusal.Broken rule) = reply ≡ Broken rule
+IsRefusal reply refusal.Keeper = ⊥
+IsRefusal reply refusal.OutOfMemory = ⊤

@@ -2,18 +2,19 @@
 use Rattle.std.specs.Prelude.{◌≡◌, Bool, true, false, IsTrue, List, []}
 use Rattle.book_keeper.specs.declared.row.Row.{Row}
 use Rattle.book_opening.specs.Opening.{OpenAs}
-use Rattle.book_opening.specs.State.{State as SavedState}
-use Rattle.book_engine.specs.Kept.{Kept, state_kept}
+use Rattle.book_opening.specs.State.{State}
+use Rattle.book_engine.specs.Kept.{Kept}
+use Rattle.book_engine.specs.Machine.{machine_of}
 use Rattle.book_engine.specs.Opens.{Opens, OpensTo}
 
 -- Rows stand for a state: they are its rows. Where no rows were given to the keeper yet, there are none.
-abbrev pub StandFor : Bool → SavedState → List Row → Type 0
+abbrev pub StandFor : Bool → State → List Row → Type 0
 StandFor true state rows = OpenAs rows state
 StandFor false state rows = rows ≡ []
 
--- Rows stand for what an engine keeps: the state is what they open as.
+-- Rows stand for what an engine keeps: its machine is what they open as.
 abbrev pub StandForKept : Kept → List Row → Type 0
-StandForKept kept rows = OpensTo rows (Opens (state_kept kept)) × StandFor kept.saved (state_kept kept) rows
+StandForKept kept rows = OpensTo rows (Opens (machine_of kept.state)) × StandFor kept.saved kept.state rows
 
 -- The rows of a keeper, where it still knows them, stand for what an engine keeps.
 abbrev pub Stands : {K : Type 0} → (K → Bool) → (K → List Row → Type 0) → K → Kept → Type 0

@@ -1,82 +1,191 @@
-ghost use Rattle.std.specs.Prelude.{◌≡◌, ◌≤◌, true, false, if◌then◌else◌, [], IfOk, OnOk, flat_map};
+ghost use Rattle.std.specs.Prelude.{◌≡◌, ◌∷◌, ◌+◌, ◌^◌, ◌<◌, ◌≤◌, ◌++◌, true, false, [], IfOk, OnOk, flat_map, map};
+ghost use Rattle.std.specs.List.{AllByRecursion};
 ghost use Rattle.book_undo.specs.Book.{book_of};
-ghost use Rattle.book_undo.specs.Edit.{depth, edited, is_nothing, leaves};
-ghost use Rattle.book_rows.specs.Row.{IsWithin};
-ghost use Rattle.book_opening.specs.Changes.{all_put, changes_of};
+ghost use Rattle.book_undo.specs.Edit.{depth, edited, leaves};
+ghost use Rattle.book_opening.specs.Changes.{GoneBack, GoneForth, PutBack, PutForth, StepFits, step_change};
 ghost use Rattle.book_opening.specs.State.{head_of, state_of};
-ghost use Rattle.book_step.specs.State.{fresh_book};
-ghost use Rattle.book_engine.specs.Changes.{HaveSpellings, changes_to, currency_after, saved_after};
+ghost use Rattle.book_step.specs.State.{fresh_book as fresh_book_is};
+ghost use Rattle.book_history.specs.Numbers.{numbers_from};
+ghost use Rattle.book_engine.specs.Changes.{currency_after};
+ghost use Rattle.book_engine.specs.Kept.{IsWhole, fresh_state};
+ghost use Rattle.book_engine.specs.Turned.{CanTurn, HaveSpellings, IsTurnFor, changes_to, step_changes, turned};
+ghost use Rattle.book_engine.specs.declared.turn.Way.TheVariants.{Change as ToNew};
 
 use crate::fresh::fresh_book;
-use book_commodity::{Many, OutOfMemory};
+use crate::turn::{STEPS_LIMIT, Turn, Way};
+use book_commodity::{Many, OutOfMemory, Table};
 use book_keeper::Change;
-use book_opening::{Saved, all_rows, changes_of};
+use book_opening::{Saved, all_rows, back_gone, back_put, changes_of, forth_gone, forth_put};
 use book_rows::Head;
-use book_step::Step;
 use book_undo::{Edit, Plain};
 use std::alloc::Global;
 
-/// The changes of rows that a step comes to from a state: none where it changes nothing; else the head and what the
-/// edit changes; or all rows, where a keeper was given none yet.
+/// The changes of rows that a turn comes to: the head, what the edit changes, and what becomes of the steps; or all
+/// rows, where a keeper was given none yet.
 pub(crate) fn row_changes(
     alloc: Global,
-    present: &Saved,
+    state: &Saved,
     saved: bool,
-    step: &Step,
-    version: u64,
-    position: u64,
+    turn: &Turn,
 ) -> Result<Many<Change>, OutOfMemory>
-    requires shallow { depth step.now.edit ≤ 8 }
-    requires fresh { saved ≡ false → book_of present.now.plain ≡ fresh_book }
-    requires within { IsWithin (head_of (saved_after (book_of present.now.plain) step.now version position)) }
-    ensures changes { IfOk result (λ changes. changes ≡ (if is_nothing step.now.edit then []
-        else changes_to saved (saved_after (book_of present.now.plain) step.now version position) step.now.edit)) }
-    ensures fit { IfOk result (λ changes. is_nothing step.now.edit ≡ false
-        → HaveSpellings saved (saved_after (book_of present.now.plain) step.now version position) step.now.edit) }
+    requires whole { IsWhole (state_of state.now) saved }
+    requires after { IsWhole (turned turn.now (state_of state.now)) true }
+    requires turn { IsTurnFor (state_of state.now) saved turn.now }
+    ensures changes { IfOk result (λ changes. changes ≡ changes_to saved (state_of state.now) turn.now) }
+    ensures fit { IfOk result (λ changes. HaveSpellings saved (state_of state.now) turn.now) }
 {
-    if step.edit.is_nothing() {
-        return Ok(Many::new(alloc));
-    }
     if saved {
-        later_changes(alloc, &present.plain, step, version, position)
+        later_changes(alloc, state, turn)
     } else {
-        first_changes(alloc, step, version, position)
+        first_changes(alloc, turn)
     }
 }
 
-/// The changes of rows of a step from a state whose rows a keeper was given: the head and what the edit changes.
-fn later_changes(
+/// The changes of rows of a turn from a state whose rows a keeper was given: the head, what the edit changes, and what
+/// becomes of the steps.
+fn later_changes(alloc: Global, state: &Saved, turn: &Turn) -> Result<Many<Change>, OutOfMemory>
+    requires whole { IsWhole (state_of state.now) true }
+    requires after { IsWhole (turned turn.now (state_of state.now)) true }
+    requires can { CanTurn turn.now.way (state_of state.now) }
+    requires back { depth turn.now.inverse ≤ 8 }
+    ensures changes { IfOk result (λ changes. changes ≡ changes_to true (state_of state.now) turn.now) }
+    ensures fit { IfOk result (λ changes. HaveSpellings true (state_of state.now) turn.now) }
+{
+    let mut changes = changes_of(alloc, head_after(state, turn), &turn.edit)?;
+    add_steps(alloc, state, turn, &mut changes)?;
+    Ok(changes)
+}
+
+/// The head of the state after a turn.
+fn head_after(state: &Saved, turn: &Turn) -> Head
+    requires whole { IsWhole (state_of state.now) true }
+    requires can { CanTurn turn.now.way (state_of state.now) }
+    ensures { result ≡ head_of (turned turn.now (state_of state.now)) }
+{
+    let now = Head {
+        next: state.next,
+        version: state.version,
+        position: state.position,
+        past: state.past,
+        later: state.later,
+        currency: state.plain.currency,
+    };
+    let version = state.version + 1;
+    let currency = currency_after(&turn.edit, state.plain.currency);
+    match turn.way {
+        Way::Stay => now,
+        Way::Change => Head {
+            next: turn.next,
+            version,
+            position: state.position + 1,
+            past: (state.past + 1).min(STEPS_LIMIT),
+            later: 0,
+            currency,
+        },
+        Way::Undo => Head {
+            version,
+            position: state.position - 1,
+            past: state.past - 1,
+            later: state.later + 1,
+            currency,
+            ..now
+        },
+        Way::Redo => Head {
+            version,
+            position: state.position + 1,
+            past: state.past + 1,
+            later: state.later - 1,
+            currency,
+            ..now
+        },
+    }
+}
+
+/// Adds the changes of the kept steps that a turn comes to.
+fn add_steps(
     alloc: Global,
-    plain: &Plain,
-    step: &Step,
-    version: u64,
-    position: u64,
-) -> Result<Many<Change>, OutOfMemory>
-    requires { IsWithin (head_of (saved_after (book_of plain.now) step.now version position)) }
-    ensures changes { IfOk result (λ changes. changes
-        ≡ changes_of (head_of (saved_after (book_of plain.now) step.now version position)) step.now.edit) }
-    ensures fit { IfOk result (λ changes.
-        HaveSpellings true (saved_after (book_of plain.now) step.now version position) step.now.edit) }
+    state: &Saved,
+    turn: &Turn,
+    changes: &mut Many<Change>,
+) -> Result<(), OutOfMemory>
+    requires whole { IsWhole (state_of state.now) true }
+    requires back { depth turn.now.inverse ≤ 8 }
+    ensures added { OnOk result (changes.new
+        ≡ changes.old ++ map step_change (step_changes turn.now.way (state_of state.now) turn.now.inverse)) }
+    ensures fit { OnOk result
+        (AllByRecursion StepFits (step_changes turn.now.way (state_of state.now) turn.now.inverse)) }
 {
-    changes_of(
-        alloc,
-        head_after(plain, step, version, position),
-        &step.edit,
-    )
+    match turn.way {
+        Way::Stay => Ok(()),
+        Way::Change => add_change(alloc, state, &turn.inverse, changes),
+        Way::Undo => add_undo(alloc, state.position, &turn.inverse, changes),
+        Way::Redo => add_redo(alloc, state.position + 1, &turn.inverse, changes),
+    }
 }
 
-/// The head of the state after a step.
-fn head_after(plain: &Plain, step: &Step, version: u64, position: u64) -> Head
-    ensures { result ≡ head_of (saved_after (book_of plain.now) step.now version position) }
+/// Adds those of a change of the book: the oldest of 256 steps back is deleted, the step that leads back is put, and
+/// each step forth is deleted.
+fn add_change(
+    alloc: Global,
+    state: &Saved,
+    inverse: &Edit,
+    changes: &mut Many<Change>,
+) -> Result<(), OutOfMemory>
+    requires whole { IsWhole (state_of state.now) true }
+    requires back { depth inverse.now ≤ 8 }
+    ensures added { OnOk result (changes.new
+        ≡ changes.old ++ map step_change (step_changes ToNew (state_of state.now) inverse.now)) }
+    ensures fit { OnOk result (AllByRecursion StepFits (step_changes ToNew (state_of state.now) inverse.now)) }
 {
-    Head {
-        next: step.next,
-        version,
-        position,
-        past: 0,
-        later: 0,
-        currency: currency_after(&step.edit, plain.currency),
+    if state.past == STEPS_LIMIT {
+        changes.push(back_gone(state.position - (STEPS_LIMIT - 1)))?;
     }
+    changes.push(back_put(alloc, state.position + 1, inverse)?)?;
+    add_forth_gone(state.position + 1, state.later, changes)
+}
+
+/// Adds those of a step back: it is deleted, and the step forth is put under its number.
+fn add_undo(
+    alloc: Global,
+    number: u64,
+    inverse: &Edit,
+    changes: &mut Many<Change>,
+) -> Result<(), OutOfMemory>
+    requires { depth inverse.now ≤ 8 }
+    ensures added { OnOk result (changes.new ≡ changes.old
+        ++ map step_change (GoneBack number ∷ PutForth number inverse.now ∷ [])) }
+    ensures fit { OnOk result (StepFits (PutForth number inverse.now)) }
+{
+    changes.push(back_gone(number))?;
+    changes.push(forth_put(alloc, number, inverse)?)
+}
+
+/// Adds those of a step forth: the step back is put under its number, and it is deleted.
+fn add_redo(
+    alloc: Global,
+    number: u64,
+    inverse: &Edit,
+    changes: &mut Many<Change>,
+) -> Result<(), OutOfMemory>
+    requires { depth inverse.now ≤ 8 }
+    ensures added { OnOk result (changes.new ≡ changes.old
+        ++ map step_change (PutBack number inverse.now ∷ GoneForth number ∷ [])) }
+    ensures fit { OnOk result (StepFits (PutBack number inverse.now)) }
+{
+    changes.push(back_put(alloc, number, inverse)?)?;
+    changes.push(forth_gone(number))
+}
+
+/// Adds the changes that delete so many steps forth from a first number on.
+fn add_forth_gone(first: u64, count: u64, changes: &mut Many<Change>) -> Result<(), OutOfMemory>
+    requires { first + count < 2 ^ 64 }
+    ensures { OnOk result (changes.new ≡ changes.old
+        ++ map step_change (map (λ number. GoneForth number) (numbers_from first count))) }
+{
+    for number in first..first + count {
+        changes.push(forth_gone(number))?;
+    }
+    Ok(())
 }
 
 /// The currency of a book after an edit.
@@ -104,50 +213,56 @@ fn currency_after_all(parts: &[Edit], currency: u64) -> u64
     now
 }
 
-/// The changes of rows of a step from the fresh state, before a keeper was given rows: all rows of the state after it.
-fn first_changes(
-    alloc: Global,
-    step: &Step,
-    version: u64,
-    position: u64,
-) -> Result<Many<Change>, OutOfMemory>
-    requires shallow { depth step.now.edit ≤ 8 }
-    requires within { IsWithin (head_of (saved_after fresh_book step.now version position)) }
-    ensures changes { IfOk result (λ changes. changes
-        ≡ all_put (saved_after fresh_book step.now version position)) }
-    ensures fit { IfOk result (λ changes.
-        HaveSpellings false (saved_after fresh_book step.now version position) step.now.edit) }
+/// The changes of rows of a change from the fresh state, before a keeper was given rows: all rows of the state after it.
+fn first_changes(alloc: Global, turn: &Turn) -> Result<Many<Change>, OutOfMemory>
+    requires after { IsWhole (turned turn.now fresh_state) true }
+    requires turn { IsTurnFor fresh_state false turn.now }
+    ensures changes { IfOk result (λ changes. changes ≡ changes_to false fresh_state turn.now) }
+    ensures fit { IfOk result (λ changes. HaveSpellings false fresh_state turn.now) }
 {
-    let state = match first_state(alloc, step, version, position) {
+    let state = match first_state(alloc, turn) {
         Ok(state) => state,
         Err(error) => return Err(error),
     };
     all_rows(alloc, &state)
 }
 
-/// The state after a step from the fresh one.
-fn first_state(
-    alloc: Global,
-    step: &Step,
-    version: u64,
-    position: u64,
-) -> Result<Saved, OutOfMemory>
-    requires { depth step.now.edit ≤ 8 }
-    ensures { IfOk result (λ state. state_of state ≡ saved_after fresh_book step.now version position) }
+/// The state after a change from the fresh one.
+fn first_state(alloc: Global, turn: &Turn) -> Result<Saved, OutOfMemory>
+    requires { IsTurnFor fresh_state false turn.now }
+    ensures { IfOk result (λ state. state_of state ≡ turned turn.now fresh_state) }
 {
     let mut plain = match fresh_book(alloc) {
         Ok(plain) => plain,
         Err(error) => return Err(error),
     };
-    match apply_copy(alloc, &mut plain, &step.edit) {
-        Ok(()) => Ok(Saved {
+    if let Err(error) = apply_copy(alloc, &mut plain, &turn.edit) {
+        return Err(error);
+    }
+    match first_back(alloc, &turn.inverse) {
+        Ok(back) => Ok(Saved {
             plain,
-            next: step.next,
-            version,
-            position,
+            next: turn.next,
+            version: 1,
+            position: 1,
+            past: 1,
+            later: 0,
+            back,
+            forth: Table::new(alloc),
         }),
         Err(error) => Err(error),
     }
+}
+
+/// The steps back after the first change.
+fn first_back(alloc: Global, inverse: &Edit) -> Result<Table<Edit>, OutOfMemory>
+    ensures { IfOk result (λ back. back.entries ≡ (1, inverse.now) ∷ []) }
+{
+    let mut back = Table::new(alloc);
+    back.reserve(1)?;
+    let copy = inverse.copy(alloc)?;
+    drop(back.put(1, copy));
+    Ok(back)
 }
 
 /// Makes the book that an edit leads to, which stays as it is.

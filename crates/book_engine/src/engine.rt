@@ -1,20 +1,19 @@
-ghost use Rattle.std.specs.Prelude.{◌≡◌, ◌+◌, ◌||◌, List, IfOk, IfErr, OnOk, OnErr, IsTrue};
+ghost use Rattle.std.specs.Prelude.{◌≡◌, ◌||◌, List, IfOk, IfErr, OnOk, OnErr, IsTrue};
 ghost use Rattle.book_keeper.specs.Keeping.{HasKeepCause};
 ghost use Rattle.book_keeper.specs.declared.row.Row.{Row as HeldRow};
-ghost use Rattle.book_undo.specs.Room.{HasRoom};
-ghost use Rattle.book_step.specs.Outcome.{Done};
 ghost use Rattle.book_step.specs.Soundness.{IsSound};
-ghost use Rattle.book_step.specs.Step.{step as step_from};
 ghost use Rattle.book_opening.specs.Opening.{OpenAs, WasRead};
-ghost use Rattle.book_opening.specs.State.{State as SavedState};
+ghost use Rattle.book_opening.specs.State.{State};
 ghost use Rattle.book_engine.specs.Acting.{HasActCause, IsUnchanged};
-ghost use Rattle.book_engine.specs.Kept.{IsWhole};
+ghost use Rattle.book_engine.specs.Kept.{IsWhole, step_state};
+ghost use Rattle.book_engine.specs.Machine.{Done, machine_of, step as step_from};
 ghost use Rattle.book_engine.specs.Opening.{HasOpenCause, IsOpenedAs, Opened};
-ghost use Rattle.book_engine.specs.Planned.{after, commits, IsPlanFor, IsPlanOf, IsRefusal};
+ghost use Rattle.book_engine.specs.Planned.{after, commits, HasRoomFor, IsPlanFor, IsPlanOf, IsRefusal};
 ghost use Rattle.book_engine.specs.Standing.{Stands};
 
 use crate::opening::{begin, checked, open_error};
-use crate::planning::{answered_step, plan_of};
+use crate::planning::plan_of;
+use crate::turn::make_turn;
 use crate::{OpenError, Plan};
 use book_commodity::OutOfMemory;
 use book_keeper::{KeepError, Keeper};
@@ -24,7 +23,8 @@ use book_undo::Plain;
 use std::alloc::Global;
 use std::marker::Model;
 
-/// A machine with the state of a whole book, whose rows a keeper holds.
+/// A machine with a whole book, whose rows a keeper holds. Of the earlier books and the later ones, which were taken
+/// back, it keeps the edits that lead to them.
 #[derive(Drop)]
 pub struct Engine {
     pub(crate) alloc: Global,
@@ -46,15 +46,16 @@ impl Engine {
     /// The engine with the state as which the rows of the keeper open. Without rows it is the fresh state, whose rows
     /// the first change writes. The keeper's rows stay, and stand for the engine's state.
     /// Keeper: the keeper failed, and its count of faults rose in this call.
-    /// BadRows: the least key whose body is no spelling, or that is needed and missing.
+    /// BadRows: the least key whose body is no spelling, that is needed and missing, or that is of a step which the head
+    /// doesn't count.
     /// UnsoundBook: where all rows are spellings, the first key at which the rule of its kind is broken.
     pub fn open<K: Keeper>(alloc: Global, keeper: &mut K) -> Result<Engine, OpenError>
         ensures keeper { WasRead K.path_given K.sure K.holds keeper.old keeper.new }
         ensures opened { IsTrue (K.sure keeper.new) → (rows : List HeldRow) → K.holds keeper.old rows
             → Opened rows result }
         ensures again { IsTrue (K.sure keeper.new) → (rows : List HeldRow) → K.holds keeper.old rows
-            → (state : SavedState) → OpenAs rows state → IsOpenedAs state result }
-        ensures sound { IfOk result (λ engine. IsSound engine.state) }
+            → (state : State) → OpenAs rows state → IsOpenedAs state result }
+        ensures sound { IfOk result (λ engine. IsSound (step_state engine.state)) }
         ensures cause { HasOpenCause (K.faults keeper.old) (K.faults keeper.new) result }
     {
         match read_rows(alloc, keeper) {
@@ -78,42 +79,49 @@ impl Engine {
         &self.state.plain
     }
 
-    /// Tries all rules of the command, takes all memory that it needs, and makes the whole answer and the changes of
-    /// the rows. The state stays as it is. Refused by the first rule that the command breaks, or out of memory.
+    /// Tries all rules of the command, takes all memory that it needs, and makes the edit that leads back, the whole
+    /// answer and the changes of the rows. The state stays as it is. Refused by the first rule that the command breaks,
+    /// or out of memory.
     pub fn prepare(&mut self, command: Command) -> Result<Plan, Refusal>
-        ensures planned { IfOk result (IsPlanOf self.old.state self.old.position self.old.saved command) }
-        ensures room { IfOk result (λ plan. HasRoom self.new.plain plan.edit) }
-        ensures refused { IfErr result (IsRefusal (step_from self.old.state command)) }
+        ensures planned { IfOk result (IsPlanOf self.old.state self.old.saved command) }
+        ensures room { IfOk result (HasRoomFor self.new) }
+        ensures refused { IfErr result (IsRefusal (step_from (machine_of self.old.state) command)) }
         ensures unchanged { IsUnchanged self.old self.new }
-        ensures sound { IsSound self.new.state }
+        ensures sound { IsSound (step_state self.new.state) }
     {
-        let step = match answered_step(self.alloc, &self.state, command) {
-            Ok(step) => step,
+        let plan = match plan_of(self.alloc, &self.state, self.saved, command) {
+            Ok(plan) => plan,
             Err(refusal) => return Err(refusal),
         };
-        let plan = match plan_of(self.alloc, &self.state, self.saved, step) {
-            Ok(plan) => plan,
-            Err(OutOfMemory) => return Err(Refusal::OutOfMemory),
-        };
-        match self.state.plain.reserve_for(plan.edit()) {
+        match self.make_room(&plan) {
             Ok(()) => Ok(plan),
             Err(OutOfMemory) => Err(Refusal::OutOfMemory),
         }
+    }
+
+    /// Makes room for what the plan puts: things, and a step back or forth.
+    fn make_room(&mut self, plan: &Plan) -> Result<(), OutOfMemory>
+        ensures room { OnOk result (HasRoomFor self.new plan.now) }
+        ensures unchanged { IsUnchanged self.old self.new }
+    {
+        self.state.plain.reserve_for(plan.edit())?;
+        self.state.back.reserve(1)?;
+        self.state.forth.reserve(1)?;
+        Ok(())
     }
 
     /// Finishes what was prepared and hands out its answer: where the plan commits, the keeper makes its changes of
     /// rows, and then the state is changed, which can't fail and takes no memory. An error is that of the commit, and
     /// then all is as before, the keeper's rows too.
     pub fn finish<K: Keeper>(&mut self, keeper: &mut K, plan: Plan) -> Result<Answer, KeepError>
-        requires made { IsPlanFor self.old.state self.old.position self.old.saved plan }
-        requires room { HasRoom self.old.plain plan.edit }
+        requires made { IsPlanFor self.old.state self.old.saved plan }
+        requires room { HasRoomFor self.old plan }
         ensures state { OnOk result (self.new.state ≡ after self.old.state plan) }
-        ensures position { OnOk result (self.new.position ≡ plan.position) }
         ensures saved { OnOk result (self.new.saved ≡ (self.old.saved || commits plan)) }
         ensures answer { IfOk result (λ answer. answer ≡ plan.answer) }
         ensures unchanged { OnErr result (IsUnchanged self.old self.new) }
         ensures commits { OnErr result (IsTrue (commits plan)) }
-        ensures sound { IsSound self.new.state }
+        ensures sound { IsSound (step_state self.new.state) }
         ensures path { K.path_given keeper.new ≡ K.path_given keeper.old }
         ensures sure { IsTrue (K.sure keeper.new) → IsTrue (K.sure keeper.old) }
         ensures stands { Stands K.sure K.holds keeper.old self.old → Stands K.sure K.holds keeper.new self.new }
@@ -133,50 +141,45 @@ impl Engine {
 
     /// What holds of every engine holds of this one.
     fn sound(&self)
-        ensures { IsWhole self.now.state self.now.position self.now.saved }
+        ensures { IsWhole self.now.state self.now.saved }
     {
         let _ = &self.saved;
     }
 
     /// Makes the state that the plan leads to and hands out its answer. It can't fail and takes no memory.
     fn apply(&mut self, plan: Plan) -> Answer
-        requires made { IsPlanFor self.old.state self.old.position self.old.saved plan }
-        requires room { HasRoom self.old.plain plan.edit }
+        requires made { IsPlanFor self.old.state self.old.saved plan }
+        requires room { HasRoomFor self.old plan }
         ensures state { self.new.state ≡ after self.old.state plan }
-        ensures position { self.new.position ≡ plan.position }
         ensures saved { self.new.saved ≡ (self.old.saved || commits plan) }
         ensures answer { result ≡ plan.answer }
-        ensures whole { IsWhole self.new.state self.new.position self.new.saved }
+        ensures whole { IsWhole self.new.state self.new.saved }
     {
         let saved = self.saved || plan.commits();
         let Plan {
-            step,
-            version,
-            position,
+            turn,
+            version: _,
+            answer,
             changes: _,
         } = plan;
-        self.state.plain.apply(step.edit);
-        self.state.next = step.next;
-        self.state.version = version;
-        self.state.position = position;
+        make_turn(self.alloc, &mut self.state, turn);
         self.saved = saved;
-        step.answer
+        answer
     }
 
     /// Does the command: prepares it and finishes it.
     /// Keeper: the command breaks no rule and changes the state, but the keeper failed to keep the change.
     pub fn act<K: Keeper>(&mut self, keeper: &mut K, command: Command) -> Result<Answer, Refusal>
-        ensures done { IfOk result (λ answer. step_from self.old.state command ≡ Done self.new.state answer) }
-        ensures position { OnOk result (self.new.position + self.old.state.version
-            ≡ self.old.position + self.new.state.version) }
+        ensures done { IfOk result (λ answer. step_from (machine_of self.old.state) command
+            ≡ Done (machine_of self.new.state) answer) }
         ensures unchanged { OnErr result (IsUnchanged self.old self.new) }
-        ensures sound { IsSound self.new.state }
+        ensures sound { IsSound (step_state self.new.state) }
         ensures path { K.path_given keeper.new ≡ K.path_given keeper.old }
         ensures sure { IsTrue (K.sure keeper.new) → IsTrue (K.sure keeper.old) }
         ensures stands { Stands K.sure K.holds keeper.old self.old → Stands K.sure K.holds keeper.new self.new }
         ensures rows { OnErr result (IsTrue (K.sure keeper.new) → (rows : List HeldRow) → K.holds keeper.old rows
             → K.holds keeper.new rows) }
-        ensures cause { HasActCause self.old.state (step_from self.old.state command)
+        ensures cause { HasActCause (machine_of self.old.state) (step_from (machine_of self.old.state) command)
             (K.faults keeper.old) (K.faults keeper.new) result }
     {
         let plan = match self.prepare(command) {

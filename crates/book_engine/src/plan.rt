@@ -1,21 +1,20 @@
 ghost use Rattle.std.specs.Prelude.{◌≡◌};
 ghost use Rattle.book_engine.specs.Planned.{commits};
 
+use crate::turn::Turn;
 use book_commodity::Many;
 use book_keeper::Change;
-use book_step::{Answer, Step};
+use book_step::Answer;
 use book_undo::Edit;
 use std::marker::Model;
 
-/// A command that breaks no rule, ready to be finished: its step, with the whole answer, the version and the position
-/// after it, and the changes of the rows.
-/// Contracts see the edit of the book, the next number, the version and the position after it, the answer, and the
-/// changes.
+/// A command that breaks no rule, ready to be finished: how it moves from the state, the version after it, the whole
+/// answer, and the changes of the rows. Contracts see exactly these.
 #[derive(Drop)]
 pub struct Plan {
-    pub(crate) step: Step,
+    pub(crate) turn: Turn,
     pub(crate) version: u64,
-    pub(crate) position: u64,
+    pub(crate) answer: Answer,
     pub(crate) changes: Many<Change>,
 }
 
@@ -36,14 +35,14 @@ impl Plan {
     pub fn answer(&self) -> &Answer
         ensures { result.now ≡ self.now.answer }
     {
-        &self.step.answer
+        &self.answer
     }
 
-    /// Whether finishing it changes the state, so that the keeper's rows are changed first.
+    /// Whether finishing it moves from the state, so that the keeper's rows are changed first.
     pub fn commits(&self) -> bool
         ensures { result ≡ commits self.now }
     {
-        !self.step.edit.is_nothing()
+        self.turn.way.is_moving()
     }
 
     /// The version after the command.
@@ -55,9 +54,9 @@ impl Plan {
 
     /// What changes in the book.
     pub(crate) fn edit(&self) -> &Edit
-        ensures { result.now ≡ self.now.edit }
+        ensures { result.now ≡ self.now.turn.edit }
     {
-        &self.step.edit
+        &self.turn.edit
     }
 
     /// The changes of the rows.

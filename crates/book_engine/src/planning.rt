@@ -1,77 +1,273 @@
-ghost use Rattle.std.specs.Prelude.{◌≡◌, IfOk, IfErr};
+ghost use Rattle.std.specs.Prelude.{◌≡◌, ◌≢◌, ◌≤◌, true, false, IfOk, IfErr, IsTrue, None, Some};
 ghost use Rattle.book_undo.specs.Book.{book_of};
-ghost use Rattle.book_undo.specs.Exact.{IsExact};
-ghost use Rattle.book_step.specs.Outcome.{after as after_step};
+ghost use Rattle.book_undo.specs.EditRules.{IsAllowed};
+ghost use Rattle.book_undo.specs.Edit.{depth};
+ghost use Rattle.book_commodity.specs.Table.{value_of};
+ghost use Rattle.book_step.specs.Step.{outcome};
+ghost use Rattle.book_step.specs.Outcome.{Broken as StepBroken};
 ghost use Rattle.book_step.specs.Soundness.{IsSound};
-ghost use Rattle.book_step.specs.State.{state_of};
-ghost use Rattle.book_step.specs.Step.{step as step_from};
-ghost use Rattle.book_command.specs.declared.command.Command.{Command as Asked};
-ghost use Rattle.book_engine.specs.Kept.{IsWhole};
-ghost use Rattle.book_engine.specs.Planned.{IsPlanOf, IsRefusal, IsWholeStep};
+ghost use Rattle.book_command.specs.declared.update.Update.{Update as UpdateOf};
+ghost use Rattle.book_opening.specs.State.{state_of};
+ghost use Rattle.book_engine.specs.Kept.{IsWhole, step_state};
+ghost use Rattle.book_engine.specs.Machine.{machine_of, redone, reply, status, step as step_from, undone, updated};
+ghost use Rattle.book_engine.specs.Planned.{IsPlanOf, IsPlanTo, IsRefusal, IsStepRefusal, IsTurnPlan, IsWholeStep};
+ghost use Rattle.book_engine.specs.Turned.{CanTurn, is_moving, turned};
+ghost use Rattle.book_engine.specs.declared.plan.Turn.TheVariants.{Change as ToNew};
 
 use crate::Plan;
 use crate::balances::with_balances;
 use crate::changes::row_changes;
-use book_commodity::OutOfMemory;
+use crate::turn::{Turn, Way};
+use book_command::What;
+use book_commodity::{Counted, Many, OutOfMemory};
 use book_opening::Saved;
-use book_step::{Command, Refusal, Step, step_of};
+use book_step::{Answer, Command, Refusal, Rule, Step, Update, check_version, step_of};
+use book_undo::Edit;
 use std::alloc::Global;
 
-/// The step of a command from a state, with its whole answer.
-pub(crate) fn answered_step(
+/// The version stays below this.
+const NUMBERS_LIMIT: u64 = 1 << 62;
+
+/// The plan of a command for a state. Refused by the first rule that the command breaks, or out of memory.
+pub(crate) fn plan_of(
     alloc: Global,
-    present: &Saved,
+    state: &Saved,
+    saved: bool,
     command: Command,
-) -> Result<Step, Refusal>
-    requires { IsSound (state_of present.now.plain present.now.next present.now.version) }
-    ensures done { IfOk result
-        (IsWholeStep (state_of present.now.plain present.now.next present.now.version) command) }
-    ensures refused { IfErr result
-        (IsRefusal (step_from (state_of present.now.plain present.now.next present.now.version) command)) }
+) -> Result<Plan, Refusal>
+    requires { IsWhole (state_of state.now) saved }
+    ensures planned { IfOk result (IsPlanOf (state_of state.now) saved command) }
+    ensures refused { IfErr result (IsRefusal (step_from (machine_of (state_of state.now)) command)) }
+{
+    if let Err(rule) = check_version(state.version, command.at) {
+        return Err(Refusal::Broken(rule));
+    }
+    plan_at(alloc, state, saved, command.what)
+}
+
+/// The plan of what is asked at the present version.
+fn plan_at(alloc: Global, state: &Saved, saved: bool, what: What) -> Result<Plan, Refusal>
+    requires { IsWhole (state_of state.now) saved }
+    ensures planned { IfOk result (IsPlanTo (state_of state.now) saved
+        (reply (machine_of (state_of state.now)) what)) }
+    ensures refused { IfErr result (IsRefusal (reply (machine_of (state_of state.now)) what)) }
+{
+    match what {
+        What::Update(update) => plan_update(alloc, state, saved, update),
+        What::Undo => plan_undo(alloc, state, saved),
+        What::Redo => plan_redo(alloc, state, saved),
+        What::Status => Ok(plan_stay(alloc, state, status(state))),
+    }
+}
+
+/// How much of each kind there is.
+fn status(state: &Saved) -> Answer
+    requires { IsWhole (state_of state.now) true }
+    ensures { result ≡ status (machine_of (state_of state.now)) }
+{
+    Answer::Status {
+        accounts: state.plain.accounts.len() as u64,
+        later: state.later,
+        lines: state.plain.lines.len() as u64,
+        past: state.past,
+        recons: state.plain.reconciliations.len() as u64,
+        splits: state.plain.transactions.count_splits(),
+        transactions: state.plain.transactions.len() as u64,
+    }
+}
+
+/// The plan that leaves the state as it is.
+fn plan_stay(alloc: Global, state: &Saved, answer: Answer) -> Plan
+    ensures { result ≡ stay_plan (state_of state.now) answer }
+{
+    Plan {
+        turn: Turn {
+            way: Way::Stay,
+            edit: Edit::nothing(alloc),
+            inverse: Edit::nothing(alloc),
+            next: state.next,
+        },
+        version: state.version,
+        answer,
+        changes: Many::new(alloc),
+    }
+}
+
+/// The plan of a change of the book. One that leaves the book as it is leaves the state.
+fn plan_update(alloc: Global, state: &Saved, saved: bool, update: Update) -> Result<Plan, Refusal>
+    requires { IsWhole (state_of state.now) saved }
+    ensures planned { IfOk result (IsPlanTo (state_of state.now) saved
+        (updated (machine_of (state_of state.now)) (outcome (step_state (state_of state.now)) update))) }
+    ensures refused { IfErr result (IsRefusal
+        (updated (machine_of (state_of state.now)) (outcome (step_state (state_of state.now)) update))) }
+{
+    let step = match answered_step(alloc, state, update) {
+        Ok(step) => step,
+        Err(refusal) => return Err(refusal),
+    };
+    let Step { edit, next, answer } = step;
+    if edit.is_nothing() {
+        drop(edit);
+        return Ok(plan_stay(alloc, state, answer));
+    }
+    match plan_change(alloc, state, saved, edit, next, answer) {
+        Ok(plan) => Ok(plan),
+        Err(OutOfMemory) => Err(Refusal::OutOfMemory),
+    }
+}
+
+/// The step of a change from a state, with its whole answer.
+fn answered_step(alloc: Global, state: &Saved, update: Update) -> Result<Step, Refusal>
+    requires { IsSound (step_state (state_of state.now)) }
+    ensures done { IfOk result (IsWholeStep (step_state (state_of state.now)) update) }
+    ensures refused { IfErr result (IsStepRefusal (outcome (step_state (state_of state.now)) update)) }
 {
     let step = match step_of(
         alloc,
-        &present.plain,
-        present.next,
-        present.version,
-        command,
+        &state.plain,
+        state.next,
+        state.version,
+        update,
     ) {
         Ok(step) => step,
         Err(refusal) => return Err(refusal),
     };
-    match with_balances(alloc, &present.plain, step) {
+    match with_balances(alloc, &state.plain, step) {
         Ok(step) => Ok(step),
         Err(OutOfMemory) => Err(Refusal::OutOfMemory),
     }
 }
 
-/// The plan of a step.
-pub(crate) fn plan_of(
+/// The plan of an edit that changes the book.
+fn plan_change(
     alloc: Global,
-    present: &Saved,
+    state: &Saved,
     saved: bool,
-    step: Step,
+    edit: Edit,
+    next: u64,
+    answer: Answer,
 ) -> Result<Plan, OutOfMemory>
-    requires whole { IsWhole (state_of present.now.plain present.now.next present.now.version)
-        present.now.position saved }
-    requires sound { IsSound (after_step (state_of present.now.plain present.now.next present.now.version) step) }
-    requires exact { IsExact (book_of present.now.plain) step.edit }
-    ensures edit { IfOk result (λ plan. plan.edit ≡ step.edit) }
-    ensures planned { IfOk result (λ plan. (command : Asked)
-        → IsWholeStep (state_of present.now.plain present.now.next present.now.version) command step
-        → IsPlanOf (state_of present.now.plain present.now.next present.now.version) present.now.position saved
-        command plan) }
+    requires whole { IsWhole (state_of state.now) saved }
+    requires sound { IsChangeTo (state_of state.now) edit next }
+    ensures { IfOk result (IsTurnPlan (state_of state.now) saved ToNew edit next answer) }
 {
-    let version = step.version_after(present.version);
-    let position = step.version_after(present.position);
-    let changes = match row_changes(alloc, present, saved, &step, version, position) {
-        Ok(changes) => changes,
+    let inverse = match state.plain.inverse(alloc, &edit) {
+        Ok(inverse) => inverse,
         Err(error) => return Err(error),
     };
-    Ok(Plan {
-        step,
-        version,
-        position,
-        changes,
+    let turn = Turn {
+        way: Way::Change,
+        edit,
+        inverse,
+        next,
+    };
+    plan_turn(alloc, state, saved, turn, answer)
+}
+
+/// The plan of a turn.
+fn plan_turn(
+    alloc: Global,
+    state: &Saved,
+    saved: bool,
+    turn: Turn,
+    answer: Answer,
+) -> Result<Plan, OutOfMemory>
+    requires whole { IsWhole (state_of state.now) saved }
+    requires after { IsWhole (turned turn (state_of state.now)) true }
+    requires turn { IsTurnFor (state_of state.now) saved turn }
+    ensures plan { IfOk result (λ plan. plan ≡ turn_plan saved (state_of state.now) turn answer) }
+    ensures fits { IfOk result (λ plan. HaveSpellings saved (state_of state.now) turn) }
+{
+    match row_changes(alloc, state, saved, &turn) {
+        Ok(changes) => Ok(Plan {
+            turn,
+            version: state.version + 1,
+            answer,
+            changes,
+        }),
+        Err(error) => Err(error),
+    }
+}
+
+/// The plan of the last step back.
+fn plan_undo(alloc: Global, state: &Saved, saved: bool) -> Result<Plan, Refusal>
+    requires { IsWhole (state_of state.now) saved }
+    ensures planned { IfOk result (IsPlanTo (state_of state.now) saved
+        (reply (machine_of (state_of state.now)) What.Undo)) }
+    ensures refused { IfErr result (IsRefusal (reply (machine_of (state_of state.now)) What.Undo)) }
+{
+    match state.back.find(state.position) {
+        Some(edit) => plan_kept(alloc, state, saved, Way::Undo, edit, Answer::Undo),
+        None => Err(Refusal::Broken(Rule::NothingToUndo)),
+    }
+}
+
+/// The plan of the next step forth.
+fn plan_redo(alloc: Global, state: &Saved, saved: bool) -> Result<Plan, Refusal>
+    requires { IsWhole (state_of state.now) saved }
+    ensures planned { IfOk result (IsPlanTo (state_of state.now) saved
+        (reply (machine_of (state_of state.now)) What.Redo)) }
+    ensures refused { IfErr result (IsRefusal (reply (machine_of (state_of state.now)) What.Redo)) }
+{
+    match state.forth.find(state.position + 1) {
+        Some(edit) => plan_kept(alloc, state, saved, Way::Redo, edit, Answer::Redo),
+        None => Err(Refusal::Broken(Rule::NothingToRedo)),
+    }
+}
+
+/// The plan of a kept step, back or forth. Refused where one more version goes past the limit.
+fn plan_kept(
+    alloc: Global,
+    state: &Saved,
+    saved: bool,
+    way: Way,
+    edit: &Edit,
+    answer: Answer,
+) -> Result<Plan, Refusal>
+    requires whole { IsWhole (state_of state.now) saved }
+    requires kept { IsKeptStep way (state_of state.now) edit.now }
+    ensures planned { IfOk result
+        (IsTurnPlan (state_of state.now) saved way edit.now state.now.next answer) }
+    ensures within { IfOk result (λ plan. numbers (step_state (state_of state.now)) 0 ≡ None) }
+    ensures refused { IfErr result (IsLimitRefusal (state_of state.now)) }
+{
+    if state.version + 1 >= NUMBERS_LIMIT {
+        return Err(Refusal::Broken(Rule::Limit {
+            which: Counted::Numbers,
+            at: NUMBERS_LIMIT,
+        }));
+    }
+    match kept_turn(alloc, state, way, edit) {
+        Ok(turn) => planned(plan_turn(alloc, state, saved, turn, answer)),
+        Err(OutOfMemory) => Err(Refusal::OutOfMemory),
+    }
+}
+
+/// The turn of a kept step.
+fn kept_turn(alloc: Global, state: &Saved, way: Way, edit: &Edit) -> Result<Turn, OutOfMemory>
+    requires { IsAllowed (state_of state.now).book edit.now }
+    ensures turn { IfOk result (λ turn. (turn.way ≡ way) × (turn.edit ≡ edit.now)
+        × (turn.next ≡ state.now.next)) }
+    ensures back { IfOk result (λ turn. LeadsBack (state_of state.now).book edit.now turn.inverse) }
+    ensures form { IfOk result (λ turn. outline turn.inverse ≡ outline edit.now) }
+{
+    let inverse = state.plain.inverse(alloc, edit)?;
+    let copy = edit.copy(alloc)?;
+    Ok(Turn {
+        way,
+        edit: copy,
+        inverse,
+        next: state.next,
     })
+}
+
+/// A plan, or the refusal that the program is out of memory.
+fn planned(result: Result<Plan, OutOfMemory>) -> Result<Plan, Refusal>
+    ensures plan { IfOk output (λ plan. result ≡ Ok plan) }
+    ensures refused { IfErr output (λ refusal. refusal ≡ Refusal.OutOfMemory) }
+{
+    match result {
+        Ok(plan) => Ok(plan),
+        Err(OutOfMemory) => Err(Refusal::OutOfMemory),
+    }
 }

@@ -1,12 +1,14 @@
 -- What is known of a state while its rows are read.
 use Rattle.std.specs.Prelude.{◌≡◌, ◌<◌, ◌⊎◌, true, [], Option, Some, None, Result, Ok, Err}
+use Rattle.std.specs.List.{AllByRecursion}
 use Rattle.book_keeper.specs.Rows.{rank}
 use Rattle.book_keeper.specs.declared.row.RowKey.{RowKey}
 use Rattle.book_rows.specs.declared.head.Head.{Head}
-use Rattle.book_opening.specs.BookRows.{behind_head}
+use Rattle.book_opening.specs.BookRows.{behind_head, records_of}
 use Rattle.book_opening.specs.FirstOdd.{IsFirstOdd}
+use Rattle.book_opening.specs.Opening.{CanBeRow}
 use Rattle.book_opening.specs.State.{State, head_of, state_of}
-use Rattle.book_opening.specs.Steps.{IsEven, counts_fit}
+use Rattle.book_opening.specs.Steps.{AreCounted, IsEven, counts_fit}
 use Rattle.book_opening.specs.declared.fault.OpenFault.{OpenFault}
 use Rattle.book_opening.specs.declared.fault.OpenFault.TheVariants as fault
 use Rattle.book_opening.specs.declared.saved.Saved.{Saved}
@@ -35,3 +37,9 @@ IsFirstBad state key first =
     ((first ≡ key)
     × (counts_fit (head_of state) ≡ true → (other : RowKey) → rank other < rank key → IsEven state other))
     ⊎ ((rank first < rank key) × IsFirstOdd state (Some first))
+
+-- What holds of every state that was read: each of its records has a spelling, and its steps are those that its head
+-- counts.
+pub record IsReadable (state : State) : Type 0 where
+  pub spelled : AllByRecursion CanBeRow (records_of state)
+  pub counted : AreCounted state

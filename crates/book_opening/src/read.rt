@@ -9,7 +9,7 @@ ghost use Rattle.book_opening.specs.BookRows.{records_of, row_of, rows_of};
 ghost use Rattle.book_opening.specs.Item.{record_of_item, with_item};
 ghost use Rattle.book_opening.specs.Opening.{Answers, Begins, HasOpenCause, IsBadFor, IsBadHead, IsBadThing};
 ghost use Rattle.book_opening.specs.Opening.{IsOnlyRecord, IsOpened, OpenAs, WasRead, head_key};
-ghost use Rattle.book_opening.specs.Reading.{IsBegun, IsFirstBad, IsWhole, bad_key};
+ghost use Rattle.book_opening.specs.Reading.{IsBegun, IsFirstBad, IsReadable, IsWhole, bad_key};
 ghost use Rattle.book_opening.specs.State.{State, state_of, head_of};
 
 use crate::item::Item;
@@ -22,7 +22,8 @@ use book_undo::Plain;
 use std::alloc::Global;
 
 /// The state as which the rows of the keeper open; None exactly where it holds none. Each row is asked for and read
-/// once. Whether the keeper knows its rows or not, the numbers of the state's head are those that a row can hold.
+/// once. Whether the keeper knows its rows or not, the state is one whose records have spellings and whose steps are those
+/// that its head counts.
 /// Keeper: the keeper failed, and its count of faults rose in this call.
 /// BadRows: the least key whose row can't be opened, or is needed and missing, or is that of a step which the head
 /// doesn't count.
@@ -32,7 +33,7 @@ pub fn read_rows<K: Keeper>(alloc: Global, keeper: &mut K) -> Result<Option<Save
         → Answers rows result }
     ensures again { IsTrue (K.sure keeper.new) → (rows : List HeldRow) → K.holds keeper.old rows
         → (state : State) → OpenAs rows state → IsOpened state result }
-    ensures within { IfOk result (λ found. IfSome found (λ saved. IsWithin (head_of (state_of saved)))) }
+    ensures readable { IfOk result (λ found. IfSome found (λ saved. IsReadable (state_of saved))) }
     ensures cause { HasOpenCause (K.faults keeper.old) (K.faults keeper.new) result }
 {
     let row = match keeper.next_row(None) {
