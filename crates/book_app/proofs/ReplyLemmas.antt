@@ -1,21 +1,17 @@
 -- Each answer of the machine is one line, and none of those that say why there is none; and it is the outcome.
-use Rattle.std.proofs.Common.{◌≡◌, ℕ, ◌+◌, ◌-◌, Bool, true, false, List, Some, Result, Ok, Err, OnOk, IfOk, IfSome}
-use Rattle.std.proofs.Common.{sym, subst, refl, ap, ◌∙◌, arith}
+use Rattle.std.proofs.Common.{◌≡◌, ℕ, List, Some, Result, Ok, Err, OnOk, IfOk, IfSome}
+use Rattle.std.proofs.Common.{sym, subst, refl, ap, ◌∙◌}
 use Rattle.std.proofs.lemmas.Result.{IfOk-weaker}
 use Rattle.book_lines.specs.Marks.{IsAnswer, Answered, mark_of, memory_answer, keeper_answer}
-use Rattle.book_opening.specs.State.{State as SavedState}
-use Rattle.book_step.specs.State.{State}
-use Rattle.book_undo.specs.Edit.{is_nothing}
+use Rattle.book_opening.specs.State.{State}
 use Rattle.book_command.specs.declared.command.Command.{Command}
 use Rattle.book_command.specs.declared.rule.Rule.{Rule}
 use Rattle.book_command.specs.declared.wire_error.WireError.{WireError}
 use Rattle.book_command.specs.declared.wire_error.WireError.TheVariants as wire
-use Rattle.book_step.specs.Outcome.{Outcome, Broken, version_after}
-use Rattle.book_step.specs.Step.{step}
 use Rattle.book_engine.specs.Acting.{IsUnchanged}
-use Rattle.book_engine.specs.Kept.{Kept, placed, state_kept}
+use Rattle.book_engine.specs.Kept.{Kept}
+use Rattle.book_engine.specs.Machine.{Broken, Machine, Reply, machine_kept, machine_of, step}
 use Rattle.book_engine.specs.Planned.{IsPlanOf, Planned, after}
-use Rattle.book_engine.proofs.StandLemmas.{same_placed}
 use Rattle.book_texts.specs.AnswerText.{answer_bytes}
 use Rattle.book_texts.specs.RefusedText.{fault_bytes}
 use Rattle.book_texts.specs.RuleText.{rule_bytes}
@@ -44,7 +40,7 @@ no_text text is = cc
 
 -- the answer to a line that asks for no command is what the machine replies
 pub replies-fault :
-    {E : Type 0} (state : SavedState) (bytes : List ℕ) (fault : WireError) (result : Result (List ℕ) E)
+    {E : Type 0} (state : Machine) (bytes : List ℕ) (fault : WireError) (result : Result (List ℕ) E)
     → IfSome (asked_of_fault fault) (LineAsks bytes)
     → IfOk result (λ text. fault_bytes fault ≡ Some text)
     → IfOk result (λ text. IsAnswer text × Replies state bytes text state)
@@ -72,46 +68,39 @@ pub handed_on :
 handed_on P given (Ok x) same holds = subst (λ r. IfOk r P) same holds
 handed_on P given (Err why) same holds = tt
 
-moved_by :
-    (nothing : Bool) (position now version after : ℕ) → after ≡ version_after nothing version
-    → now ≡ version_after nothing position → now ≡ position + (after - version)
-moved_by true position now version after version_is position_is = omega (arith, version_is, position_is)
-moved_by false position now version after version_is position_is = omega (arith, version_is, position_is)
-
 -- the text of a plan that was finished is the outcome of its command
 pub done_outcome :
     {E : Type 0} (result : Result (List ℕ) E) (old mid new : Kept) (command : Command) (plan : Planned)
-    → IsUnchanged old mid → IsPlanOf old.state old.position old.saved command plan
+    → IsUnchanged old mid → IsPlanOf old.state old.saved command plan
     → IfOk result (λ text. text ≡ answer_bytes plan.answer plan.version)
-    → OnOk result (new.state ≡ after mid.state plan) → OnOk result (new.position ≡ plan.position)
+    → OnOk result (new.state ≡ after mid.state plan)
     → IfOk result
-    (λ text. IsAnswer text × IsOutcome (step old.state command) (state_kept old) text (state_kept new))
-done_outcome (Ok text) old mid new command plan same is text_is state_is position_is =
-    let moved = moved_by (is_nothing plan.edit) old.position plan.position old.state.version plan.version
-    is.version_is is.position_is in
+    (λ text. IsAnswer text × IsOutcome (step (machine_kept old) command) (machine_kept old) text (machine_kept new))
+done_outcome (Ok text) old mid new command plan same is text_is state_is =
     let now : new.state ≡ after old.state plan = state_is ∙ ap (λ (s : State). after s plan) same.same_state in (
       IsAnswer-own_line text _ text_is (answer-own_line plan.answer plan.version),
-      subst (λ (o : Outcome). IsOutcome o (state_kept old) text (state_kept new)) (sym is.made)
-          (text_is, same_placed _ _ _ _ now (position_is ∙ moved)),
+      subst (λ (r : Reply). IsOutcome r (machine_kept old) text (machine_kept new)) (sym is.made)
+          (text_is ∙ ap (answer_bytes plan.answer) is.version_is, ap machine_of now),
     )
-done_outcome (Err why) old mid new command plan same is text_is state_is position_is = tt
+done_outcome (Err why) old mid new command plan same is text_is state_is = tt
 
 -- the text of a broken rule is the outcome of the command that breaks it
 pub broken_outcome :
     {E F : Type 0} (given : Result (List ℕ) E) (result : Result (List ℕ) F) (old now : Kept) (command : Command)
-    (rule : Rule) (version : ℕ) → IsUnchanged old now → step old.state command ≡ Broken rule
+    (rule : Rule) (version : ℕ) → IsUnchanged old now → step (machine_kept old) command ≡ Broken rule
     → version ≡ now.state.version → IfOk result (λ text. given ≡ Ok text)
     → IfOk given (λ text. text ≡ rule_bytes rule version)
     → IfOk result
-    (λ text. IsAnswer text × IsOutcome (step old.state command) (state_kept old) text (state_kept now))
+    (λ text. IsAnswer text × IsOutcome (step (machine_kept old) command) (machine_kept old) text (machine_kept now))
 broken_outcome given result old now command rule version same broken version_is handed text_is =
-    handed_on (λ text. IsAnswer text × IsOutcome (step old.state command) (state_kept old) text (state_kept now))
+    handed_on
+    (λ text. IsAnswer text × IsOutcome (step (machine_kept old) command) (machine_kept old) text (machine_kept now))
     given result handed
     (IfOk-weaker given _ _
     (λ text e.
     let is : text ≡ rule_bytes rule old.state.version =
     e ∙ ap (rule_bytes rule) (version_is ∙ ap (λ (s : State). s.version) same.same_state) in (
       IsAnswer-own_line text _ is (rule-own_line rule old.state.version),
-      subst (λ (o : Outcome). IsOutcome o (state_kept old) text (state_kept now)) (sym broken)
-          (is, same_placed _ _ _ _ same.same_state same.same_position),
+      subst (λ (r : Reply). IsOutcome r (machine_kept old) text (machine_kept now)) (sym broken)
+          (is, ap machine_of same.same_state),
     )) text_is)

@@ -5,8 +5,8 @@ use Rattle.book_keeper.specs.declared.row.Row.{Row}
 use Rattle.book_lines.specs.RunClause.{Moment, at, RunClause}
 use Rattle.book_lines.specs.declared.running.RunEnd.{RunEnd}
 use Rattle.book_lines.specs.declared.running.RunEnd.TheVariants as end
-use Rattle.book_opening.specs.State.{State as SavedState}
 use Rattle.book_engine.specs.Kept.{Kept}
+use Rattle.book_engine.specs.Machine.{Machine}
 use Rattle.book_engine.specs.Opening.{Opened}
 use Rattle.book_engine.specs.Opens.{Opens}
 use Rattle.book_engine.specs.declared.fault.OpenError.{OpenError}
@@ -29,7 +29,7 @@ session_clause keeping before after bytes read left text end.OutputFault h = h
 
 -- a run of lines, from the state as which the rows opened, is the program's work
 pub run_of_lines :
-    (keeping : Keeping) (first last : SavedState) (faults : ℕ) (input_before input_after : Option (List ℕ))
+    (keeping : Keeping) (first last : Machine) (faults : ℕ) (input_before input_after : Option (List ℕ))
     (output_before output_after : List ℕ → Type 0) (status : Status) → faults ≡ keeping.faults_before
     → OpenedTo keeping (Opens first) → NowOpensTo keeping last
     → IsLineRun (at first output_before faults) input_before input_after (at last output_after keeping.faults_after)

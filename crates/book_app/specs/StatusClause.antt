@@ -6,7 +6,7 @@ use Rattle.book_keeper.specs.declared.row.Row.{Row}
 use Rattle.book_lines.specs.RunClause.{Moment, at, RunClause}
 use Rattle.book_lines.specs.declared.running.RunEnd.{RunEnd}
 use Rattle.book_lines.specs.declared.running.RunEnd.TheVariants as end
-use Rattle.book_opening.specs.State.{State as SavedState}
+use Rattle.book_engine.specs.Machine.{Machine}
 use Rattle.book_engine.specs.Opening.{row_key}
 use Rattle.book_engine.specs.declared.fault.OpenError.{OpenError}
 use Rattle.book_engine.specs.declared.fault.OpenError.TheVariants as error
@@ -40,9 +40,9 @@ over sure holds faults before after = record {
 abbrev pub OpenedTo : Keeping → Opening → Type 0
 OpenedTo keeping opening = IsTrue keeping.sure → (rows : List Row) → keeping.held rows → OpensTo rows opening
 
--- A keeper that still knows its rows holds rows that open as this state.
-abbrev pub NowOpensTo : Keeping → SavedState → Type 0
-NowOpensTo keeping state = IsTrue keeping.sure → (rows : List Row) × keeping.holds rows × OpensTo rows (Opens state)
+-- A keeper that still knows its rows holds rows that open as this machine.
+abbrev pub NowOpensTo : Keeping → Machine → Type 0
+NowOpensTo keeping machine = IsTrue keeping.sure → (rows : List Row) × keeping.holds rows × OpensTo rows (Opens machine)
 
 -- Nothing was read, nothing written, and the keeper's rows are as they were.
 pub record IsUntouched (keeping : Keeping) (read text : List ℕ) : Type 0 where
@@ -50,11 +50,11 @@ pub record IsUntouched (keeping : Keeping) (read text : List ℕ) : Type 0 where
   pub output : text ≡ []
   pub rows : IsTrue keeping.sure → (rows : List Row) → keeping.held rows → keeping.holds rows
 
--- Lines were answered from the state as which the keeper's rows opened, and its rows open as the last state.
+-- Lines were answered from the machine as which the keeper's rows opened, and its rows open as the last one.
 pub record IsSession (keeping : Keeping) (output_before output_after : List ℕ → Type 0)
     (bytes read left text : List ℕ) (ended : RunEnd) : Type 0 where
-  pub first : SavedState
-  pub last : SavedState
+  pub first : Machine
+  pub last : Machine
   pub opened : OpenedTo keeping (Opens first)
   pub run : RunClause answers (at first output_before keeping.faults_before) bytes read left text
       (at last output_after keeping.faults_after) ended
@@ -97,9 +97,9 @@ pub record IsBookRun
   pub wrote : Wrote output_before output_after text
   pub clause : StatusClause keeping output_before output_after bytes read left text status
 
--- A run of lines from a state to a state: the same, and it ends neither by Usage nor before the first line.
+-- A run of lines from a machine to a machine: the same, and it ends neither by Usage nor before the first line.
 pub record IsLineRun
-    (before : Moment SavedState) (input_before input_after : Option (List ℕ)) (after : Moment SavedState)
+    (before : Moment Machine) (input_before input_after : Option (List ℕ)) (after : Moment Machine)
     (status : Status) : Type 0 where
   pub bytes : List ℕ
   pub read : List ℕ

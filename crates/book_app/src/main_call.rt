@@ -2,7 +2,7 @@ ghost use Rattle.std.specs.Prelude.{◌≡◌, ◌≢◌, ◌↔◌, None, List,
 ghost use Rattle.book_keeper.specs.Faults.{Rose};
 ghost use Rattle.book_keeper.specs.declared.row.Row.{Row};
 ghost use Rattle.book_lines.specs.RunClause.{at};
-ghost use Rattle.book_engine.specs.Kept.{state_kept};
+ghost use Rattle.book_engine.specs.Machine.{machine_kept};
 ghost use Rattle.book_engine.specs.Opening.{HasOpenCause, Opened};
 ghost use Rattle.book_engine.specs.Standing.{Stands};
 ghost use Rattle.book_app.specs.StatusClause.{HasBookPath, IsBookRun, IsLineRun, IsOpenedAt, over};
@@ -30,9 +30,9 @@ pub fn run_lines<K: Keeper, S: Source, O: Sink>(
     room: &mut LineRoom,
 ) -> Status
     requires stands { Stands K.sure K.holds keeper.old engine.old }
-    ensures run { IsLineRun (at (state_kept engine.old) (O.written output.old) (K.faults keeper.old))
+    ensures run { IsLineRun (at (machine_kept engine.old) (O.written output.old) (K.faults keeper.old))
         (S.left input.old) (S.left input.new)
-        (at (state_kept engine.new) (O.written output.new) (K.faults keeper.new)) result }
+        (at (machine_kept engine.new) (O.written output.new) (K.faults keeper.new)) result }
     ensures stands { Stands K.sure K.holds keeper.new engine.new }
     ensures keeper { IsLater K.path_given K.sure keeper.old keeper.new }
     ensures input_fault { result ≡ Status.InputFault → Rose (S.faults input.old) (S.faults input.new) }

@@ -1,12 +1,10 @@
 ghost use Rattle.std.specs.Prelude.{◌≡◌, ℕ, ◌^◌, ◌<◌, ◌≤◌, Ok, Err, List, length, IfOk, IfErr, OnOk, OnErr, IsTrue};
 ghost use Rattle.book_keeper.specs.Faults.{Rose};
 ghost use Rattle.book_lines.specs.Marks.{Answered, Memory, Keeper as NotKept, IsAnswer, memory_answer, keeper_answer};
-ghost use Rattle.book_step.specs.Step.{step};
 ghost use Rattle.book_engine.specs.Acting.{IsChange, IsUnchanged};
-ghost use Rattle.book_engine.specs.Kept.{state_kept};
-ghost use Rattle.book_engine.specs.Planned.{IsPlanFor, after, commits};
+ghost use Rattle.book_engine.specs.Machine.{machine_kept, step};
+ghost use Rattle.book_engine.specs.Planned.{HasRoomFor, IsPlanFor, after, commits};
 ghost use Rattle.book_engine.specs.Standing.{Stands};
-ghost use Rattle.book_undo.specs.Room.{HasRoom};
 ghost use Rattle.book_texts.specs.AnswerText.{answer_bytes};
 ghost use Rattle.book_app.specs.Machine.{Changes, IsOutcome, Replies};
 ghost use Rattle.book_app.specs.Later.{IsLater};
@@ -44,11 +42,10 @@ fn finished<K: Keeper>(
     keeper: &mut K,
     plan: Plan,
 ) -> Result<Bytes, Unanswered>
-    requires made { IsPlanFor engine.old.state engine.old.position engine.old.saved plan }
-    requires room { HasRoom engine.old.plain plan.edit }
+    requires made { IsPlanFor engine.old.state engine.old.saved plan }
+    requires room { HasRoomFor engine.old plan }
     ensures text { IfOk result (λ text. text ≡ answer_bytes plan.answer plan.version) }
     ensures state { OnOk result (engine.new.state ≡ after engine.old.state plan) }
-    ensures position { OnOk result (engine.new.position ≡ plan.position) }
     ensures kept { OnErr result (IsUnchanged engine.old engine.new) }
     ensures commits { result ≡ Err Unanswered.Keeper → IsTrue (commits plan) }
     ensures failed { result ≡ Err Unanswered.Keeper → Rose (K.faults keeper.old) (K.faults keeper.new) }
@@ -75,9 +72,10 @@ fn reply<K: Keeper>(
     command: Command,
 ) -> Result<Bytes, Unanswered>
     ensures answered { IfOk result (λ text. IsAnswer text
-        × IsOutcome (step engine.old.state command) (state_kept engine.old) text (state_kept engine.new)) }
-    ensures kept { OnErr result (state_kept engine.new ≡ state_kept engine.old) }
-    ensures changes { result ≡ Err Unanswered.Keeper → IsChange engine.old.state (step engine.old.state command) }
+        × IsOutcome (step (machine_kept engine.old) command) (machine_kept engine.old) text (machine_kept engine.new)) }
+    ensures kept { OnErr result (machine_kept engine.new ≡ machine_kept engine.old) }
+    ensures changes { result ≡ Err Unanswered.Keeper
+        → IsChange (machine_kept engine.old) (step (machine_kept engine.old) command) }
     ensures failed { result ≡ Err Unanswered.Keeper → Rose (K.faults keeper.old) (K.faults keeper.new) }
     ensures later { K.faults keeper.old ≤ K.faults keeper.new }
     ensures stands { Stands K.sure K.holds keeper.old engine.old → Stands K.sure K.holds keeper.new engine.new }
@@ -99,9 +97,9 @@ fn answer_to<K: Keeper>(
     line: &[u8],
 ) -> Result<Bytes, Unanswered>
     ensures answered { IfOk result (λ text. IsAnswer text
-        × Replies (state_kept engine.old) line.now text (state_kept engine.new)) }
-    ensures kept { OnErr result (state_kept engine.new ≡ state_kept engine.old) }
-    ensures changes { result ≡ Err Unanswered.Keeper → Changes (state_kept engine.old) line.now }
+        × Replies (machine_kept engine.old) line.now text (machine_kept engine.new)) }
+    ensures kept { OnErr result (machine_kept engine.new ≡ machine_kept engine.old) }
+    ensures changes { result ≡ Err Unanswered.Keeper → Changes (machine_kept engine.old) line.now }
     ensures failed { result ≡ Err Unanswered.Keeper → Rose (K.faults keeper.old) (K.faults keeper.new) }
     ensures later { K.faults keeper.old ≤ K.faults keeper.new }
     ensures stands { Stands K.sure K.holds keeper.old engine.old → Stands K.sure K.holds keeper.new engine.new }
@@ -116,12 +114,12 @@ fn answer_to<K: Keeper>(
 
 impl<K: Keeper> Machine<Answering, K> for Engine {
     ghost use Rattle.std.specs.Prelude.{ℕ, refl};
-    ghost use Rattle.book_engine.specs.Kept.{state_kept};
+    ghost use Rattle.book_engine.specs.Machine.{machine_kept};
     ghost use Rattle.book_engine.specs.Standing.{Stands};
     ghost use Rattle.book_app.specs.Machine.{answers as line_answers};
     ghost use Rattle.book_app.specs.Later.{IsLater, same_later, twice_later};
 
-    ghost answers = { λ old line mark text new. line_answers (state_kept old) line mark text (state_kept new) };
+    ghost answers = { λ old line mark text new. line_answers (machine_kept old) line mark text (machine_kept new) };
 
     ghost stands = { λ engine keeper. Stands K.sure K.holds keeper engine };
 

@@ -13,6 +13,7 @@ use Rattle.book_step.specs.Outcome.{Outcome, numbers}
 use Rattle.book_step.specs.Outcome as outcome
 use Rattle.book_step.specs.State.{State, fresh_book}
 use Rattle.book_step.specs.Step.{outcome as outcome_of, stale}
+use Rattle.book_engine.specs.Kept.{Kept}
 use Rattle.book_history.specs.History.{later_books, past_books}
 use Rattle.book_opening.specs.State.{State as SavedState}
 
@@ -40,6 +41,10 @@ machine_of state = record {
   version = state.version;
   position = state.position;
 }
+
+-- The machine that an engine keeps.
+abbrev pub machine_kept : Kept → Machine
+machine_kept kept = machine_of kept.state
 
 -- The state from which a command steps.
 abbrev pub present : Machine → State

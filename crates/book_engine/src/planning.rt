@@ -262,11 +262,11 @@ fn kept_turn(alloc: Global, state: &Saved, way: Way, edit: &Edit) -> Result<Turn
 }
 
 /// A plan, or the refusal that the program is out of memory.
-fn planned(result: Result<Plan, OutOfMemory>) -> Result<Plan, Refusal>
-    ensures plan { IfOk output (λ plan. result ≡ Ok plan) }
-    ensures refused { IfErr output (λ refusal. refusal ≡ Refusal.OutOfMemory) }
+fn planned(made: Result<Plan, OutOfMemory>) -> Result<Plan, Refusal>
+    ensures plan { IfOk result (λ plan. made ≡ Ok plan) }
+    ensures refused { IfErr result (λ refusal. refusal ≡ Refusal.OutOfMemory) }
 {
-    match result {
+    match made {
         Ok(plan) => Ok(plan),
         Err(OutOfMemory) => Err(Refusal::OutOfMemory),
     }

@@ -1,4 +1,4 @@
-use crate::{Answer, Command, Engine, OpenError, Refusal, What};
+use crate::{Answer, Command, Engine, OpenError, Refusal, Update, What};
 use book_commodity::{Bytes, Commodity, Many, OutOfMemory, Text};
 use book_keeper::{Change, Keeper, MemKeeper, Row, RowKey};
 use std::alloc::Global;
@@ -14,7 +14,7 @@ fn add(alloc: Global, name: &str) -> Result<Command, OutOfMemory> {
     };
     Ok(Command {
         at: None,
-        what: What::CommodityAdd { commodity },
+        what: What::Update(Update::CommodityAdd { commodity }),
     })
 }
 

@@ -1,5 +1,5 @@
 use Rattle.std.proofs.Common.{sym, subst}
-use Rattle.book_engine.specs.Kept.{state_kept}
+use Rattle.book_engine.specs.Machine.{machine_kept}
 use Rattle.book_app.specs.Numbers.{status_unopened}
 use Rattle.book_app.specs.StatusClause.{IsBookRun, over}
 use Rattle.book_app.specs.declared.status.Status.{Status}
@@ -18,7 +18,7 @@ pub returns-in-Ok-open_book-clause-run : goal.returns-in-Ok-open_book-clause-run
 returns-in-Ok-open_book-clause-run g c =
     let keeping = over g.K.Keeper.sure g.K.Keeper.holds g.K.Keeper.faults c.args.keeper.now c.run_lines.new.keeper in
     let later = c.run_lines.ensures.keeper in
-    run_of_lines keeping (state_kept c.in-Ok-open_book.engine) (state_kept c.run_lines.new.engine)
+    run_of_lines keeping (machine_kept c.in-Ok-open_book.engine) (machine_kept c.run_lines.new.engine)
     (g.K.Keeper.faults c.open_book.new.keeper) _ _ _ _ _ c.in-Ok-open_book.ensures.cause.done
     (λ still rows held. (c.in-Ok-open_book.ensures.opened (later.still_sure still) rows held).0)
     (λ still. let stood = c.run_lines.ensures.stands still in (stood.0, stood.1, stood.2.0))

@@ -1,7 +1,8 @@
 use Rattle.std.proofs.Common.{ℕ, List}
 use Rattle.book_lines.specs.Marks.{Mark}
 use Rattle.book_lines.proofs.CallerLemmas.{Maps, IsRun-map}
-use Rattle.book_engine.specs.Kept.{Kept, state_kept}
+use Rattle.book_engine.specs.Kept.{Kept}
+use Rattle.book_engine.specs.Machine.{machine_kept}
 use Rattle.book_app.specs.Machine.{answers}
 use Rattle.book_app.proofs.main_call.run_lines.Goals as goal
 
@@ -9,13 +10,13 @@ use Rattle.book_app.proofs.main_call.run_lines.Goals as goal
 machine :
     Maps
     (λ (old : Kept) (line : List ℕ) (mark : Mark) (text : List ℕ) (new : Kept).
-    answers (state_kept old) line mark text (state_kept new))
-    answers state_kept
+    answers (machine_kept old) line mark text (machine_kept new))
+    answers machine_kept
 machine = record { each = λ old line mark text new h. h }
 
 pub returns-clause-run : goal.returns-clause-run
 returns-clause-run g c =
-    let run = IsRun-map _ answers state_kept machine _ _ _ _ _ c.run.ensures.run in
+    let run = IsRun-map _ answers machine_kept machine _ _ _ _ _ c.run.ensures.run in
     record {
       bytes = run.bytes;
       read = run.read;

@@ -3,7 +3,7 @@ use Rattle.std.proofs.lemmas.Result.{IfOk-weaker}
 use Rattle.book_command.specs.declared.command.Command.{Command}
 use Rattle.book_command.specs.declared.wire_error.WireError.{WireError}
 use Rattle.book_lines.specs.Marks.{IsAnswer}
-use Rattle.book_engine.specs.Kept.{state_kept}
+use Rattle.book_engine.specs.Machine.{machine_kept}
 use Rattle.book_wire.specs.Asked.{Asks, LineAsks, IsRead, asked_of_fault}
 use Rattle.book_app.specs.Machine.{Replies}
 use Rattle.book_app.proofs.ReplyLemmas.{handed_on, replies-fault}
@@ -27,7 +27,7 @@ returns-in-Ok-clause-changes g c = λ failed.
 
 pub returns-in-Err : goal.returns-in-Err
 returns-in-Err g c =
-    let state = state_kept c.args.engine.now in
+    let state = machine_kept c.args.engine.now in
     let read : IfSome (asked_of_fault c.in-Err.fault) (LineAsks c.args.line.now) = subst
     (λ (r : Result Command WireError). IsRead c.args.line.now r) c.in-Err.is c.command_of.ensures in
     record {

@@ -1,7 +1,6 @@
 use Rattle.std.proofs.Common.{◌≡◌, subst}
 use Rattle.book_command.specs.declared.rule.Rule.{Rule}
-use Rattle.book_step.specs.Outcome.{Broken}
-use Rattle.book_step.specs.Step.{step}
+use Rattle.book_engine.specs.Machine.{Broken, machine_kept, step}
 use Rattle.book_engine.specs.Planned.{IsRefusal}
 use Rattle.book_engine.proofs.StandLemmas.{stands_unchanged}
 use Rattle.book_app.proofs.ReplyLemmas.{broken_outcome, done_outcome}
@@ -11,7 +10,6 @@ pub returns-in-Ok-clause-answered : goal.returns-in-Ok-clause-answered
 returns-in-Ok-clause-answered g c =
     done_outcome c.finished.result c.args.engine.now c.prepare.new.self c.finished.new.engine c.args.command
     c.in-Ok.plan c.prepare.ensures.unchanged c.in-Ok.ensures.planned c.finished.ensures.text c.finished.ensures.state
-    c.finished.ensures.position
 
 pub returns-in-Ok-clause-stands : goal.returns-in-Ok-clause-stands
 returns-in-Ok-clause-stands g c = λ stood.
@@ -22,8 +20,8 @@ returns-in-Ok-clause-stands g c = λ stood.
 pub returns-in-Err-Broken-clause-answered : goal.returns-in-Err-Broken-clause-answered
 returns-in-Err-Broken-clause-answered g c =
     let rule : Rule = c.in-Err-Broken.rule in
-    let broken : step c.args.engine.now.state c.args.command ≡ Broken rule =
-    subst (λ refusal. IsRefusal (step c.args.engine.now.state c.args.command) refusal) c.in-Err-Broken.field-0-is
+    let broken : step (machine_kept c.args.engine.now) c.args.command ≡ Broken rule =
+    subst (λ refusal. IsRefusal (step (machine_kept c.args.engine.now) c.args.command) refusal) c.in-Err-Broken.field-0-is
     c.in-Err-Broken.ensures.refused in
     broken_outcome c.rule_text.result c.answered.result c.args.engine.now c.prepare.new.self c.args.command rule
     c.version.result c.prepare.ensures.unchanged broken c.version.ensures c.answered.ensures.text c.rule_text.ensures

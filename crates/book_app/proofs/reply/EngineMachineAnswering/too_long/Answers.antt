@@ -1,7 +1,7 @@
 use Rattle.std.proofs.Common.{◌≡◌, Bool, MatchBool, length, ◌^◌, refl, sym, ap, subst, ◌∙◌}
 use Rattle.std.proofs.lemmas.Result.{IfOk-weaker}
 use Rattle.std.proofs.lemmas.Bool.{lt-ltb}
-use Rattle.book_engine.specs.Kept.{state_kept}
+use Rattle.book_engine.specs.Machine.{machine_kept}
 use Rattle.book_texts.specs.RefusedText.{too_long_bytes}
 use Rattle.book_texts.proofs.OwnLineLemmas.{too_long-own_line}
 use Rattle.book_app.specs.Machine.{Replies}
@@ -10,7 +10,7 @@ use Rattle.book_app.proofs.reply.EngineMachineAnswering.too_long.Goals as goal
 
 pub returns-clause-answered : goal.returns-clause-answered
 returns-clause-answered g c =
-    let state = state_kept c.args.self.now in
+    let state = machine_kept c.args.self.now in
     IfOk-weaker c.too_long_text.result _ _
     (λ text is. (
       IsAnswer-own_line text _ is (too_long-own_line c.args.size),
