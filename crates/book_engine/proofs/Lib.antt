@@ -1,7 +1,9 @@
 pub mod BalanceLemmas
 pub mod CurrencyLemmas
+pub mod OpenLemmas
 pub mod PlanLemmas
+pub mod RowTurns
 pub mod SmallLemmas
-pub mod SoundPlan
 pub mod StandLemmas
 pub mod StepLemmas
+pub mod TurnLemmas

@@ -1,30 +1,41 @@
--- The numbers of a sound state are those of rows, as are the numbers of what a step changes.
-use Rattle.std.proofs.Common.{◌≡◌, ℕ, ◌^◌, ◌<◌, ◌≤◌, ◌==◌, ◌&&◌, ◌||◌, Bool, true, false, All, List, []}
-use Rattle.std.proofs.Common.{◌∷◌, Option, Some, None, option_map, refl, sym, subst, arith}
+-- The numbers of a state that an engine keeps are those of rows, as are the numbers of what a turn changes.
+use Rattle.std.proofs.Common.{◌≡◌, ℕ, suc, ◌+◌, ◌-◌, ◌^◌, ◌<◌, ◌≤◌, ◌==◌, ◌&&◌, Bool, true, false, All, List, []}
+use Rattle.std.proofs.Common.{◌∷◌, ◌++◌, Option, Some, None, option_map, is_none, min, nat_lt, length, if◌then◌else◌}
+use Rattle.std.proofs.Common.{inr, refl, sym, ap, ◌∙◌, subst, arith}
 use Rattle.std.specs.List.{AllByRecursion}
 use Rattle.std.proofs.lemmas.Bool.Decides.{nat_tests}
 use Rattle.std.proofs.lemmas.List.Elements.{All-head, All-tail}
+use Rattle.book_commodity.specs.Rules.{broken_where}
 use Rattle.book_commodity.specs.Table.{value_of}
 use Rattle.book_commodity.proofs.DrawnLemmas.{drawn_below}
-use Rattle.book_commodity.proofs.ListLemmas.{mapped_some}
-use Rattle.book_undo.specs.Book.{Book, thing_at}
-use Rattle.book_undo.specs.Edit.{Leaf, OfCurrency, OfPut, OfGone, edited, leaves}
-use Rattle.book_undo.specs.Exact.{IsExact, any_touches, touches}
+use Rattle.book_commodity.proofs.ListLemmas.{mapped_none, mapped_some}
+use Rattle.book_undo.specs.Book.{Book, IsRising, thing_at, with_currency, with_thing, without_thing}
+use Rattle.book_undo.specs.Edit.{Key, Leaf, OfCurrency, OfPut, OfGone, depth, edited, key_at, key_of, leaves}
+use Rattle.book_undo.specs.EditRules.{IsAllowed, first_missing, first_unordered, out_of_order}
 use Rattle.book_undo.specs.Thing.{kind_of as thing_kind, row_kind}
 use Rattle.book_undo.specs.declared.edit.Edit.{Edit}
+use Rattle.book_undo.specs.declared.rule.EditRule.{EditRule}
+use Rattle.book_undo.specs.declared.rule.EditRule.TheVariants.{OutOfOrder, TooDeep}
 use Rattle.book_undo.specs.declared.thing.Thing.{Thing}
 use Rattle.book_undo.specs.declared.thing.Thing.TheVariants as thing
 use Rattle.book_undo.specs.declared.thing.ThingKind.{ThingKind}
 use Rattle.book_undo.specs.declared.thing.ThingKind.TheVariants as kind
+use Rattle.book_undo.proofs.BookLaws.{thing_at-with_thing}
+use Rattle.book_undo.proofs.EditLaws.{after_leaves, edited-leaves, rising_after, untouched}
+use Rattle.book_undo.proofs.InverseLaws.{above_untouched, missing_first, rises_first}
+use Rattle.book_undo.proofs.ThreeRules.{three_kept}
 use Rattle.book_rows.specs.Row.{IsRecord, kind_of}
 use Rattle.book_rows.specs.declared.record.Record.{Record}
-use Rattle.book_opening.specs.BookRows.{record_of, records_in, records_of, tables_of, things_of}
+use Rattle.book_history.specs.History.{AreNumberedFrom}
+use Rattle.book_opening.specs.BookRows.{back_records, behind_head, forth_records, record_of, records_in, records_of}
+use Rattle.book_opening.specs.BookRows.{tables_of, things_of}
 use Rattle.book_opening.specs.Changes.{AreRecords, IsSmallLeaf}
-use Rattle.book_opening.specs.Opening.{CanBeRow, HasNoSteps}
-use Rattle.book_opening.specs.State.{State as SavedState}
+use Rattle.book_opening.specs.Opening.{CanBeRow}
+use Rattle.book_opening.specs.State.{State}
 use Rattle.book_opening.proofs.ChangeLaws.{record_least}
-use Rattle.book_opening.proofs.Ranked.{all_both, joined}
+use Rattle.book_opening.proofs.Ranked.{all_both, all_first, all_last, joined}
 use Rattle.book_sound.specs.Soundness.{AreDrawn}
+use Rattle.book_engine.specs.Kept.{IsWhole}
 
 -- ---- what a step changes
 drawn_thing :
@@ -54,59 +65,64 @@ thing_drawn kind.Binding n next t book are e =
 thing_drawn kind.Recon n next t book are e =
     drawn_thing (λ x. thing.Recon x) n next t book.reconciliations are.reconciliations e
 
--- where two differ, one of them is there
-one_there :
-    (new old : Option Thing) (P : Type 0) → ((t : Thing) → new ≡ Some t → P) → ((t : Thing) → old ≡ Some t → P)
-    → (new ≡ old → ⊥) → P
-one_there (Some t) old P after before differ = after t refl
-one_there None (Some t) P after before differ = before t refl
-one_there None None P after before differ = absurd (differ refl)
-
-small_touched :
-    (k : ThingKind) (n next later : ℕ) (book new : Book) → AreDrawn book next → AreDrawn new later → next < 2 ^ 62
-    → later < 2 ^ 62 → (thing_at k n new ≡ thing_at k n book → ⊥) → n < 2 ^ 62
-small_touched k n next later book new are then small less differ =
-    one_there (thing_at k n new) (thing_at k n book) (n < 2 ^ 62)
-    (λ t e. let below = thing_drawn k n later t new then e in omega (arith, below, less))
-    (λ t e. let below = thing_drawn k n next t book are e in omega (arith, below, small))
-    differ
-
-or_left : (s t : Bool) → s ≡ true → (s || t) ≡ true
-or_left true t e = refl
-or_left false t e = absurd cc
-
-or_right : (s t : Bool) → t ≡ true → (s || t) ≡ true
-or_right true t e = refl
-or_right false t e = e
-
 same_key : (k n : ℕ) → ((k == k) && (n == n)) ≡ true
 same_key k n = grind (arith, nat_tests)
 
--- leaves have small numbers where all that they touch has
-all_small :
-    (ls : List Leaf) → ((k : ThingKind) (n : ℕ) → any_touches k n ls ≡ true → n < 2 ^ 62)
-    → AllByRecursion IsSmallLeaf ls
-all_small [] small = tt
-all_small (OfCurrency c ∷ ls) small =
-    (tt, all_small ls (λ k n e. small k n (or_right (touches k n (OfCurrency c)) (any_touches k n ls) e)))
-all_small (OfPut m t ∷ ls) small = (
-  small (thing_kind t) m
-      (or_left (touches (thing_kind t) m (OfPut m t)) (any_touches (thing_kind t) m ls)
-      (same_key (row_kind (thing_kind t)) m)),
-  all_small ls (λ k n e. small k n (or_right (touches k n (OfPut m t)) (any_touches k n ls) e)),
-)
-all_small (OfGone j m ∷ ls) small = (
-  small j m (or_left (touches j m (OfGone j m)) (any_touches j m ls) (same_key (row_kind j) m)),
-  all_small ls (λ k n e. small k n (or_right (touches k n (OfGone j m)) (any_touches k n ls) e)),
-)
+there : (o : Option Thing) → is_none o ≡ false → (t : Thing) × (o ≡ Some t)
+there None e = absurd cc
+there (Some t) e = (t, refl)
 
--- What an exact edit changes between books with drawn numbers has numbers of rows.
+-- the leaves of an edit that may be applied, whose keys rise from one on, with the book before it and the one so far
+leaves_drawn :
+    (book now : Book) (before : Key) (ls : List Leaf) (next later : ℕ) → IsRising now
+    → first_unordered before ls ≡ None → first_missing book ls ≡ None → AreDrawn book next
+    → AreDrawn (after_leaves ls now) later → next ≤ 2 ^ 62 → later ≤ 2 ^ 62 → AllByRecursion IsSmallLeaf ls
+leaves_drawn book now before [] next later rise order some are then small less = tt
+leaves_drawn book now before (OfCurrency c ∷ ls) next later rise order some are then small less = (
+  tt,
+  leaves_drawn book (with_currency c now) (key_at 1 0) ls next later (rising_after (OfCurrency c) now rise)
+      (rises_first before (OfCurrency c) ls order).1 some are then small less,
+)
+leaves_drawn book now before (OfPut n t ∷ ls) next later rise order some are then small less =
+    let k = thing_kind t in
+    let put = with_thing n t now in
+    let rises : IsRising put = rising_after (OfPut n t) now rise in
+    let more = (rises_first before (OfPut n t) ls order).1 in
+    let past = above_untouched k n (key_at (row_kind k) n) ls (inr (refl, omega arith)) more in
+    let stands : thing_at k n (after_leaves ls put) ≡ Some t = untouched k n ls put rises past
+    ∙ thing_at-with_thing k n n t now
+    ∙ ap (λ (s : Bool). if s then Some t else thing_at k n now) (same_key (row_kind k) n) in
+    let below = thing_drawn k n later t (after_leaves ls put) then stands in (
+      omega (arith, below, less),
+      leaves_drawn book put (key_at (row_kind k) n) ls next later rises more some are then small less,
+    )
+leaves_drawn book now before (OfGone k n ∷ ls) next later rise order some are then small less =
+    let both = missing_first book k n ls some in
+    let found = there (thing_at k n book) both.0 in
+    let below = thing_drawn k n next found.0 book are found.1 in (
+      omega (arith, below, small),
+      leaves_drawn book (without_thing k n now) (key_at (row_kind k) n) ls next later
+          (rising_after (OfGone k n) now rise) (rises_first before (OfGone k n) ls order).1 both.1 are then small less,
+    )
+
+-- The leaves of an edit that may be applied are in order.
+pub allowed_in_order : (book : Book) (edit : Edit) → IsAllowed book edit → out_of_order (leaves edit) ≡ None
+allowed_in_order book edit allowed =
+    let deeper : Option EditRule = broken_where (nat_lt 8 (depth edit)) TooDeep in
+    (three_kept (first_missing book (leaves edit)) (out_of_order (leaves edit)) deeper allowed).1
+
+-- The numbers of what an edit changes between books with drawn numbers can be those of rows.
 pub small_leaves :
-    (book : Book) (edit : Edit) (next later : ℕ) → AreDrawn book next → AreDrawn (edited edit book) later
-    → next < 2 ^ 62 → later < 2 ^ 62 → IsExact book edit → AllByRecursion IsSmallLeaf (leaves edit)
-small_leaves book edit next later are then small less exact =
-    all_small (leaves edit)
-    (λ k n e. small_touched k n next later book (edited edit book) are then small less ((exact.things k n).0 e))
+    (book : Book) (edit : Edit) (next later : ℕ) → IsRising book → AreDrawn book next
+    → AreDrawn (edited edit book) later → next ≤ 2 ^ 62 → later ≤ 2 ^ 62 → IsAllowed book edit
+    → AllByRecursion IsSmallLeaf (leaves edit)
+small_leaves book edit next later rise are then small less allowed =
+    let of_place : ℕ → EditRule = λ place. OutOfOrder (min place (2 ^ 64 - 1)) in
+    let deeper : Option EditRule = broken_where (nat_lt 8 (depth edit)) TooDeep in
+    let kept = three_kept (first_missing book (leaves edit)) (out_of_order (leaves edit)) deeper allowed in
+    leaves_drawn book book (key_at 0 0) (leaves edit) next later rise
+    (mapped_none of_place (first_unordered (key_at 0 0) (leaves edit)) kept.1) kept.0 are
+    (subst (λ (b : Book). AreDrawn b later) (edited-leaves edit book) then) small less
 
 -- ---- the rows of a book
 abbrev IsThing : ℕ × Record → Type 0
@@ -159,33 +175,59 @@ book_things book next are small =
       ),
     )
 
-no_steps : (t : Thing) → HasNoSteps (record_of t)
-no_steps (thing.Commodity x) = tt
-no_steps (thing.Account x) = tt
-no_steps (thing.Txn x) = tt
-no_steps (thing.Price x) = tt
-no_steps (thing.Schedule x) = tt
-no_steps (thing.Held x) = tt
-no_steps (thing.Line x) = tt
-no_steps (thing.Binding x) = tt
-no_steps (thing.Recon x) = tt
-
 thing_row : (e : ℕ × Record) → IsThing e → IsRecord e.1 → CanBeRow e
 thing_row e is record_is =
     let least : 2 ≤ kind_of e.1 = subst (λ (r : Record). 2 ≤ kind_of r) (sym is.1.1) (record_least is.1.0) in
-    let steps = subst HasNoSteps (sym is.1.1) (no_steps is.1.0) in
-    (((refl, is.0, λ one. absurd (omega (arith, least, one))), record_is, refl), steps)
+    ((refl, is.0, λ one. absurd (omega (arith, least, one))), record_is, refl)
 
 all_rows :
     (es : List (ℕ × Record)) → AllByRecursion IsThing es → AreRecords es → AllByRecursion CanBeRow es
 all_rows [] are fit = tt
 all_rows (e ∷ es) are fit = (thing_row e are.0 fit.0, all_rows es are.1 fit.1)
 
--- The records of a state whose numbers are drawn can be rows, where they have spellings.
+back_can :
+    (from : ℕ) (steps : List (ℕ × Edit)) → AreNumberedFrom from steps → from + length steps ≤ 2 ^ 62
+    → AreRecords (back_records steps) → AllByRecursion CanBeRow (back_records steps)
+back_can from [] numbers few fit = tt
+back_can from (step ∷ steps) numbers few fit =
+    let here = numbers.0 in (
+      ((refl, omega (arith, here, few), λ one. absurd cc), fit.0, refl),
+      back_can (suc from) steps numbers.1 (omega (arith, few)) fit.1,
+    )
+
+forth_can :
+    (from : ℕ) (steps : List (ℕ × Edit)) → AreNumberedFrom from steps → from + length steps ≤ 2 ^ 62
+    → AreRecords (forth_records steps) → AllByRecursion CanBeRow (forth_records steps)
+forth_can from [] numbers few fit = tt
+forth_can from (step ∷ steps) numbers few fit =
+    let here = numbers.0 in (
+      ((refl, omega (arith, here, few), λ one. absurd cc), fit.0, refl),
+      forth_can (suc from) steps numbers.1 (omega (arith, few)) fit.1,
+    )
+
+-- The records of a state that an engine keeps can be rows, where they have spellings.
 pub can_be_rows :
-    (state : SavedState) → AreDrawn state.book state.next → state.next < 2 ^ 62 → AreRecords (records_of state)
+    (state : State) (saved : Bool) → IsWhole state saved → AreRecords (records_of state)
     → AllByRecursion CanBeRow (records_of state)
-can_be_rows state are small fit = (
-  (((refl, omega arith, λ one. refl), fit.0, refl), (refl, refl)),
-  all_rows (things_of state.book) (book_things state.book state.next are small) fit.1,
-)
+can_be_rows state saved whole fit =
+    let things = things_of state.book in
+    let back = back_records state.back in
+    let forth = forth_records state.forth in
+    let h = whole.history in
+    let reached = h.reached in
+    let past = h.back_count in
+    let later = h.forth_count in
+    let few = whole.few in
+    let least : AreRecords (things ++ (back ++ forth)) = fit.1 in
+    let steps : AreRecords (back ++ forth) = all_last (λ (e : ℕ × Record). IsRecord e.1) things (back ++ forth) least in
+    let small = whole.sound.next in
+    let can : AllByRecursion CanBeRow (behind_head state) =
+    all_both CanBeRow things (back ++ forth)
+    (all_rows things (book_things state.book state.next whole.sound.drawn small)
+    (all_first (λ (e : ℕ × Record). IsRecord e.1) things (back ++ forth) least))
+    (all_both CanBeRow back forth
+    (back_can (state.position - state.past + 1) state.back h.back_numbers (omega (arith, reached, past, few))
+    (all_first (λ (e : ℕ × Record). IsRecord e.1) back forth steps))
+    (forth_can (state.position + 1) state.forth h.forth_numbers (omega (arith, later, few))
+    (all_last (λ (e : ℕ × Record). IsRecord e.1) back forth steps))) in
+    (((refl, omega arith, λ one. refl), fit.0, refl), can)

@@ -1,6 +1,6 @@
--- A step that is done leaves the state as it is, or raises its version by one.
-use Rattle.std.proofs.Common.{◌≡◌, ℕ, ◌+◌, ◌==◌, ℤ, Bool, true, false, if◌then◌else◌, List, [], ◌∷◌, length}
-use Rattle.std.proofs.Common.{Option, Some, None, inl, inr, sym, ap, ◌⊎◌}
+-- A change that is done leaves the state as it is, or raises its version by one, and the next number doesn't fall.
+use Rattle.std.proofs.Common.{◌≡◌, ◌≤◌, ℕ, ◌+◌, ◌==◌, ℤ, Bool, true, false, if◌then◌else◌, List, [], ◌∷◌, length}
+use Rattle.std.proofs.Common.{Option, Some, None, inl, inr, sym, ap, subst, arith, ◌⊎◌}
 use Rattle.book_commodity.specs.Table.{value_of}
 use Rattle.book_accounts.specs.declared.account.Account.{Account}
 use Rattle.book_splits.specs.declared.transaction.Txn.{Txn}
@@ -9,12 +9,11 @@ use Rattle.book_undo.specs.declared.thing.Thing.TheVariants as thing
 use Rattle.book_undo.specs.declared.thing.ThingKind.TheVariants as kind
 use Rattle.book_command.specs.declared.answer.Answer.{Answer}
 use Rattle.book_command.specs.declared.answer.Answer.TheVariants as answer
-use Rattle.book_command.specs.declared.command.Command.{Command}
 use Rattle.book_command.specs.declared.command.GivenAccount.{GivenAccount}
 use Rattle.book_command.specs.declared.command.GivenTxn.{GivenTxn}
-use Rattle.book_command.specs.declared.command.What.{What}
-use Rattle.book_command.specs.declared.command.What.TheVariants.{BookCurrency, CommodityAdd, AccountAdd}
-use Rattle.book_command.specs.declared.command.What.TheVariants.{AccountEdit, AccountDrop, Drop, Edit, Post}
+use Rattle.book_command.specs.declared.command.Update.{Update}
+use Rattle.book_command.specs.declared.command.Update.TheVariants.{BookCurrency, CommodityAdd, AccountAdd}
+use Rattle.book_command.specs.declared.command.Update.TheVariants.{AccountEdit, AccountDrop, Drop, Edit, Post}
 use Rattle.book_command.specs.declared.rule.Rule.{Rule}
 use Rattle.book_step.specs.Accounts.{account_drop_of, account_edit_at, add_rules, drop_rules, edit_rules}
 use Rattle.book_step.specs.Accounts.{stays, with_given}
@@ -26,19 +25,22 @@ use Rattle.book_step.specs.Outcome.{Done, changing, leaving}
 use Rattle.book_step.specs.Posting.{new_transaction, post_answer, post_rules}
 use Rattle.book_step.specs.SameTransaction.{same_transaction}
 use Rattle.book_step.specs.State.{State}
-use Rattle.book_step.specs.Step.{outcome, stale, step}
-use Rattle.book_step.proofs.SoundOutcome.{changing_done, leaving_done, unless_done}
+use Rattle.book_step.specs.Step.{outcome}
+use Rattle.book_step.proofs.SoundOutcome.{changing_done, leaving_done}
 
--- The state is the same, or its version is one more.
+-- The state is the same, or its version is one more, and the next number has not fallen.
 abbrev pub Moves : State → State → Type 0
-Moves old new = (old ≡ new) ⊎ (new.version ≡ old.version + 1)
+Moves old new = (old ≡ new) ⊎ ((new.version ≡ old.version + 1) × (old.next ≤ new.next))
 
 changing_moves :
     (state : State) (rules : List (Option Rule)) (book : Book) (drawn : ℕ) (given : Answer) (new : State)
     (answer : Answer) → changing state rules book drawn given ≡ Done new answer → Moves state new
 changing_moves state rules book drawn given new answer e =
     let change = changing_done state rules book drawn given new answer e in
-    inr (ap (λ (s : State). s.version) (sym change.is))
+    inr (
+      ap (λ (s : State). s.version) (sym change.is),
+      subst (λ (n : ℕ). state.next ≤ n) (ap (λ (s : State). s.next) (sym change.is)) (omega arith),
+    )
 
 leaving_moves :
     (state : State) (rules : List (Option Rule)) (given : Answer) (new : State) (answer : Answer)
@@ -89,8 +91,9 @@ drop_moves state n force (Some old) new reply e =
     changing_moves state (reconciled force old.splits [] ∷ []) (book_without state.book n old) 0 answer.Drop new
     reply e
 
-outcome_moves :
-    (state : State) (what : What) (new : State) (reply : Answer) → outcome state what ≡ Done new reply
+-- A change that is done leaves the state as it is, or raises its version by one, and the next number does not fall.
+pub outcome_moves :
+    (state : State) (update : Update) (new : State) (reply : Answer) → outcome state update ≡ Done new reply
     → Moves state new
 outcome_moves state (BookCurrency commodity) new reply e =
     either_moves (commodity == state.book.currency) state (commodities.currency_rules state.book commodity)
@@ -114,11 +117,3 @@ outcome_moves state (Edit n force day given) new reply e =
     edit_moves state n force day given (value_of n state.book.transactions) new reply e
 outcome_moves state (Drop n force) new reply e =
     drop_moves state n force (value_of n state.book.transactions) new reply e
-
--- A step that is done leaves the state as it is, or raises its version by one.
-pub step_moves :
-    (state : State) (command : Command) (new : State) (reply : Answer) → step state command ≡ Done new reply
-    → Moves state new
-step_moves state command new reply e =
-    let done = unless_done (stale state command.at) (outcome state command.what) new reply e in
-    outcome_moves state command.what new reply done.1

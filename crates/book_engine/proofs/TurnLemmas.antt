@@ -1,0 +1,310 @@
+-- What a turn makes of a state that an engine keeps: the machine's next state, in which all holds of an engine again.
+use Rattle.std.proofs.Common.{◌≡◌, ℕ, ◌+◌, ◌-◌, ◌<◌, ◌≤◌, ◌^◌, nat_lt, not, Bool, true, false, ◌&&◌, ◌||◌, List, [], ◌∷◌, length}
+use Rattle.std.proofs.Common.{Option, Some, None, is_some, refl, sym, ap, ◌∙◌, subst, arith, inl, inr, ◌⊎◌, take}
+use Rattle.std.proofs.lemmas.Bool.Decides.{nat_tests}
+use Rattle.book_commodity.specs.Rules.{broken_where}
+use Rattle.book_commodity.specs.Table.{value_of}
+use Rattle.book_commodity.specs.declared.counted.Counted.TheVariants.{Numbers}
+use Rattle.book_undo.specs.Book.{Book}
+use Rattle.book_undo.specs.Edit.{edited}
+use Rattle.book_undo.specs.EditRules.{IsAllowed}
+use Rattle.book_undo.specs.Inverse.{LeadsBack}
+use Rattle.book_undo.specs.declared.edit.Edit.{Edit}
+use Rattle.book_command.specs.declared.answer.Answer.TheVariants as answer
+use Rattle.book_command.specs.declared.rule.Rule.{Rule}
+use Rattle.book_command.specs.declared.rule.Rule.TheVariants.{Limit, NothingToRedo, NothingToUndo}
+use Rattle.book_command.specs.declared.command.What.TheVariants.{Redo as AskRedo, Undo as AskUndo}
+use Rattle.book_history.specs.History.{later_books, past_books}
+use Rattle.book_history.specs.Steps.{IsSoundStep}
+use Rattle.book_history.specs.Turns.{back_after_change, back_after_redo, back_after_undo, forth_after_redo}
+use Rattle.book_history.specs.Turns.{forth_after_undo}
+use Rattle.book_history.proofs.NumberLaws.{numbered_within}
+use Rattle.book_history.proofs.TurnLaws.{changed_books, changed_history, redone_books, redone_history, undone_books}
+use Rattle.book_history.proofs.TurnLaws.{no_redo, no_undo, redo_step, undo_step, undone_history}
+use Rattle.book_step.specs.Outcome.{numbers}
+use Rattle.book_step.specs.Soundness.{IsSound}
+use Rattle.book_opening.specs.State.{State}
+use Rattle.book_engine.specs.Kept.{IsWhole, step_state}
+use Rattle.book_engine.specs.Machine.{Broken, Done, Machine, Reply, changed, machine_of, redone, reply, undone}
+use Rattle.book_engine.specs.Machine.{unless_broken}
+use Rattle.book_engine.specs.Planned.{IsChangeTo}
+use Rattle.book_engine.specs.Turned.{CanTurn, IsKeptStep, turned}
+use Rattle.book_engine.specs.declared.turn.Turn.{Turn}
+use Rattle.book_engine.specs.declared.turn.Way.{Way}
+use Rattle.book_engine.specs.declared.turn.Way.TheVariants.{Stay, Change as ToNew, Undo, Redo}
+
+-- A turn by these edits.
+abbrev pub turn_of : Way → Edit → Edit → ℕ → Turn
+turn_of way edit inverse next = record { way = way; edit = edit; inverse = inverse; next = next }
+
+-- Where rows were given or not, what holds of an engine holds of one for which they were.
+pub whole_saved : (state : State) (saved : Bool) → IsWhole state saved → IsWhole state true
+whole_saved state saved whole = record {
+  sound = whole.sound;
+  reached = whole.reached;
+  few = whole.few;
+  history = whole.history;
+  fresh = λ none. absurd cc;
+}
+
+-- ---- a change of the book
+pub changed_whole :
+    (state : State) (saved : Bool) (edit inverse : Edit) (next : ℕ) → IsWhole state saved
+    → IsChangeTo state edit next → LeadsBack state.book edit inverse
+    → IsWhole (turned (turn_of ToNew edit inverse next) state) true
+changed_whole state saved edit inverse next whole change leads =
+    let reached = whole.reached in
+    let version = change.sound.version in
+    record {
+      sound = change.sound;
+      reached = omega (arith, reached);
+      few = omega (arith, reached, version);
+      history = changed_history state.next state.book state.position state.past state.later state.back state.forth
+          whole.history whole.sound.book whole.sound.drawn edit inverse next change.allowed leads change.sound.drawn
+          change.later;
+      fresh = λ none. absurd cc;
+    }
+
+pub changed_machine :
+    (state : State) (saved : Bool) (edit inverse : Edit) (next : ℕ) → IsWhole state saved
+    → LeadsBack state.book edit inverse
+    → machine_of (turned (turn_of ToNew edit inverse next) state)
+    ≡ changed (machine_of state)
+    (record { book = edited edit state.book; next = next; version = state.version + 1 })
+changed_machine state saved edit inverse next whole leads =
+    let Of : List Book → Machine = λ past. record {
+      past = past;
+      book = edited edit state.book;
+      later = [];
+      next = next;
+      version = state.version + 1;
+      position = state.position + 1;
+    } in
+    ap Of (changed_books state.next state.book state.position state.past state.later state.back state.forth whole.history
+    edit inverse leads)
+
+-- ---- a step back or forth
+within_bounds : (n from end : ℕ) → (not (nat_lt n from) && nat_lt n end) ≡ true → (from ≤ n) × (n < end)
+within_bounds n from end e = (grind (arith, nat_tests), grind (arith, nat_tests))
+
+bounds_within : (n from end : ℕ) → from ≤ n → n < end → (not (nat_lt n from) && nat_lt n end) ≡ true
+bounds_within n from end low high = grind (arith, nat_tests)
+
+none_or_some : {T : Type 0} (o : Option T) → o ≡ None → is_some o ≡ false
+none_or_some o e = ap is_some e
+
+-- Where the step back is kept there is one to take back, and where it is not there is none.
+some_past :
+    (state : State) (saved : Bool) (edit : Edit) → IsWhole state saved
+    → value_of state.position state.back ≡ Some edit → 1 ≤ state.past
+some_past state saved edit whole kept =
+    let h = whole.history in
+    let count = h.back_count in
+    let reached = h.reached in
+    let is = sym (numbered_within (state.position - state.past + 1) state.back h.back_numbers state.position)
+    ∙ ap is_some kept in
+    let bounds = within_bounds _ _ _ is in
+    let low = bounds.0 in
+    let high = bounds.1 in
+    omega (arith, low, high, count, reached)
+
+none_past :
+    (state : State) (saved : Bool) → IsWhole state saved → value_of state.position state.back ≡ None
+    → state.past ≡ 0
+none_past state saved whole none =
+    let h = whole.history in
+    let count = h.back_count in
+    let reached = h.reached in
+    let is = sym (numbered_within (state.position - state.past + 1) state.back h.back_numbers state.position)
+    ∙ ap is_some none in
+    elim nat_lt 0 state.past as (λ (t : Bool). nat_lt 0 state.past ≡ t → state.past ≡ 0)
+    [ true ↦ λ some. absurd
+        (let here = bounds_within state.position (state.position - state.past + 1)
+        (state.position - state.past + 1 + length state.back) (grind (arith, nat_tests, some, reached))
+        (grind (arith, nat_tests, some, reached, count)) in cc)
+    | false ↦ λ zero. grind (arith, nat_tests, zero) ] refl
+
+some_later :
+    (state : State) (saved : Bool) (edit : Edit) → IsWhole state saved
+    → value_of (state.position + 1) state.forth ≡ Some edit → 1 ≤ state.later
+some_later state saved edit whole kept =
+    let h = whole.history in
+    let count = h.forth_count in
+    let is = sym (numbered_within (state.position + 1) state.forth h.forth_numbers (state.position + 1))
+    ∙ ap is_some kept in
+    let bounds = within_bounds _ _ _ is in
+    let high = bounds.1 in
+    omega (arith, high, count)
+
+none_later :
+    (state : State) (saved : Bool) → IsWhole state saved → value_of (state.position + 1) state.forth ≡ None
+    → state.later ≡ 0
+none_later state saved whole none =
+    let h = whole.history in
+    let count = h.forth_count in
+    let is = sym (numbered_within (state.position + 1) state.forth h.forth_numbers (state.position + 1))
+    ∙ ap is_some none in
+    elim nat_lt 0 state.later as (λ (t : Bool). nat_lt 0 state.later ≡ t → state.later ≡ 0)
+    [ true ↦ λ some. absurd
+        (let here = bounds_within (state.position + 1) (state.position + 1) (state.position + 1 + length state.forth)
+        (omega arith) (grind (arith, nat_tests, some, count)) in cc)
+    | false ↦ λ zero. grind (arith, nat_tests, zero) ] refl
+
+same_some : {T : Type 0} (o : Option T) (x y : T) → o ≡ Some x → o ≡ Some y → x ≡ y
+same_some o x y e f = let both = sym e ∙ f in cc
+
+-- A kept step is sound, and can be taken.
+pub kept_can :
+    (state : State) (saved : Bool) (way : Way) (edit : Edit) → IsWhole state saved → IsKeptStep way state edit
+    → CanTurn way state × IsSoundStep state.next state.book edit
+kept_can state saved Stay edit whole kept = absurd kept
+kept_can state saved ToNew edit whole kept = absurd kept
+kept_can state saved Undo edit whole kept =
+    let some = some_past state saved edit whole kept in
+    let step = undo_step state.next state.book state.position state.past state.later state.back state.forth
+    whole.history some in
+    (some, subst (IsSoundStep state.next state.book) (same_some _ _ _ step.1 kept) step.2)
+kept_can state saved Redo edit whole kept =
+    let some = some_later state saved edit whole kept in
+    let step = redo_step state.next state.book state.position state.past state.later state.back state.forth
+    whole.history some in
+    (some, subst (IsSoundStep state.next state.book) (same_some _ _ _ step.1 kept) step.2)
+
+-- One more version stays below the limit, and so does the next number.
+numbers_none : (state : State) → numbers (step_state state) 0 ≡ None → state.version + 1 < 2 ^ 62
+numbers_none state none =
+    elim nat_lt (state.version + 1) (2 ^ 62) as
+    (λ (t : Bool). nat_lt (state.version + 1) (2 ^ 62) ≡ t
+    → broken_where (not (nat_lt (state.next + 0) (2 ^ 62)) || not t) (Limit Numbers (2 ^ 62)) ≡ None
+    → state.version + 1 < 2 ^ 62)
+    [ true ↦ λ less e. grind (arith, nat_tests, less) | false ↦ λ past e. absurd (either (nat_lt (state.next + 0) (2 ^ 62)) e) ]
+    refl none
+  where
+    either : (t : Bool) → broken_where (not t || true) (Limit Numbers (2 ^ 62)) ≡ None → ⊥
+    either true e = cc
+    either false e = cc
+
+-- After a kept step is taken, all holds of an engine again.
+pub kept_whole :
+    (state : State) (saved : Bool) (way : Way) (edit inverse : Edit) → IsWhole state saved
+    → IsKeptStep way state edit → LeadsBack state.book edit inverse → numbers (step_state state) 0 ≡ None
+    → IsWhole (turned (turn_of way edit inverse state.next) state) true
+kept_whole state saved Stay edit inverse whole kept leads none = absurd kept
+kept_whole state saved ToNew edit inverse whole kept leads none = absurd kept
+kept_whole state saved Undo edit inverse whole kept leads none =
+    let some = some_past state saved edit whole kept in
+    let step = (kept_can state saved Undo edit whole kept).1 in
+    let reached = whole.reached in
+    let back = whole.history.reached in
+    let few = whole.few in
+    let version = numbers_none state none in
+    record {
+      sound = record { book = step.sound; drawn = step.drawn; next = whole.sound.next; version = version };
+      reached = omega (arith, reached);
+      few = omega (arith, few, back, some);
+      history = undone_history state.next state.book state.position state.past state.later state.back state.forth
+          whole.history edit inverse kept leads whole.sound.book whole.sound.drawn;
+      fresh = λ e. absurd cc;
+    }
+kept_whole state saved Redo edit inverse whole kept leads none =
+    let some = some_later state saved edit whole kept in
+    let step = (kept_can state saved Redo edit whole kept).1 in
+    let reached = whole.reached in
+    let few = whole.few in
+    let version = numbers_none state none in
+    record {
+      sound = record { book = step.sound; drawn = step.drawn; next = whole.sound.next; version = version };
+      reached = omega (arith, reached);
+      few = omega (arith, few, some);
+      history = redone_history state.next state.book state.position state.past state.later state.back state.forth
+          whole.history edit inverse kept leads whole.sound.book whole.sound.drawn;
+      fresh = λ e. absurd cc;
+    }
+
+unbroken : (rule : Option Rule) (r : Reply) → rule ≡ None → unless_broken rule r ≡ r
+unbroken rule r e = ap (λ (o : Option Rule). unless_broken o r) e
+
+broken : (rule : Option Rule) (r : Reply) (which : Rule) → rule ≡ Some which → unless_broken rule r ≡ Broken which
+broken rule r which e = ap (λ (o : Option Rule). unless_broken o r) e
+
+-- Undo comes to the state after the step back.
+pub undone_machine :
+    (state : State) (saved : Bool) (edit inverse : Edit) → IsWhole state saved → IsKeptStep Undo state edit
+    → LeadsBack state.book edit inverse → numbers (step_state state) 0 ≡ None
+    → reply (machine_of state) AskUndo
+    ≡ Done (machine_of (turned (turn_of Undo edit inverse state.next) state)) answer.Undo
+undone_machine state saved edit inverse whole kept leads none =
+    let machine = machine_of state in
+    let books = undone_books state.next state.book state.position state.past state.later state.back state.forth
+    whole.history edit inverse kept leads in
+    let Of : List Book → Machine = λ later. record {
+      past = past_books (back_after_undo state.position state.back) (edited edit state.book);
+      book = edited edit state.book;
+      later = later;
+      next = state.next;
+      version = state.version + 1;
+      position = state.position - 1;
+    } in
+    ap (λ (past : List Book). undone past machine) books.0
+    ∙ unbroken (numbers (step_state state) 0) _ none
+    ∙ ap (λ (later : List Book). Done (Of later) answer.Undo) (sym books.1)
+
+-- Redo comes to the state after the step forth.
+pub redone_machine :
+    (state : State) (saved : Bool) (edit inverse : Edit) → IsWhole state saved → IsKeptStep Redo state edit
+    → LeadsBack state.book edit inverse → numbers (step_state state) 0 ≡ None
+    → reply (machine_of state) AskRedo
+    ≡ Done (machine_of (turned (turn_of Redo edit inverse state.next) state)) answer.Redo
+redone_machine state saved edit inverse whole kept leads none =
+    let machine = machine_of state in
+    let books = redone_books state.next state.book state.position state.past state.later state.back state.forth
+    whole.history edit inverse kept leads in
+    let Of : List Book → Machine = λ past. record {
+      past = past;
+      book = edited edit state.book;
+      later = later_books (forth_after_redo state.position state.forth) (edited edit state.book);
+      next = state.next;
+      version = state.version + 1;
+      position = state.position + 1;
+    } in
+    ap (λ (later : List Book). redone later machine) books.0
+    ∙ unbroken (numbers (step_state state) 0) _ none
+    ∙ ap (λ (past : List Book). Done (Of past) answer.Redo) (sym books.1)
+
+-- Where a step is kept, the limit of numbers is the rule that undo and redo can break.
+pub undo_limit :
+    (state : State) (saved : Bool) (edit inverse : Edit) (rule : Rule) → IsWhole state saved
+    → IsKeptStep Undo state edit → LeadsBack state.book edit inverse → numbers (step_state state) 0 ≡ Some rule
+    → reply (machine_of state) AskUndo ≡ Broken rule
+undo_limit state saved edit inverse rule whole kept leads is =
+    let books = undone_books state.next state.book state.position state.past state.later state.back state.forth
+    whole.history edit inverse kept leads in
+    ap (λ (past : List Book). undone past (machine_of state)) books.0
+    ∙ broken (numbers (step_state state) 0) _ rule is
+
+pub redo_limit :
+    (state : State) (saved : Bool) (edit inverse : Edit) (rule : Rule) → IsWhole state saved
+    → IsKeptStep Redo state edit → LeadsBack state.book edit inverse → numbers (step_state state) 0 ≡ Some rule
+    → reply (machine_of state) AskRedo ≡ Broken rule
+redo_limit state saved edit inverse rule whole kept leads is =
+    let books = redone_books state.next state.book state.position state.past state.later state.back state.forth
+    whole.history edit inverse kept leads in
+    ap (λ (later : List Book). redone later (machine_of state)) books.0
+    ∙ broken (numbers (step_state state) 0) _ rule is
+
+-- Where none is kept, there is nothing to undo or redo.
+pub undo_nothing :
+    (state : State) (saved : Bool) → IsWhole state saved → value_of state.position state.back ≡ None
+    → reply (machine_of state) AskUndo ≡ Broken NothingToUndo
+undo_nothing state saved whole none =
+    ap (λ (past : List Book). undone past (machine_of state))
+    (no_undo state.next state.book state.position state.past state.later state.back state.forth whole.history
+    (none_past state saved whole none))
+
+pub redo_nothing :
+    (state : State) (saved : Bool) → IsWhole state saved → value_of (state.position + 1) state.forth ≡ None
+    → reply (machine_of state) AskRedo ≡ Broken NothingToRedo
+redo_nothing state saved whole none =
+    ap (λ (later : List Book). redone later (machine_of state))
+    (no_redo state.next state.book state.position state.past state.later state.back state.forth whole.history
+    (none_later state saved whole none))
