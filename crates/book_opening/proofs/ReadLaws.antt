@@ -1,5 +1,5 @@
 -- One row more is read: the state so far has what it stands for, and has exactly what the rows so far stand for.
-use Rattle.std.proofs.Common.{◌≡◌, ℕ, Bool, List, [], ◌∷◌, ◌++◌, map, Some, None, Ok, Err, IsTrue}
+use Rattle.std.proofs.Common.{◌≡◌, ℕ, Bool, List, [], ◌∷◌, ◌++◌, map, Some, None, Result, Ok, Err, IsTrue, IfOk, IfErr}
 use Rattle.std.proofs.Common.{inl, inr, refl, sym, ap, ◌∙◌, subst, ◌≤◌, arith}
 use Rattle.book_rows.specs.Row.{kind_of}
 use Rattle.std.specs.List.{AllByRecursion}
@@ -194,25 +194,47 @@ start_rows rows s begun rise begins =
     up_to_first rows (row_of (0, kept.Head (head_of s))) rise begins
     ∙ ap (λ (es : List (ℕ × Record)). row_of (0, kept.Head (head_of s)) ∷ map row_of es) (sym begun.nothing)
 
--- ---- all rows were read
-pub whole_ok :
-    (rows : List Row) (s : State) (saved : Saved) (head : Head) → rows ≡ rows_of s
-    → AllByRecursion IsOnlyRecord (records_of s) → head_of s ≡ head → IsWhole s (Ok saved)
-    → OpenAs rows (state_of saved) × (AllByRecursion IsOnlyRecord (records_of (state_of saved))
-    × (head_of (state_of saved) ≡ head))
-whole_ok rows s saved head are only same whole = (
-  subst (OpenAs rows) (sym whole.0) (whole_opens rows s are only whole.1),
-  (
-    subst (λ (x : State). AllByRecursion IsOnlyRecord (records_of x)) (sym whole.0) only,
-    ap head_of whole.0 ∙ same,
-  ),
-)
+-- rows that begin with a head begin with that of a state with this head
+pub begins_as :
+    (rows : List Row) (s : State) (head : Head) → head_of s ≡ head → Begins rows head → Begins rows (head_of s)
+begins_as rows s head same begins = subst (Begins rows) (sym same) begins
 
-pub whole_err :
-    (rows : List Row) (s : State) (error : OpenFault) → Rises rows → Begins rows (head_of s) → rows ≡ rows_of s
-    → AllByRecursion IsOnlyRecord (records_of s) → IsWhole s (Err error) → IsBadFor rows error
-whole_err rows s error rise begins are only whole =
-    least_for rows error whole.0 whole.1 (whole_bad rows s whole.0 rise begins are only whole.2)
+-- ---- all rows were read
+pub whole_head :
+    (s : State) (result : Result Saved OpenFault) (head : Head) → IsWhole s result → head_of s ≡ head
+    → IfOk result (λ saved. head_of (state_of saved) ≡ head)
+whole_head s (Ok saved) head whole same = ap head_of whole.0 ∙ same
+whole_head s (Err error) head whole same = tt
+
+pub whole_read :
+    (s : State) (result : Result Saved OpenFault) → IsWhole s result → AllByRecursion IsOnlyRecord (records_of s)
+    → IfOk result (λ saved. AllByRecursion IsOnlyRecord (records_of (state_of saved)))
+whole_read s (Ok saved) whole only =
+    subst (λ (x : State). AllByRecursion IsOnlyRecord (records_of x)) (sym whole.0) only
+whole_read s (Err error) whole only = tt
+
+-- Where they are those of the state, they open as it.
+pub whole_rows :
+    {Known : Type 0} (Held : List Row → Type 0) (s : State) (result : Result Saved OpenFault) (head : Head)
+    → IsWhole s result → AllByRecursion IsOnlyRecord (records_of s)
+    → (Known → (rows : List Row) → Held rows → Begins rows head → rows ≡ rows_of s)
+    → IfOk result (λ saved. Known → (rows : List Row) → Held rows → Begins rows head → OpenAs rows (state_of saved))
+whole_rows Held s (Ok saved) head whole only are = λ known rows held begins.
+    subst (OpenAs rows) (sym whole.0) (whole_opens rows s (are known rows held begins) only whole.1)
+whole_rows Held s (Err error) head whole only are = tt
+
+-- Or else the first step that is missing, or that the head doesn't count, is the least bad key.
+pub whole_bad_for :
+    {Known : Type 0} (Held : List Row → Type 0) (s : State) (result : Result Saved OpenFault) (head : Head)
+    → IsWhole s result → head_of s ≡ head → AllByRecursion IsOnlyRecord (records_of s)
+    → ((rows : List Row) → Held rows → Rises rows)
+    → (Known → (rows : List Row) → Held rows → Begins rows head → rows ≡ rows_of s)
+    → IfErr result (λ error. Known → (rows : List Row) → Held rows → Begins rows head → IsBadFor rows error)
+whole_bad_for Held s (Ok saved) head whole same only rise are = tt
+whole_bad_for Held s (Err error) head whole same only rise are = λ known rows held begins.
+    least_for rows error whole.0 whole.1
+    (whole_bad rows s whole.0 (rise rows held) (begins_as rows s head same begins) (are known rows held begins) only
+    whole.2)
 
 -- ---- the next row is bad
 pub next_bad :
@@ -222,11 +244,6 @@ pub next_bad :
     → IsBadFor rows (fault.BadRows first.kind first.id)
 next_bad rows last row s first rise next so_far only begins none is =
     part_bad rows last row s first rise next so_far only begins none is
-
--- rows that begin with a head begin with that of a state with this head
-pub begins_as :
-    (rows : List Row) (s : State) (head : Head) → head_of s ≡ head → Begins rows head → Begins rows (head_of s)
-begins_as rows s head same begins = subst (Begins rows) (sym same) begins
 
 -- What a row of kind 1 stands for is a head.
 pub first_kind : (it : Record) → kind_of it ≤ 1 → (head : Head) × (it ≡ kept.Head head)

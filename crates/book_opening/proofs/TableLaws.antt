@@ -7,9 +7,11 @@ use Rattle.book_keeper.specs.declared.row.Change.TheVariants as change
 use Rattle.book_undo.specs.Book.{Book}
 use Rattle.book_undo.specs.declared.thing.Thing.{Thing}
 use Rattle.book_undo.specs.declared.thing.Thing.TheVariants as thing
+use Rattle.book_undo.specs.declared.edit.Edit.{Edit}
+use Rattle.book_rows.specs.EditBytes.{edit_bytes, IsEdit}
 use Rattle.book_rows.specs.Row.{IsRecord, fields_of, kind_of}
 use Rattle.book_rows.specs.declared.record.Record.{Record}
-use Rattle.book_opening.specs.BookRows.{record_of, records_in, row_of, tables_of, things_of}
+use Rattle.book_opening.specs.BookRows.{back_records, forth_records, record_of, records_in, row_of, tables_of, things_of}
 use Rattle.book_opening.specs.Changes.{AreRecords, entry_put, puts_of}
 use Rattle.book_opening.proofs.Ranked.{all_both, joined}
 use Rattle.book_commodity.proofs.ListLemmas.{drop_at, mapped_some}
@@ -147,3 +149,52 @@ all_put_whole b head one two three four o p q r =
     (puts_of (records_in (λ it. thing.Binding it) b.bindings))
     (puts_of (records_in (λ it. thing.Recon it) b.reconciliations))
     ∙ ap (λ (l : List Change). head ∷ l) (sym (puts-things b))
+
+-- ---- steps
+-- The changes that put the entries of a table of steps are those of its records.
+pub back_puts : (es : List (ℕ × Edit)) → map (entry_put 11 edit_bytes) es ≡ puts_of (back_records es)
+back_puts [] = refl
+back_puts (e ∷ es) = ap (λ (l : List Change). entry_put 11 edit_bytes e ∷ l) (back_puts es)
+
+pub forth_puts : (es : List (ℕ × Edit)) → map (entry_put 12 edit_bytes) es ≡ puts_of (forth_records es)
+forth_puts [] = refl
+forth_puts (e ∷ es) = ap (λ (l : List Change). entry_put 12 edit_bytes e ∷ l) (forth_puts es)
+
+pub back_fit : (es : List (ℕ × Edit)) → AllByRecursion (λ e. IsEdit e.1) es → AreRecords (back_records es)
+back_fit [] h = tt
+back_fit (e ∷ es) h = (h.0, back_fit es h.1)
+
+pub forth_fit : (es : List (ℕ × Edit)) → AllByRecursion (λ e. IsEdit e.1) es → AreRecords (forth_records es)
+forth_fit [] h = tt
+forth_fit (e ∷ es) h = (h.0, forth_fit es h.1)
+
+-- both tables of steps, one behind the other
+pub steps_added :
+    (back forth back_slice forth_slice : List (ℕ × Edit)) (old middle new : List Change) → back_slice ≡ back
+    → forth_slice ≡ forth → middle ≡ old ++ map (entry_put 11 edit_bytes) back_slice
+    → new ≡ middle ++ map (entry_put 12 edit_bytes) forth_slice
+    → new ≡ old ++ puts_of (back_records back) ++ puts_of (forth_records forth)
+steps_added back forth back_slice forth_slice old middle new p q first second =
+    second
+    ∙ ap (λ l. middle ++ map (entry_put 12 edit_bytes) l) q
+    ∙ ap (λ (l : List Change). middle ++ l) (forth_puts forth)
+    ∙ ap (λ (l : List Change). l ++ puts_of (forth_records forth))
+    (first ∙ ap (λ l. old ++ map (entry_put 11 edit_bytes) l) p ∙ ap (λ (l : List Change). old ++ l) (back_puts back))
+
+-- the tables of steps behind the things
+pub all_put_steps :
+    (head : Change) (things back forth : List (ℕ × Record)) (four five : List Change) → four ≡ head ∷ puts_of things
+    → five ≡ four ++ puts_of back ++ puts_of forth → five ≡ head ∷ puts_of (things ++ (back ++ forth))
+all_put_steps head things back forth four five so_far more =
+    more
+    ∙ ap (λ (l : List Change). l ++ puts_of back ++ puts_of forth) so_far
+    ∙ ap (λ (l : List Change). head ∷ l)
+    (append_assoc (puts_of things) (puts_of back) (puts_of forth)
+    ∙ ap (λ (l : List Change). puts_of things ++ l) (sym (puts-both back forth))
+    ∙ sym (puts-both things (back ++ forth)))
+
+pub all_fit :
+    (things back forth : List (ℕ × Record)) → AreRecords things → AreRecords back → AreRecords forth
+    → AreRecords (things ++ (back ++ forth))
+all_fit things back forth h k l =
+    all_both (λ e. IsRecord e.1) things (back ++ forth) h (all_both (λ e. IsRecord e.1) back forth k l)

@@ -1,7 +1,7 @@
 //! The rows of a book: what a keeper holds for a state, and the state as which rows open. `read_rows` asks a keeper for
 //! its rows one by one and gives exactly the state whose rows they are, or the least key at which they are bad;
-//! `changes_of` gives the changes of rows that a step comes to, and `all_rows` all rows of a state, for its first
-//! commit.
+//! `changes_of` gives the changes of rows that an edit comes to, `back_put`, `back_gone`, `forth_put` and `forth_gone`
+//! those of the steps that are kept, and `all_rows` all rows of a state, for its first commit.
 #![tactic(auto)]
 
 mod changes;
@@ -9,6 +9,7 @@ mod fault;
 mod item;
 mod read;
 mod saved;
+mod step_changes;
 mod steps;
 #[cfg(test)]
 mod tests;
@@ -19,5 +20,5 @@ pub use changes::changes_of;
 pub use fault::OpenFault;
 pub use read::read_rows;
 pub use saved::Saved;
-pub use thing_row::{back_row, forth_row};
+pub use step_changes::{back_gone, back_put, forth_gone, forth_put};
 pub use whole::all_rows;

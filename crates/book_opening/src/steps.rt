@@ -10,10 +10,10 @@ use book_keeper::RowKey;
 use book_undo::Edit;
 
 /// The kind of the rows of steps back.
-const BACK: u8 = 11;
+pub(crate) const BACK: u8 = 11;
 
 /// The kind of the rows of steps forth.
-const FORTH: u8 = 12;
+pub(crate) const FORTH: u8 = 12;
 
 /// How many steps are kept in all.
 const STEPS_LIMIT: u64 = 256;

@@ -1,5 +1,7 @@
-use crate::{OpenFault, Saved, all_rows, changes_of, read_rows};
-use book_commodity::{Bytes, Many, Text};
+use crate::{
+    OpenFault, Saved, all_rows, back_gone, back_put, changes_of, forth_gone, forth_put, read_rows,
+};
+use book_commodity::{Bytes, Many, Table, Text};
 use book_keeper::{Change, Keeper, MemKeeper, Row, RowKey};
 use book_rows::Head;
 use book_statement::Binding;
@@ -81,17 +83,26 @@ const KEPT: [(u8, u64, &[u8]); 10] = [
     ),
 ];
 
-/// Rows each of which can't be opened.
+/// The body of a head by which two steps back and one step forth are kept: those to the second, to the third and to the
+/// fourth book.
+const HEAD_WITH_STEPS: &[u8] =
+    b"\x01\0\0\0\0\0\0\0\x0d\0\0\0\0\0\0\0\x03\0\0\0\0\0\0\0\x03\0\0\0\0\0\0\0\x02\
+        \0\0\0\0\0\0\0\x01\0\0\0\0\0\0\0\x01";
+
+/// The body of a head by which four steps back are kept where three lead to the present book.
+const HEAD_OF_NO_COUNTS: &[u8] =
+    b"\x01\0\0\0\0\0\0\0\x0d\0\0\0\0\0\0\0\x03\0\0\0\0\0\0\0\x03\0\0\0\0\0\0\0\x04\
+        \0\0\0\0\0\0\0\0\0\0\0\0\0\0\0\x01";
+
+/// The body of a step to the currency 1.
+const STEP: &[u8] = b"\x01\x03\0\0\0\0\0\0\0\x01";
+
+/// Rows each of which can't be opened, or which is that of a step which the head doesn't count.
 const DAMAGED: [(u8, u64, &[u8]); 14] = [
     // A kind before the head's.
     (0, 4, b"\x01"),
-    // A head that counts a step back.
-    (
-        1,
-        0,
-        b"\x01\0\0\0\0\0\0\0\x0d\0\0\0\0\0\0\0\x03\0\0\0\0\0\0\0\x03\0\0\0\0\0\0\0\x01\0\0\0\0\0\0\0\0\
-        \0\0\0\0\0\0\0\x01",
-    ),
+    // A head that is cut.
+    (1, 0, b"\x01\0\0\0\0\0\0\0\x0d"),
     // A second head.
     (
         1,
@@ -153,9 +164,9 @@ const DAMAGED: [(u8, u64, &[u8]); 14] = [
         \0\0\0\0\0\0\0\x05\0\0\0\0\0\0\0\x02\0\0\0\0\0\0\0\x06\0\0\0\0\0\0\0\x05",
     ),
     // A step back.
-    (11, 3, b"\x01\x03\0\0\0\0\0\0\0\x01"),
+    (11, 3, STEP),
     // A step forth.
-    (12, 4, b"\x01\x03\0\0\0\0\0\0\0\x01"),
+    (12, 4, STEP),
 ];
 
 /// Puts a row.
@@ -179,24 +190,47 @@ fn kept(alloc: Global) -> Result<MemKeeper, Fail> {
     Ok(keeper)
 }
 
+/// A keeper of the rows that are kept, with two steps back and one forth.
+fn kept_with_steps(alloc: Global) -> Result<MemKeeper, Fail> {
+    let mut keeper = kept(alloc)?;
+    put(alloc, &mut keeper, 1, 0, HEAD_WITH_STEPS)?;
+    put(alloc, &mut keeper, 11, 2, STEP)?;
+    put(alloc, &mut keeper, 11, 3, STEP)?;
+    put(alloc, &mut keeper, 12, 4, STEP)?;
+    Ok(keeper)
+}
+
 /// Whether the rows are bad, and this is the key that is named.
 fn is_bad_at(alloc: Global, keeper: &mut MemKeeper, kind: u8, id: u64) -> bool {
-    match read_rows(alloc, keeper) {
-        Err(fault) => fault == OpenFault::BadRows { kind, id },
-        Ok(_) => false,
+    match read_rows(alloc, keeper).err() {
+        Some(fault) => fault == OpenFault::BadRows { kind, id },
+        None => false,
     }
 }
 
 /// How many prices and bindings the keeper's rows open with, and the version; None where they don't open.
 fn counted(alloc: Global, keeper: &mut MemKeeper) -> Option<(usize, usize, u64)> {
-    match read_rows(alloc, keeper) {
-        Ok(Some(saved)) => Some((
-            saved.plain.prices.len(),
-            saved.plain.bindings.len(),
-            saved.version,
-        )),
-        _ => None,
-    }
+    let Ok(Some(saved)) = read_rows(alloc, keeper) else {
+        return None;
+    };
+    let counts = (
+        saved.plain.prices.len(),
+        saved.plain.bindings.len(),
+        saved.version,
+    );
+    drop(saved);
+    Some(counts)
+}
+
+/// How many steps back and forth the keeper's rows open with, and how many of each the head counts; None where they
+/// don't open.
+fn steps(alloc: Global, keeper: &mut MemKeeper) -> Option<(usize, usize, u64, u64)> {
+    let Ok(Some(saved)) = read_rows(alloc, keeper) else {
+        return None;
+    };
+    let counts = (saved.back.len(), saved.forth.len(), saved.past, saved.later);
+    drop(saved);
+    Some(counts)
 }
 
 // A book with a thing of each kind opens, and all its rows put anew are as many.
@@ -208,16 +242,24 @@ fn rows_of_each_kind(rt: HostRuntime) -> Result<(), Fail> {
     assert!(rt; counted(alloc, &mut again).is_none());
     if let Ok(Some(saved)) = read_rows(alloc, &mut keeper) {
         assert!(rt; saved.next == 13 && saved.position == 3 && saved.plain.currency == 1);
+        let mut back = Table::new(alloc);
+        back.reserve(1)?;
+        drop(back.put(3, Edit::Currency(1)));
         let anew = Saved {
             plain: saved.plain,
             next: 13,
             version: 3,
             position: 3,
+            past: 1,
+            later: 0,
+            back,
+            forth: Table::new(alloc),
         };
         let _ = again.commit(all_rows(alloc, &anew)?.as_slice());
     }
-    assert_eq!(rt; again.rows().len(), 10);
+    assert_eq!(rt; again.rows().len(), 11);
     assert!(rt; counted(alloc, &mut again) == Some((1, 1, 3)));
+    assert!(rt; steps(alloc, &mut again) == Some((1, 0, 1, 0)));
     Ok(())
 }
 
@@ -246,6 +288,71 @@ fn changed_rows(rt: HostRuntime) -> Result<(), Fail> {
     let _ = keeper.commit(changes_of(alloc, head, &Edit::All(parts))?.as_slice());
     assert_eq!(rt; keeper.rows().len(), 10);
     assert!(rt; counted(alloc, &mut keeper) == Some((0, 2, 4)));
+    Ok(())
+}
+
+// The steps that the head counts are opened, and after the changes of steps are committed, the steps as changed.
+#[test]
+fn rows_with_steps(rt: HostRuntime) -> Result<(), Fail> {
+    let alloc = rt.alloc();
+    let mut keeper = kept_with_steps(alloc)?;
+    assert!(rt; steps(alloc, &mut keeper) == Some((2, 1, 2, 1)));
+    let head = Head {
+        next: 13,
+        version: 4,
+        position: 2,
+        past: 1,
+        later: 2,
+        currency: 1,
+    };
+    let mut changes = changes_of(alloc, head, &Edit::Currency(1))?;
+    changes.push(back_put(alloc, 2, &Edit::Currency(2))?)?;
+    changes.push(back_gone(3))?;
+    changes.push(forth_put(alloc, 3, &Edit::Currency(1))?)?;
+    let _ = keeper.commit(changes.as_slice());
+    assert!(rt; steps(alloc, &mut keeper) == Some((1, 2, 1, 2)));
+    let _ = keeper.commit(&[forth_gone(4)]);
+    assert!(rt; is_bad_at(alloc, &mut keeper, 12, 4));
+    Ok(())
+}
+
+// A step that the head counts and that is missing is named, before a damaged row behind it.
+#[test]
+fn missing_steps(rt: HostRuntime) -> Result<(), Fail> {
+    let alloc = rt.alloc();
+    for (kind, id) in [(11, 2), (11, 3), (12, 4)] {
+        let mut keeper = kept_with_steps(alloc)?;
+        let _ = keeper.commit(&[Change::Gone(RowKey { kind, id })]);
+        assert!(rt; is_bad_at(alloc, &mut keeper, kind, id));
+        put(alloc, &mut keeper, 12, 9, b"\x02")?;
+        assert!(rt; is_bad_at(alloc, &mut keeper, kind, id));
+    }
+    Ok(())
+}
+
+// A step that the head doesn't count is named, and of a missing one and such a one the lesser.
+#[test]
+fn uncounted_steps(rt: HostRuntime) -> Result<(), Fail> {
+    let alloc = rt.alloc();
+    for (kind, id) in [(11, 1), (11, 4), (12, 3), (12, 5)] {
+        let mut keeper = kept_with_steps(alloc)?;
+        put(alloc, &mut keeper, kind, id, STEP)?;
+        assert!(rt; is_bad_at(alloc, &mut keeper, kind, id));
+        let _ = keeper.commit(&[Change::Gone(RowKey { kind: 12, id: 4 })]);
+        assert!(rt; is_bad_at(alloc, &mut keeper, kind, if id == 5 { 4 } else { id }));
+    }
+    Ok(())
+}
+
+// Where the counts of a head don't fit, its rows open with the steps that they have.
+#[test]
+fn counts_that_do_not_fit(rt: HostRuntime) -> Result<(), Fail> {
+    let alloc = rt.alloc();
+    let mut keeper = kept(alloc)?;
+    put(alloc, &mut keeper, 1, 0, HEAD_OF_NO_COUNTS)?;
+    assert!(rt; steps(alloc, &mut keeper) == Some((0, 0, 4, 0)));
+    put(alloc, &mut keeper, 12, 7, STEP)?;
+    assert!(rt; steps(alloc, &mut keeper) == Some((0, 1, 4, 0)));
     Ok(())
 }
 

@@ -1,7 +1,5 @@
-ghost use Rattle.std.specs.Prelude.{◌≡◌, ◌≤◌, ◌∷◌, IfOk};
-ghost use Rattle.book_undo.specs.Edit.{depth};
+ghost use Rattle.std.specs.Prelude.{◌≡◌, IfOk};
 ghost use Rattle.book_undo.specs.Thing.{row_kind};
-ghost use Rattle.book_rows.specs.EditBytes.{edit_bytes, IsEdit};
 ghost use Rattle.book_rows.specs.Row.{IsRecord, IsWithin, body_of};
 ghost use Rattle.book_opening.specs.BookRows.{record_of, row_of};
 
@@ -10,10 +8,10 @@ use book_codec::write_whole;
 use book_commodity::{Bytes, Commodity, OutOfMemory};
 use book_keeper::{Row, RowKey};
 use book_prices::Price;
-use book_rows::{Head, Record, Rows, write_edit};
+use book_rows::{Head, Record, Rows};
 use book_splits::{Recon, Txn};
 use book_statement::{Binding, Held, Line};
-use book_undo::{Edit, Schedule, Thing, ThingKind};
+use book_undo::{Schedule, Thing, ThingKind};
 use std::alloc::Global;
 
 /// The row of a head.
@@ -40,38 +38,6 @@ pub(crate) fn thing_row(alloc: Global, number: u64, thing: &Thing) -> Result<Row
             kind: kind_byte(thing.kind()),
             id: number,
         },
-        body,
-    })
-}
-
-/// The row of a step back under a number.
-pub fn back_row(alloc: Global, number: u64, edit: &Edit) -> Result<Row, OutOfMemory>
-    requires { depth edit.now ≤ 8 }
-    ensures row { IfOk result (λ row. row ≡ row_of (number, Record.Back edit.now)) }
-    ensures fits { IfOk result (λ row. IsRecord (Record.Back edit.now)) }
-{
-    step_row(alloc, 11, number, edit)
-}
-
-/// The row of a step forth under a number.
-pub fn forth_row(alloc: Global, number: u64, edit: &Edit) -> Result<Row, OutOfMemory>
-    requires { depth edit.now ≤ 8 }
-    ensures row { IfOk result (λ row. row ≡ row_of (number, Record.Forth edit.now)) }
-    ensures fits { IfOk result (λ row. IsRecord (Record.Forth edit.now)) }
-{
-    step_row(alloc, 12, number, edit)
-}
-
-/// The row of this kind of an edit under a number.
-fn step_row(alloc: Global, kind: u8, number: u64, edit: &Edit) -> Result<Row, OutOfMemory>
-    requires { depth edit.now ≤ 8 }
-    ensures key { IfOk result (λ row. row.key ≡ record { kind = kind; id = number }) }
-    ensures body { IfOk result (λ row. row.body ≡ 1 ∷ edit_bytes edit.now) }
-    ensures fits { IfOk result (λ row. IsEdit edit.now) }
-{
-    let body = write_edit(alloc, edit)?;
-    Ok(Row {
-        key: RowKey { kind, id: number },
         body,
     })
 }

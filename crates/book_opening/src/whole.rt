@@ -3,6 +3,7 @@ ghost use Rattle.std.specs.List.{AllByRecursion};
 ghost use Rattle.book_undo.specs.Book.{book_of};
 ghost use Rattle.book_undo.specs.declared.thing.Thing.TheVariants as thing;
 ghost use Rattle.book_rows.specs.AccountBytes.{account_bytes, IsAccount};
+ghost use Rattle.book_rows.specs.EditBytes.{edit_bytes, IsEdit};
 ghost use Rattle.book_rows.specs.PriceBytes.{price_bytes, IsPrice};
 ghost use Rattle.book_rows.specs.Row.{IsWithin};
 ghost use Rattle.book_opening.specs.BookRows.{back_records, forth_records, records_in, records_of};
@@ -10,7 +11,9 @@ ghost use Rattle.book_opening.specs.Changes.{AreRecords, IsShallow, all_put, ent
 ghost use Rattle.book_opening.specs.State.{head_of, state_of};
 
 use crate::Saved;
-use crate::thing_row::{back_row, forth_row, head_row};
+use crate::step_changes::step_put;
+use crate::steps::{BACK, FORTH};
+use crate::thing_row::head_row;
 use book_accounts::{Account, Tree};
 use book_codec::{Field, write_whole};
 use book_commodity::{Commodity, Many, OutOfMemory};
@@ -116,39 +119,24 @@ fn add_steps(alloc: Global, saved: &Saved, changes: &mut Many<Change>) -> Result
     ensures back { OnOk result (AreRecords (back_records saved.now.back.entries)) }
     ensures forth { OnOk result (AreRecords (forth_records saved.now.forth.entries)) }
 {
-    put_back(alloc, saved.back.as_slice(), changes)?;
-    put_forth(alloc, saved.forth.as_slice(), changes)?;
+    put_steps(alloc, BACK, saved.back.as_slice(), changes)?;
+    put_steps(alloc, FORTH, saved.forth.as_slice(), changes)?;
     Ok(())
 }
 
-/// Adds the changes that put steps back.
-fn put_back(
+/// Adds the changes that put the rows of this kind of steps.
+fn put_steps(
     alloc: Global,
+    kind: u8,
     steps: &[(u64, Edit)],
     changes: &mut Many<Change>,
 ) -> Result<(), OutOfMemory>
     requires { AllByRecursion IsShallow steps.now }
-    ensures added { OnOk result (changes.new ≡ changes.old ++ puts_of (back_records steps.now)) }
-    ensures fit { OnOk result (AreRecords (back_records steps.now)) }
+    ensures added { OnOk result (changes.new ≡ changes.old ++ map (entry_put kind edit_bytes) steps.now) }
+    ensures fit { OnOk result (AllByRecursion (λ step. IsEdit step.1) steps.now) }
 {
     for step in steps {
-        changes.push(Change::Put(back_row(alloc, step.0, &step.1)?))?;
-    }
-    Ok(())
-}
-
-/// Adds the changes that put steps forth.
-fn put_forth(
-    alloc: Global,
-    steps: &[(u64, Edit)],
-    changes: &mut Many<Change>,
-) -> Result<(), OutOfMemory>
-    requires { AllByRecursion IsShallow steps.now }
-    ensures added { OnOk result (changes.new ≡ changes.old ++ puts_of (forth_records steps.now)) }
-    ensures fit { OnOk result (AreRecords (forth_records steps.now)) }
-{
-    for step in steps {
-        changes.push(Change::Put(forth_row(alloc, step.0, &step.1)?))?;
+        changes.push(step_put(alloc, kind, step.0, &step.1)?)?;
     }
     Ok(())
 }

@@ -6,7 +6,7 @@ use Rattle.book_rows.specs.declared.head.Head.{Head}
 use Rattle.book_opening.specs.Opening.{Begins}
 use Rattle.book_opening.specs.State.{head_of, state_of}
 use Rattle.book_opening.proofs.ReadLaws.{bad_thing, begins_as, last_rows, next_bad, next_head, next_read, next_rows, read_more}
-use Rattle.book_opening.proofs.ReadLaws.{read_none, start_rows, unread_bad, whole_err, whole_ok}
+use Rattle.book_opening.proofs.ReadLaws.{read_none, start_rows, unread_bad, whole_bad_for, whole_head, whole_read, whole_rows}
 use Rattle.book_opening.proofs.read.read_behind.Goals as goal
 
 pub rows-init : goal.rows-init
@@ -51,16 +51,38 @@ rows-preserved g c =
     }
 
 pub returns-in-Ok-None-clause-head : goal.returns-in-Ok-None-clause-head
-returns-in-Ok-None-clause-head g c = ?
+returns-in-Ok-None-clause-head g c =
+    whole_head (state_of c.rows.saved) c.whole.result (head_of (state_of c.args.state)) c.whole.ensures
+    c.rows.invariant.head
 
 pub returns-in-Ok-None-clause-read : goal.returns-in-Ok-None-clause-read
-returns-in-Ok-None-clause-read g c = ?
+returns-in-Ok-None-clause-read g c =
+    whole_read (state_of c.rows.saved) c.whole.result c.whole.ensures c.rows.invariant.read
 
 pub returns-in-Ok-None-clause-rows : goal.returns-in-Ok-None-clause-rows
-returns-in-Ok-None-clause-rows g c = ?
+returns-in-Ok-None-clause-rows g c =
+    let before = state_of c.rows.saved in
+    whole_rows (g.K.Keeper.holds c.args.keeper.now) before c.whole.result (head_of (state_of c.args.state))
+    c.whole.ensures c.rows.invariant.read
+    (λ known rows held begins.
+    let still = c.in-Ok-None.ensures.sure known in
+    let now = c.rows.invariant.keeper.same_rows still rows held in
+    last_rows rows (rank c.rows.last) before
+    (sym (c.in-Ok-None.ensures.found known rows now) ∙ c.in-Ok-None.field-0-is)
+    (c.rows.invariant.rows still rows held begins))
 
 pub returns-in-Ok-None-clause-bad : goal.returns-in-Ok-None-clause-bad
-returns-in-Ok-None-clause-bad g c = ?
+returns-in-Ok-None-clause-bad g c =
+    let before = state_of c.rows.saved in
+    whole_bad_for (g.K.Keeper.holds c.args.keeper.now) before c.whole.result (head_of (state_of c.args.state))
+    c.whole.ensures c.rows.invariant.head c.rows.invariant.read
+    (λ rows held. g.met.K.Keeper.rising c.args.keeper.now rows held)
+    (λ known rows held begins.
+    let still = c.in-Ok-None.ensures.sure known in
+    let now = c.rows.invariant.keeper.same_rows still rows held in
+    last_rows rows (rank c.rows.last) before
+    (sym (c.in-Ok-None.ensures.found known rows now) ∙ c.in-Ok-None.field-0-is)
+    (c.rows.invariant.rows still rows held begins))
 
 pub returns-in-Err-clause-bad : goal.returns-in-Err-clause-bad
 returns-in-Err-clause-bad g c = λ known rows held begins. unread_bad rows c.keeper_fault.result c.keeper_fault.ensures.unread
