@@ -22,13 +22,29 @@ const CHANGES: [&str; 9] = [
     r#"{"do":"account_edit","account":3,"name":"Current account"}"#,
 ];
 
+/// Lines with steps back and forth among changes.
+const STEPS: [&str; 12] = [
+    r#"{"do":"account_add","name":"Bank","kind":"BANK","commodity":1,"parent":2}"#,
+    r#"{"do":"undo"}"#,
+    r#"{"do":"redo"}"#,
+    r#"{"do":"account_add","name":"Salary","kind":"INCOME","commodity":1,"parent":2}"#,
+    r#"{"do":"post","day":"2024-01-05","currency":1,"splits":[{"account":3,"value":9},{"account":4,"value":-9}]}"#,
+    r#"{"do":"undo"}"#,
+    r#"{"do":"undo"}"#,
+    r#"{"do":"redo"}"#,
+    r#"{"do":"redo"}"#,
+    r#"{"do":"drop","transaction":5}"#,
+    r#"{"do":"undo"}"#,
+    r#"{"do":"account_edit","account":3,"name":"Current account"}"#,
+];
+
 /// The line that says that the keeper failed.
 const KEEPER: &str = "{\"refused\":\"keeper\"}\n";
 
-/// These lines, a line feed behind each, without the one at a place.
-fn lines_without(alloc: Global, place: usize) -> Result<String, OutOfMemory> {
+/// The lines, a line feed behind each, without the one at a place.
+fn lines_without(alloc: Global, all: &[&str], place: usize) -> Result<String, OutOfMemory> {
     let mut lines = String::new(alloc);
-    for (other, line) in CHANGES.iter().enumerate() {
+    for (other, line) in all.iter().enumerate() {
         if other != place {
             lines.push_str(line)?;
             lines.push_str("\n")?;
@@ -59,23 +75,43 @@ fn are_same(rows: &[Row], others: &[Row]) -> bool {
         })
 }
 
+/// What a run of the lines answers of which the commit at a place fails, how many commits failed, what a run without
+/// that line answers, and whether both leave the same rows.
+fn failed_at(
+    alloc: Global,
+    all: &[&str],
+    place: usize,
+) -> Result<(String, usize, String, bool), Fail> {
+    let lines = lines_without(alloc, all, all.len())?;
+    let failed = ran_over(alloc, empty_keeper(alloc, &[place as u64 + 1])?, &lines)?;
+    let lines = lines_without(alloc, all, place)?;
+    let without = ran_over(alloc, empty_keeper(alloc, &[])?, &lines)?;
+    let (text, refused) = without_refusals(alloc, &failed)?;
+    let wanted = String::from_str(alloc, std::str::from_utf8(without.output.written())?)?;
+    let same = are_same(failed.keeper.rows(), without.keeper.rows());
+    Ok((text, refused, wanted, same))
+}
+
 // A line whose commit fails counts as not sent: the other answers and the rows are those of a run without it.
 #[test]
 fn a_commit_that_fails(rt: HostRuntime) -> Result<(), Fail> {
-    let alloc = rt.alloc();
     for place in 0..CHANGES.len() {
-        let all = lines_without(alloc, CHANGES.len())?;
-        let failed = ran_over(alloc, empty_keeper(alloc, &[place as u64 + 1])?, &all)?;
-        let lines = lines_without(alloc, place)?;
-        let without = ran_over(alloc, empty_keeper(alloc, &[])?, &lines)?;
-        let (text, refused) = without_refusals(alloc, &failed)?;
-        assert_eq!(rt; failed.status, Status::Done);
+        let (text, refused, wanted, same) = failed_at(rt.alloc(), &CHANGES, place)?;
         assert_eq!(rt; refused, 1, "at {place}");
-        assert_eq!(rt; text.as_bytes(), without.output.written(), "at {place}");
-        assert!(rt;
-            are_same(failed.keeper.rows(), without.keeper.rows()),
-            "at {place}"
-        );
+        assert_eq!(rt; text.as_str(), wanted.as_str(), "at {place}");
+        assert!(rt; same, "at {place}");
+    }
+    Ok(())
+}
+
+// So does one that takes a change back, or makes it again.
+#[test]
+fn a_step_that_fails(rt: HostRuntime) -> Result<(), Fail> {
+    for place in 0..STEPS.len() {
+        let (text, refused, wanted, same) = failed_at(rt.alloc(), &STEPS, place)?;
+        assert_eq!(rt; refused, 1, "at {place}");
+        assert_eq!(rt; text.as_str(), wanted.as_str(), "at {place}");
+        assert!(rt; same, "at {place}");
     }
     Ok(())
 }
@@ -105,7 +141,7 @@ fn a_second_run(rt: HostRuntime) -> Result<(), Fail> {
     let alloc = rt.alloc();
     let first = ran_over(alloc, empty_keeper(alloc, &[])?, SALARY)?;
     assert_eq!(rt; first.output.written(), SALARY_ANSWERS.as_bytes());
-    assert_eq!(rt; first.keeper.rows().len(), 6);
+    assert_eq!(rt; first.keeper.rows().len(), 9);
     let second = ran_over(
         alloc,
         first.keeper,
@@ -115,7 +151,7 @@ fn a_second_run(rt: HostRuntime) -> Result<(), Fail> {
         second.output.written(),
         b"{\"broken\":\"Root\",\"version\":3}\n".as_slice()
     );
-    assert_eq!(rt; second.keeper.rows().len(), 6);
+    assert_eq!(rt; second.keeper.rows().len(), 9);
     let third = ran_over(
         alloc,
         second.keeper,
@@ -125,7 +161,7 @@ fn a_second_run(rt: HostRuntime) -> Result<(), Fail> {
         third.output.written(),
         b"{\"ok\":\"drop\",\"version\":4}\n".as_slice()
     );
-    assert_eq!(rt; third.keeper.rows().len(), 5);
+    assert_eq!(rt; third.keeper.rows().len(), 9);
     Ok(())
 }
 

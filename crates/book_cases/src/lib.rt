@@ -30,4 +30,6 @@ mod sizes;
 #[cfg(test)]
 mod texts;
 #[cfg(test)]
+mod undo;
+#[cfg(test)]
 mod unopened;
