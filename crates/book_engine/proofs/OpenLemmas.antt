@@ -10,7 +10,7 @@ use Rattle.book_rows.specs.Row.{IsWithin}
 use Rattle.book_sound.specs.Soundness.{AreDrawn, IsSoundBook}
 use Rattle.book_history.specs.History.{AreNumberedFrom, IsHistory}
 use Rattle.book_history.specs.Steps.{AreSound}
-use Rattle.book_history.proofs.NumberLaws.{within_numbered}
+use Rattle.book_history.proofs.TurnLaws.{counted_history}
 use Rattle.book_opening.specs.BookRows.{back_records, behind_head, forth_records, records_of, things_of}
 use Rattle.book_opening.specs.Opening.{CanBeRow}
 use Rattle.book_opening.specs.Reading.{IsReadable}
@@ -22,18 +22,6 @@ use Rattle.book_engine.specs.Kept.{IsWhole}
 -- The numbers of the head can be those of a row.
 pub within_head : (state : State) → IsReadable state → IsWithin (head_of state)
 within_head state is = is.spelled.0.1.1
-
-back_within :
-    (position past id : ℕ) → past ≤ position
-    → (nat_lt (position - past) id && not (nat_lt position id))
-    ≡ (not (nat_lt id (position - past + 1)) && nat_lt id (position + 1))
-back_within position past id le = grind (arith, nat_tests)
-
-forth_within :
-    (position later id : ℕ)
-    → (nat_lt position id && not (nat_lt (position + later) id))
-    ≡ (not (nat_lt id (position + 1)) && nat_lt id (position + later + 1))
-forth_within position later id = grind (arith, nat_tests)
 
 last_small :
     (from : ℕ) (steps : List (ℕ × Edit)) → AreNumberedFrom from steps → from ≤ 2 ^ 62
@@ -56,32 +44,19 @@ readable_whole state is back_rise forth_rise reached fits sound drawn back_sound
     let past : state.past ≤ state.position = grind (arith, nat_tests, fits) in
     let most : state.past + state.later ≤ 256 = grind (arith, nat_tests, fits) in
     let even = is.counted fits in
-    let back = within_numbered (state.position - state.past + 1) (state.position + 1) state.back back_rise
-    (omega (arith, past))
-    (λ id. even (record { kind = 11; id = id }) refl ∙ back_within state.position state.past id past) in
-    let forth = within_numbered (state.position + 1) (state.position + state.later + 1) state.forth forth_rise
-    (omega arith)
-    (λ id. even (record { kind = 12; id = id }) refl ∙ forth_within state.position state.later id) in
-    let count_back = back.1 in
-    let count_forth = forth.1 in
+    let history = counted_history state.next state.book state.position state.past state.later state.back state.forth
+    past most back_rise forth_rise (λ id. even (record { kind = 11; id = id }) refl)
+    (λ id. even (record { kind = 12; id = id }) refl) back_sound forth_sound in
+    let count_forth = history.forth_count in
     let position_small = within.2 in
     let can : AllByRecursion CanBeRow (behind_head state) = is.spelled.1 in
-    let small = last_small (state.position + 1) state.forth forth.0 (omega (arith, position_small))
+    let small = last_small (state.position + 1) state.forth history.forth_numbers (omega (arith, position_small))
     (all_last CanBeRow (back_records state.back) (forth_records state.forth)
     (all_last CanBeRow (things_of state.book) (back_records state.back ++ forth_records state.forth) can)) in
     record {
       sound = record { book = sound; drawn = drawn; next = within.0; version = within.1 };
       reached = reached;
       few = omega (arith, small, count_forth);
-      history = record {
-        reached = past;
-        most = most;
-        back_numbers = back.0;
-        back_count = omega (arith, count_back, past);
-        forth_numbers = forth.0;
-        forth_count = omega (arith, count_forth);
-        back_sound = back_sound;
-        forth_sound = forth_sound;
-      };
+      history = history;
       fresh = λ none. absurd cc;
     }

@@ -19,7 +19,8 @@ use Rattle.book_sound.proofs.SoundFacts.{tables_rise}
 use Rattle.book_history.specs.History.{IsHistory}
 use Rattle.book_history.specs.Numbers.{numbers_from, without_all}
 use Rattle.book_history.specs.Turns.{back_after_change}
-use Rattle.book_history.proofs.NumberLaws.{none_left, numbered_rises, numbered_within}
+use Rattle.book_history.proofs.NumberLaws.{none_left, numbered_rises}
+use Rattle.book_history.proofs.TurnLaws.{back_counted, forth_counted}
 use Rattle.book_opening.specs.BookRows.{back_records, behind_head, forth_records, things_of}
 use Rattle.book_opening.specs.Changes.{GoneBack, GoneForth, IsSmallLeaf, LeafFits, PutBack, PutForth, StepChange}
 use Rattle.book_opening.specs.Changes.{StepFits, all_put, changes_of, step_change, step_number, with_steps}
@@ -39,31 +40,14 @@ use Rattle.book_engine.specs.declared.turn.Way.TheVariants.{Stay, Change as ToNe
 use Rattle.book_engine.proofs.SmallLemmas.{allowed_in_order, can_be_rows, small_leaves}
 
 -- ---- the steps of a state that an engine keeps are those that its head counts
-same_back :
-    (position past id : ℕ) → past ≤ position
-    → (not (nat_lt id (position - past + 1)) && nat_lt id (position - past + 1 + past))
-    ≡ (nat_lt (position - past) id && not (nat_lt position id))
-same_back position past id le = grind (arith, nat_tests)
-
-same_forth :
-    (position later id : ℕ)
-    → (not (nat_lt id (position + 1)) && nat_lt id (position + 1 + later))
-    ≡ (nat_lt position id && not (nat_lt (position + later) id))
-same_forth position later id = grind (arith, nat_tests)
-
 -- The steps of such a state are those that its head counts.
 pub whole_counted : (state : State) (saved : Bool) → IsWhole state saved → AreCounted state
 whole_counted state saved whole = λ fits key step.
     let h = whole.history in
     let back : is_some (value_of key.id state.back) ≡ is_back (head_of state) key.id =
-    numbered_within (state.position - state.past + 1) state.back h.back_numbers key.id
-    ∙ ap (λ (n : ℕ). not (nat_lt key.id (state.position - state.past + 1))
-    && nat_lt key.id (state.position - state.past + 1 + n)) h.back_count
-    ∙ same_back state.position state.past key.id h.reached in
+    back_counted state.next state.book state.position state.past state.later state.back state.forth h key.id in
     let forth : is_some (value_of key.id state.forth) ≡ is_forth (head_of state) key.id =
-    numbered_within (state.position + 1) state.forth h.forth_numbers key.id
-    ∙ ap (λ (n : ℕ). not (nat_lt key.id (state.position + 1)) && nat_lt key.id (state.position + 1 + n)) h.forth_count
-    ∙ same_forth state.position state.later key.id in
+    forth_counted state.next state.book state.position state.past state.later state.back state.forth h key.id in
     ap (λ (b : Bool). ((key.kind == 11) && b) || ((key.kind == 12) && is_some (value_of key.id state.forth))) back
     ∙ ap (λ (b : Bool). ((key.kind == 11) && is_back (head_of state) key.id) || ((key.kind == 12) && b)) forth
 

@@ -1,5 +1,5 @@
 -- What a turn makes of a state that an engine keeps: the machine's next state, in which all holds of an engine again.
-use Rattle.std.proofs.Common.{◌≡◌, ℕ, ◌+◌, ◌-◌, ◌<◌, ◌≤◌, ◌^◌, nat_lt, not, Bool, true, false, ◌&&◌, ◌||◌, List, [], ◌∷◌, length}
+use Rattle.std.proofs.Common.{◌≡◌, ℕ, ◌+◌, ◌-◌, ◌<◌, ◌≤◌, ◌^◌, nat_lt, not, Bool, true, false, ◌||◌, List, [], ◌∷◌}
 use Rattle.std.proofs.Common.{Option, Some, None, is_some, refl, sym, ap, ◌∙◌, subst, arith, inl, inr, ◌⊎◌, take}
 use Rattle.std.proofs.lemmas.Bool.Decides.{nat_tests}
 use Rattle.book_commodity.specs.Rules.{broken_where}
@@ -18,9 +18,9 @@ use Rattle.book_history.specs.History.{later_books, past_books}
 use Rattle.book_history.specs.Steps.{IsSoundStep}
 use Rattle.book_history.specs.Turns.{back_after_change, back_after_redo, back_after_undo, forth_after_redo}
 use Rattle.book_history.specs.Turns.{forth_after_undo}
-use Rattle.book_history.proofs.NumberLaws.{numbered_within}
 use Rattle.book_history.proofs.TurnLaws.{changed_books, changed_history, redone_books, redone_history, undone_books}
-use Rattle.book_history.proofs.TurnLaws.{no_redo, no_undo, redo_step, undo_step, undone_history}
+use Rattle.book_history.proofs.TurnLaws.{no_redo, no_undo, redo_later, redo_none, redo_sound, undo_none, undo_past}
+use Rattle.book_history.proofs.TurnLaws.{undo_sound, undone_history}
 use Rattle.book_step.specs.Outcome.{numbers}
 use Rattle.book_step.specs.Soundness.{IsSound}
 use Rattle.book_opening.specs.State.{State}
@@ -60,8 +60,7 @@ changed_whole state saved edit inverse next whole change leads =
       reached = omega (arith, reached);
       few = omega (arith, reached, version);
       history = changed_history state.next state.book state.position state.past state.later state.back state.forth
-          whole.history whole.sound.book whole.sound.drawn edit inverse next change.allowed leads change.sound.drawn
-          change.later;
+          whole.history whole.sound.book whole.sound.drawn edit inverse next leads change.later;
       fresh = λ none. absurd cc;
     }
 
@@ -84,91 +83,34 @@ changed_machine state saved edit inverse next whole leads =
     edit inverse leads)
 
 -- ---- a step back or forth
-within_bounds : (n from end : ℕ) → (not (nat_lt n from) && nat_lt n end) ≡ true → (from ≤ n) × (n < end)
-within_bounds n from end e = (grind (arith, nat_tests), grind (arith, nat_tests))
-
-bounds_within : (n from end : ℕ) → from ≤ n → n < end → (not (nat_lt n from) && nat_lt n end) ≡ true
-bounds_within n from end low high = grind (arith, nat_tests)
-
-none_or_some : {T : Type 0} (o : Option T) → o ≡ None → is_some o ≡ false
-none_or_some o e = ap is_some e
-
--- Where the step back is kept there is one to take back, and where it is not there is none.
-some_past :
-    (state : State) (saved : Bool) (edit : Edit) → IsWhole state saved
-    → value_of state.position state.back ≡ Some edit → 1 ≤ state.past
-some_past state saved edit whole kept =
-    let h = whole.history in
-    let count = h.back_count in
-    let reached = h.reached in
-    let is = sym (numbered_within (state.position - state.past + 1) state.back h.back_numbers state.position)
-    ∙ ap is_some kept in
-    let bounds = within_bounds _ _ _ is in
-    let low = bounds.0 in
-    let high = bounds.1 in
-    omega (arith, low, high, count, reached)
-
-none_past :
-    (state : State) (saved : Bool) → IsWhole state saved → value_of state.position state.back ≡ None
-    → state.past ≡ 0
-none_past state saved whole none =
-    let h = whole.history in
-    let count = h.back_count in
-    let reached = h.reached in
-    let is = sym (numbered_within (state.position - state.past + 1) state.back h.back_numbers state.position)
-    ∙ ap is_some none in
-    elim nat_lt 0 state.past as (λ (t : Bool). nat_lt 0 state.past ≡ t → state.past ≡ 0)
-    [ true ↦ λ some. absurd
-        (let here = bounds_within state.position (state.position - state.past + 1)
-        (state.position - state.past + 1 + length state.back) (grind (arith, nat_tests, some, reached))
-        (grind (arith, nat_tests, some, reached, count)) in cc)
-    | false ↦ λ zero. grind (arith, nat_tests, zero) ] refl
-
-some_later :
-    (state : State) (saved : Bool) (edit : Edit) → IsWhole state saved
-    → value_of (state.position + 1) state.forth ≡ Some edit → 1 ≤ state.later
-some_later state saved edit whole kept =
-    let h = whole.history in
-    let count = h.forth_count in
-    let is = sym (numbered_within (state.position + 1) state.forth h.forth_numbers (state.position + 1))
-    ∙ ap is_some kept in
-    let bounds = within_bounds _ _ _ is in
-    let high = bounds.1 in
-    omega (arith, high, count)
-
-none_later :
-    (state : State) (saved : Bool) → IsWhole state saved → value_of (state.position + 1) state.forth ≡ None
-    → state.later ≡ 0
-none_later state saved whole none =
-    let h = whole.history in
-    let count = h.forth_count in
-    let is = sym (numbered_within (state.position + 1) state.forth h.forth_numbers (state.position + 1))
-    ∙ ap is_some none in
-    elim nat_lt 0 state.later as (λ (t : Bool). nat_lt 0 state.later ≡ t → state.later ≡ 0)
-    [ true ↦ λ some. absurd
-        (let here = bounds_within (state.position + 1) (state.position + 1) (state.position + 1 + length state.forth)
-        (omega arith) (grind (arith, nat_tests, some, count)) in cc)
-    | false ↦ λ zero. grind (arith, nat_tests, zero) ] refl
-
-same_some : {T : Type 0} (o : Option T) (x y : T) → o ≡ Some x → o ≡ Some y → x ≡ y
-same_some o x y e f = let both = sym e ∙ f in cc
-
 -- A kept step is sound, and can be taken.
 pub kept_can :
     (state : State) (saved : Bool) (way : Way) (edit : Edit) → IsWhole state saved → IsKeptStep way state edit
     → CanTurn way state × IsSoundStep state.next state.book edit
 kept_can state saved Stay edit whole kept = absurd kept
 kept_can state saved ToNew edit whole kept = absurd kept
-kept_can state saved Undo edit whole kept =
-    let some = some_past state saved edit whole kept in
-    let step = undo_step state.next state.book state.position state.past state.later state.back state.forth
-    whole.history some in
-    (some, subst (IsSoundStep state.next state.book) (same_some _ _ _ step.1 kept) step.2)
-kept_can state saved Redo edit whole kept =
-    let some = some_later state saved edit whole kept in
-    let step = redo_step state.next state.book state.position state.past state.later state.back state.forth
-    whole.history some in
-    (some, subst (IsSoundStep state.next state.book) (same_some _ _ _ step.1 kept) step.2)
+kept_can state saved Undo edit whole kept = (
+  undo_past state.next state.book state.position state.past state.later state.back state.forth whole.history edit kept,
+  undo_sound state.next state.book state.position state.past state.later state.back state.forth whole.history edit kept,
+)
+kept_can state saved Redo edit whole kept = (
+  redo_later state.next state.book state.position state.past state.later state.back state.forth whole.history edit kept,
+  redo_sound state.next state.book state.position state.past state.later state.back state.forth whole.history edit kept,
+)
+
+-- Until a keeper was given rows no step is kept.
+pub kept_saved :
+    (state : State) (saved : Bool) (way : Way) (edit : Edit) → IsWhole state saved → IsKeptStep way state edit
+    → saved ≡ true
+kept_saved state true way edit whole kept = refl
+kept_saved state false Stay edit whole kept = absurd kept
+kept_saved state false ToNew edit whole kept = absurd kept
+kept_saved state false Undo edit whole kept =
+    let some = (kept_can state false Undo edit whole kept).0 in
+    let none = ap (λ (s : State). s.past) (whole.fresh refl) in absurd (omega (arith, some, none))
+kept_saved state false Redo edit whole kept =
+    let some = (kept_can state false Redo edit whole kept).0 in
+    let none = ap (λ (s : State). s.later) (whole.fresh refl) in absurd (omega (arith, some, none))
 
 -- One more version stays below the limit, and so does the next number.
 numbers_none : (state : State) → numbers (step_state state) 0 ≡ None → state.version + 1 < 2 ^ 62
@@ -192,7 +134,7 @@ pub kept_whole :
 kept_whole state saved Stay edit inverse whole kept leads none = absurd kept
 kept_whole state saved ToNew edit inverse whole kept leads none = absurd kept
 kept_whole state saved Undo edit inverse whole kept leads none =
-    let some = some_past state saved edit whole kept in
+    let some = (kept_can state saved Undo edit whole kept).0 in
     let step = (kept_can state saved Undo edit whole kept).1 in
     let reached = whole.reached in
     let back = whole.history.reached in
@@ -203,11 +145,11 @@ kept_whole state saved Undo edit inverse whole kept leads none =
       reached = omega (arith, reached);
       few = omega (arith, few, back, some);
       history = undone_history state.next state.book state.position state.past state.later state.back state.forth
-          whole.history edit inverse kept leads whole.sound.book whole.sound.drawn;
+          whole.history whole.sound.book whole.sound.drawn edit inverse kept leads;
       fresh = λ e. absurd cc;
     }
 kept_whole state saved Redo edit inverse whole kept leads none =
-    let some = some_later state saved edit whole kept in
+    let some = (kept_can state saved Redo edit whole kept).0 in
     let step = (kept_can state saved Redo edit whole kept).1 in
     let reached = whole.reached in
     let few = whole.few in
@@ -217,7 +159,7 @@ kept_whole state saved Redo edit inverse whole kept leads none =
       reached = omega (arith, reached);
       few = omega (arith, few, some);
       history = redone_history state.next state.book state.position state.past state.later state.back state.forth
-          whole.history edit inverse kept leads whole.sound.book whole.sound.drawn;
+          whole.history whole.sound.book whole.sound.drawn edit inverse kept leads;
       fresh = λ e. absurd cc;
     }
 
@@ -299,7 +241,7 @@ pub undo_nothing :
 undo_nothing state saved whole none =
     ap (λ (past : List Book). undone past (machine_of state))
     (no_undo state.next state.book state.position state.past state.later state.back state.forth whole.history
-    (none_past state saved whole none))
+    (undo_none state.next state.book state.position state.past state.later state.back state.forth whole.history none))
 
 pub redo_nothing :
     (state : State) (saved : Bool) → IsWhole state saved → value_of (state.position + 1) state.forth ≡ None
@@ -307,4 +249,4 @@ pub redo_nothing :
 redo_nothing state saved whole none =
     ap (λ (later : List Book). redone later (machine_of state))
     (no_redo state.next state.book state.position state.past state.later state.back state.forth whole.history
-    (none_later state saved whole none))
+    (redo_none state.next state.book state.position state.past state.later state.back state.forth whole.history none))
