@@ -1,3 +1,4 @@
 pub mod History
+pub mod Numbers
 pub mod Steps
 pub mod Turns
