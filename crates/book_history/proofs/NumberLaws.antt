@@ -95,7 +95,8 @@ first_is {T} from end e es rise has =
     same_by true test low high =
         let past : from < e.0 = grind (arith, nat_tests) in
         absurd (not_both (is_some (value_of from (e ∷ es)))
-        (none_some (value_of from (e ∷ es)) (above_value from (e ∷ es) (past, above_less from e.0 es (omega arith) rise.0)))
+        (none_some (value_of from (e ∷ es))
+        (above_value from (e ∷ es) (past, above_less from e.0 es (omega arith) rise.0)))
         (has from ∙ inside from from end (omega arith) (omega arith)))
 
 rest_has :
@@ -134,8 +135,43 @@ within_numbered from end [] rise low has = (tt, none_by (nat_lt from end) refl (
 within_numbered from end (e ∷ es) rise low has =
     let first = first_is from end e es rise has in
     let room = first.1 in
-    let rest = within_numbered (suc from) end es rise.1 (omega (arith, room)) (rest_has from end e es rise first.0 has) in
+    let behind = rest_has from end e es rise first.0 has in
+    let rest = within_numbered (suc from) end es rise.1 (omega (arith, room)) behind in
     let count = rest.1 in ((first.0, rest.0), omega (arith, count))
+
+-- ---- the numbers above one and up to another
+between :
+    (low high n : ℕ) → (nat_lt low n && not (nat_lt high n)) ≡ (not (nat_lt n (low + 1)) && nat_lt n (high + 1))
+between low high n =
+    ap (λ (b : Bool). b && not (nat_lt high n)) (above low n)
+    ∙ ap (λ (b : Bool). not (nat_lt n (low + 1)) && b) (up_to high n)
+  where
+    above : (low n : ℕ) → nat_lt low n ≡ not (nat_lt n (low + 1))
+    above low n = grind (arith, nat_tests)
+
+    up_to : (high n : ℕ) → not (nat_lt high n) ≡ nat_lt n (high + 1)
+    up_to high n = grind (arith, nat_tests)
+
+-- Entries that are numbered from the number behind another have the numbers above that one, as many as they are.
+pub numbered_between :
+    {T : Type 0} (low high : ℕ) (entries : List (ℕ × T)) → AreNumberedFrom (low + 1) entries
+    → low + length entries ≡ high → (n : ℕ)
+    → is_some (value_of n entries) ≡ (nat_lt low n && not (nat_lt high n))
+numbered_between low high entries are count n =
+    let end : low + 1 + length entries ≡ high + 1 = omega (arith, count) in
+    numbered_within (low + 1) entries are n
+    ∙ ap (λ (k : ℕ). not (nat_lt n (low + 1)) && nat_lt n k) end ∙ sym (between low high n)
+
+-- Rising entries that have the numbers above one and up to another, and no other, are numbered from the one behind the
+-- first, and reach up to the other.
+pub between_numbered :
+    {T : Type 0} (low high : ℕ) (entries : List (ℕ × T)) → Rises entries → low ≤ high
+    → ((n : ℕ) → is_some (value_of n entries) ≡ (nat_lt low n && not (nat_lt high n)))
+    → AreNumberedFrom (low + 1) entries × (low + length entries ≡ high)
+between_numbered low high entries rise le has =
+    let parts = within_numbered (low + 1) (high + 1) entries rise (omega (arith, le))
+    (λ n. has n ∙ between low high n) in
+    let count = parts.1 in (parts.0, omega (arith, count))
 
 -- ---- putting and taking at either end
 -- Entries that are numbered from a number are numbered from the same one, however it is written.
@@ -246,18 +282,26 @@ has_last from (e ∷ d ∷ es) are some =
           ∙ last_found from rest.number rest.value (e ∷ rest.init) numbered (omega (arith, number));
     }
 
--- There is a value under each number that is so many behind the first.
+-- There is a value under each number from the first one to the last.
 pub value_there :
-    {T : Type 0} (from k : ℕ) (entries : List (ℕ × T)) → AreNumberedFrom from entries → k < length entries
-    → (v : T) × (value_of (from + k) entries ≡ Some v)
-value_there from k entries are below =
-    some_of (value_of (from + k) entries)
-    (numbered_within from entries are (from + k)
-    ∙ inside (from + k) from (from + length entries) (omega arith) (omega (arith, below)))
+    {T : Type 0} (from n : ℕ) (entries : List (ℕ × T)) → AreNumberedFrom from entries → from ≤ n
+    → n < from + length entries → (v : T) × (value_of n entries ≡ Some v)
+value_there from n entries are low high =
+    some_of (value_of n entries)
+    (numbered_within from entries are n ∙ inside n from (from + length entries) low high)
   where
     some_of : {T : Type 0} (o : Option T) → is_some o ≡ true → (v : T) × (o ≡ Some v)
     some_of None e = absurd cc
     some_of (Some v) e = (v, refl)
+
+-- There is none from the number behind the last on.
+pub value_beyond :
+    {T : Type 0} (from n : ℕ) (entries : List (ℕ × T)) → AreNumberedFrom from entries → from + length entries ≤ n
+    → value_of n entries ≡ None
+value_beyond from n [] are past = refl
+value_beyond from n (e ∷ es) are past =
+    let first = are.0 in
+    let rest = value_beyond (suc from) n es are.1 (omega (arith, past)) in grind (arith, nat_tests, first, rest)
 
 -- ---- taking all
 -- Taking them one after another, from the first to the last, leaves none.

@@ -5,6 +5,7 @@ use Rattle.std.proofs.Common.{List, [], ◌∷◌, ◌++◌, length, take, rever
 use Rattle.std.proofs.lemmas.Bool.Decides.{nat_tests}
 use Rattle.std.proofs.lemmas.List.{append-nil, length-reverse, length_push, nil_from_length, reverse-append, take_all}
 use Rattle.book_commodity.specs.Table.{value_of, without_entry}
+use Rattle.book_commodity.proofs.TableLemmas.{above_value}
 use Rattle.book_sound.specs.Soundness.{AreDrawn, IsSoundBook}
 use Rattle.book_sound.proofs.DrawnFrames.{drawn_later}
 use Rattle.book_undo.specs.Book.{Book}
@@ -15,8 +16,9 @@ use Rattle.book_history.specs.History.{AreNumberedFrom, IsHistory, later_books, 
 use Rattle.book_history.specs.Steps.{AreSound, IsSoundStep, books_to}
 use Rattle.book_history.specs.Turns.{back_after_change, back_after_redo, back_after_undo, forth_after_redo}
 use Rattle.book_history.specs.Turns.{forth_after_undo, past_after_change, with_room}
-use Rattle.book_history.proofs.NumberLaws.{has_last, numbered_last, numbered_same, with_first}
-use Rattle.book_history.proofs.NumberLaws.{with_last, without_first, without_last}
+use Rattle.book_history.specs.Numbers.{numbers_from, without_all}
+use Rattle.book_history.proofs.NumberLaws.{has_last, none_left, numbered_above, numbered_last, numbered_same}
+use Rattle.book_history.proofs.NumberLaws.{value_beyond, value_there, with_first, with_last, without_first, without_last}
 
 -- ---- steps, one after another
 -- They lead to as many books as they are.
@@ -314,7 +316,8 @@ last_step next book position past later back forth h some =
 -- Where a step back stands under the position, there are some.
 pub undo_past :
     (next : ℕ) (book : Book) (position past later : ℕ) (back forth : List (ℕ × Edit))
-    → IsHistory next book position past later back forth → (edit : Edit) → value_of position back ≡ Some edit → 1 ≤ past
+    → IsHistory next book position past later back forth → (edit : Edit) → value_of position back ≡ Some edit
+    → 1 ≤ past
 undo_past next book position past later back forth h edit found = by back found h.back_count
   where
     by : (back : List (ℕ × Edit)) → value_of position back ≡ Some edit → length back ≡ past → 1 ≤ past
@@ -390,8 +393,8 @@ undone_history next book position past later back forth h sound drawn edit inver
     let forth_count = h.forth_count in
     let steps : AreSound next ((position, edit) ∷ reverse last.init) book =
     subst (λ (l : List (ℕ × Edit)). AreSound next l book) last.reversed h.back_sound in
-    history_same next (edited edit book) (position - 1) (past - 1) (later + 1) last.init (back_after_undo position back)
-    ((position, inverse) ∷ forth) (forth_after_undo position inverse forth) (sym last.left)
+    history_same next (edited edit book) (position - 1) (past - 1) (later + 1) last.init
+    (back_after_undo position back) ((position, inverse) ∷ forth) (forth_after_undo position inverse forth) (sym last.left)
     (sym (undo_forth next book position past later back forth h inverse))
     (record {
       reached = omega (arith, reached);
@@ -577,3 +580,40 @@ redone_books next book position past later back forth h edit inverse found leads
           ∙ ap (λ (l : List (ℕ × Edit)). books_to l (edited edit book)) (reverse_last back (position + 1, inverse))
           ∙ books_back (position + 1) book edit inverse (reverse back) leads,
     )
+
+-- ---- the rows of the steps
+-- Taking the steps forth one after another leaves none.
+pub forth_removed :
+    (next : ℕ) (book : Book) (position past later : ℕ) (back forth : List (ℕ × Edit))
+    → IsHistory next book position past later back forth
+    → without_all (numbers_from (position + 1) later) forth ≡ []
+forth_removed next book position past later back forth h =
+    ap (λ (count : ℕ). without_all (numbers_from (position + 1) count) forth) (sym h.forth_count)
+    ∙ none_left (position + 1) forth h.forth_numbers
+
+-- Where there are 256 steps back, the oldest is there.
+pub oldest_there :
+    (next : ℕ) (book : Book) (position past later : ℕ) (back forth : List (ℕ × Edit))
+    → IsHistory next book position past later back forth → past ≡ 256
+    → (edit : Edit) × (value_of (position - 255) back ≡ Some edit)
+oldest_there next book position past later back forth h full =
+    let reached = h.reached in
+    let count = h.back_count in
+    value_there (position - past + 1) (position - 255) back h.back_numbers (omega (arith, full, reached))
+    (omega (arith, full, reached, count))
+
+-- No step back stands behind the position.
+pub back_free :
+    (next : ℕ) (book : Book) (position past later : ℕ) (back forth : List (ℕ × Edit))
+    → IsHistory next book position past later back forth → value_of (position + 1) back ≡ None
+back_free next book position past later back forth h =
+    let reached = h.reached in
+    let count = h.back_count in
+    value_beyond (position - past + 1) (position + 1) back h.back_numbers (omega (arith, reached, count))
+
+-- No step forth stands at the position.
+pub forth_free :
+    (next : ℕ) (book : Book) (position past later : ℕ) (back forth : List (ℕ × Edit))
+    → IsHistory next book position past later back forth → value_of position forth ≡ None
+forth_free next book position past later back forth h =
+    above_value position forth (numbered_above position (position + 1) forth (omega arith) h.forth_numbers)
