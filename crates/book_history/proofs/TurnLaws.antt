@@ -18,7 +18,8 @@ use Rattle.book_history.specs.Turns.{back_after_change, back_after_redo, back_af
 use Rattle.book_history.specs.Turns.{forth_after_undo, past_after_change, with_room}
 use Rattle.book_history.specs.Numbers.{numbers_from, without_all}
 use Rattle.book_history.proofs.NumberLaws.{has_last, none_left, numbered_above, numbered_last, numbered_same}
-use Rattle.book_history.proofs.NumberLaws.{value_beyond, value_there, with_first, with_last, without_first, without_last}
+use Rattle.book_history.proofs.NumberLaws.{value_beyond, value_there, with_first, with_last, without_first}
+use Rattle.book_history.proofs.NumberLaws.{without_last}
 
 -- ---- steps, one after another
 -- They lead to as many books as they are.
@@ -394,8 +395,8 @@ undone_history next book position past later back forth h sound drawn edit inver
     let steps : AreSound next ((position, edit) ∷ reverse last.init) book =
     subst (λ (l : List (ℕ × Edit)). AreSound next l book) last.reversed h.back_sound in
     history_same next (edited edit book) (position - 1) (past - 1) (later + 1) last.init
-    (back_after_undo position back) ((position, inverse) ∷ forth) (forth_after_undo position inverse forth) (sym last.left)
-    (sym (undo_forth next book position past later back forth h inverse))
+    (back_after_undo position back) ((position, inverse) ∷ forth) (forth_after_undo position inverse forth)
+    (sym last.left) (sym (undo_forth next book position past later back forth h inverse))
     (record {
       reached = omega (arith, reached);
       most = omega (arith, most, some);
