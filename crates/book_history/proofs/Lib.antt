@@ -1,1 +1,3 @@
 pub mod ExactBack
+pub mod NumberLaws
+pub mod TurnLaws
