@@ -1,10 +1,11 @@
 -- What becomes of the kept steps, and of the books to which they lead, where the book is changed, and where a step is
 -- taken back or taken again.
-use Rattle.std.proofs.Common.{◌≡◌, ℕ, zero, suc, ◌+◌, ◌-◌, ◌<◌, ◌≤◌, ◌==◌, Bool, true, false, if◌then◌else◌}
+use Rattle.std.proofs.Common.{◌≡◌, ℕ, zero, suc, ◌+◌, ◌-◌, ◌<◌, ◌≤◌, ◌==◌, ◌&&◌, nat_lt, not, Bool, true, false}
+use Rattle.std.proofs.Common.{if◌then◌else◌, is_some}
 use Rattle.std.proofs.Common.{List, [], ◌∷◌, ◌++◌, length, take, reverse, Some, None, refl, sym, ap, ◌∙◌, subst, arith}
 use Rattle.std.proofs.lemmas.Bool.Decides.{nat_tests}
 use Rattle.std.proofs.lemmas.List.{append-nil, length-reverse, length_push, nil_from_length, reverse-append, take_all}
-use Rattle.book_commodity.specs.Table.{value_of, without_entry}
+use Rattle.book_commodity.specs.Table.{Rises, value_of, without_entry}
 use Rattle.book_commodity.proofs.TableLemmas.{above_value}
 use Rattle.book_sound.specs.Soundness.{AreDrawn, IsSoundBook}
 use Rattle.book_sound.proofs.DrawnFrames.{drawn_later}
@@ -17,7 +18,8 @@ use Rattle.book_history.specs.Steps.{AreSound, IsSoundStep, books_to}
 use Rattle.book_history.specs.Turns.{back_after_change, back_after_redo, back_after_undo, forth_after_redo}
 use Rattle.book_history.specs.Turns.{forth_after_undo, past_after_change, with_room}
 use Rattle.book_history.specs.Numbers.{numbers_from, without_all}
-use Rattle.book_history.proofs.NumberLaws.{has_last, none_left, numbered_above, numbered_last, numbered_same}
+use Rattle.book_history.proofs.NumberLaws.{between_numbered, has_last, none_left, numbered_above, numbered_between}
+use Rattle.book_history.proofs.NumberLaws.{numbered_last, numbered_same}
 use Rattle.book_history.proofs.NumberLaws.{value_beyond, value_there, with_first, with_last, without_first}
 use Rattle.book_history.proofs.NumberLaws.{without_last}
 
@@ -57,7 +59,7 @@ step_later next after book edit le step = record {
   drawn = drawn_later (edited edit book) next after le step.drawn;
 }
 
--- So do steps.
+-- So do several steps.
 pub sound_later :
     (next after : ℕ) (steps : List (ℕ × Edit)) (book : Book) → next ≤ after → AreSound next steps book
     → AreSound after steps book
@@ -120,6 +122,61 @@ history_same :
 history_same next book position past later back now_back forth now_forth same also h =
     subst (λ (l : List (ℕ × Edit)). IsHistory next book position past later l now_forth) same
     (subst (λ (l : List (ℕ × Edit)). IsHistory next book position past later back l) also h)
+
+-- Without steps none are kept, however many led to the book.
+pub fresh_history : (next : ℕ) (book : Book) (position : ℕ) → IsHistory next book position 0 0 [] []
+fresh_history next book position = record {
+  reached = omega arith;
+  most = omega arith;
+  back_numbers = tt;
+  back_count = refl;
+  forth_numbers = tt;
+  forth_count = refl;
+  back_sound = tt;
+  forth_sound = tt;
+}
+
+-- Rising steps are kept steps where they are those that are counted, and are sound.
+pub counted_history :
+    (next : ℕ) (book : Book) (position past later : ℕ) (back forth : List (ℕ × Edit)) → past ≤ position
+    → past + later ≤ 256 → Rises back → Rises forth
+    → ((n : ℕ) → is_some (value_of n back) ≡ (nat_lt (position - past) n && not (nat_lt position n)))
+    → ((n : ℕ) → is_some (value_of n forth) ≡ (nat_lt position n && not (nat_lt (position + later) n)))
+    → AreSound next (reverse back) book → AreSound next forth book
+    → IsHistory next book position past later back forth
+counted_history next book position past later back forth reached most rise also has_back has_forth before behind =
+    let backs = between_numbered (position - past) position back rise (omega arith) has_back in
+    let forths = between_numbered position (position + later) forth also (omega arith) has_forth in
+    let back_count = backs.1 in
+    let forth_count = forths.1 in
+    record {
+      reached = reached;
+      most = most;
+      back_numbers = backs.0;
+      back_count = omega (arith, back_count, reached);
+      forth_numbers = forths.0;
+      forth_count = omega (arith, forth_count);
+      back_sound = before;
+      forth_sound = behind;
+    }
+
+-- The steps back are those that are counted.
+pub back_counted :
+    (next : ℕ) (book : Book) (position past later : ℕ) (back forth : List (ℕ × Edit))
+    → IsHistory next book position past later back forth → (n : ℕ)
+    → is_some (value_of n back) ≡ (nat_lt (position - past) n && not (nat_lt position n))
+back_counted next book position past later back forth h n =
+    let reached = h.reached in
+    let count = h.back_count in
+    numbered_between (position - past) position back h.back_numbers (omega (arith, reached, count)) n
+
+-- So are the steps forth.
+pub forth_counted :
+    (next : ℕ) (book : Book) (position past later : ℕ) (back forth : List (ℕ × Edit))
+    → IsHistory next book position past later back forth → (n : ℕ)
+    → is_some (value_of n forth) ≡ (nat_lt position n && not (nat_lt (position + later) n))
+forth_counted next book position past later back forth h n =
+    numbered_between position (position + later) forth h.forth_numbers (ap (λ (k : ℕ). position + k) h.forth_count) n
 
 -- There are as many books before the present one as steps back.
 pub length_past :
