@@ -253,11 +253,12 @@ fn kept_turn(alloc: Global, state: &Saved, way: Way, edit: &Edit) -> Result<Turn
 {
     let inverse = state.plain.inverse(alloc, edit)?;
     let copy = edit.copy(alloc)?;
+    let next = state.next;
     Ok(Turn {
         way,
         edit: copy,
         inverse,
-        next: state.next,
+        next,
     })
 }
 
