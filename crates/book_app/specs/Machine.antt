@@ -1,4 +1,4 @@
--- How the machine of whole books answers a line: computed afresh from the state before it.
+-- How the machine of whole books answers a line: computed afresh from the machine before it.
 use Rattle.std.specs.Prelude.{◌≡◌, ℕ, List, Some}
 use Rattle.book_command.specs.declared.command.Command.{Command}
 use Rattle.book_command.specs.declared.wire_error.WireError.TheVariants as fault
