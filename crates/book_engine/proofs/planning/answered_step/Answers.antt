@@ -1,30 +1,29 @@
 use Rattle.std.proofs.Common.{refl, subst, sym}
 use Rattle.book_sound.proofs.SoundFacts.{tables_rise}
 use Rattle.book_step.specs.Outcome.{after as state_after_step}
-use Rattle.book_step.specs.State.{state_of}
 use Rattle.book_step.specs.declared.step.Step.{Step}
-use Rattle.book_step.proofs.AnswerLemmas.{puts_answered, whole_step as answered_whole}
+use Rattle.book_step.proofs.AnswerLemmas.{puts_answered, whole_outcome}
+use Rattle.book_opening.specs.State.{state_of}
+use Rattle.book_engine.specs.Kept.{step_state}
 use Rattle.book_engine.specs.Planned.{IsWholeStep}
 use Rattle.book_engine.proofs.planning.answered_step.Goals as goal
 
 pub with_balances-requires : goal.with_balances-requires
 with_balances-requires c =
-    let present = c.args.present.now in
-    let state = state_of present.plain present.next present.version in
+    let state = step_state (state_of c.args.state.now) in
     record {
       few = c.requires.book.few_splits;
       rise = tables_rise state.book c.requires.book;
       allowed = c.in-Ok.ensures.exact.allowed;
-      puts = puts_answered state c.args.command (state_after_step state c.in-Ok.step) c.in-Ok.step.edit
+      puts = puts_answered state c.args.update (state_after_step state c.in-Ok.step) c.in-Ok.step.edit
           c.in-Ok.step.answer c.requires refl c.in-Ok.ensures.leads;
     }
 
 pub returns-in-Ok-with_balances-clause-done : goal.returns-in-Ok-with_balances-clause-done
 returns-in-Ok-with_balances-clause-done c =
-    let present = c.args.present.now in
-    let state = state_of present.plain present.next present.version in
+    let state = step_state (state_of c.args.state.now) in
     let taken = c.in-Ok.step in
-    subst (λ (s : Step). IsWholeStep state c.args.command s) (sym c.in-Ok-with_balances.ensures) (record {
-      done = answered_whole state c.args.command (state_after_step state taken) taken.answer c.in-Ok.ensures.leads;
+    subst (λ (s : Step). IsWholeStep state c.args.update s) (sym c.in-Ok-with_balances.ensures) (record {
+      done = whole_outcome state c.args.update (state_after_step state taken) taken.answer c.in-Ok.ensures.leads;
       exact = c.in-Ok.ensures.exact;
     })

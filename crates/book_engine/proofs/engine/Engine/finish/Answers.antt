@@ -12,9 +12,8 @@ returns-then-not-commits-clause-stands g c =
     let none : commits c.args.plan ≡ false =
     (let test = c.if-not-commits.true in let of = c.commits.ensures in grind (arith, nat_tests, test, of)) in
     stands_unchanged g.K.Keeper.sure g.K.Keeper.holds c.args.keeper.now c.args.self.now c.apply.new.self
-    (left_unchanged c.args.self.now c.apply.new.self c.args.plan c.requires.made none (record {
+    (left_unchanged c.args.self.now c.apply.new.self c.args.plan none (record {
       state = c.apply.ensures.state;
-      position = c.apply.ensures.position;
       saved = c.apply.ensures.saved;
     }))
 
@@ -31,6 +30,5 @@ returns-in-Ok-clause-stands g c =
     stands_made sure holds old new c.args.self.now c.apply-in-Ok.new.self c.args.plan c.in-Ok.ensures.sure
     (subst Held c.changes.ensures c.in-Ok.ensures.made) c.requires.made some (record {
       state = c.apply-in-Ok.ensures.state;
-      position = c.apply-in-Ok.ensures.position;
       saved = c.apply-in-Ok.ensures.saved;
     }) c.apply-in-Ok.ensures.whole
