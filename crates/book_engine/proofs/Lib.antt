@@ -1,4 +1,5 @@
 pub mod BalanceLemmas
+pub mod ChangeFits
 pub mod CurrencyLemmas
 pub mod OpenLemmas
 pub mod PlanLemmas

@@ -23,6 +23,10 @@ use Rattle.book_engine.specs.Kept.{IsWhole}
 pub within_head : (state : State) → IsReadable state → IsWithin (head_of state)
 within_head state is = is.spelled.0.1.1
 
+or_false : (b : Bool) → (b || false) ≡ b
+or_false true = refl
+or_false false = refl
+
 last_small :
     (from : ℕ) (steps : List (ℕ × Edit)) → AreNumberedFrom from steps → from ≤ 2 ^ 62
     → AllByRecursion CanBeRow (forth_records steps) → from + length steps ≤ 2 ^ 62
@@ -45,7 +49,7 @@ readable_whole state is back_rise forth_rise reached fits sound drawn back_sound
     let most : state.past + state.later ≤ 256 = grind (arith, nat_tests, fits) in
     let even = is.counted fits in
     let history = counted_history state.next state.book state.position state.past state.later state.back state.forth
-    past most back_rise forth_rise (λ id. even (record { kind = 11; id = id }) refl)
+    past most back_rise forth_rise (λ id. sym (or_false _) ∙ even (record { kind = 11; id = id }) refl ∙ or_false _)
     (λ id. even (record { kind = 12; id = id }) refl) back_sound forth_sound in
     let count_forth = history.forth_count in
     let position_small = within.2 in

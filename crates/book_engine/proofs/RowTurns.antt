@@ -84,26 +84,27 @@ gone_with (number ∷ numbers) s = gone_with numbers (record s { forth = without
 -- What is needed of a way for its changes of steps: the bounds of the numbers.
 record Bounds (way : Way) (state : State) : Type 0 where
   can : CanTurn way state
-  reached : state.past ≤ state.position
   now : state.position + 1 + state.later ≤ 2 ^ 62
+  next : state.position + 1 < 2 ^ 62
 
 new_rise :
     (full : Bool) (position later : ℕ) (inverse : Edit) → position + 1 + later ≤ 2 ^ 62
+    → position + 1 < 2 ^ 62
     → AreRisingFrom (11 * 2 ^ 64) (map step_change
     ((if full then GoneBack (position - 255) ∷ [] else [])
     ++ PutBack (position + 1) inverse ∷ map (λ number. GoneForth number) (numbers_from (position + 1) later)))
-new_rise true position later inverse few = (
+new_rise true position later inverse few next = (
   omega arith,
-  omega (arith, few),
+  omega (arith, next),
   (
     omega arith,
-    omega (arith, few),
+    omega (arith, next),
     gone_rise (11 * 2 ^ 64 + (position + 1) + 1) (position + 1) later (omega arith) (omega (arith, few)),
   ),
 )
-new_rise false position later inverse few = (
+new_rise false position later inverse few next = (
   omega arith,
-  omega (arith, few),
+  omega (arith, next),
   gone_rise (11 * 2 ^ 64 + (position + 1) + 1) (position + 1) later (omega arith) (omega (arith, few)),
 )
 
@@ -112,14 +113,13 @@ steps_rise :
     → AreRisingFrom (11 * 2 ^ 64) (map step_change (step_changes way state inverse))
 steps_rise Stay state inverse bounds = tt
 steps_rise ToNew state inverse bounds =
-    new_rise (state.past == 256) state.position state.later inverse bounds.now
+    new_rise (state.past == 256) state.position state.later inverse bounds.now bounds.next
 steps_rise Undo state inverse bounds =
-    let few = bounds.now in
+    let few = bounds.next in
     (omega arith, omega (arith, few), (omega arith, omega (arith, few), tt))
 steps_rise Redo state inverse bounds =
-    let few = bounds.now in
-    let can = bounds.can in
-    (omega arith, omega (arith, few, can), (omega arith, omega (arith, few, can), tt))
+    let few = bounds.next in
+    (omega arith, omega (arith, few), (omega arith, omega (arith, few), tt))
 
 new_small :
     (full : Bool) (position later : ℕ) (inverse : Edit) → position + 1 + later ≤ 2 ^ 62
@@ -128,17 +128,18 @@ new_small :
     ((if full then GoneBack (position - 255) ∷ [] else [])
     ++ PutBack (position + 1) inverse ∷ map (λ number. GoneForth number) (numbers_from (position + 1) later))
 new_small true position later inverse few next =
-    (omega (arith, next), next, gone_small (position + 1) later few)
+    (omega (arith, next), (next, gone_small (position + 1) later few))
 new_small false position later inverse few next = (next, gone_small (position + 1) later few)
 
 steps_small :
-    (way : Way) (state : State) (inverse : Edit) → Bounds way state → state.position + 1 < 2 ^ 62
+    (way : Way) (state : State) (inverse : Edit) → Bounds way state
     → AllByRecursion IsSmallStep (step_changes way state inverse)
-steps_small Stay state inverse bounds next = tt
-steps_small ToNew state inverse bounds next =
-    new_small (state.past == 256) state.position state.later inverse bounds.now next
-steps_small Undo state inverse bounds next = (omega (arith, next), omega (arith, next), tt)
-steps_small Redo state inverse bounds next = (next, next, tt)
+steps_small Stay state inverse bounds = tt
+steps_small ToNew state inverse bounds =
+    new_small (state.past == 256) state.position state.later inverse bounds.now bounds.next
+steps_small Undo state inverse bounds =
+    let next = bounds.next in (omega (arith, next), (omega (arith, next), tt))
+steps_small Redo state inverse bounds = (bounds.next, (bounds.next, tt))
 
 new_with :
     (full : Bool) (position later : ℕ) (inverse : Edit) (s : State)
@@ -179,13 +180,6 @@ steps_are state saved turn whole moving = by_way turn.way moving
     by_way Undo moves = refl
     by_way Redo moves = refl
 
-bounds_of :
-    (state : State) (saved : Bool) (turn : Turn) → IsWhole state saved → IsTurnFor state saved turn
-    → Bounds turn.way state
-bounds_of state saved turn whole is =
-    let few = whole.few in
-    record { can = is.can; reached = whole.history.reached; now = omega (arith, few) }
-
 next_position :
     (state : State) (saved : Bool) (turn : Turn) → IsWhole state saved → IsWhole (turned turn state) true
     → IsTurnFor state saved turn → state.position + 1 < 2 ^ 62
@@ -207,7 +201,18 @@ next_position state saved turn whole after is = by_way turn.way is.moving after
         let version = next.sound.version in
         omega (arith, reached, version)
 
--- the next numbers of the books between which a turn leads
+bounds_of :
+    (state : State) (saved : Bool) (turn : Turn) → IsWhole state saved → IsWhole (turned turn state) true
+    → IsTurnFor state saved turn → Bounds turn.way state
+bounds_of state saved turn whole after is =
+    let few = whole.few in
+    record {
+      can = is.can;
+      now = omega (arith, few);
+      next = next_position state saved turn whole after is;
+    }
+
+-- The book after a turn is the edited one.
 next_after :
     (state : State) (turn : Turn) → IsTrue (is_moving turn.way)
     → (turned turn state).book ≡ edited turn.edit state.book
@@ -239,7 +244,7 @@ pub turn_rises :
 turn_rises state true turn whole after is allowed fit =
     all_rise (head_of (turned turn state)) turn.edit (step_changes turn.way state turn.inverse)
     (allowed_in_order state.book turn.edit allowed) (turn_small state true turn whole after is allowed)
-    (steps_rise turn.way state turn.inverse (bounds_of state true turn whole is))
+    (steps_rise turn.way state turn.inverse (bounds_of state true turn whole after is))
 turn_rises state false turn whole after is allowed fit =
     all_put_rise (turned turn state) (whole_tables (turned turn state) true after)
     (can_be_rows (turned turn state) true after fit)
@@ -253,8 +258,7 @@ pub turn_stands :
 turn_stands state true turn rows whole after is allowed fit stand =
     opens_after rows state (turned turn state) turn.edit (step_changes turn.way state turn.inverse) stand
     (steps_are state true turn whole is.moving) (turn_small state true turn whole after is allowed) fit.1
-    (steps_small turn.way state turn.inverse (bounds_of state true turn whole is)
-    (next_position state true turn whole after is))
+    (steps_small turn.way state turn.inverse (bounds_of state true turn whole after is))
     fit.2 fit.0 (whole_counted (turned turn state) true after)
 turn_stands state false turn rows whole after is allowed fit none =
     let next = turned turn state in

@@ -1,6 +1,6 @@
 -- The numbers of a state that an engine keeps are those of rows, as are the numbers of what a turn changes.
 use Rattle.std.proofs.Common.{◌≡◌, ℕ, suc, ◌+◌, ◌-◌, ◌^◌, ◌<◌, ◌≤◌, ◌==◌, ◌&&◌, Bool, true, false, All, List, []}
-use Rattle.std.proofs.Common.{◌∷◌, ◌++◌, Option, Some, None, option_map, is_none, min, nat_lt, length, if◌then◌else◌}
+use Rattle.std.proofs.Common.{◌∷◌, ◌++◌, Option, Some, None, option_map, is_none, min, nat_lt, length, if◌after◌else◌}
 use Rattle.std.proofs.Common.{inr, refl, sym, ap, ◌∙◌, subst, arith}
 use Rattle.std.specs.List.{AllByRecursion}
 use Rattle.std.proofs.lemmas.Bool.Decides.{nat_tests}
@@ -77,13 +77,13 @@ leaves_drawn :
     (book now : Book) (before : Key) (ls : List Leaf) (next later : ℕ) → IsRising now
     → first_unordered before ls ≡ None → first_missing book ls ≡ None → AreDrawn book next
     → AreDrawn (after_leaves ls now) later → next ≤ 2 ^ 62 → later ≤ 2 ^ 62 → AllByRecursion IsSmallLeaf ls
-leaves_drawn book now before [] next later rise order some are then small less = tt
-leaves_drawn book now before (OfCurrency c ∷ ls) next later rise order some are then small less = (
+leaves_drawn book now before [] next later rise order some are after small less = tt
+leaves_drawn book now before (OfCurrency c ∷ ls) next later rise order some are after small less = (
   tt,
   leaves_drawn book (with_currency c now) (key_at 1 0) ls next later (rising_after (OfCurrency c) now rise)
-      (rises_first before (OfCurrency c) ls order).1 some are then small less,
+      (rises_first before (OfCurrency c) ls order).1 some are after small less,
 )
-leaves_drawn book now before (OfPut n t ∷ ls) next later rise order some are then small less =
+leaves_drawn book now before (OfPut n t ∷ ls) next later rise order some are after small less =
     let k = thing_kind t in
     let put = with_thing n t now in
     let rises : IsRising put = rising_after (OfPut n t) now rise in
@@ -91,18 +91,18 @@ leaves_drawn book now before (OfPut n t ∷ ls) next later rise order some are t
     let past = above_untouched k n (key_at (row_kind k) n) ls (inr (refl, omega arith)) more in
     let stands : thing_at k n (after_leaves ls put) ≡ Some t = untouched k n ls put rises past
     ∙ thing_at-with_thing k n n t now
-    ∙ ap (λ (s : Bool). if s then Some t else thing_at k n now) (same_key (row_kind k) n) in
-    let below = thing_drawn k n later t (after_leaves ls put) then stands in (
+    ∙ ap (λ (s : Bool). if s after Some t else thing_at k n now) (same_key (row_kind k) n) in
+    let below = thing_drawn k n later t (after_leaves ls put) after stands in (
       omega (arith, below, less),
-      leaves_drawn book put (key_at (row_kind k) n) ls next later rises more some are then small less,
+      leaves_drawn book put (key_at (row_kind k) n) ls next later rises more some are after small less,
     )
-leaves_drawn book now before (OfGone k n ∷ ls) next later rise order some are then small less =
+leaves_drawn book now before (OfGone k n ∷ ls) next later rise order some are after small less =
     let both = missing_first book k n ls some in
     let found = there (thing_at k n book) both.0 in
     let below = thing_drawn k n next found.0 book are found.1 in (
       omega (arith, below, small),
       leaves_drawn book (without_thing k n now) (key_at (row_kind k) n) ls next later
-          (rising_after (OfGone k n) now rise) (rises_first before (OfGone k n) ls order).1 both.1 are then small less,
+          (rising_after (OfGone k n) now rise) (rises_first before (OfGone k n) ls order).1 both.1 are after small less,
     )
 
 -- The leaves of an edit that may be applied are in order.
@@ -116,13 +116,13 @@ pub small_leaves :
     (book : Book) (edit : Edit) (next later : ℕ) → IsRising book → AreDrawn book next
     → AreDrawn (edited edit book) later → next ≤ 2 ^ 62 → later ≤ 2 ^ 62 → IsAllowed book edit
     → AllByRecursion IsSmallLeaf (leaves edit)
-small_leaves book edit next later rise are then small less allowed =
+small_leaves book edit next later rise are after small less allowed =
     let of_place : ℕ → EditRule = λ place. OutOfOrder (min place (2 ^ 64 - 1)) in
     let deeper : Option EditRule = broken_where (nat_lt 8 (depth edit)) TooDeep in
     let kept = three_kept (first_missing book (leaves edit)) (out_of_order (leaves edit)) deeper allowed in
     leaves_drawn book book (key_at 0 0) (leaves edit) next later rise
     (mapped_none of_place (first_unordered (key_at 0 0) (leaves edit)) kept.1) kept.0 are
-    (subst (λ (b : Book). AreDrawn b later) (edited-leaves edit book) then) small less
+    (subst (λ (b : Book). AreDrawn b later) (edited-leaves edit book) after) small less
 
 -- ---- the rows of a book
 abbrev IsThing : ℕ × Record → Type 0

@@ -1,6 +1,6 @@
 -- A change that is done leaves the state as it is, or raises its version by one, and the next number doesn't fall.
 use Rattle.std.proofs.Common.{◌≡◌, ◌≤◌, ℕ, ◌+◌, ◌==◌, ℤ, Bool, true, false, if◌then◌else◌, List, [], ◌∷◌, length}
-use Rattle.std.proofs.Common.{Option, Some, None, inl, inr, sym, ap, subst, arith, ◌⊎◌}
+use Rattle.std.proofs.Common.{Option, Some, None, inl, inr, sym, ap, arith, ◌⊎◌}
 use Rattle.book_commodity.specs.Table.{value_of}
 use Rattle.book_accounts.specs.declared.account.Account.{Account}
 use Rattle.book_splits.specs.declared.transaction.Txn.{Txn}
@@ -37,10 +37,8 @@ changing_moves :
     (answer : Answer) → changing state rules book drawn given ≡ Done new answer → Moves state new
 changing_moves state rules book drawn given new answer e =
     let change = changing_done state rules book drawn given new answer e in
-    inr (
-      ap (λ (s : State). s.version) (sym change.is),
-      subst (λ (n : ℕ). state.next ≤ n) (ap (λ (s : State). s.next) (sym change.is)) (omega arith),
-    )
+    let next = ap (λ (s : State). s.next) change.is in
+    inr (ap (λ (s : State). s.version) (sym change.is), omega (arith, next))
 
 leaving_moves :
     (state : State) (rules : List (Option Rule)) (given : Answer) (new : State) (answer : Answer)

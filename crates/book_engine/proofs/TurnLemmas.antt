@@ -115,7 +115,7 @@ kept_saved state false Redo edit whole kept =
 -- One more version stays below the limit, and so does the next number.
 numbers_none : (state : State) → numbers (step_state state) 0 ≡ None → state.version + 1 < 2 ^ 62
 numbers_none state none =
-    elim nat_lt (state.version + 1) (2 ^ 62) as
+    elim (nat_lt (state.version + 1) (2 ^ 62)) as
     (λ (t : Bool). nat_lt (state.version + 1) (2 ^ 62) ≡ t
     → broken_where (not (nat_lt (state.next + 0) (2 ^ 62)) || not t) (Limit Numbers (2 ^ 62)) ≡ None
     → state.version + 1 < 2 ^ 62)

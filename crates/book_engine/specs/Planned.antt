@@ -1,6 +1,6 @@
 -- A plan: what finishing it makes of the state and of the rows, and the answer.
 use Rattle.std.specs.Prelude.{◌≡◌, ◌≢◌, ◌↔◌, ℕ, ◌≤◌, ⊤, ◌||◌, if◌then◌else◌, Bool, IsTrue, List, []}
-use Rattle.std.specs.Prelude.{Some}
+use Rattle.std.specs.Prelude.{◌+◌, Some}
 use Rattle.book_keeper.specs.Rows.{AreRising, after_changes}
 use Rattle.book_keeper.specs.declared.row.Change.{Change}
 use Rattle.book_keeper.specs.declared.row.Row.{Row}

@@ -33,9 +33,13 @@ pub struct Engine {
 }
 
 impl Model for Engine {
+    ghost use Rattle.std.specs.Coded.{codes};
+    ghost use Rattle.book_undo.specs.contracts.edit.Edit as e;
     ghost use Rattle.book_engine.specs.Kept.{Kept, kept_by, IsKept};
 
     ghost Value = { Kept };
+
+    ghost coded = { Prim.hlevel (codes, e.the_row.coded) };
 
     ghost view = { kept_by };
 

@@ -1,4 +1,4 @@
-ghost use Rattle.std.specs.Prelude.{◌≡◌, IfOk, IfNone, IsTrue, IsFalse, Some, None, ◌||◌, not, nat_lt};
+ghost use Rattle.std.specs.Prelude.{◌≡◌, IfOk, IfNone, true, ◌||◌, not, nat_lt};
 ghost use Rattle.book_opening.specs.Reading.{IsReadable};
 ghost use Rattle.book_opening.specs.State.{head_of, state_of};
 ghost use Rattle.book_opening.specs.Steps.{counts_fit};

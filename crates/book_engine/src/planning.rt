@@ -1,18 +1,18 @@
-ghost use Rattle.std.specs.Prelude.{◌≡◌, ◌≢◌, ◌≤◌, true, false, IfOk, IfErr, IsTrue, None, Some};
-ghost use Rattle.book_undo.specs.Book.{book_of};
+ghost use Rattle.std.specs.Prelude.{◌≡◌, ◌≤◌, true, Ok, None, Some, IfOk, IfErr, ◌×◌};
+ghost use Rattle.book_undo.specs.Edit.{outline};
 ghost use Rattle.book_undo.specs.EditRules.{IsAllowed};
-ghost use Rattle.book_undo.specs.Edit.{depth};
-ghost use Rattle.book_commodity.specs.Table.{value_of};
-ghost use Rattle.book_step.specs.Step.{outcome};
-ghost use Rattle.book_step.specs.Outcome.{Broken as StepBroken};
+ghost use Rattle.book_undo.specs.Inverse.{LeadsBack};
+ghost use Rattle.book_step.specs.Outcome.{numbers};
 ghost use Rattle.book_step.specs.Soundness.{IsSound};
-ghost use Rattle.book_command.specs.declared.update.Update.{Update as UpdateOf};
+ghost use Rattle.book_step.specs.Step.{outcome};
+ghost use Rattle.book_command.specs.declared.command.What.TheVariants.{Redo as AskRedo, Undo as AskUndo};
 ghost use Rattle.book_opening.specs.State.{state_of};
 ghost use Rattle.book_engine.specs.Kept.{IsWhole, step_state};
-ghost use Rattle.book_engine.specs.Machine.{machine_of, redone, reply, status, step as step_from, undone, updated};
-ghost use Rattle.book_engine.specs.Planned.{IsPlanOf, IsPlanTo, IsRefusal, IsStepRefusal, IsTurnPlan, IsWholeStep};
-ghost use Rattle.book_engine.specs.Turned.{CanTurn, is_moving, turned};
-ghost use Rattle.book_engine.specs.declared.plan.Turn.TheVariants.{Change as ToNew};
+ghost use Rattle.book_engine.specs.Machine.{machine_of, reply, status, step as step_from, updated};
+ghost use Rattle.book_engine.specs.Planned.{IsChangeTo, IsLimitRefusal, IsPlanOf, IsPlanTo, IsRefusal, IsStepRefusal};
+ghost use Rattle.book_engine.specs.Planned.{IsTurnPlan, IsWholeStep, stay_plan, turn_plan};
+ghost use Rattle.book_engine.specs.Turned.{HaveSpellings, IsKeptStep, IsTurnFor, turned};
+ghost use Rattle.book_engine.specs.declared.turn.Way.TheVariants.{Change as ToNew};
 
 use crate::Plan;
 use crate::balances::with_balances;
@@ -193,8 +193,8 @@ fn plan_turn(
 fn plan_undo(alloc: Global, state: &Saved, saved: bool) -> Result<Plan, Refusal>
     requires { IsWhole (state_of state.now) saved }
     ensures planned { IfOk result (IsPlanTo (state_of state.now) saved
-        (reply (machine_of (state_of state.now)) What.Undo)) }
-    ensures refused { IfErr result (IsRefusal (reply (machine_of (state_of state.now)) What.Undo)) }
+        (reply (machine_of (state_of state.now)) AskUndo)) }
+    ensures refused { IfErr result (IsRefusal (reply (machine_of (state_of state.now)) AskUndo)) }
 {
     match state.back.find(state.position) {
         Some(edit) => plan_kept(alloc, state, saved, Way::Undo, edit, Answer::Undo),
@@ -206,8 +206,8 @@ fn plan_undo(alloc: Global, state: &Saved, saved: bool) -> Result<Plan, Refusal>
 fn plan_redo(alloc: Global, state: &Saved, saved: bool) -> Result<Plan, Refusal>
     requires { IsWhole (state_of state.now) saved }
     ensures planned { IfOk result (IsPlanTo (state_of state.now) saved
-        (reply (machine_of (state_of state.now)) What.Redo)) }
-    ensures refused { IfErr result (IsRefusal (reply (machine_of (state_of state.now)) What.Redo)) }
+        (reply (machine_of (state_of state.now)) AskRedo)) }
+    ensures refused { IfErr result (IsRefusal (reply (machine_of (state_of state.now)) AskRedo)) }
 {
     match state.forth.find(state.position + 1) {
         Some(edit) => plan_kept(alloc, state, saved, Way::Redo, edit, Answer::Redo),
