@@ -1,6 +1,6 @@
 -- A state that was read, and in which no key breaks its rule, is one that an engine keeps.
 use Rattle.std.proofs.Common.{◌≡◌, ℕ, ◌+◌, ◌-◌, ◌^◌, ◌<◌, ◌≤◌, nat_lt, not, Bool, true, false, ◌&&◌, ◌||◌, List, [], ◌∷◌, ◌++◌, suc}
-use Rattle.std.proofs.Common.{length, is_some, reverse, refl, sym, ap, ◌∙◌, subst, arith, Option, Some, None}
+use Rattle.std.proofs.Common.{length, is_some, reverse, refl, sym, ap, ◌∙◌, subst, arith, Option, Some, None, IfNone}
 use Rattle.std.specs.List.{AllByRecursion}
 use Rattle.std.proofs.lemmas.Bool.Decides.{nat_tests}
 use Rattle.book_commodity.specs.Table.{Rises, value_of}
@@ -10,14 +10,16 @@ use Rattle.book_rows.specs.Row.{IsWithin}
 use Rattle.book_sound.specs.Soundness.{AreDrawn, IsSoundBook}
 use Rattle.book_history.specs.History.{AreNumberedFrom, IsHistory}
 use Rattle.book_history.specs.Steps.{AreSound}
-use Rattle.book_history.proofs.TurnLaws.{counted_history}
+use Rattle.book_history.proofs.TurnLaws.{counted_history, fresh_history}
 use Rattle.book_opening.specs.BookRows.{back_records, behind_head, forth_records, records_of, things_of}
 use Rattle.book_opening.specs.Opening.{CanBeRow}
 use Rattle.book_opening.specs.Reading.{IsReadable}
 use Rattle.book_opening.specs.State.{State, head_of}
 use Rattle.book_opening.specs.Steps.{counts_fit, is_back, is_forth}
 use Rattle.book_opening.proofs.Ranked.{all_last}
-use Rattle.book_engine.specs.Kept.{IsWhole}
+use Rattle.book_step.specs.State.{fresh_book}
+use Rattle.book_step.proofs.SoundStep.{fresh-sound}
+use Rattle.book_engine.specs.Kept.{IsWhole, fresh_state}
 
 -- The numbers of the head can be those of a row.
 pub within_head : (state : State) → IsReadable state → IsWithin (head_of state)
@@ -52,15 +54,41 @@ readable_whole state is back_rise forth_rise reached fits sound drawn back_sound
     past most back_rise forth_rise (λ id. sym (or_false _) ∙ even (record { kind = 11; id = id }) refl ∙ or_false _)
     (λ id. even (record { kind = 12; id = id }) refl) back_sound forth_sound in
     let count_forth = history.forth_count in
-    let position_small = within.2 in
+    let position_small = within.1.1 in
     let can : AllByRecursion CanBeRow (behind_head state) = is.spelled.1 in
     let small = last_small (state.position + 1) state.forth history.forth_numbers (omega (arith, position_small))
     (all_last CanBeRow (back_records state.back) (forth_records state.forth)
     (all_last CanBeRow (things_of state.book) (back_records state.back ++ forth_records state.forth) can)) in
     record {
-      sound = record { book = sound; drawn = drawn; next = within.0; version = within.1 };
+      sound = record { book = sound; drawn = drawn; next = within.0; version = within.1.0 };
       reached = reached;
       few = omega (arith, small, count_forth);
       history = history;
       fresh = λ none. absurd cc;
     }
+
+pub none_weaker : {X : Type 0} (o : Option X) (P Q : Type 0) → (P → Q) → IfNone o P → IfNone o Q
+none_weaker None P Q more holds = more holds
+none_weaker (Some x) P Q more holds = tt
+
+-- What is tested of the head.
+pub kept_head :
+    (state : State) → not (nat_lt state.version state.position || not (counts_fit (head_of state))) ≡ true
+    → (state.position ≤ state.version) × (counts_fit (head_of state) ≡ true)
+kept_head state test = by (nat_lt state.version state.position) (counts_fit (head_of state)) refl refl test
+  where
+    by : (past fits : Bool) → nat_lt state.version state.position ≡ past → counts_fit (head_of state) ≡ fits
+        → not (past || not fits) ≡ true → (state.position ≤ state.version) × (counts_fit (head_of state) ≡ true)
+    by true fits low is e = absurd cc
+    by false true low is e = (grind (arith, nat_tests, low), is)
+    by false false low is e = absurd cc
+
+-- The fresh state is one that an engine keeps before rows were given.
+pub fresh_whole : IsWhole fresh_state false
+fresh_whole = record {
+  sound = fresh-sound;
+  reached = omega arith;
+  few = omega arith;
+  history = fresh_history 3 fresh_book 0;
+  fresh = λ none. refl;
+}

@@ -1,27 +1,45 @@
 -- A turn with its changes of rows is a plan: it commits exactly where it changes the machine, and with its changes made
 -- the rows that stand for the state before stand for the state after.
-use Rattle.std.proofs.Common.{◌≡◌, ◌≢◌, ◌↔◌, ℕ, ◌+◌, ◌||◌, Bool, true, false, if◌then◌else◌, IsTrue, List, []}
-use Rattle.std.proofs.Common.{refl, sym, ap, ◌∙◌, subst, arith}
+use Rattle.std.proofs.Common.{◌≡◌, ◌≢◌, ◌↔◌, ℕ, ◌+◌, ◌==◌, ◌||◌, Bool, true, false, if◌then◌else◌, IsTrue}
+use Rattle.std.proofs.Common.{List, [], None, Result, Ok, Err, IfOk, inl, inr, refl, sym, ap, ◌∙◌, subst, arith}
+use Rattle.std.proofs.lemmas.Bool.Decides.{nat_tests}
 use Rattle.book_keeper.specs.Rows.{AreRising, after_changes}
 use Rattle.book_keeper.specs.declared.row.Change.{Change}
 use Rattle.book_keeper.specs.declared.row.Row.{Row}
-use Rattle.book_undo.specs.Edit.{edited}
+use Rattle.book_undo.specs.Edit.{edited, is_nothing}
 use Rattle.book_undo.specs.EditRules.{IsAllowed}
 use Rattle.book_undo.specs.Exact.{IsExact}
+use Rattle.book_undo.specs.Inverse.{LeadsBack}
+use Rattle.book_undo.specs.declared.edit.Edit.{Edit, All}
+use Rattle.book_undo.proofs.ExactLaws.{exact_nothing}
+use Rattle.book_undo.proofs.InverseLaws.{allowed_depth}
 use Rattle.book_command.specs.declared.answer.Answer.{Answer}
+use Rattle.book_command.specs.declared.answer.Answer.TheVariants as answer
+use Rattle.book_command.specs.declared.command.Update.{Update}
+use Rattle.book_command.specs.declared.command.What.TheVariants.{Redo as AskRedo, Undo as AskUndo}
+use Rattle.book_sound.proofs.SoundFacts.{tables_rise}
 use Rattle.book_history.proofs.ExactBack.{exact_back}
+use Rattle.book_step.specs.Outcome.{after as after_step, numbers, version_after}
+use Rattle.book_step.specs.Soundness.{IsSound}
+use Rattle.book_step.specs.State.{State as StepState}
+use Rattle.book_step.specs.Step.{outcome}
+use Rattle.book_step.specs.declared.step.Step.{Step}
+use Rattle.book_step.proofs.SoundStep.{outcome-sound}
 use Rattle.book_opening.specs.Opening.{OpenAs}
 use Rattle.book_opening.specs.State.{State}
-use Rattle.book_engine.specs.Kept.{IsWhole}
-use Rattle.book_engine.specs.Machine.{Done, Machine, Reply, machine_of}
-use Rattle.book_engine.specs.Planned.{IsExactTurn, IsPlanTo, IsTurnPlan, Planned, stay_plan, turn_plan}
+use Rattle.book_engine.specs.Kept.{IsWhole, step_state}
+use Rattle.book_engine.specs.Machine.{Done, Machine, Reply, changed, machine_of, reply, updated}
+use Rattle.book_engine.specs.Planned.{IsChangeTo, IsExactTurn, IsPlanTo, IsTurnPlan, IsWholeStep, Planned, stay_plan}
+use Rattle.book_engine.specs.Planned.{turn_plan}
 use Rattle.book_engine.specs.Standing.{StandFor}
-use Rattle.book_engine.specs.Turned.{HaveSpellings, IsTurnFor, changes_to, is_moving, turned, turned_by}
+use Rattle.book_engine.specs.Turned.{HaveSpellings, IsKeptStep, IsTurnFor, changes_to, is_moving, turned, turned_by}
 use Rattle.book_engine.specs.declared.turn.Turn.{Turn}
 use Rattle.book_engine.specs.declared.turn.Way.{Way}
 use Rattle.book_engine.specs.declared.turn.Way.TheVariants.{Stay, Change as ToNew, Undo, Redo}
 use Rattle.book_engine.proofs.RowTurns.{turn_rises, turn_stands}
-use Rattle.book_engine.proofs.TurnLemmas.{turn_of}
+use Rattle.book_engine.proofs.StepLemmas.{outcome_moves}
+use Rattle.book_engine.proofs.TurnLemmas.{changed_machine, changed_whole, kept_can, kept_saved, kept_whole}
+use Rattle.book_engine.proofs.TurnLemmas.{redone_machine, turn_of, undone_machine}
 
 -- Each turn that moves raises the version by one.
 pub version_turned :
@@ -78,7 +96,8 @@ pub is_stay_plan :
 is_stay_plan state saved answer reply whole made = record {
   made = made;
   whole = subst (IsWhole state) (sym (either_same saved)) whole;
-  shallow = omega arith;
+  shallow = allowed_depth state.book (All [])
+      (exact_nothing state.book (tables_rise state.book whole.sound.book)).allowed;
   can = tt;
   exact = λ none. absurd cc;
   version_is = refl;
@@ -87,3 +106,165 @@ is_stay_plan state saved answer reply whole made = record {
   rise = tt;
   stand = λ rows commits stand. absurd cc;
 }
+
+-- ---- a change of the book
+still : {A : Type 0} (b : Bool) (x y : A) → b ≡ true → (if b then x else y) ≡ x
+still true x y e = refl
+still false x y e = absurd cc
+
+other : {A : Type 0} (b : Bool) (x y : A) → b ≡ false → (if b then x else y) ≡ y
+other true x y e = absurd cc
+other false x y e = refl
+
+version_by : (nothing : Bool) (version : ℕ) → nothing ≡ true → version_after nothing version ≡ version
+version_by true version e = refl
+version_by false version e = absurd cc
+
+version_up : (nothing : Bool) (version : ℕ) → nothing ≡ false → version_after nothing version ≡ version + 1
+version_up true version e = absurd cc
+version_up false version e = refl
+
+-- A step that changes nothing leaves the machine.
+pub updated_stay :
+    (state : State) (update : Update) (taken : Step) → IsWholeStep (step_state state) update taken
+    → is_nothing taken.edit ≡ true
+    → updated (machine_of state) (outcome (step_state state) update) ≡ Done (machine_of state) taken.answer
+updated_stay state update taken is nothing =
+    let after = after_step (step_state state) taken in
+    let same : (after.version == state.version) ≡ true =
+    (let version = version_by (is_nothing taken.edit) state.version nothing in grind (arith, nat_tests, version)) in
+    ap (updated (machine_of state)) is.done
+    ∙ ap (λ (m : Machine). Done m taken.answer)
+    (still (after.version == state.version) (machine_of state) (changed (machine_of state) after) same)
+
+-- One that changes something leads to a sound state.
+pub change_to :
+    (state : State) (saved : Bool) (update : Update) (taken : Step) → IsWhole state saved
+    → IsWholeStep (step_state state) update taken → is_nothing taken.edit ≡ false
+    → IsChangeTo state taken.edit taken.next
+change_to state saved update taken whole is some =
+    let after = after_step (step_state state) taken in
+    let version = version_up (is_nothing taken.edit) state.version some in
+    let sound = outcome-sound (step_state state) update after taken.answer whole.sound is.done in
+    let Of : ℕ → StepState = λ n. record { book = edited taken.edit state.book; next = taken.next; version = n } in
+    record {
+      allowed = is.exact.allowed;
+      later = elim (outcome_moves (step_state state) update after taken.answer is.done)
+          [ inl same ↦ absurd (let versions = ap (λ (s : StepState). s.version) same in omega (arith, versions, version))
+          | inr moved ↦ moved.1 ];
+      sound = subst (λ (n : ℕ). IsSound (Of n)) version sound;
+    }
+
+-- It leads to the machine after the change.
+pub updated_change :
+    (state : State) (saved : Bool) (update : Update) (taken : Step) (inverse : Edit) → IsWhole state saved
+    → IsWholeStep (step_state state) update taken → is_nothing taken.edit ≡ false
+    → LeadsBack state.book taken.edit inverse
+    → updated (machine_of state) (outcome (step_state state) update)
+    ≡ Done (machine_of (turned (turn_of ToNew taken.edit inverse taken.next) state)) taken.answer
+updated_change state saved update taken inverse whole is some leads =
+    let after = after_step (step_state state) taken in
+    let version = version_up (is_nothing taken.edit) state.version some in
+    let Of : ℕ → StepState = λ n. record { book = edited taken.edit state.book; next = taken.next; version = n } in
+    let differs : (after.version == state.version) ≡ false = grind (arith, nat_tests, version) in
+    ap (updated (machine_of state)) is.done
+    ∙ ap (λ (m : Machine). Done m taken.answer)
+    (other (after.version == state.version) (machine_of state) (changed (machine_of state) after) differs
+    ∙ ap (λ (n : ℕ). changed (machine_of state) (Of n)) version
+    ∙ sym (changed_machine state saved taken.edit inverse taken.next whole leads))
+
+turn_for :
+    (state : State) (saved : Bool) (edit inverse : Edit) (next : ℕ) → IsAllowed state.book edit
+    → LeadsBack state.book edit inverse → IsTurnFor state saved (turn_of ToNew edit inverse next)
+turn_for state saved edit inverse next allowed leads = record {
+  can = tt;
+  moving = refl;
+  first = λ none. refl;
+  shallow = allowed_depth state.book edit allowed;
+  back = allowed_depth (edited edit state.book) inverse leads.allowed;
+}
+
+-- The plan of a change is the machine's.
+pub planned_change :
+    (state : State) (saved : Bool) (update : Update) (taken : Step) (plan : Planned) → IsWhole state saved
+    → IsWholeStep (step_state state) update taken → is_nothing taken.edit ≡ false
+    → IsTurnPlan state saved ToNew taken.edit taken.next taken.answer plan
+    → IsPlanTo state saved (updated (machine_of state) (outcome (step_state state) update)) plan
+planned_change state saved update taken plan whole is some made =
+    let change = change_to state saved update taken whole is some in
+    let turn = turn_of ToNew taken.edit made.inverse taken.next in
+    let comes = updated (machine_of state) (outcome (step_state state) update) in
+    subst (λ (p : Planned). IsPlanTo state saved comes p) (sym made.plan_is)
+    (is_turn_plan state saved turn taken.answer comes whole
+    (changed_whole state saved taken.edit made.inverse taken.next whole change made.leads)
+    (turn_for state saved taken.edit made.inverse taken.next change.allowed made.leads) change.allowed made.fits
+    (λ new. (is.exact, exact_back state.book taken.edit made.inverse is.exact made.leads made.form))
+    (updated_change state saved update taken made.inverse whole is some made.leads))
+
+-- ---- a kept step
+kept_moves : (way : Way) (state : State) (edit : Edit) → IsKeptStep way state edit → IsTrue (is_moving way)
+kept_moves Stay state edit kept = absurd kept
+kept_moves ToNew state edit kept = refl
+kept_moves Undo state edit kept = refl
+kept_moves Redo state edit kept = refl
+
+not_new : (way : Way) (state : State) (edit : Edit) → IsKeptStep way state edit → way ≡ ToNew → ⊥
+not_new Stay state edit kept e = kept
+not_new ToNew state edit kept e = kept
+not_new Undo state edit kept e = cc
+not_new Redo state edit kept e = cc
+
+-- The turn of a kept step can be made.
+pub kept_turn_for :
+    (state : State) (saved : Bool) (way : Way) (edit inverse : Edit) → IsWhole state saved
+    → IsKeptStep way state edit → LeadsBack state.book edit inverse
+    → IsTurnFor state saved (turn_of way edit inverse state.next)
+kept_turn_for state saved way edit inverse whole kept leads =
+    let can = kept_can state saved way edit whole kept in
+    let given = kept_saved state saved way edit whole kept in
+    record {
+      can = can.0;
+      moving = kept_moves way state edit kept;
+      first = λ none. absurd (let both = sym given ∙ none in cc);
+      shallow = allowed_depth state.book edit can.1.allowed;
+      back = allowed_depth (edited edit state.book) inverse leads.allowed;
+    }
+
+kept_plan :
+    (state : State) (saved : Bool) (way : Way) (edit : Edit) (answer : Answer) (plan : Planned) (comes : Reply)
+    → IsWhole state saved → IsKeptStep way state edit → numbers (step_state state) 0 ≡ None
+    → (made : IsTurnPlan state saved way edit state.next answer plan)
+    → comes ≡ Done (machine_of (turned (turn_of way edit made.inverse state.next) state)) answer
+    → IsPlanTo state saved comes plan
+kept_plan state saved way edit answer plan comes whole kept none made leads =
+    let turn = turn_of way edit made.inverse state.next in
+    subst (λ (p : Planned). IsPlanTo state saved comes p) (sym made.plan_is)
+    (is_turn_plan state saved turn answer comes whole
+    (kept_whole state saved way edit made.inverse whole kept made.leads none)
+    (kept_turn_for state saved way edit made.inverse whole kept made.leads)
+    (kept_can state saved way edit whole kept).1.allowed made.fits
+    (λ new. absurd (not_new way state edit kept new)) leads)
+
+-- The plan of a step back is the machine's, and so is that of a step forth.
+pub planned_undo :
+    (state : State) (saved : Bool) (edit : Edit) (plan : Planned) → IsWhole state saved → IsKeptStep Undo state edit
+    → numbers (step_state state) 0 ≡ None → IsTurnPlan state saved Undo edit state.next answer.Undo plan
+    → IsPlanTo state saved (reply (machine_of state) AskUndo) plan
+planned_undo state saved edit plan whole kept none made =
+    kept_plan state saved Undo edit answer.Undo plan (reply (machine_of state) AskUndo) whole kept none made
+    (undone_machine state saved edit made.inverse whole kept made.leads none)
+
+pub planned_redo :
+    (state : State) (saved : Bool) (edit : Edit) (plan : Planned) → IsWhole state saved → IsKeptStep Redo state edit
+    → numbers (step_state state) 0 ≡ None → IsTurnPlan state saved Redo edit state.next answer.Redo plan
+    → IsPlanTo state saved (reply (machine_of state) AskRedo) plan
+planned_redo state saved edit plan whole kept none made =
+    kept_plan state saved Redo edit answer.Redo plan (reply (machine_of state) AskRedo) whole kept none made
+    (redone_machine state saved edit made.inverse whole kept made.leads none)
+
+-- What follows of a result from two things that hold of it.
+pub ok_with :
+    {T E : Type 0} (result : Result T E) (P Q R : T → Type 0) → ((value : T) → P value → Q value → R value)
+    → IfOk result P → IfOk result Q → IfOk result R
+ok_with (Ok value) P Q R both p q = both value p q
+ok_with (Err why) P Q R both p q = tt

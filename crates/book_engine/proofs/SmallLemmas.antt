@@ -1,6 +1,6 @@
 -- The numbers of a state that an engine keeps are those of rows, as are the numbers of what a turn changes.
 use Rattle.std.proofs.Common.{◌≡◌, ℕ, suc, ◌+◌, ◌-◌, ◌^◌, ◌<◌, ◌≤◌, ◌==◌, ◌&&◌, Bool, true, false, All, List, []}
-use Rattle.std.proofs.Common.{◌∷◌, ◌++◌, Option, Some, None, option_map, is_none, min, nat_lt, length, if◌after◌else◌}
+use Rattle.std.proofs.Common.{◌∷◌, ◌++◌, Option, Some, None, option_map, is_none, min, nat_lt, length, if◌then◌else◌}
 use Rattle.std.proofs.Common.{inr, refl, sym, ap, ◌∙◌, subst, arith}
 use Rattle.std.specs.List.{AllByRecursion}
 use Rattle.std.proofs.lemmas.Bool.Decides.{nat_tests}
@@ -91,7 +91,7 @@ leaves_drawn book now before (OfPut n t ∷ ls) next later rise order some are a
     let past = above_untouched k n (key_at (row_kind k) n) ls (inr (refl, omega arith)) more in
     let stands : thing_at k n (after_leaves ls put) ≡ Some t = untouched k n ls put rises past
     ∙ thing_at-with_thing k n n t now
-    ∙ ap (λ (s : Bool). if s after Some t else thing_at k n now) (same_key (row_kind k) n) in
+    ∙ ap (λ (s : Bool). if s then Some t else thing_at k n now) (same_key (row_kind k) n) in
     let below = thing_drawn k n later t (after_leaves ls put) after stands in (
       omega (arith, below, less),
       leaves_drawn book put (key_at (row_kind k) n) ls next later rises more some are after small less,

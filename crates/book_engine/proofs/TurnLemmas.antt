@@ -1,5 +1,5 @@
 -- What a turn makes of a state that an engine keeps: the machine's next state, in which all holds of an engine again.
-use Rattle.std.proofs.Common.{◌≡◌, ℕ, ◌+◌, ◌-◌, ◌<◌, ◌≤◌, ◌^◌, nat_lt, not, Bool, true, false, ◌||◌, List, [], ◌∷◌}
+use Rattle.std.proofs.Common.{◌≡◌, ℕ, ◌+◌, ◌-◌, ◌<◌, ◌≤◌, ◌^◌, nat_lt, not, Bool, true, false, ◌||◌, List, [], ◌∷◌, length}
 use Rattle.std.proofs.Common.{Option, Some, None, is_some, refl, sym, ap, ◌∙◌, subst, arith, inl, inr, ◌⊎◌, take}
 use Rattle.std.proofs.lemmas.Bool.Decides.{nat_tests}
 use Rattle.book_commodity.specs.Rules.{broken_where}
@@ -11,6 +11,8 @@ use Rattle.book_undo.specs.EditRules.{IsAllowed}
 use Rattle.book_undo.specs.Inverse.{LeadsBack}
 use Rattle.book_undo.specs.declared.edit.Edit.{Edit}
 use Rattle.book_command.specs.declared.answer.Answer.TheVariants as answer
+use Rattle.book_command.specs.declared.refusal.Refusal.{Refusal}
+use Rattle.book_command.specs.declared.refusal.Refusal.TheVariants as refusal
 use Rattle.book_command.specs.declared.rule.Rule.{Rule}
 use Rattle.book_command.specs.declared.rule.Rule.TheVariants.{Limit, NothingToRedo, NothingToUndo}
 use Rattle.book_command.specs.declared.command.What.TheVariants.{Redo as AskRedo, Undo as AskUndo}
@@ -20,14 +22,14 @@ use Rattle.book_history.specs.Turns.{back_after_change, back_after_redo, back_af
 use Rattle.book_history.specs.Turns.{forth_after_undo}
 use Rattle.book_history.proofs.TurnLaws.{changed_books, changed_history, redone_books, redone_history, undone_books}
 use Rattle.book_history.proofs.TurnLaws.{no_redo, no_undo, redo_later, redo_none, redo_sound, undo_none, undo_past}
-use Rattle.book_history.proofs.TurnLaws.{undo_sound, undone_history}
+use Rattle.book_history.proofs.TurnLaws.{length_later, length_past, undo_sound, undone_history}
 use Rattle.book_step.specs.Outcome.{numbers}
 use Rattle.book_step.specs.Soundness.{IsSound}
 use Rattle.book_opening.specs.State.{State}
 use Rattle.book_engine.specs.Kept.{IsWhole, step_state}
 use Rattle.book_engine.specs.Machine.{Broken, Done, Machine, Reply, changed, machine_of, redone, reply, undone}
 use Rattle.book_engine.specs.Machine.{unless_broken}
-use Rattle.book_engine.specs.Planned.{IsChangeTo}
+use Rattle.book_engine.specs.Planned.{IsChangeTo, IsLimitRefusal, IsRefusal}
 use Rattle.book_engine.specs.Turned.{CanTurn, IsKeptStep, turned}
 use Rattle.book_engine.specs.declared.turn.Turn.{Turn}
 use Rattle.book_engine.specs.declared.turn.Way.{Way}
@@ -126,6 +128,21 @@ numbers_none state none =
     either true e = cc
     either false e = cc
 
+pub numbers_within :
+    (state : State) → state.next < 2 ^ 62 → state.version + 1 < 2 ^ 62 → numbers (step_state state) 0 ≡ None
+numbers_within state next version =
+    let both : (not (nat_lt (state.next + 0) (2 ^ 62)) || not (nat_lt (state.version + 1) (2 ^ 62))) ≡ false =
+    grind (arith, nat_tests, next, version) in
+    ap (λ (b : Bool). broken_where b (Limit Numbers (2 ^ 62))) both
+
+pub turn_is :
+    (turn : Turn) (way : Way) (edit : Edit) (next : ℕ)
+    → (turn.way ≡ way) × (turn.edit ≡ edit) × (turn.next ≡ next) → turn ≡ turn_of way edit turn.inverse next
+turn_is turn way edit next is =
+    ap (λ (w : Way). turn_of w turn.edit turn.inverse turn.next) is.0
+    ∙ ap (λ (e : Edit). turn_of way e turn.inverse turn.next) is.1
+    ∙ ap (λ (n : ℕ). turn_of way edit turn.inverse n) is.2
+
 -- After a kept step is taken, all holds of an engine again.
 pub kept_whole :
     (state : State) (saved : Bool) (way : Way) (edit inverse : Edit) → IsWhole state saved
@@ -214,25 +231,39 @@ redone_machine state saved edit inverse whole kept leads none =
     ∙ ap (λ (past : List Book). Done (Of past) answer.Redo) (sym books.1)
 
 -- Where a step is kept, the limit of numbers is the rule that undo and redo can break.
-pub undo_limit :
-    (state : State) (saved : Bool) (edit inverse : Edit) (rule : Rule) → IsWhole state saved
-    → IsKeptStep Undo state edit → LeadsBack state.book edit inverse → numbers (step_state state) 0 ≡ Some rule
-    → reply (machine_of state) AskUndo ≡ Broken rule
-undo_limit state saved edit inverse rule whole kept leads is =
-    let books = undone_books state.next state.book state.position state.past state.later state.back state.forth
-    whole.history edit inverse kept leads in
-    ap (λ (past : List Book). undone past (machine_of state)) books.0
-    ∙ broken (numbers (step_state state) 0) _ rule is
+undone_limit :
+    (past : List Book) (state : State) (rule : Rule) → 1 ≤ length past → numbers (step_state state) 0 ≡ Some rule
+    → undone past (machine_of state) ≡ Broken rule
+undone_limit [] state rule some is = absurd (omega (arith, some))
+undone_limit (book ∷ past) state rule some is = broken (numbers (step_state state) 0) _ rule is
 
-pub redo_limit :
-    (state : State) (saved : Bool) (edit inverse : Edit) (rule : Rule) → IsWhole state saved
-    → IsKeptStep Redo state edit → LeadsBack state.book edit inverse → numbers (step_state state) 0 ≡ Some rule
-    → reply (machine_of state) AskRedo ≡ Broken rule
-redo_limit state saved edit inverse rule whole kept leads is =
-    let books = redone_books state.next state.book state.position state.past state.later state.back state.forth
-    whole.history edit inverse kept leads in
-    ap (λ (later : List Book). redone later (machine_of state)) books.0
-    ∙ broken (numbers (step_state state) 0) _ rule is
+redone_limit :
+    (later : List Book) (state : State) (rule : Rule) → 1 ≤ length later → numbers (step_state state) 0 ≡ Some rule
+    → redone later (machine_of state) ≡ Broken rule
+redone_limit [] state rule some is = absurd (omega (arith, some))
+redone_limit (book ∷ later) state rule some is = broken (numbers (step_state state) 0) _ rule is
+
+pub undo_refused :
+    (state : State) (saved : Bool) (edit : Edit) (why : Refusal) → IsWhole state saved → IsKeptStep Undo state edit
+    → IsLimitRefusal state why → IsRefusal (reply (machine_of state) AskUndo) why
+undo_refused state saved edit (refusal.Broken rule) whole kept is =
+    let some = (kept_can state saved Undo edit whole kept).0 in
+    let count = length_past state.next state.book state.position state.past state.later state.back state.forth
+    whole.history in
+    undone_limit (past_books state.back state.book) state rule (omega (arith, some, count)) is
+undo_refused state saved edit refusal.Keeper whole kept is = absurd is
+undo_refused state saved edit refusal.OutOfMemory whole kept is = tt
+
+pub redo_refused :
+    (state : State) (saved : Bool) (edit : Edit) (why : Refusal) → IsWhole state saved → IsKeptStep Redo state edit
+    → IsLimitRefusal state why → IsRefusal (reply (machine_of state) AskRedo) why
+redo_refused state saved edit (refusal.Broken rule) whole kept is =
+    let some = (kept_can state saved Redo edit whole kept).0 in
+    let count = length_later state.next state.book state.position state.past state.later state.back state.forth
+    whole.history in
+    redone_limit (later_books state.forth state.book) state rule (omega (arith, some, count)) is
+redo_refused state saved edit refusal.Keeper whole kept is = absurd is
+redo_refused state saved edit refusal.OutOfMemory whole kept is = tt
 
 -- Where none is kept, there is nothing to undo or redo.
 pub undo_nothing :

@@ -1,4 +1,5 @@
 ghost use Rattle.std.specs.Prelude.{◌≡◌, IfOk, IfNone, true, ◌||◌, not, nat_lt};
+ghost use Rattle.book_commodity.specs.Table.{Rises};
 ghost use Rattle.book_opening.specs.Reading.{IsReadable};
 ghost use Rattle.book_opening.specs.State.{head_of, state_of};
 ghost use Rattle.book_opening.specs.Steps.{counts_fit};
@@ -71,6 +72,7 @@ fn first_unsound_key(alloc: Global, state: &mut Saved) -> Result<Option<RowKey>,
     ensures same { IfOk result (λ found. IfNone found (state_of state.new ≡ state_of state.old)) }
     ensures whole { IfOk result (λ found. IfNone found (IsWhole (state_of state.old) true)) }
 {
+    rising(state);
     if !keeps_head(state) {
         return Ok(Some(RowKey { kind: 1, id: 0 }));
     }
@@ -78,6 +80,14 @@ fn first_unsound_key(alloc: Global, state: &mut Saved) -> Result<Option<RowKey>,
         return Ok(Some(key));
     }
     first_unsound_step(alloc, state)
+}
+
+/// The numbers of the steps rise, as those of every table.
+fn rising(state: &Saved)
+    ensures back { Rises state.now.back.entries }
+    ensures forth { Rises state.now.forth.entries }
+{
+    let _ = (state.back.len(), state.forth.len());
 }
 
 /// Whether the position is at most the version, and the head counts no more steps back than lead to the present book,

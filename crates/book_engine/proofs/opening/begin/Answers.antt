@@ -1,20 +1,33 @@
-use Rattle.std.proofs.Common.{refl, sym, ap, subst, arith}
+use Rattle.std.proofs.Common.{◌≡◌, ℕ, false, List, [], sym, ap, ◌∙◌, subst}
 use Rattle.book_undo.specs.Book.{Book}
+use Rattle.book_undo.specs.declared.edit.Edit.{Edit}
 use Rattle.book_step.specs.Soundness.{IsSound}
-use Rattle.book_step.specs.State.{State}
+use Rattle.book_step.specs.State.{State as StepState, fresh_book}
 use Rattle.book_step.proofs.SoundStep.{fresh-sound}
+use Rattle.book_opening.specs.State.{State}
+use Rattle.book_engine.specs.Kept.{IsWhole}
+use Rattle.book_engine.proofs.OpenLemmas.{fresh_whole}
 use Rattle.book_engine.proofs.opening.begin.Goals as goal
 
 pub invariant_of-result : goal.invariant_of-result
 invariant_of-result c =
-    let Of : Book → State = λ book. record { book = book; next = 3; version = 0 } in
-    record {
-      sound = subst (λ (book : Book). IsSound (Of book)) (sym c.in-Ok.ensures) fresh-sound;
-      reached = omega arith;
-      fresh = λ none. (ap Of c.in-Ok.ensures, refl);
-    }
+    let Of : Book → List (ℕ × Edit) → List (ℕ × Edit) → State = λ book back forth. record {
+      book = book;
+      next = 3;
+      version = 0;
+      position = 0;
+      past = 0;
+      later = 0;
+      back = back;
+      forth = forth;
+    } in
+    subst (λ (state : State). IsWhole state false)
+    (sym (ap (λ (book : Book). Of book c.new.result.entries c.new-2.result.entries) c.in-Ok.ensures
+    ∙ ap (λ (back : List (ℕ × Edit)). Of fresh_book back c.new-2.result.entries) c.new.ensures
+    ∙ ap (Of fresh_book []) c.new-2.ensures))
+    fresh_whole
 
 pub returns-clause-sound : goal.returns-clause-sound
 returns-clause-sound c =
-    let Of : Book → State = λ book. record { book = book; next = 3; version = 0 } in
+    let Of : Book → StepState = λ book. record { book = book; next = 3; version = 0 } in
     subst (λ (book : Book). IsSound (Of book)) (sym c.in-Ok.ensures) fresh-sound

@@ -1,0 +1,27 @@
+use Rattle.std.proofs.Common.{◌≡◌, Bool, true, false, sym, ◌∙◌, subst}
+use Rattle.book_opening.specs.State.{state_of}
+use Rattle.book_step.specs.Step.{outcome}
+use Rattle.book_engine.specs.Kept.{step_state}
+use Rattle.book_engine.specs.Machine.{machine_of, updated}
+use Rattle.book_engine.specs.Planned.{IsPlanTo, Planned}
+use Rattle.book_engine.proofs.PlanLemmas.{change_to, is_stay_plan, planned_change, updated_stay}
+use Rattle.book_engine.proofs.planning.plan_update.Goals as goal
+
+pub returns-then-is_nothing-clause-planned : goal.returns-then-is_nothing-clause-planned
+returns-then-is_nothing-clause-planned c =
+    let state = state_of c.args.state.now in
+    let taken = c.in-Ok.step in
+    let comes = updated (machine_of state) (outcome (step_state state) c.args.update) in
+    subst (λ (p : Planned). IsPlanTo state c.args.saved comes p) (sym c.plan_stay.ensures)
+    (is_stay_plan state c.args.saved taken.answer comes c.requires
+    (updated_stay state c.args.update taken c.in-Ok.ensures.done (sym c.if-is_nothing.ensures)))
+
+pub plan_change-requires-clause-sound : goal.plan_change-requires-clause-sound
+plan_change-requires-clause-sound c =
+    change_to (state_of c.args.state.now) c.args.saved c.args.update c.in-Ok.step c.requires c.in-Ok.ensures.done
+    (sym c.if-is_nothing.ensures)
+
+pub returns-in-Ok-plan_change-clause-planned : goal.returns-in-Ok-plan_change-clause-planned
+returns-in-Ok-plan_change-clause-planned c =
+    planned_change (state_of c.args.state.now) c.args.saved c.args.update c.in-Ok.step c.in-Ok-plan_change.plan
+    c.requires c.in-Ok.ensures.done (sym c.if-is_nothing.ensures) c.in-Ok-plan_change.ensures
