@@ -36,7 +36,8 @@ use Rattle.book_opening.specs.Steps.{AreCounted}
 use Rattle.book_opening.specs.declared.item.Item.{Item}
 use Rattle.book_opening.specs.declared.item.Item.TheVariants as item
 use Rattle.book_opening.proofs.Ranked.{put_in, take_out, all_both, all_put, all_take, all_weak, pushed, pushed_one}
-use Rattle.book_opening.proofs.StateRecords.{kind-record, kind_most, put_item, record_most, steps_of, take_back, take_forth, take_thing}
+use Rattle.book_opening.proofs.StateRecords.{kind-record, kind_most, put_item, record_most, steps_of, take_back}
+use Rattle.book_opening.proofs.StateRecords.{take_forth, take_thing}
 use Rattle.book_opening.proofs.StateRecords.{with_book, without_back, without_forth}
 use Rattle.book_opening.proofs.ThingRecords.{rank_of, IsSmall}
 
@@ -143,7 +144,9 @@ rows_after_leaves :
 rows_after_leaves [] head s all small = refl
 rows_after_leaves (OfCurrency c ∷ ls) head s all small =
     let same = same_behind c s in
-    ap (λ (es : List (ℕ × Record)). after_changes (flat_map leaf_changes ls) (map row_of ((0, kept.Head head) ∷ es))) same
+    ap
+    (λ (es : List (ℕ × Record)). after_changes (flat_map leaf_changes ls) (map row_of ((0, kept.Head head) ∷ es)))
+    same
     ∙ rows_after_leaves ls head (with_book (with_currency c s.book) s) (subst (AllByRecursion IsSmall) same all) small.1
 rows_after_leaves (OfPut n t ∷ ls) head s all small =
     ap (after_changes (flat_map leaf_changes ls)) (put_row head n (item.Thing t) s small.0 all)
@@ -343,7 +346,8 @@ pub all_rise :
     → AllByRecursion IsSmallLeaf (leaves edit) → AreRisingFrom (11 * 2 ^ 64) (map step_change steps)
     → AreRising (changes_of head edit ++ map step_change steps)
 all_rise head edit steps e small more =
-    rise_both 0 (11 * 2 ^ 64) (changes_of head edit) (map step_change steps) (changes_rise head edit e small) (omega arith)
+    rise_both 0 (11 * 2 ^ 64) (changes_of head edit) (map step_change steps) (changes_rise head edit e small)
+    (omega arith)
     (omega arith, leaves_below (leaves edit) small) more
 
 -- ---- the leaves of some edits, edit by edit

@@ -1,6 +1,7 @@
 pub mod AllRowLaws
 pub mod ChangeLaws
 pub mod FirstOff
+pub mod KeptSteps
 pub mod OpenLaws
 pub mod Ranked
 pub mod ReadLaws

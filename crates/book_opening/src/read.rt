@@ -6,11 +6,13 @@ ghost use Rattle.book_keeper.specs.declared.row.Row.{Row as HeldRow};
 ghost use Rattle.book_undo.specs.Book.{empty_book};
 ghost use Rattle.book_rows.specs.Row.{IsWithin, kind_of};
 ghost use Rattle.book_opening.specs.BookRows.{records_of, row_of, rows_of};
+ghost use Rattle.book_opening.specs.Changes.{IsShallow};
 ghost use Rattle.book_opening.specs.Item.{record_of_item, with_item};
 ghost use Rattle.book_opening.specs.Opening.{Answers, Begins, HasOpenCause, IsBadFor, IsBadHead, IsBadThing};
 ghost use Rattle.book_opening.specs.Opening.{IsOnlyRecord, IsOpened, OpenAs, WasRead, head_key};
 ghost use Rattle.book_opening.specs.Reading.{IsBegun, IsFirstBad, IsWhole, bad_key};
 ghost use Rattle.book_opening.specs.State.{State, state_of, head_of};
+ghost use Rattle.book_opening.specs.Steps.{AreCounted};
 
 use crate::item::Item;
 use crate::steps::first_odd;
@@ -22,7 +24,8 @@ use book_undo::Plain;
 use std::alloc::Global;
 
 /// The state as which the rows of the keeper open; None exactly where it holds none. Each row is asked for and read
-/// once. Whether the keeper knows its rows or not, the numbers of the state's head are those that a row can hold.
+/// once. Whether the keeper knows its rows or not, the numbers of the state's head are those that a row can hold, its
+/// steps are those that its head counts, and at most eight lists of each stand in one another.
 /// Keeper: the keeper failed, and its count of faults rose in this call.
 /// BadRows: the least key whose row can't be opened, or is needed and missing, or is that of a step which the head
 /// doesn't count.
@@ -33,6 +36,9 @@ pub fn read_rows<K: Keeper>(alloc: Global, keeper: &mut K) -> Result<Option<Save
     ensures again { IsTrue (K.sure keeper.new) → (rows : List HeldRow) → K.holds keeper.old rows
         → (state : State) → OpenAs rows state → IsOpened state result }
     ensures within { IfOk result (λ found. IfSome found (λ saved. IsWithin (head_of (state_of saved)))) }
+    ensures counted { IfOk result (λ found. IfSome found (λ saved. AreCounted (state_of saved))) }
+    ensures back { IfOk result (λ found. IfSome found (λ saved. AllByRecursion IsShallow saved.back.entries)) }
+    ensures forth { IfOk result (λ found. IfSome found (λ saved. AllByRecursion IsShallow saved.forth.entries)) }
     ensures cause { HasOpenCause (K.faults keeper.old) (K.faults keeper.new) result }
 {
     let row = match keeper.next_row(None) {
@@ -134,6 +140,7 @@ fn read_behind<K: Keeper>(alloc: Global, keeper: &mut K, state: Saved) -> Result
     ensures keeper { WasRead K.path_given K.sure K.holds keeper.old keeper.new }
     ensures head { IfOk result (λ saved. head_of (state_of saved) ≡ head_of (state_of state)) }
     ensures read { IfOk result (λ saved. AllByRecursion IsOnlyRecord (records_of (state_of saved))) }
+    ensures counted { IfOk result (λ saved. AreCounted (state_of saved)) }
     ensures rows { IfOk result (λ saved. IsTrue (K.sure keeper.new) → (rows : List HeldRow) → K.holds keeper.old rows
         → Begins rows (head_of (state_of state)) → OpenAs rows (state_of saved)) }
     ensures bad { IfErr result (λ fault. IsTrue (K.sure keeper.new) → (rows : List HeldRow)
@@ -151,7 +158,8 @@ fn read_behind<K: Keeper>(alloc: Global, keeper: &mut K, state: Saved) -> Result
         let item = match read_item(alloc, &row) {
             Ok(item) => item,
             Err(OpenFault::BadRows { .. }) => return Err(bad(first_bad(&saved, row.key))),
-            Err(fault) => return Err(fault),
+            Err(OpenFault::OutOfMemory) => return Err(OpenFault::OutOfMemory),
+            Err(OpenFault::Keeper) => unreachable!(),
         };
         let Ok(()) = item.put(row.key.id, &mut saved) else {
             return Err(OpenFault::OutOfMemory);

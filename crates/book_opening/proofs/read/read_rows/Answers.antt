@@ -2,6 +2,7 @@
 use Rattle.std.proofs.Common.{Some, ap, sym, ◌∙◌}
 use Rattle.book_keeper.specs.declared.row.Row.{Row}
 use Rattle.book_opening.specs.State.{state_of}
+use Rattle.book_opening.proofs.KeptSteps.{only_can, shallow_back, shallow_forth}
 use Rattle.book_opening.proofs.ReadLaws.{bad_start, begins_as, start_read, unread_bad, unread_opens}
 use Rattle.book_opening.proofs.OpenLaws.{bad_answers, bad_opens, only_state, start_opens}
 use Rattle.book_opening.proofs.read.read_rows.Goals as goal
@@ -18,12 +19,13 @@ pub returns-in-Err-read_head-clause-answer : goal.returns-in-Err-read_head-claus
 returns-in-Err-read_head-clause-answer g c = λ known rows held.
     bad_answers rows c.in-Err-read_head.fault
     (bad_start rows c.in-Ok-Some.row c.in-Err-read_head.fault (g.met.K.Keeper.rising c.args.keeper.now rows held)
-    (sym (c.in-Ok-Some.ensures.found known rows held) ∙ c.in-Ok-Some.field-0-is) c.in-Err-read_head.ensures)
+    (sym (c.in-Ok-Some.ensures.found known rows held) ∙ c.in-Ok-Some.field-0-is) c.in-Err-read_head.ensures.bad)
 
 pub returns-in-Err-read_head-clause-again : goal.returns-in-Err-read_head-clause-again
 returns-in-Err-read_head-clause-again g c = λ known rows held state opens.
     start_opens rows state c.in-Ok-Some.row c.in-Err-read_head.fault
-    (sym (c.in-Ok-Some.ensures.found known rows held) ∙ c.in-Ok-Some.field-0-is) opens c.in-Err-read_head.ensures
+    (sym (c.in-Ok-Some.ensures.found known rows held) ∙ c.in-Ok-Some.field-0-is) opens
+    c.in-Err-read_head.ensures.bad
 
 pub returns-in-Ok-read_behind-clause-answer : goal.returns-in-Ok-read_behind-clause-answer
 returns-in-Ok-read_behind-clause-answer g c = λ known rows held.
@@ -45,6 +47,16 @@ returns-in-Ok-read_behind-clause-again g c = λ known rows held state opens.
 -- the head that was read has numbers of a row
 pub returns-in-Ok-read_behind-clause-within : goal.returns-in-Ok-read_behind-clause-within
 returns-in-Ok-read_behind-clause-within g c = c.in-Ok-read_behind.ensures.read.0.0.1.1
+
+pub returns-in-Ok-read_behind-clause-back : goal.returns-in-Ok-read_behind-clause-back
+returns-in-Ok-read_behind-clause-back g c =
+    let state = state_of c.in-Ok-read_behind.saved in
+    shallow_back state (only_can state c.in-Ok-read_behind.ensures.read)
+
+pub returns-in-Ok-read_behind-clause-forth : goal.returns-in-Ok-read_behind-clause-forth
+returns-in-Ok-read_behind-clause-forth g c =
+    let state = state_of c.in-Ok-read_behind.saved in
+    shallow_forth state (only_can state c.in-Ok-read_behind.ensures.read)
 
 pub returns-clause-answer : goal.returns-clause-answer
 returns-clause-answer g c = λ known rows held.
