@@ -11,13 +11,12 @@ use Rattle.book_keeper.specs.declared.row.Change.{Change}
 use Rattle.book_keeper.specs.Rows.{AreRising, AreRisingFrom, after_change, after_changes, changed_key, rank}
 use Rattle.book_keeper.specs.Rows.{with_row, without_row}
 use Rattle.book_commodity.proofs.ListLemmas.{mapped_none}
-use Rattle.book_undo.specs.Book.{Book, with_currency, with_thing, without_thing}
+use Rattle.book_undo.specs.Book.{Book, with_currency, without_thing}
 use Rattle.book_undo.specs.Edit.{Leaf, OfCurrency, OfPut, OfGone, leaves, edited, key_at}
 use Rattle.book_undo.specs.EditRules.{is_above, first_unordered, out_of_order}
 use Rattle.book_undo.specs.Thing.{row_kind, kind_of as thing_kind}
 use Rattle.book_undo.specs.declared.edit.Edit.{Edit}
 use Rattle.book_undo.specs.declared.thing.Thing.{Thing}
-use Rattle.book_undo.specs.declared.thing.Thing.TheVariants as thing
 use Rattle.book_undo.specs.declared.thing.ThingKind.{ThingKind}
 use Rattle.book_undo.specs.declared.thing.ThingKind.TheVariants as kind
 use Rattle.book_undo.proofs.EditLaws.{after_leaves, edited-leaves}

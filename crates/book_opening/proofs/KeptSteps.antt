@@ -1,10 +1,9 @@
 -- The steps that a state keeps: when its head counts them, and that of each at most eight lists stand in one another.
-use Rattle.std.proofs.Common.{◌≡◌, ℕ, ◌≤◌, ◌==◌, ◌&&◌, ◌||◌, Bool, List, [], ◌∷◌, ◌++◌, is_some, ap, ◌∙◌}
+use Rattle.std.proofs.Common.{◌≡◌, ℕ, ◌==◌, ◌&&◌, ◌||◌, Bool, List, [], ◌∷◌, ◌++◌, is_some, ap, ◌∙◌}
 use Rattle.std.specs.List.{AllByRecursion}
 use Rattle.book_commodity.specs.Table.{value_of}
 use Rattle.book_undo.specs.declared.edit.Edit.{Edit}
-use Rattle.book_rows.specs.declared.record.Record.{Record}
-use Rattle.book_opening.specs.BookRows.{back_records, behind_head, forth_records, records_of, things_of}
+use Rattle.book_opening.specs.BookRows.{back_records, forth_records, records_of, things_of}
 use Rattle.book_opening.specs.Changes.{IsShallow}
 use Rattle.book_opening.specs.Opening.{CanBeRow, IsOnlyRecord}
 use Rattle.book_opening.specs.State.{State, head_of}

@@ -2,6 +2,7 @@ pub mod AllRowLaws
 pub mod ChangeLaws
 pub mod FirstOff
 pub mod KeptSteps
+pub mod OpenAfter
 pub mod OpenLaws
 pub mod Ranked
 pub mod ReadLaws

@@ -1,5 +1,5 @@
 -- One row more is read: the state so far has what it stands for, and has exactly what the rows so far stand for.
-use Rattle.std.proofs.Common.{◌≡◌, ℕ, Bool, List, [], ◌∷◌, ◌++◌, map, Some, None, Result, Ok, Err, IsTrue, IfOk, IfErr}
+use Rattle.std.proofs.Common.{◌≡◌, ℕ, Bool, List, [], ◌∷◌, ◌++◌, map, Some, None, Result, Ok, Err, IfOk, IfErr}
 use Rattle.std.proofs.Common.{inl, inr, refl, sym, ap, ◌∙◌, subst, ◌≤◌, arith}
 use Rattle.book_rows.specs.Row.{kind_of}
 use Rattle.std.specs.List.{AllByRecursion}
@@ -14,9 +14,8 @@ use Rattle.book_rows.specs.declared.record.Record.{Record}
 use Rattle.book_rows.specs.declared.record.Record.TheVariants as kept
 use Rattle.book_opening.specs.BookRows.{back_records, behind_head, forth_records, records_of, row_of, rows_of}
 use Rattle.book_opening.specs.BookRows.{things_of}
-use Rattle.book_opening.specs.FirstOdd.{IsFirstOdd}
 use Rattle.book_opening.specs.Item.{record_of_item, with_item}
-use Rattle.book_opening.specs.Opening.{Answers, Begins, IsBadFor, IsBadHead, IsBadThing, IsLeastBad, IsNoRecord}
+use Rattle.book_opening.specs.Opening.{Begins, IsBadFor, IsBadHead, IsBadThing, IsLeastBad, IsNoRecord}
 use Rattle.book_opening.specs.Opening.{IsOnlyRecord, IsOpened, OpenAs, WasRead, head_key}
 use Rattle.book_opening.specs.Reading.{IsBegun, IsFirstBad, IsWhole, bad_key}
 use Rattle.book_opening.specs.State.{State, head_of, state_of}

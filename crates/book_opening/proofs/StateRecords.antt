@@ -1,9 +1,9 @@
 -- The records of a state behind its head: what a thing or a step that is put or taken out changes of them.
-use Rattle.std.proofs.Common.{◌≡◌, ℕ, suc, ◌+◌, ◌*◌, ◌^◌, ◌<◌, ◌≤◌, List, [], ◌∷◌, ◌++◌, map, refl, sym, ap, ◌∙◌}
+use Rattle.std.proofs.Common.{◌≡◌, ℕ, ◌+◌, ◌*◌, ◌^◌, ◌<◌, ◌≤◌, List, [], ◌∷◌, ◌++◌, refl, sym, ap, ◌∙◌}
 use Rattle.std.proofs.Common.{arith}
 use Rattle.std.specs.List.{AllByRecursion}
 use Rattle.book_commodity.specs.Table.{Rises, with_entry, without_entry}
-use Rattle.book_undo.specs.Book.{Book, IsRising, with_thing, without_thing}
+use Rattle.book_undo.specs.Book.{Book, IsRising, without_thing}
 use Rattle.book_undo.specs.Thing.{kind_of as thing_kind, row_kind}
 use Rattle.book_undo.specs.declared.edit.Edit.{Edit}
 use Rattle.book_undo.specs.declared.thing.Thing.{Thing}

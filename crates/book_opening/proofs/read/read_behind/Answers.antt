@@ -1,9 +1,6 @@
 -- One row more; or none is left, or it is bad.
-use Rattle.std.proofs.Common.{Ok, Err, sym, ap, subst, ◌∙◌, refl, arith}
+use Rattle.std.proofs.Common.{sym, ◌∙◌, refl, arith}
 use Rattle.book_keeper.specs.Rows.{rank}
-use Rattle.book_keeper.specs.declared.row.Row.{Row}
-use Rattle.book_rows.specs.declared.head.Head.{Head}
-use Rattle.book_opening.specs.Opening.{Begins}
 use Rattle.book_opening.specs.State.{head_of, state_of}
 use Rattle.book_opening.proofs.ReadLaws.{bad_thing, begins_as, last_rows, next_bad, next_head, next_read, next_rows}
 use Rattle.book_opening.proofs.ReadLaws.{read_more}

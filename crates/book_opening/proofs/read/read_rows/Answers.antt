@@ -3,7 +3,7 @@ use Rattle.std.proofs.Common.{Some, ap, sym, ◌∙◌}
 use Rattle.book_keeper.specs.declared.row.Row.{Row}
 use Rattle.book_opening.specs.State.{state_of}
 use Rattle.book_opening.proofs.KeptSteps.{only_can, shallow_back, shallow_forth}
-use Rattle.book_opening.proofs.ReadLaws.{bad_start, begins_as, start_read, unread_bad, unread_opens}
+use Rattle.book_opening.proofs.ReadLaws.{bad_start, begins_as, unread_bad, unread_opens}
 use Rattle.book_opening.proofs.OpenLaws.{bad_answers, bad_opens, only_state, start_opens}
 use Rattle.book_opening.proofs.read.read_rows.Goals as goal
 

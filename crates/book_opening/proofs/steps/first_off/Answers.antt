@@ -1,5 +1,5 @@
 -- Entry by entry.
-use Rattle.std.proofs.Common.{◌≡◌, ℕ, ◌+◌, ◌<◌, List, [], ◌∷◌, Option, Some, None, inl, inr, sym, subst, arith, drop}
+use Rattle.std.proofs.Common.{◌≡◌, ℕ, ◌+◌, List, [], ◌∷◌, Option, Some, None, inl, inr, sym, subst, arith, drop}
 use Rattle.book_commodity.proofs.ListLemmas.{from-item}
 use Rattle.std.proofs.lemmas.List.{drop_all}
 use Rattle.book_commodity.specs.Table.{Rises}
