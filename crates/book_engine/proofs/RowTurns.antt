@@ -29,6 +29,7 @@ use Rattle.book_opening.specs.State.{State, head_of}
 use Rattle.book_opening.specs.Steps.{AreCounted, counts, has_step, is_back, is_forth, is_step}
 use Rattle.book_opening.proofs.AllRowLaws.{all_put_rise, opens_from_none}
 use Rattle.book_opening.proofs.ChangeLaws.{IsSmallStep, all_rise, opens_after}
+use Rattle.book_opening.proofs.KeptSteps.{are_counted}
 use Rattle.book_opening.proofs.StateRecords.{TablesRise, with_book}
 use Rattle.book_engine.specs.Kept.{IsWhole}
 use Rattle.book_engine.specs.Standing.{StandFor}
@@ -42,14 +43,11 @@ use Rattle.book_engine.proofs.SmallLemmas.{allowed_in_order, can_be_rows, small_
 -- ---- the steps of a state that an engine keeps are those that its head counts
 -- The steps of such a state are those that its head counts.
 pub whole_counted : (state : State) (saved : Bool) → IsWhole state saved → AreCounted state
-whole_counted state saved whole = λ fits key step.
+whole_counted state saved whole =
     let h = whole.history in
-    let back : is_some (value_of key.id state.back) ≡ is_back (head_of state) key.id =
-    back_counted state.next state.book state.position state.past state.later state.back state.forth h key.id in
-    let forth : is_some (value_of key.id state.forth) ≡ is_forth (head_of state) key.id =
-    forth_counted state.next state.book state.position state.past state.later state.back state.forth h key.id in
-    ap (λ (b : Bool). ((key.kind == 11) && b) || ((key.kind == 12) && is_some (value_of key.id state.forth))) back
-    ∙ ap (λ (b : Bool). ((key.kind == 11) && is_back (head_of state) key.id) || ((key.kind == 12) && b)) forth
+    are_counted state
+    (back_counted state.next state.book state.position state.past state.later state.back state.forth h)
+    (forth_counted state.next state.book state.position state.past state.later state.back state.forth h)
 
 pub whole_tables : (state : State) (saved : Bool) → IsWhole state saved → TablesRise state
 whole_tables state saved whole = record {

@@ -11,13 +11,12 @@ use Rattle.book_keeper.specs.declared.row.Change.{Change}
 use Rattle.book_keeper.specs.Rows.{AreRising, AreRisingFrom, after_change, after_changes, changed_key, rank}
 use Rattle.book_keeper.specs.Rows.{with_row, without_row}
 use Rattle.book_commodity.proofs.ListLemmas.{mapped_none}
-use Rattle.book_undo.specs.Book.{Book, with_currency, with_thing, without_thing}
+use Rattle.book_undo.specs.Book.{Book, with_currency, without_thing}
 use Rattle.book_undo.specs.Edit.{Leaf, OfCurrency, OfPut, OfGone, leaves, edited, key_at}
 use Rattle.book_undo.specs.EditRules.{is_above, first_unordered, out_of_order}
 use Rattle.book_undo.specs.Thing.{row_kind, kind_of as thing_kind}
 use Rattle.book_undo.specs.declared.edit.Edit.{Edit}
 use Rattle.book_undo.specs.declared.thing.Thing.{Thing}
-use Rattle.book_undo.specs.declared.thing.Thing.TheVariants as thing
 use Rattle.book_undo.specs.declared.thing.ThingKind.{ThingKind}
 use Rattle.book_undo.specs.declared.thing.ThingKind.TheVariants as kind
 use Rattle.book_undo.proofs.EditLaws.{after_leaves, edited-leaves}
@@ -36,7 +35,8 @@ use Rattle.book_opening.specs.Steps.{AreCounted}
 use Rattle.book_opening.specs.declared.item.Item.{Item}
 use Rattle.book_opening.specs.declared.item.Item.TheVariants as item
 use Rattle.book_opening.proofs.Ranked.{put_in, take_out, all_both, all_put, all_take, all_weak, pushed, pushed_one}
-use Rattle.book_opening.proofs.StateRecords.{kind-record, kind_most, put_item, record_most, steps_of, take_back, take_forth, take_thing}
+use Rattle.book_opening.proofs.StateRecords.{kind-record, kind_most, put_item, record_most, steps_of, take_back}
+use Rattle.book_opening.proofs.StateRecords.{take_forth, take_thing}
 use Rattle.book_opening.proofs.StateRecords.{with_book, without_back, without_forth}
 use Rattle.book_opening.proofs.ThingRecords.{rank_of, IsSmall}
 
@@ -143,7 +143,9 @@ rows_after_leaves :
 rows_after_leaves [] head s all small = refl
 rows_after_leaves (OfCurrency c ∷ ls) head s all small =
     let same = same_behind c s in
-    ap (λ (es : List (ℕ × Record)). after_changes (flat_map leaf_changes ls) (map row_of ((0, kept.Head head) ∷ es))) same
+    ap
+    (λ (es : List (ℕ × Record)). after_changes (flat_map leaf_changes ls) (map row_of ((0, kept.Head head) ∷ es)))
+    same
     ∙ rows_after_leaves ls head (with_book (with_currency c s.book) s) (subst (AllByRecursion IsSmall) same all) small.1
 rows_after_leaves (OfPut n t ∷ ls) head s all small =
     ap (after_changes (flat_map leaf_changes ls)) (put_row head n (item.Thing t) s small.0 all)
@@ -343,7 +345,8 @@ pub all_rise :
     → AllByRecursion IsSmallLeaf (leaves edit) → AreRisingFrom (11 * 2 ^ 64) (map step_change steps)
     → AreRising (changes_of head edit ++ map step_change steps)
 all_rise head edit steps e small more =
-    rise_both 0 (11 * 2 ^ 64) (changes_of head edit) (map step_change steps) (changes_rise head edit e small) (omega arith)
+    rise_both 0 (11 * 2 ^ 64) (changes_of head edit) (map step_change steps) (changes_rise head edit e small)
+    (omega arith)
     (omega arith, leaves_below (leaves edit) small) more
 
 -- ---- the leaves of some edits, edit by edit

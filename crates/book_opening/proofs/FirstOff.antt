@@ -1,6 +1,7 @@
 -- The first number that entries have outside of bounds or haven't within them, entry by entry.
-use Rattle.std.proofs.Common.{◌≡◌, ℕ, suc, ◌+◌, ◌<◌, ◌≤◌, ◌==◌, nat_lt, not, ◌&&◌, Bool, true, false, if◌then◌else◌}
-use Rattle.std.proofs.Common.{List, [], ◌∷◌, Option, Some, None, is_some, inl, inr, ◌⊎◌, refl, sym, ap, ◌∙◌, subst, arith, drop, zero}
+use Rattle.std.proofs.Common.{◌≡◌, ℕ, suc, ◌+◌, ◌<◌, ◌≤◌, ◌==◌, nat_lt, not, ◌&&◌, Bool, true, false}
+use Rattle.std.proofs.Common.{List, [], ◌∷◌, Option, Some, None, is_some, inl, inr, ◌⊎◌, refl, sym, ap, ◌∙◌, subst}
+use Rattle.std.proofs.Common.{arith, drop, zero}
 use Rattle.std.proofs.lemmas.Bool.Decides.{nat_tests}
 use Rattle.book_commodity.specs.Table.{AllAbove, Rises, value_of}
 use Rattle.book_opening.specs.FirstOdd.{Agrees, IsFirstOff, is_within}

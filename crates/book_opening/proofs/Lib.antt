@@ -1,6 +1,8 @@
 pub mod AllRowLaws
 pub mod ChangeLaws
 pub mod FirstOff
+pub mod KeptSteps
+pub mod OpenAfter
 pub mod OpenLaws
 pub mod Ranked
 pub mod ReadLaws

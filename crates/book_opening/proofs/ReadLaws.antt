@@ -1,5 +1,5 @@
 -- One row more is read: the state so far has what it stands for, and has exactly what the rows so far stand for.
-use Rattle.std.proofs.Common.{◌≡◌, ℕ, Bool, List, [], ◌∷◌, ◌++◌, map, Some, None, Result, Ok, Err, IsTrue, IfOk, IfErr}
+use Rattle.std.proofs.Common.{◌≡◌, ℕ, Bool, List, [], ◌∷◌, ◌++◌, map, Some, None, Result, Ok, Err, IfOk, IfErr}
 use Rattle.std.proofs.Common.{inl, inr, refl, sym, ap, ◌∙◌, subst, ◌≤◌, arith}
 use Rattle.book_rows.specs.Row.{kind_of}
 use Rattle.std.specs.List.{AllByRecursion}
@@ -12,13 +12,14 @@ use Rattle.book_undo.proofs.BookLaws.{currency-with}
 use Rattle.book_rows.specs.declared.head.Head.{Head}
 use Rattle.book_rows.specs.declared.record.Record.{Record}
 use Rattle.book_rows.specs.declared.record.Record.TheVariants as kept
-use Rattle.book_opening.specs.BookRows.{back_records, behind_head, forth_records, records_of, row_of, rows_of, things_of}
-use Rattle.book_opening.specs.FirstOdd.{IsFirstOdd}
+use Rattle.book_opening.specs.BookRows.{back_records, behind_head, forth_records, records_of, row_of, rows_of}
+use Rattle.book_opening.specs.BookRows.{things_of}
 use Rattle.book_opening.specs.Item.{record_of_item, with_item}
-use Rattle.book_opening.specs.Opening.{Answers, Begins, IsBadFor, IsBadHead, IsBadThing, IsLeastBad, IsNoRecord}
+use Rattle.book_opening.specs.Opening.{Begins, IsBadFor, IsBadHead, IsBadThing, IsLeastBad, IsNoRecord}
 use Rattle.book_opening.specs.Opening.{IsOnlyRecord, IsOpened, OpenAs, WasRead, head_key}
 use Rattle.book_opening.specs.Reading.{IsBegun, IsFirstBad, IsWhole, bad_key}
 use Rattle.book_opening.specs.State.{State, head_of, state_of}
+use Rattle.book_opening.specs.Steps.{AreCounted}
 use Rattle.book_opening.specs.declared.fault.OpenFault.{OpenFault}
 use Rattle.book_opening.specs.declared.fault.OpenFault.TheVariants as fault
 use Rattle.book_opening.specs.declared.item.Item.{Item}
@@ -213,6 +214,12 @@ whole_read s (Ok saved) whole only =
     subst (λ (x : State). AllByRecursion IsOnlyRecord (records_of x)) (sym whole.0) only
 whole_read s (Err error) whole only = tt
 
+pub whole_counted :
+    (s : State) (result : Result Saved OpenFault) → IsWhole s result
+    → IfOk result (λ saved. AreCounted (state_of saved))
+whole_counted s (Ok saved) whole = subst AreCounted (sym whole.0) whole.1
+whole_counted s (Err error) whole = tt
+
 -- Where they are those of the state, they open as it.
 pub whole_rows :
     {Known : Type 0} (Held : List Row → Type 0) (s : State) (result : Result Saved OpenFault) (head : Head)
@@ -238,12 +245,12 @@ whole_bad_for Held s (Err error) head whole same only rise are = λ known rows h
 
 -- ---- the next row is bad
 pub next_bad :
-    (rows : List Row) (last : ℕ) (row : Row) (s : State) (first : RowKey) → Rises rows
+    (rows : List Row) (last : ℕ) (row : Row) (s : State) (first : RowKey) (error : OpenFault) → Rises rows
     → first_above last rows ≡ Some row → up_to last rows ≡ rows_of s → AllByRecursion IsOnlyRecord (records_of s)
     → Begins rows (head_of s) → IsNoRecord row → IsFirstBad s row.key first
-    → IsBadFor rows (fault.BadRows first.kind first.id)
-next_bad rows last row s first rise next so_far only begins none is =
-    part_bad rows last row s first rise next so_far only begins none is
+    → error ≡ fault.BadRows first.kind first.id → IsBadFor rows error
+next_bad rows last row s first error rise next so_far only begins none is same =
+    subst (IsBadFor rows) (sym same) (part_bad rows last row s first rise next so_far only begins none is)
 
 -- What a row of kind 1 stands for is a head.
 pub first_kind : (it : Record) → kind_of it ≤ 1 → (head : Head) × (it ≡ kept.Head head)

@@ -1,8 +1,9 @@
 -- The records of a state behind its head: what a thing or a step that is put or taken out changes of them.
-use Rattle.std.proofs.Common.{◌≡◌, ℕ, suc, ◌+◌, ◌*◌, ◌^◌, ◌<◌, ◌≤◌, List, [], ◌∷◌, ◌++◌, map, refl, sym, ap, ◌∙◌, arith}
+use Rattle.std.proofs.Common.{◌≡◌, ℕ, ◌+◌, ◌*◌, ◌^◌, ◌<◌, ◌≤◌, List, [], ◌∷◌, ◌++◌, refl, sym, ap, ◌∙◌}
+use Rattle.std.proofs.Common.{arith}
 use Rattle.std.specs.List.{AllByRecursion}
 use Rattle.book_commodity.specs.Table.{Rises, with_entry, without_entry}
-use Rattle.book_undo.specs.Book.{Book, IsRising, with_thing, without_thing}
+use Rattle.book_undo.specs.Book.{Book, IsRising, without_thing}
 use Rattle.book_undo.specs.Thing.{kind_of as thing_kind, row_kind}
 use Rattle.book_undo.specs.declared.edit.Edit.{Edit}
 use Rattle.book_undo.specs.declared.thing.Thing.{Thing}
@@ -123,7 +124,8 @@ put_back :
     (n : ℕ) (e : Edit) (s : State) → n < 2 ^ 62 → AllByRecursion IsSmall (behind_head s)
     → put_in rank_of (n, kept.Back e) (behind_head s) ≡ behind_head (with_item n (item.Back e) s)
 put_back n e s small all =
-    put_pass rank_of (n, kept.Back e) (things_of s.book) (steps_of s) (things_before s (back_edge + n) all (omega arith))
+    put_pass rank_of (n, kept.Back e) (things_of s.book) (steps_of s)
+    (things_before s (back_edge + n) all (omega arith))
     ∙ ap (λ (l : List (ℕ × Record)). things_of s.book ++ l)
     (put_stop rank_of (n, kept.Back e) (back_records s.back) (forth_records s.forth)
     (forth_above s (back_edge + n) (omega (arith, small)))
@@ -189,7 +191,8 @@ pub take_back :
     (n : ℕ) (s : State) → n < 2 ^ 62 → AllByRecursion IsSmall (behind_head s)
     → take_out rank_of (11 * 2 ^ 64 + n) (behind_head s) ≡ behind_head (without_back n s)
 take_back n s small all =
-    take_pass rank_of (back_edge + n) (things_of s.book) (steps_of s) (things_before s (back_edge + n) all (omega arith))
+    take_pass rank_of (back_edge + n) (things_of s.book) (steps_of s)
+    (things_before s (back_edge + n) all (omega arith))
     ∙ ap (λ (l : List (ℕ × Record)). things_of s.book ++ l)
     (take_stop rank_of (back_edge + n) (back_records s.back) (forth_records s.forth)
     (forth_above s (back_edge + n) (omega (arith, small)))

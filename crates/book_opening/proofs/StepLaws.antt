@@ -1,6 +1,7 @@
 -- Which steps the rows of a state have, and which is the first that is missing or not counted.
-use Rattle.std.proofs.Common.{◌≡◌, ℕ, ◌+◌, ◌<◌, ◌≤◌, ◌==◌, ◌&&◌, ◌||◌, nat_lt, Bool, true, false, List, [], ◌∷◌, ◌++◌, map}
-use Rattle.std.proofs.Common.{Option, Some, None, is_some, if◌then◌else◌, inl, inr, refl, sym, ap, ◌∙◌, subst, arith}
+use Rattle.std.proofs.Common.{◌≡◌, ℕ, ◌<◌, ◌≤◌, ◌==◌, ◌&&◌, ◌||◌, nat_lt, Bool, true, false, List, [], ◌∷◌, ◌++◌}
+use Rattle.std.proofs.Common.{map}
+use Rattle.std.proofs.Common.{Option, Some, is_some, if◌then◌else◌, inl, inr, refl, sym, ap, ◌∙◌, subst, arith}
 use Rattle.std.proofs.lemmas.Bool.Decides.{nat_tests}
 use Rattle.std.specs.List.{AllByRecursion}
 use Rattle.book_commodity.specs.Table.{value_of}
@@ -12,7 +13,8 @@ use Rattle.book_rows.specs.Row.{StandsFor, kind_of}
 use Rattle.book_rows.specs.declared.head.Head.{Head}
 use Rattle.book_rows.specs.declared.record.Record.{Record}
 use Rattle.book_rows.specs.declared.record.Record.TheVariants as kept
-use Rattle.book_opening.specs.BookRows.{back_records, behind_head, forth_records, records_of, row_of, rows_of, things_of}
+use Rattle.book_opening.specs.BookRows.{back_records, behind_head, forth_records, records_of, row_of, rows_of}
+use Rattle.book_opening.specs.BookRows.{things_of}
 use Rattle.book_opening.specs.FirstOdd.{IsFirstOdd}
 use Rattle.book_opening.specs.Opening.{Begins, CanBeRow, IsBad, IsLeastBad, IsNoRecord, IsOnlyRecord, OpenAs, head_key}
 use Rattle.book_opening.specs.Reading.{IsFirstBad}
@@ -46,7 +48,8 @@ stands_joined key xs ys = ap (stands_at key) (map_both xs ys) ∙ stands_both ke
 
 -- no thing stands at the key of a step
 no_thing :
-    (key : RowKey) (es : List (ℕ × Record)) → is_step key ≡ true → AllByRecursion (λ e. (2 ≤ kind_of e.1) × (kind_of e.1 ≤ 10)) es
+    (key : RowKey) (es : List (ℕ × Record)) → is_step key ≡ true
+    → AllByRecursion (λ e. (2 ≤ kind_of e.1) × (kind_of e.1 ≤ 10)) es
     → stands_at key (map row_of es) ≡ false
 no_thing key [] step low = refl
 no_thing key (e ∷ es) step low =
@@ -196,7 +199,8 @@ part_bad rows n row s first rise next so_far only begins none (inl own) =
     subst (IsLeastBad rows) (sym own.0)
     (bad_next n rows row rise next (good_state (up_to n rows) s so_far only) (has_head rows (head_of s) begins) none
     (λ other odd. low_or (rank row.key) (rank other)
-    (λ less. even_not rows s other rise begins only.0 (stands other less odd.step) (λ fits. own.1 fits other less) odd)))
+    (λ less. even_not rows s other rise begins only.0 (stands other less odd.step)
+    (λ fits. own.1 fits other less) odd)))
 part_bad rows n row s first rise next so_far only begins none (inr step) =
     let stands : (k : RowKey) → rank k < rank row.key → is_step k ≡ true → stands_at k rows ≡ has_step s k =
     (λ k low is. stands_up_to n k rows row rise next low ∙ ap (stands_at k) so_far ∙ state_stands s k is) in

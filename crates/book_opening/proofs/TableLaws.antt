@@ -11,7 +11,8 @@ use Rattle.book_undo.specs.declared.edit.Edit.{Edit}
 use Rattle.book_rows.specs.EditBytes.{edit_bytes, IsEdit}
 use Rattle.book_rows.specs.Row.{IsRecord, fields_of, kind_of}
 use Rattle.book_rows.specs.declared.record.Record.{Record}
-use Rattle.book_opening.specs.BookRows.{back_records, forth_records, record_of, records_in, row_of, tables_of, things_of}
+use Rattle.book_opening.specs.BookRows.{back_records, forth_records, record_of, records_in, row_of, tables_of}
+use Rattle.book_opening.specs.BookRows.{things_of}
 use Rattle.book_opening.specs.Changes.{AreRecords, entry_put, puts_of}
 use Rattle.book_opening.proofs.Ranked.{all_both, joined}
 use Rattle.book_commodity.proofs.ListLemmas.{drop_at, mapped_some}

@@ -1,5 +1,5 @@
 -- What rows open as: the state whose rows they are, or a key at which they are bad.
-use Rattle.std.specs.Prelude.{ℕ, ◌≡◌, ◌≤◌, ◌<◌, ◌⊎◌, ⊤, Bool, IsTrue, List, [], ◌∷◌, Option, Some, None, Result, Ok}
+use Rattle.std.specs.Prelude.{ℕ, ◌≡◌, ◌≤◌, ◌<◌, ◌⊎◌, ⊤, Bool, IsTrue, List, [], Option, Some, None, Result, Ok}
 use Rattle.std.specs.Prelude.{Err, OnOk, IfErr}
 use Rattle.std.specs.List.{AllByRecursion}
 use Rattle.book_keeper.specs.Faults.{Rose}

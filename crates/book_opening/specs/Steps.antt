@@ -1,5 +1,6 @@
 -- Which steps rows have to have: those that their head counts, and no others.
-use Rattle.std.specs.Prelude.{ℕ, ◌≡◌, ◌≢◌, ◌+◌, ◌-◌, ◌==◌, nat_lt, not, Bool, true, false, ◌&&◌, ◌||◌, ◌⊎◌, List, [], ◌∷◌}
+use Rattle.std.specs.Prelude.{ℕ, ◌≡◌, ◌≢◌, ◌+◌, ◌-◌, ◌==◌, nat_lt, not, Bool, true, false, ◌&&◌, ◌||◌, ◌⊎◌, List, []}
+use Rattle.std.specs.Prelude.{◌∷◌}
 use Rattle.std.specs.Prelude.{is_some}
 use Rattle.book_commodity.specs.Table.{value_of}
 use Rattle.book_keeper.specs.declared.row.Row.{Row}

@@ -6,11 +6,13 @@ ghost use Rattle.book_keeper.specs.declared.row.Row.{Row as HeldRow};
 ghost use Rattle.book_undo.specs.Book.{empty_book};
 ghost use Rattle.book_rows.specs.Row.{IsWithin, kind_of};
 ghost use Rattle.book_opening.specs.BookRows.{records_of, row_of, rows_of};
+ghost use Rattle.book_opening.specs.Changes.{IsShallow};
 ghost use Rattle.book_opening.specs.Item.{record_of_item, with_item};
 ghost use Rattle.book_opening.specs.Opening.{Answers, Begins, HasOpenCause, IsBadFor, IsBadHead, IsBadThing};
 ghost use Rattle.book_opening.specs.Opening.{IsOnlyRecord, IsOpened, OpenAs, WasRead, head_key};
 ghost use Rattle.book_opening.specs.Reading.{IsBegun, IsFirstBad, IsReadable, IsWhole, bad_key};
 ghost use Rattle.book_opening.specs.State.{State, state_of, head_of};
+ghost use Rattle.book_opening.specs.Steps.{AreCounted};
 
 use crate::item::Item;
 use crate::steps::first_odd;
@@ -135,6 +137,7 @@ fn read_behind<K: Keeper>(alloc: Global, keeper: &mut K, state: Saved) -> Result
     ensures keeper { WasRead K.path_given K.sure K.holds keeper.old keeper.new }
     ensures head { IfOk result (λ saved. head_of (state_of saved) ≡ head_of (state_of state)) }
     ensures read { IfOk result (λ saved. AllByRecursion IsOnlyRecord (records_of (state_of saved))) }
+    ensures counted { IfOk result (λ saved. AreCounted (state_of saved)) }
     ensures rows { IfOk result (λ saved. IsTrue (K.sure keeper.new) → (rows : List HeldRow) → K.holds keeper.old rows
         → Begins rows (head_of (state_of state)) → OpenAs rows (state_of saved)) }
     ensures bad { IfErr result (λ fault. IsTrue (K.sure keeper.new) → (rows : List HeldRow)
@@ -152,7 +155,8 @@ fn read_behind<K: Keeper>(alloc: Global, keeper: &mut K, state: Saved) -> Result
         let item = match read_item(alloc, &row) {
             Ok(item) => item,
             Err(OpenFault::BadRows { .. }) => return Err(bad(first_bad(&saved, row.key))),
-            Err(fault) => return Err(fault),
+            Err(OpenFault::OutOfMemory) => return Err(OpenFault::OutOfMemory),
+            Err(OpenFault::Keeper) => unreachable!(),
         };
         let Ok(()) = item.put(row.key.id, &mut saved) else {
             return Err(OpenFault::OutOfMemory);

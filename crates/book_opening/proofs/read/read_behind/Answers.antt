@@ -1,12 +1,11 @@
 -- One row more; or none is left, or it is bad.
-use Rattle.std.proofs.Common.{Ok, Err, sym, ap, subst, ◌∙◌, refl, arith}
+use Rattle.std.proofs.Common.{sym, ◌∙◌, refl, arith}
 use Rattle.book_keeper.specs.Rows.{rank}
-use Rattle.book_keeper.specs.declared.row.Row.{Row}
-use Rattle.book_rows.specs.declared.head.Head.{Head}
-use Rattle.book_opening.specs.Opening.{Begins}
 use Rattle.book_opening.specs.State.{head_of, state_of}
-use Rattle.book_opening.proofs.ReadLaws.{bad_thing, begins_as, last_rows, next_bad, next_head, next_read, next_rows, read_more}
-use Rattle.book_opening.proofs.ReadLaws.{read_none, start_rows, unread_bad, whole_bad_for, whole_head, whole_read, whole_rows}
+use Rattle.book_opening.proofs.ReadLaws.{bad_thing, begins_as, last_rows, next_bad, next_head, next_read, next_rows}
+use Rattle.book_opening.proofs.ReadLaws.{read_more}
+use Rattle.book_opening.proofs.ReadLaws.{read_none, start_rows, unread_bad, whole_bad_for, whole_counted}
+use Rattle.book_opening.proofs.ReadLaws.{whole_head, whole_read, whole_rows}
 use Rattle.book_opening.proofs.read.read_behind.Goals as goal
 
 pub rows-init : goal.rows-init
@@ -17,7 +16,8 @@ rows-init g c = record {
   keeper = read_none g.K.Keeper.path_given g.K.Keeper.sure g.K.Keeper.holds c.args.keeper.now;
   count = refl;
   rows = λ known rows held begins.
-      start_rows rows (state_of c.args.state) c.requires.begun (g.met.K.Keeper.rising c.args.keeper.now rows held) begins;
+      start_rows rows (state_of c.args.state) c.requires.begun
+      (g.met.K.Keeper.rising c.args.keeper.now rows held) begins;
 }
 
 pub rows-preserved : goal.rows-preserved
@@ -59,6 +59,9 @@ pub returns-in-Ok-None-clause-read : goal.returns-in-Ok-None-clause-read
 returns-in-Ok-None-clause-read g c =
     whole_read (state_of c.rows.saved) c.whole.result c.whole.ensures c.rows.invariant.read
 
+pub returns-in-Ok-None-clause-counted : goal.returns-in-Ok-None-clause-counted
+returns-in-Ok-None-clause-counted g c = whole_counted (state_of c.rows.saved) c.whole.result c.whole.ensures
+
 pub returns-in-Ok-None-clause-rows : goal.returns-in-Ok-None-clause-rows
 returns-in-Ok-None-clause-rows g c =
     let before = state_of c.rows.saved in
@@ -85,4 +88,20 @@ returns-in-Ok-None-clause-bad g c =
     (c.rows.invariant.rows still rows held begins))
 
 pub returns-in-Err-clause-bad : goal.returns-in-Err-clause-bad
-returns-in-Err-clause-bad g c = λ known rows held begins. unread_bad rows c.keeper_fault.result c.keeper_fault.ensures.unread
+returns-in-Err-clause-bad g c = λ known rows held begins.
+    unread_bad rows c.keeper_fault.result c.keeper_fault.ensures.unread
+
+pub returns-in-Err-BadRows-clause-bad : goal.returns-in-Err-BadRows-clause-bad
+returns-in-Err-BadRows-clause-bad g c = λ known rows held begins.
+    let row = c.in-Ok-Some.row in
+    let before = state_of c.rows.saved in
+    let still = c.in-Ok-Some.ensures.sure known in
+    let now = c.rows.invariant.keeper.same_rows still rows held in
+    let fault = c.in-Err-BadRows in
+    next_bad rows (rank c.rows.last) row before c.first_bad.result c.bad.result
+    (g.met.K.Keeper.rising c.args.keeper.now rows held)
+    (sym (c.in-Ok-Some.ensures.found known rows now) ∙ c.in-Ok-Some.field-0-is)
+    (c.rows.invariant.rows still rows held begins) c.rows.invariant.read
+    (begins_as rows before (head_of (state_of c.args.state)) c.rows.invariant.head begins)
+    (bad_thing row fault.field-0 fault.field-0-0 fault.field-0-1 fault.field-0-is fault.ensures.bad)
+    c.first_bad.ensures c.bad.ensures

@@ -2,7 +2,8 @@
 use Rattle.std.proofs.Common.{Some, ap, sym, ◌∙◌}
 use Rattle.book_keeper.specs.declared.row.Row.{Row}
 use Rattle.book_opening.specs.State.{state_of}
-use Rattle.book_opening.proofs.ReadLaws.{bad_start, begins_as, start_read, unread_bad, unread_opens}
+use Rattle.book_opening.proofs.KeptSteps.{only_can}
+use Rattle.book_opening.proofs.ReadLaws.{bad_start, begins_as, unread_bad, unread_opens}
 use Rattle.book_opening.proofs.OpenLaws.{bad_answers, bad_opens, only_state, start_opens}
 use Rattle.book_opening.proofs.read.read_rows.Goals as goal
 
@@ -18,12 +19,13 @@ pub returns-in-Err-read_head-clause-answer : goal.returns-in-Err-read_head-claus
 returns-in-Err-read_head-clause-answer g c = λ known rows held.
     bad_answers rows c.in-Err-read_head.fault
     (bad_start rows c.in-Ok-Some.row c.in-Err-read_head.fault (g.met.K.Keeper.rising c.args.keeper.now rows held)
-    (sym (c.in-Ok-Some.ensures.found known rows held) ∙ c.in-Ok-Some.field-0-is) c.in-Err-read_head.ensures)
+    (sym (c.in-Ok-Some.ensures.found known rows held) ∙ c.in-Ok-Some.field-0-is) c.in-Err-read_head.ensures.bad)
 
 pub returns-in-Err-read_head-clause-again : goal.returns-in-Err-read_head-clause-again
 returns-in-Err-read_head-clause-again g c = λ known rows held state opens.
     start_opens rows state c.in-Ok-Some.row c.in-Err-read_head.fault
-    (sym (c.in-Ok-Some.ensures.found known rows held) ∙ c.in-Ok-Some.field-0-is) opens c.in-Err-read_head.ensures
+    (sym (c.in-Ok-Some.ensures.found known rows held) ∙ c.in-Ok-Some.field-0-is) opens
+    c.in-Err-read_head.ensures.bad
 
 pub returns-in-Ok-read_behind-clause-answer : goal.returns-in-Ok-read_behind-clause-answer
 returns-in-Ok-read_behind-clause-answer g c = λ known rows held.
@@ -42,9 +44,12 @@ returns-in-Ok-read_behind-clause-again g c = λ known rows held state opens.
     (first ∙ ap (λ (r : Row). Some r) c.in-Ok.ensures.found)) in
     only_state rows (state_of c.in-Ok-read_behind.saved) state mine.are c.in-Ok-read_behind.ensures.read opens
 
--- the head that was read has numbers of a row
-pub returns-in-Ok-read_behind-clause-within : goal.returns-in-Ok-read_behind-clause-within
-returns-in-Ok-read_behind-clause-within g c = c.in-Ok-read_behind.ensures.read.0.0.1.1
+-- what was read has spellings, and steps that the head counts
+pub returns-in-Ok-read_behind-clause-readable : goal.returns-in-Ok-read_behind-clause-readable
+returns-in-Ok-read_behind-clause-readable g c = record {
+  spelled = only_can (state_of c.in-Ok-read_behind.saved) c.in-Ok-read_behind.ensures.read;
+  counted = c.in-Ok-read_behind.ensures.counted;
+}
 
 pub returns-clause-answer : goal.returns-clause-answer
 returns-clause-answer g c = λ known rows held.

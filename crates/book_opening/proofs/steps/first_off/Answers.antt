@@ -1,11 +1,12 @@
 -- Entry by entry.
-use Rattle.std.proofs.Common.{◌≡◌, ℕ, ◌+◌, ◌<◌, List, [], ◌∷◌, Option, Some, None, inl, inr, sym, subst, arith, drop}
+use Rattle.std.proofs.Common.{◌≡◌, ℕ, ◌+◌, List, [], ◌∷◌, Option, Some, None, inl, inr, sym, subst, arith, drop}
 use Rattle.book_commodity.proofs.ListLemmas.{from-item}
 use Rattle.std.proofs.lemmas.List.{drop_all}
 use Rattle.book_commodity.specs.Table.{Rises}
 use Rattle.book_undo.specs.declared.edit.Edit.{Edit}
 use Rattle.book_opening.specs.FirstOdd.{IsFirstOff}
-use Rattle.book_opening.proofs.FirstOff.{less_of, none_within, off_end, off_end_missing, off_extra, off_missing, off_next}
+use Rattle.book_opening.proofs.FirstOff.{less_of, none_within, off_end, off_end_missing, off_extra, off_missing}
+use Rattle.book_opening.proofs.FirstOff.{off_next}
 use Rattle.book_opening.proofs.FirstOff.{rises_left}
 use Rattle.book_opening.proofs.steps.first_off.Goals as goal
 use Rattle.book_opening.proofs.steps.first_off.Goals.{then-expected-end-via-then-expected-end}
@@ -71,7 +72,8 @@ returns-then-expected-end-2 c =
     let es = c.args.entries.now in
     let none : drop c.loop-entry.entry-index es ≡ [] = drop_all c.loop-entry.entry-index es c.loop-entry-test.false in
     c.loop-entry.invariant.first (Some c.loop-entry.expected)
-    (subst (λ (l : List (ℕ × Edit)). IsFirstOff l c.loop-entry.expected c.args.end (Some c.loop-entry.expected)) (sym none)
+    (subst
+    (λ (l : List (ℕ × Edit)). IsFirstOff l c.loop-entry.expected c.args.end (Some c.loop-entry.expected)) (sym none)
     (off_end_missing Edit c.loop-entry.expected c.args.end c.if-expected-end-2.true))
 
 pub returns-else-expected-end-2 : goal.returns-else-expected-end-2
