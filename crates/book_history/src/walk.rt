@@ -1,6 +1,8 @@
-ghost use Rattle.std.specs.Prelude.{◌≡◌, None, IfOk, reverse};
+ghost use Rattle.std.specs.Prelude.{◌≡◌, ⊤, true, MatchOption, None, IfOk, OnOk, reverse};
 ghost use Rattle.book_undo.specs.Book.{book_of};
-ghost use Rattle.book_history.specs.Steps.{AreSound, first_fault, is_broken};
+ghost use Rattle.book_undo.specs.Edit.{edited};
+ghost use Rattle.book_undo.specs.EditRules.{IsAllowed};
+ghost use Rattle.book_history.specs.Steps.{AreSound, IsStepOn, first_fault, is_broken};
 
 use book_check::first_unsound;
 use book_commodity::OutOfMemory;
@@ -8,7 +10,7 @@ use book_undo::{Edit, Plain};
 use std::alloc::Global;
 
 /// The number of the first step back that is broken, asked from the last one to the first; `None` where all are sound,
-/// and then the book is as it was.
+/// and then the book is as it was. Where one is broken, or memory runs out, the book is one on the way.
 pub fn first_fault_back(
     alloc: Global,
     plain: &mut Plain,
@@ -22,12 +24,70 @@ pub fn first_fault_back(
     let Some((step, nearer)) = steps.split_last() else {
         return Ok(None);
     };
-    let Some(inverse) = step_on(alloc, plain, next, &step.1)? else {
+    let Some(forth) = step_on(alloc, plain, next, &step.1)? else {
         return Ok(Some(step.0));
     };
     if let Some(fault) = first_fault_back(alloc, plain, next, nearer)? {
         return Ok(Some(fault));
     }
-    step_back(plain, inverse)?;
+    go(plain, forth)?;
     Ok(None)
+}
+
+/// The number of the first step forth that is broken, asked from the first one to the last; `None` where all are sound,
+/// and then the book is as it was. Where one is broken, or memory runs out, the book is one on the way.
+pub fn first_fault_forth(
+    alloc: Global,
+    plain: &mut Plain,
+    next: u64,
+    steps: &[(u64, Edit)],
+) -> Result<Option<u64>, OutOfMemory>
+    ensures fault { IfOk result (λ fault. fault ≡ first_fault next steps.now (book_of plain.old)) }
+    ensures sound { IfOk result (λ fault. fault ≡ None → AreSound next steps.now (book_of plain.old)) }
+    ensures same { IfOk result (λ fault. fault ≡ None → book_of plain.new ≡ book_of plain.old) }
+{
+    let Some((step, further)) = steps.split_first() else {
+        return Ok(None);
+    };
+    let Some(back) = step_on(alloc, plain, next, &step.1)? else {
+        return Ok(Some(step.0));
+    };
+    if let Some(fault) = first_fault_forth(alloc, plain, next, further)? {
+        return Ok(Some(fault));
+    }
+    go(plain, back)?;
+    Ok(None)
+}
+
+/// Takes one step, where it is sound, and gives the edit that leads back; `None` where it is broken.
+fn step_on(
+    alloc: Global,
+    plain: &mut Plain,
+    next: u64,
+    edit: &Edit,
+) -> Result<Option<Edit>, OutOfMemory>
+    ensures { IfOk result (λ back. MatchOption back
+        (is_broken next (book_of plain.old) edit.now ≡ true)
+        (λ inverse. IsStepOn next (book_of plain.old) edit.now inverse (book_of plain.new))) }
+{
+    if plain.check_edit(edit).is_err() {
+        return Ok(None);
+    }
+    let inverse = plain.inverse(alloc, edit)?;
+    go(plain, edit.copy(alloc)?)?;
+    if first_unsound(alloc, plain, next)?.is_some() {
+        return Ok(None);
+    }
+    Ok(Some(inverse))
+}
+
+/// Takes the memory that the edit needs, and makes the book to which it leads.
+#[tactic(auto, using(book_undo::proofs::InverseLaws::allowed_depth))]
+fn go(plain: &mut Plain, edit: Edit) -> Result<(), OutOfMemory>
+    requires { IsAllowed (book_of plain.old) edit }
+    ensures { OnOk result (book_of plain.new ≡ edited edit (book_of plain.old)) }
+{
+    plain.reserve_for(&edit)?;
+    plain.apply(edit);
+    Ok(())
 }
