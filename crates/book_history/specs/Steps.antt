@@ -26,10 +26,17 @@ abbrev pub AreSound : ℕ → List (ℕ × Edit) → Book → Type 0
 AreSound next [] book = ⊤
 AreSound next (step ∷ steps) book = IsSoundStep next book step.1 × AreSound next steps (edited step.1 book)
 
+-- Whether a book is not sound, or has a number that is not below the next.
+unfoldable pub is_unsound : ℕ → Book → Bool
+is_unsound next book = is_some (first_unsound book next)
+
+-- Whether an edit may not be applied to a book.
+unfoldable pub is_refused : Book → Edit → Bool
+is_refused book edit = is_some (first_broken (edit_rules book edit))
+
 -- Whether an edit is no sound step from a book.
-unfoldable pub is_broken : ℕ → Book → Edit → Bool
-is_broken next book edit =
-    is_some (first_broken (edit_rules book edit)) || is_some (first_unsound (edited edit book) next)
+abbrev pub is_broken : ℕ → Book → Edit → Bool
+is_broken next book edit = is_refused book edit || is_unsound next (edited edit book)
 
 -- The number of the first of the steps that is broken. Beyond it no step is asked.
 abbrev pub first_fault : ℕ → List (ℕ × Edit) → Book → Option ℕ

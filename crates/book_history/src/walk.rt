@@ -1,8 +1,10 @@
-ghost use Rattle.std.specs.Prelude.{◌≡◌, ⊤, true, MatchOption, None, IfOk, OnOk, reverse};
+ghost use Rattle.std.specs.Prelude.{◌≡◌, not, true, IsTrue, MatchOption, None, IfOk, OnOk, reverse};
+ghost use Rattle.book_sound.specs.Soundness.{AreDrawn, IsSoundBook};
 ghost use Rattle.book_undo.specs.Book.{book_of};
 ghost use Rattle.book_undo.specs.Edit.{edited};
 ghost use Rattle.book_undo.specs.EditRules.{IsAllowed};
-ghost use Rattle.book_history.specs.Steps.{AreSound, IsStepOn, first_fault, is_broken};
+ghost use Rattle.book_undo.specs.Inverse.{LeadsBack};
+ghost use Rattle.book_history.specs.Steps.{AreSound, IsStepOn, first_fault, is_broken, is_refused, is_unsound};
 
 use book_check::first_unsound;
 use book_commodity::OutOfMemory;
@@ -70,15 +72,53 @@ fn step_on(
         (is_broken next (book_of plain.old) edit.now ≡ true)
         (λ inverse. IsStepOn next (book_of plain.old) edit.now inverse (book_of plain.new))) }
 {
-    if plain.check_edit(edit).is_err() {
+    if !is_allowed(plain, edit) {
         return Ok(None);
     }
+    let inverse = pass(alloc, plain, edit)?;
+    if is_sound(alloc, plain, next)? {
+        Ok(Some(inverse))
+    } else {
+        drop(inverse);
+        Ok(None)
+    }
+}
+
+/// Makes the book to which the edit leads, and gives the edit that leads back.
+fn pass(alloc: Global, plain: &mut Plain, edit: &Edit) -> Result<Edit, OutOfMemory>
+    requires { IsAllowed (book_of plain.old) edit.now }
+    ensures back { IfOk result (λ inverse. LeadsBack (book_of plain.old) edit.now inverse) }
+    ensures book { OnOk result (book_of plain.new ≡ edited edit.now (book_of plain.old)) }
+{
     let inverse = plain.inverse(alloc, edit)?;
-    go(plain, edit.copy(alloc)?)?;
-    if first_unsound(alloc, plain, next)?.is_some() {
-        return Ok(None);
-    }
-    Ok(Some(inverse))
+    pass_copy(alloc, plain, edit)?;
+    Ok(inverse)
+}
+
+/// Makes the book to which the edit leads, which stays as it is.
+fn pass_copy(alloc: Global, plain: &mut Plain, edit: &Edit) -> Result<(), OutOfMemory>
+    requires { IsAllowed (book_of plain.old) edit.now }
+    ensures { OnOk result (book_of plain.new ≡ edited edit.now (book_of plain.old)) }
+{
+    let copy = edit.copy(alloc)?;
+    go(plain, copy)
+}
+
+/// Whether the edit may be applied to the book.
+fn is_allowed(plain: &Plain, edit: &Edit) -> bool
+    ensures told { is_refused (book_of plain.now) edit.now ≡ not result }
+    ensures allowed { IsTrue result → IsAllowed (book_of plain.now) edit.now }
+{
+    plain.check_edit(edit).is_ok()
+}
+
+/// Whether the book is sound, and all its numbers are below the next.
+fn is_sound(alloc: Global, plain: &Plain, next: u64) -> Result<bool, OutOfMemory>
+    ensures told { IfOk result (λ sound. is_unsound next (book_of plain.now) ≡ not sound) }
+    ensures sound { IfOk result (λ sound. IsTrue sound → IsSoundBook (book_of plain.now)) }
+    ensures drawn { IfOk result (λ sound. IsTrue sound → AreDrawn (book_of plain.now) next) }
+{
+    Ok(first_unsound(alloc, plain, next)?.is_none())
 }
 
 /// Takes the memory that the edit needs, and makes the book to which it leads.
