@@ -13,6 +13,7 @@ use std::alloc::Global;
 
 /// The number of the first step back that is broken, asked from the last one to the first; `None` where all are sound,
 /// and then the book is as it was. Where one is broken, or memory runs out, the book is one on the way.
+#[tactic(auto, using(crate::proofs::WalkLemmas::reversed))]
 pub fn first_fault_back(
     alloc: Global,
     plain: &mut Plain,
@@ -29,11 +30,8 @@ pub fn first_fault_back(
     let Some(forth) = step_on(alloc, plain, next, &step.1)? else {
         return Ok(Some(step.0));
     };
-    if let Some(fault) = first_fault_back(alloc, plain, next, nearer)? {
-        return Ok(Some(fault));
-    }
-    go(plain, forth)?;
-    Ok(None)
+    let fault = first_fault_back(alloc, plain, next, nearer)?;
+    step_back(plain, forth, fault)
 }
 
 /// The number of the first step forth that is broken, asked from the first one to the last; `None` where all are sound,
@@ -54,11 +52,8 @@ pub fn first_fault_forth(
     let Some(back) = step_on(alloc, plain, next, &step.1)? else {
         return Ok(Some(step.0));
     };
-    if let Some(fault) = first_fault_forth(alloc, plain, next, further)? {
-        return Ok(Some(fault));
-    }
-    go(plain, back)?;
-    Ok(None)
+    let fault = first_fault_forth(alloc, plain, next, further)?;
+    step_back(plain, back, fault)
 }
 
 /// Takes one step, where it is sound, and gives the edit that leads back; `None` where it is broken.
@@ -81,6 +76,28 @@ fn step_on(
     } else {
         drop(inverse);
         Ok(None)
+    }
+}
+
+/// Takes the step back by the inverse, where no fault was found further on.
+fn step_back(
+    plain: &mut Plain,
+    inverse: Edit,
+    fault: Option<u64>,
+) -> Result<Option<u64>, OutOfMemory>
+    requires { fault ≡ None → IsAllowed (book_of plain.old) inverse }
+    ensures fault { IfOk result (λ found. found ≡ fault) }
+    ensures book { OnOk result (fault ≡ None → book_of plain.new ≡ edited inverse (book_of plain.old)) }
+{
+    match fault {
+        Some(number) => {
+            drop(inverse);
+            Ok(Some(number))
+        }
+        None => {
+            go(plain, inverse)?;
+            Ok(None)
+        }
     }
 }
 
