@@ -4,7 +4,6 @@ use Rattle.std.proofs.Common.{refl, sym, ap, ◌∙◌, subst}
 use Rattle.std.specs.List.{AllByRecursion}
 use Rattle.std.proofs.lemmas.Bool.{or_from, or_parts}
 use Rattle.book_commodity.specs.Rules.{first_broken}
-use Rattle.book_sound.specs.Soundness.{IsSoundBook, AreDrawn}
 use Rattle.book_check.specs.FirstUnsound.{first_unsound}
 use Rattle.book_check.proofs.Unsound.{none_where_sound, sound_where_none}
 use Rattle.book_undo.specs.Book.{Book, IsRising}
@@ -13,7 +12,7 @@ use Rattle.book_undo.specs.EditRules.{edit_rules}
 use Rattle.book_undo.specs.declared.edit.Edit.{Edit}
 use Rattle.book_undo.proofs.EditLaws.{edited-leaves, rising_after_all}
 use Rattle.book_undo.proofs.InverseLaws.{allowed_depth}
-use Rattle.book_history.specs.Steps.{AreSound, IsSoundStep, first_fault, is_broken}
+use Rattle.book_history.specs.Steps.{AreSound, IsSoundStep, first_fault, is_broken, is_refused, is_unsound}
 
 none_of : {X : Type 0} (found : Option X) → is_some found ≡ false → found ≡ None
 none_of None e = refl
@@ -27,6 +26,7 @@ edited_rises edit book rise =
 pub unbroken_sound :
     (next : ℕ) (book : Book) (edit : Edit) → IsRising book → is_broken next book edit ≡ false
     → IsSoundStep next book edit
+unfolding is_refused is_unsound
 unbroken_sound next book edit rise e =
     let rules = first_broken (edit_rules book edit) in
     let key = first_unsound (edited edit book) next in
@@ -37,10 +37,10 @@ unbroken_sound next book edit rise e =
 -- And the other way round.
 pub sound_unbroken :
     (next : ℕ) (book : Book) (edit : Edit) → IsSoundStep next book edit → is_broken next book edit ≡ false
+unfolding is_refused is_unsound
 sound_unbroken next book edit is =
     or_from (is_some (first_broken (edit_rules book edit))) (is_some (first_unsound (edited edit book) next))
-    (ap is_some is.allowed)
-    (ap is_some (none_where_sound (edited edit book) next is.sound is.drawn))
+    (ap is_some is.allowed) (ap is_some (none_where_sound (edited edit book) next is.sound is.drawn))
 
 no_fault : (broken : Bool) (number : ℕ) (further : Option ℕ) → (if broken then Some number else further) ≡ None
     → (broken ≡ false) × (further ≡ None)
