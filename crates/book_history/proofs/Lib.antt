@@ -1,3 +1,4 @@
 pub mod ExactBack
+pub mod FaultLaws
 pub mod NumberLaws
 pub mod TurnLaws

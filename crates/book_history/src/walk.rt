@@ -1,13 +1,19 @@
-ghost use Rattle.std.specs.Prelude.{◌≡◌, None, IfOk, reverse};
+ghost use Rattle.std.specs.Prelude.{◌≡◌, not, true, IsTrue, MatchOption, None, IfOk, OnOk, reverse};
+ghost use Rattle.book_sound.specs.Soundness.{AreDrawn, IsSoundBook};
 ghost use Rattle.book_undo.specs.Book.{book_of};
-ghost use Rattle.book_history.specs.Steps.{AreSound, first_fault};
+ghost use Rattle.book_undo.specs.Edit.{edited};
+ghost use Rattle.book_undo.specs.EditRules.{IsAllowed};
+ghost use Rattle.book_undo.specs.Inverse.{LeadsBack};
+ghost use Rattle.book_history.specs.Steps.{AreSound, IsStepOn, first_fault, is_broken, is_refused, is_unsound};
 
 use book_check::first_unsound;
 use book_commodity::OutOfMemory;
 use book_undo::{Edit, Plain};
 use std::alloc::Global;
 
-/// sketch
+/// The number of the first step back that is broken, asked from the last one to the first; `None` where all are sound,
+/// and then the book is as it was. Where one is broken, or memory runs out, the book is one on the way.
+#[tactic(auto, using(crate::proofs::WalkLemmas::reversed))]
 pub fn first_fault_back(
     alloc: Global,
     plain: &mut Plain,
@@ -18,12 +24,18 @@ pub fn first_fault_back(
     ensures sound { IfOk result (λ fault. fault ≡ None → AreSound next (reverse steps.now) (book_of plain.old)) }
     ensures same { IfOk result (λ fault. fault ≡ None → book_of plain.new ≡ book_of plain.old) }
 {
-    let _ = first_unsound(alloc, plain, next)?;
-    let _ = steps.len();
-    Ok(None)
+    let Some((step, nearer)) = steps.split_last() else {
+        return Ok(None);
+    };
+    let Some(forth) = step_on(alloc, plain, next, &step.1)? else {
+        return Ok(Some(step.0));
+    };
+    let fault = first_fault_back(alloc, plain, next, nearer)?;
+    step_back(plain, forth, fault)
 }
 
-/// sketch
+/// The number of the first step forth that is broken, asked from the first one to the last; `None` where all are sound,
+/// and then the book is as it was. Where one is broken, or memory runs out, the book is one on the way.
 pub fn first_fault_forth(
     alloc: Global,
     plain: &mut Plain,
@@ -34,7 +46,105 @@ pub fn first_fault_forth(
     ensures sound { IfOk result (λ fault. fault ≡ None → AreSound next steps.now (book_of plain.old)) }
     ensures same { IfOk result (λ fault. fault ≡ None → book_of plain.new ≡ book_of plain.old) }
 {
-    let _ = first_unsound(alloc, plain, next)?;
-    let _ = steps.len();
-    Ok(None)
+    let Some((step, further)) = steps.split_first() else {
+        return Ok(None);
+    };
+    let Some(back) = step_on(alloc, plain, next, &step.1)? else {
+        return Ok(Some(step.0));
+    };
+    let fault = first_fault_forth(alloc, plain, next, further)?;
+    step_back(plain, back, fault)
+}
+
+/// Takes one step, where it is sound, and gives the edit that leads back; `None` where it is broken.
+fn step_on(
+    alloc: Global,
+    plain: &mut Plain,
+    next: u64,
+    edit: &Edit,
+) -> Result<Option<Edit>, OutOfMemory>
+    ensures { IfOk result (λ back. MatchOption back
+        (is_broken next (book_of plain.old) edit.now ≡ true)
+        (λ inverse. IsStepOn next (book_of plain.old) edit.now inverse (book_of plain.new))) }
+{
+    if !is_allowed(plain, edit) {
+        return Ok(None);
+    }
+    let inverse = pass(alloc, plain, edit)?;
+    if is_sound(alloc, plain, next)? {
+        Ok(Some(inverse))
+    } else {
+        drop(inverse);
+        Ok(None)
+    }
+}
+
+/// Takes the step back by the inverse, where no fault was found further on.
+fn step_back(
+    plain: &mut Plain,
+    inverse: Edit,
+    fault: Option<u64>,
+) -> Result<Option<u64>, OutOfMemory>
+    requires { fault ≡ None → IsAllowed (book_of plain.old) inverse }
+    ensures fault { IfOk result (λ found. found ≡ fault) }
+    ensures book { OnOk result (fault ≡ None → book_of plain.new ≡ edited inverse (book_of plain.old)) }
+{
+    match fault {
+        Some(number) => {
+            drop(inverse);
+            Ok(Some(number))
+        }
+        None => {
+            go(plain, inverse)?;
+            Ok(None)
+        }
+    }
+}
+
+/// Makes the book to which the edit leads, and gives the edit that leads back.
+fn pass(alloc: Global, plain: &mut Plain, edit: &Edit) -> Result<Edit, OutOfMemory>
+    requires { IsAllowed (book_of plain.old) edit.now }
+    ensures back { IfOk result (λ inverse. LeadsBack (book_of plain.old) edit.now inverse) }
+    ensures book { OnOk result (book_of plain.new ≡ edited edit.now (book_of plain.old)) }
+{
+    let inverse = plain.inverse(alloc, edit)?;
+    pass_copy(alloc, plain, edit)?;
+    Ok(inverse)
+}
+
+/// Makes the book to which the edit leads, which stays as it is.
+fn pass_copy(alloc: Global, plain: &mut Plain, edit: &Edit) -> Result<(), OutOfMemory>
+    requires { IsAllowed (book_of plain.old) edit.now }
+    ensures { OnOk result (book_of plain.new ≡ edited edit.now (book_of plain.old)) }
+{
+    let copy = edit.copy(alloc)?;
+    go(plain, copy)
+}
+
+/// Whether the edit may be applied to the book.
+fn is_allowed(plain: &Plain, edit: &Edit) -> bool
+    ensures told { is_refused (book_of plain.now) edit.now ≡ not result }
+    ensures allowed { IsTrue result → IsAllowed (book_of plain.now) edit.now }
+{
+    plain.check_edit(edit).is_ok()
+}
+
+/// Whether the book is sound, and all its numbers are below the next.
+fn is_sound(alloc: Global, plain: &Plain, next: u64) -> Result<bool, OutOfMemory>
+    ensures told { IfOk result (λ sound. is_unsound next (book_of plain.now) ≡ not sound) }
+    ensures sound { IfOk result (λ sound. IsTrue sound → IsSoundBook (book_of plain.now)) }
+    ensures drawn { IfOk result (λ sound. IsTrue sound → AreDrawn (book_of plain.now) next) }
+{
+    Ok(first_unsound(alloc, plain, next)?.is_none())
+}
+
+/// Takes the memory that the edit needs, and makes the book to which it leads.
+#[tactic(auto, using(book_undo::proofs::InverseLaws::allowed_depth))]
+fn go(plain: &mut Plain, edit: Edit) -> Result<(), OutOfMemory>
+    requires { IsAllowed (book_of plain.old) edit }
+    ensures { OnOk result (book_of plain.new ≡ edited edit (book_of plain.old)) }
+{
+    plain.reserve_for(&edit)?;
+    plain.apply(edit);
+    Ok(())
 }
