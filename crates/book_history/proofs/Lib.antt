@@ -2,3 +2,4 @@ pub mod ExactBack
 pub mod FaultLaws
 pub mod NumberLaws
 pub mod TurnLaws
+pub mod WalkLemmas
