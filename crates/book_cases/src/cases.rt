@@ -59,7 +59,7 @@ static ROWS: [Row; 6] = [
         r#"{"do":"account_add","name":"Bank","kind":"BANK","commodity":1,"parent":2}
 {"do":"account_add","name":"Salary","kind":"INCOME","commodity":1,"parent":2}
 {"do":"account_edit","account":3,"parent":3}
-{"do":"status","at":1}
+{"do":"mark","at":1}
 "#,
         r#"{"account":3,"ok":"account_add","version":1}
 {"account":4,"ok":"account_add","version":2}

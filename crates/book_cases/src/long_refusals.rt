@@ -96,7 +96,7 @@ static OF_ACCOUNTS: [Row; 14] = [
         r#"{"do":"account_drop","account":4,"colour":1}"#,
         r#"{"field":"colour","refused":"not command"}"#,
     ),
-    (r#"{"do":"undo"}"#, r#"{"refused":"not built"}"#),
+    (r#"{"do":"mark"}"#, r#"{"refused":"not built"}"#),
     (r#"{"do":}"#, r#"{"refused":"not json"}"#),
 ];
 

@@ -161,7 +161,7 @@ static ROWS: [Row; 6] = [
         r#"","splits":[{"account":3}]}"#,
         r#"{"field":"splits","refused":"not command"}"#,
     ),
-    (r#"","do":"undo"}"#, r#"{"refused":"not built"}"#),
+    (r#"","do":"mark"}"#, r#"{"refused":"not built"}"#),
     (r#"","#, r#"{"refused":"not json"}"#),
 ];
 

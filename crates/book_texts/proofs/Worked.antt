@@ -52,6 +52,13 @@ status_bytes : answer_bytes (Status 3 0 4 256 5 2 1) 300
 unfolding digits word_text serde_json_on_literals
 status_bytes = refl
 
+-- the status of a book with two accounts and a post
+paid_status_bytes : answer_bytes (Status 3 0 0 3 0 2 1) 3
+    ≡ codes "{\"accounts\":3,\"later\":0,\"lines\":0,\"ok\":\"status\",\"past\":3,"
+    ++ codes "\"recons\":0,\"splits\":2,\"transactions\":1,\"version\":3}"
+unfolding digits word_text serde_json_on_literals
+paid_status_bytes = refl
+
 nothing_undone_bytes : rule_bytes NothingToRedo 5 ≡ codes "{\"broken\":\"NothingToRedo\",\"version\":5}"
 unfolding digits serde_json_on_literals
 nothing_undone_bytes = refl

@@ -181,6 +181,18 @@ fn writes_answers_of_the_history(rt: HostRuntime) -> Result<(), OutOfMemory> {
     assert!(rt; answered(alloc, &Answer::Undo, 4, r#"{"ok":"undo","version":4}"#)?);
     assert!(rt; answered(alloc, &Answer::Redo, 5, r#"{"ok":"redo","version":5}"#)?);
     assert!(rt; answered(alloc, &counts, 300, status)?);
+    let paid = Answer::Status {
+        accounts: 3,
+        later: 0,
+        lines: 0,
+        past: 3,
+        recons: 0,
+        splits: 2,
+        transactions: 1,
+    };
+    let status = "{\"accounts\":3,\"later\":0,\"lines\":0,\"ok\":\"status\",\"past\":3,\
+         \"recons\":0,\"splits\":2,\"transactions\":1,\"version\":3}";
+    assert!(rt; answered(alloc, &paid, 3, status)?);
     Ok(())
 }
 
