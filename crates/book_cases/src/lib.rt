@@ -8,6 +8,8 @@ mod cases;
 #[cfg(test)]
 mod changes;
 #[cfg(test)]
+mod edited;
+#[cfg(test)]
 mod faults;
 #[cfg(test)]
 mod flushed;

@@ -24,7 +24,8 @@ pub(crate) fn keeper_of(alloc: Global, book: &str, lines: &str) -> io::Result<Me
 fn keeper_with_first(alloc: Global, lines: &str) -> io::Result<MemKeeper> {
     let mut rows = Vec::new(alloc);
     if let Some(line) = lines.lines().next() {
-        if let Change::Put(row) = change_of(alloc, line)? {
+        let (id, _) = numbers_of(line)?;
+        if let Change::Put(row) = change_of(alloc, line, id)? {
             if row.key.id >= NUMBERS {
                 rows.push(row)?;
             }
@@ -36,7 +37,10 @@ fn keeper_with_first(alloc: Global, lines: &str) -> io::Result<MemKeeper> {
 /// Makes the changes that the lines ask for, one by one.
 fn change_all(alloc: Global, keeper: &mut MemKeeper, lines: &str) -> io::Result<()> {
     for line in lines.lines() {
-        make(alloc, keeper, change_of(alloc, line)?)?;
+        let (first, last) = numbers_of(line)?;
+        for id in first..=last {
+            make(alloc, keeper, change_of(alloc, line, id)?)?;
+        }
     }
     Ok(())
 }
@@ -58,15 +62,23 @@ fn make(alloc: Global, keeper: &mut MemKeeper, change: Change) -> io::Result<()>
     }
 }
 
-/// The change that a line asks for: `KIND ID HEX` puts a row, whose body may be empty, and `KIND ID gone` deletes it.
-fn change_of(alloc: Global, line: &str) -> io::Result<Change> {
+/// The first and the last number of the rows that a line changes: its second word is one number, or `FIRST-LAST`.
+fn numbers_of(line: &str) -> io::Result<(u64, u64)> {
+    let word = line.split(' ').nth(1).unwrap_or("");
+    let (first, last) = word.split_once('-').unwrap_or((word, word));
+    Ok((number(Some(first))?, number(Some(last))?))
+}
+
+/// The change that a line asks for under a number: `KIND ID HEX` puts a row, whose body may be empty, and
+/// `KIND ID gone` deletes it.
+fn change_of(alloc: Global, line: &str, id: u64) -> io::Result<Change> {
     let mut words = line.split(' ');
     let kind = number(words.next())?;
     let key = RowKey {
         kind: u8::try_from(kind).map_err(|_| not_a_row())?,
-        id: number(words.next())?,
+        id,
     };
-    match words.next() {
+    match words.nth(1) {
         Some("gone") => Ok(Change::Gone(key)),
         word => match hex::decode(alloc, word.unwrap_or("")) {
             Ok(body) => Ok(Change::Put(Row {

@@ -7,6 +7,8 @@
 mod changes;
 mod fault;
 mod item;
+#[cfg(test)]
+mod put_tests;
 mod read;
 mod saved;
 mod step_changes;
