@@ -2,10 +2,9 @@
 use Rattle.std.proofs.Common.{◌≡◌, ◌≢◌, ℕ, List, [], Option, IsTrue, Err, refl, sym, subst, arith}
 use Rattle.book_keeper.proofs.StreamLemmas.{Are-some, Wrote-nil}
 use Rattle.book_keeper.specs.declared.row.Row.{Row}
-use Rattle.book_lines.specs.RunClause.{Moment, at, RunClause}
+use Rattle.book_lines.specs.RunClause.{at, RunClause}
 use Rattle.book_lines.specs.declared.running.RunEnd.{RunEnd}
 use Rattle.book_lines.specs.declared.running.RunEnd.TheVariants as end
-use Rattle.book_engine.specs.Kept.{Kept}
 use Rattle.book_engine.specs.Machine.{Machine}
 use Rattle.book_engine.specs.Opening.{Opened}
 use Rattle.book_engine.specs.Opens.{Opens}

@@ -1,5 +1,5 @@
 -- The changes of steps that a change of the book comes to have spellings where the step back has.
-use Rattle.std.proofs.Common.{ℕ, ◌+◌, ◌-◌, Bool, true, false, if◌then◌else◌, List, [], ◌∷◌, ◌++◌, map, Result, Ok, Err, OnOk}
+use Rattle.std.proofs.Common.{ℕ, Bool, true, false, if◌then◌else◌, List, [], ◌∷◌, ◌++◌, map, Result, Ok, Err, OnOk}
 use Rattle.std.specs.List.{AllByRecursion}
 use Rattle.book_undo.specs.declared.edit.Edit.{Edit}
 use Rattle.book_opening.specs.Changes.{GoneBack, GoneForth, PutBack, StepFits}

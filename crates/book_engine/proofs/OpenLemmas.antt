@@ -1,21 +1,20 @@
 -- A state that was read, and in which no key breaks its rule, is one that an engine keeps.
-use Rattle.std.proofs.Common.{◌≡◌, ℕ, ◌+◌, ◌-◌, ◌^◌, ◌<◌, ◌≤◌, nat_lt, not, Bool, true, false, ◌&&◌, ◌||◌, List, [], ◌∷◌, ◌++◌, suc}
-use Rattle.std.proofs.Common.{length, is_some, reverse, refl, sym, ap, ◌∙◌, subst, arith, Option, Some, None, IfNone}
+use Rattle.std.proofs.Common.{◌≡◌, ℕ, ◌+◌, ◌^◌, ◌≤◌, nat_lt, not, Bool, true, false, ◌||◌, List, [], ◌∷◌, ◌++◌, suc}
+use Rattle.std.proofs.Common.{length, reverse, refl, sym, ◌∙◌, arith, Option, Some, None, IfNone}
 use Rattle.std.specs.List.{AllByRecursion}
 use Rattle.std.proofs.lemmas.Bool.Decides.{nat_tests}
-use Rattle.book_commodity.specs.Table.{Rises, value_of}
-use Rattle.book_keeper.specs.declared.row.RowKey.{RowKey}
+use Rattle.book_commodity.specs.Table.{Rises}
 use Rattle.book_undo.specs.declared.edit.Edit.{Edit}
 use Rattle.book_rows.specs.Row.{IsWithin}
 use Rattle.book_sound.specs.Soundness.{AreDrawn, IsSoundBook}
-use Rattle.book_history.specs.History.{AreNumberedFrom, IsHistory}
+use Rattle.book_history.specs.History.{AreNumberedFrom}
 use Rattle.book_history.specs.Steps.{AreSound}
 use Rattle.book_history.proofs.TurnLaws.{counted_history, fresh_history}
-use Rattle.book_opening.specs.BookRows.{back_records, behind_head, forth_records, records_of, things_of}
+use Rattle.book_opening.specs.BookRows.{back_records, behind_head, forth_records, things_of}
 use Rattle.book_opening.specs.Opening.{CanBeRow}
 use Rattle.book_opening.specs.Reading.{IsReadable}
 use Rattle.book_opening.specs.State.{State, head_of}
-use Rattle.book_opening.specs.Steps.{counts_fit, is_back, is_forth}
+use Rattle.book_opening.specs.Steps.{counts_fit}
 use Rattle.book_opening.proofs.Ranked.{all_last}
 use Rattle.book_step.specs.State.{fresh_book}
 use Rattle.book_step.proofs.SoundStep.{fresh-sound}

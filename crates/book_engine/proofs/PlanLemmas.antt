@@ -1,14 +1,11 @@
 -- A turn with its changes of rows is a plan: it commits exactly where it changes the machine, and with its changes made
 -- the rows that stand for the state before stand for the state after.
-use Rattle.std.proofs.Common.{◌≡◌, ◌≢◌, ◌↔◌, ℕ, ◌+◌, ◌==◌, ◌||◌, Bool, true, false, if◌then◌else◌, IsTrue}
+use Rattle.std.proofs.Common.{◌≡◌, ◌≢◌, ℕ, ◌+◌, ◌==◌, ◌||◌, Bool, true, false, if◌then◌else◌, IsTrue}
 use Rattle.std.proofs.Common.{List, [], None, Result, Ok, Err, IfOk, inl, inr, refl, sym, ap, ◌∙◌, subst, arith}
 use Rattle.std.proofs.lemmas.Bool.Decides.{nat_tests}
-use Rattle.book_keeper.specs.Rows.{AreRising, after_changes}
 use Rattle.book_keeper.specs.declared.row.Change.{Change}
-use Rattle.book_keeper.specs.declared.row.Row.{Row}
 use Rattle.book_undo.specs.Edit.{edited, is_nothing}
 use Rattle.book_undo.specs.EditRules.{IsAllowed}
-use Rattle.book_undo.specs.Exact.{IsExact}
 use Rattle.book_undo.specs.Inverse.{LeadsBack}
 use Rattle.book_undo.specs.declared.edit.Edit.{Edit, All}
 use Rattle.book_undo.proofs.ExactLaws.{exact_nothing}
@@ -25,13 +22,11 @@ use Rattle.book_step.specs.State.{State as StepState}
 use Rattle.book_step.specs.Step.{outcome}
 use Rattle.book_step.specs.declared.step.Step.{Step}
 use Rattle.book_step.proofs.SoundStep.{outcome-sound}
-use Rattle.book_opening.specs.Opening.{OpenAs}
 use Rattle.book_opening.specs.State.{State}
 use Rattle.book_engine.specs.Kept.{IsWhole, step_state}
 use Rattle.book_engine.specs.Machine.{Done, Machine, Reply, changed, machine_of, reply, updated}
 use Rattle.book_engine.specs.Planned.{IsChangeTo, IsExactTurn, IsPlanTo, IsTurnPlan, IsWholeStep, Planned, stay_plan}
 use Rattle.book_engine.specs.Planned.{turn_plan}
-use Rattle.book_engine.specs.Standing.{StandFor}
 use Rattle.book_engine.specs.Turned.{HaveSpellings, IsKeptStep, IsTurnFor, changes_to, is_moving, turned, turned_by}
 use Rattle.book_engine.specs.declared.turn.Turn.{Turn}
 use Rattle.book_engine.specs.declared.turn.Way.{Way}
@@ -149,9 +144,10 @@ change_to state saved update taken whole is some =
     let Of : ℕ → StepState = λ n. record { book = edited taken.edit state.book; next = taken.next; version = n } in
     record {
       allowed = is.exact.allowed;
-      later = elim (outcome_moves (step_state state) update after taken.answer is.done)
-          [ inl same ↦ absurd (let versions = ap (λ (s : StepState). s.version) same in omega (arith, versions, version))
-          | inr moved ↦ moved.1 ];
+      later = elim (outcome_moves (step_state state) update after taken.answer is.done) [
+        | inl same ↦ absurd (let versions = ap (λ (s : StepState). s.version) same in omega (arith, versions, version))
+        | inr moved ↦ moved.1
+      ];
       sound = subst (λ (n : ℕ). IsSound (Of n)) version sound;
     }
 

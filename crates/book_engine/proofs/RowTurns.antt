@@ -1,32 +1,27 @@
 -- The rows of a turn: their changes rise, and with them made the rows that stood for the state stand for the next one.
-use Rattle.std.proofs.Common.{◌≡◌, ℕ, suc, zero, ◌+◌, ◌-◌, ◌*◌, ◌^◌, ◌<◌, ◌≤◌, ◌==◌, nat_lt, not, Bool, true, false, ◌&&◌}
-use Rattle.std.proofs.Common.{◌||◌, IsTrue, if◌then◌else◌, List, [], ◌∷◌, ◌++◌, map, length, is_some, refl, sym, ap, ◌∙◌}
+use Rattle.std.proofs.Common.{◌≡◌, ℕ, suc, zero, ◌+◌, ◌-◌, ◌*◌, ◌^◌, ◌<◌, ◌≤◌, ◌==◌, Bool, true, false}
+use Rattle.std.proofs.Common.{IsTrue, if◌then◌else◌, List, [], ◌∷◌, ◌++◌, map, refl, sym, ap, ◌∙◌}
 use Rattle.std.proofs.Common.{subst, arith}
 use Rattle.std.specs.List.{AllByRecursion}
-use Rattle.std.proofs.lemmas.Bool.Decides.{nat_tests}
-use Rattle.book_commodity.specs.Table.{value_of, with_entry, without_entry}
+use Rattle.book_commodity.specs.Table.{with_entry, without_entry}
 use Rattle.book_keeper.specs.Rows.{AreRising, AreRisingFrom, after_changes}
-use Rattle.book_keeper.specs.declared.row.Change.{Change}
 use Rattle.book_keeper.specs.declared.row.Row.{Row}
-use Rattle.book_keeper.specs.declared.row.RowKey.{RowKey}
 use Rattle.book_undo.specs.Book.{Book}
 use Rattle.book_undo.specs.Edit.{edited, leaves}
 use Rattle.book_undo.specs.EditRules.{IsAllowed}
 use Rattle.book_undo.specs.declared.edit.Edit.{Edit}
-use Rattle.book_rows.specs.Row.{IsRecord}
 use Rattle.book_sound.specs.Soundness.{AreDrawn}
 use Rattle.book_sound.proofs.SoundFacts.{tables_rise}
-use Rattle.book_history.specs.History.{IsHistory}
 use Rattle.book_history.specs.Numbers.{numbers_from, without_all}
 use Rattle.book_history.specs.Turns.{back_after_change}
 use Rattle.book_history.proofs.NumberLaws.{none_left, numbered_rises}
 use Rattle.book_history.proofs.TurnLaws.{back_counted, forth_counted}
 use Rattle.book_opening.specs.BookRows.{back_records, behind_head, forth_records, things_of}
-use Rattle.book_opening.specs.Changes.{GoneBack, GoneForth, IsSmallLeaf, LeafFits, PutBack, PutForth, StepChange}
-use Rattle.book_opening.specs.Changes.{StepFits, all_put, changes_of, step_change, step_number, with_steps}
+use Rattle.book_opening.specs.Changes.{GoneBack, GoneForth, IsSmallLeaf, PutBack}
+use Rattle.book_opening.specs.Changes.{all_put, step_change, with_steps}
 use Rattle.book_opening.specs.Opening.{OpenAs}
 use Rattle.book_opening.specs.State.{State, head_of}
-use Rattle.book_opening.specs.Steps.{AreCounted, counts, has_step, is_back, is_forth, is_step}
+use Rattle.book_opening.specs.Steps.{AreCounted}
 use Rattle.book_opening.proofs.AllRowLaws.{all_put_rise, opens_from_none}
 use Rattle.book_opening.proofs.ChangeLaws.{IsSmallStep, all_rise, opens_after}
 use Rattle.book_opening.proofs.KeptSteps.{are_counted}

@@ -10,7 +10,7 @@ use Rattle.book_commodity.specs.Table.{value_of}
 use Rattle.book_commodity.proofs.DrawnLemmas.{drawn_below}
 use Rattle.book_commodity.proofs.ListLemmas.{mapped_none, mapped_some}
 use Rattle.book_undo.specs.Book.{Book, IsRising, thing_at, with_currency, with_thing, without_thing}
-use Rattle.book_undo.specs.Edit.{Key, Leaf, OfCurrency, OfPut, OfGone, depth, edited, key_at, key_of, leaves}
+use Rattle.book_undo.specs.Edit.{Key, Leaf, OfCurrency, OfPut, OfGone, depth, edited, key_at, leaves}
 use Rattle.book_undo.specs.EditRules.{IsAllowed, first_missing, first_unordered, out_of_order}
 use Rattle.book_undo.specs.Thing.{kind_of as thing_kind, row_kind}
 use Rattle.book_undo.specs.declared.edit.Edit.{Edit}

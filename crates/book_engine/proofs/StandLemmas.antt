@@ -1,14 +1,13 @@
 -- Rows that stood for what an engine kept stand for what it keeps.
 use Rattle.std.proofs.Common.{◌≡◌, ℕ, nat_lt, not, Bool, true, false, ◌||◌, IsTrue, List, [], ◌∷◌, Option, Some, None}
-use Rattle.std.proofs.Common.{inl, inr, refl, sym, ap, ◌∙◌, subst, arith, option_map, reverse}
+use Rattle.std.proofs.Common.{inr, refl, sym, ap, ◌∙◌, subst, arith, reverse}
 use Rattle.std.proofs.lemmas.Bool.Decides.{nat_tests}
 use Rattle.book_commodity.specs.Rules.{broken_where, first_broken}
 use Rattle.book_keeper.specs.Rows.{after_changes}
 use Rattle.book_keeper.specs.declared.row.Row.{Row}
 use Rattle.book_keeper.specs.declared.row.RowKey.{RowKey}
-use Rattle.book_check.specs.FirstUnsound.{first_unsound, key_in}
+use Rattle.book_check.specs.FirstUnsound.{key_in}
 use Rattle.book_check.proofs.Unsound.{none_where_sound}
-use Rattle.book_history.specs.Steps.{first_fault}
 use Rattle.book_history.proofs.FaultLaws.{sound_faultless}
 use Rattle.book_opening.specs.Opening.{OpenAs, head_key}
 use Rattle.book_opening.specs.State.{State, head_of}
@@ -16,7 +15,7 @@ use Rattle.book_opening.specs.Steps.{counts_fit}
 use Rattle.book_engine.specs.Acting.{IsUnchanged}
 use Rattle.book_engine.specs.Kept.{IsWhole, Kept}
 use Rattle.book_engine.specs.Machine.{machine_of}
-use Rattle.book_engine.specs.Planned.{Planned, IsPlanFor, IsPlanOf, after, commits}
+use Rattle.book_engine.specs.Planned.{Planned, IsPlanFor, after, commits}
 use Rattle.book_engine.specs.Opens.{Opens, OpensTo, unsound_at, unsound_step}
 use Rattle.book_engine.specs.Standing.{StandFor, StandForKept, Stands}
 use Rattle.book_engine.specs.Turned.{is_moving, turned_by}

@@ -1,13 +1,12 @@
 -- What a turn makes of a state that an engine keeps: the machine's next state, in which all holds of an engine again.
 use Rattle.std.proofs.Common.{◌≡◌, ℕ, ◌+◌, ◌-◌, ◌<◌, ◌≤◌, ◌^◌, nat_lt, not, Bool, true, false, ◌||◌, List, [], ◌∷◌, length}
-use Rattle.std.proofs.Common.{Option, Some, None, is_some, refl, sym, ap, ◌∙◌, subst, arith, inl, inr, ◌⊎◌, take}
+use Rattle.std.proofs.Common.{Option, Some, None, refl, sym, ap, ◌∙◌, arith}
 use Rattle.std.proofs.lemmas.Bool.Decides.{nat_tests}
 use Rattle.book_commodity.specs.Rules.{broken_where}
 use Rattle.book_commodity.specs.Table.{value_of}
 use Rattle.book_commodity.specs.declared.counted.Counted.TheVariants.{Numbers}
 use Rattle.book_undo.specs.Book.{Book}
 use Rattle.book_undo.specs.Edit.{edited}
-use Rattle.book_undo.specs.EditRules.{IsAllowed}
 use Rattle.book_undo.specs.Inverse.{LeadsBack}
 use Rattle.book_undo.specs.declared.edit.Edit.{Edit}
 use Rattle.book_command.specs.declared.answer.Answer.TheVariants as answer
@@ -18,13 +17,11 @@ use Rattle.book_command.specs.declared.rule.Rule.TheVariants.{Limit, NothingToRe
 use Rattle.book_command.specs.declared.command.What.TheVariants.{Redo as AskRedo, Undo as AskUndo}
 use Rattle.book_history.specs.History.{later_books, past_books}
 use Rattle.book_history.specs.Steps.{IsSoundStep}
-use Rattle.book_history.specs.Turns.{back_after_change, back_after_redo, back_after_undo, forth_after_redo}
-use Rattle.book_history.specs.Turns.{forth_after_undo}
+use Rattle.book_history.specs.Turns.{back_after_undo, forth_after_redo}
 use Rattle.book_history.proofs.TurnLaws.{changed_books, changed_history, redone_books, redone_history, undone_books}
 use Rattle.book_history.proofs.TurnLaws.{no_redo, no_undo, redo_later, redo_none, redo_sound, undo_none, undo_past}
 use Rattle.book_history.proofs.TurnLaws.{length_later, length_past, undo_sound, undone_history}
 use Rattle.book_step.specs.Outcome.{numbers}
-use Rattle.book_step.specs.Soundness.{IsSound}
 use Rattle.book_opening.specs.State.{State}
 use Rattle.book_engine.specs.Kept.{IsWhole, step_state}
 use Rattle.book_engine.specs.Machine.{Broken, Done, Machine, Reply, changed, machine_of, redone, reply, undone}

@@ -19,7 +19,8 @@ mod tests;
 mod turn;
 
 pub use book_command::{
-    Answer, Command, GivenAccount, GivenSplit, GivenTxn, Refusal, Rule, Update, What};
+    Answer, Command, GivenAccount, GivenSplit, GivenTxn, Refusal, Rule, Update, What,
+};
 pub use engine::Engine;
 pub use fault::OpenError;
 pub use plan::Plan;

@@ -122,13 +122,7 @@ fn answered_step(alloc: Global, state: &Saved, update: Update) -> Result<Step, R
     ensures done { IfOk result (IsWholeStep (step_state (state_of state.now)) update) }
     ensures refused { IfErr result (IsStepRefusal (outcome (step_state (state_of state.now)) update)) }
 {
-    let step = match step_of(
-        alloc,
-        &state.plain,
-        state.next,
-        state.version,
-        update,
-    ) {
+    let step = match step_of(alloc, &state.plain, state.next, state.version, update) {
         Ok(step) => step,
         Err(refusal) => return Err(refusal),
     };

@@ -14,7 +14,8 @@ use std::test::Fail;
 // are equal, so that a swap of two would show.
 
 /// Commodity 3 in currency 1, on 2024-01-05, at 150 / 100.
-const PRICE: &[u8] = b"\x01\0\0\0\0\0\0\0\x03\0\0\0\0\0\0\0\x01\0\0\0\0\0\0\x4d\x0f\0\0\0\0\0\0\0\x96\
+const PRICE: &[u8] =
+    b"\x01\0\0\0\0\0\0\0\x03\0\0\0\0\0\0\0\x01\0\0\0\0\0\0\x4d\x0f\0\0\0\0\0\0\0\x96\
     \0\0\0\0\0\0\0\x64";
 
 /// The gas: two recurrences, an end on a day, the days in advance, the last day made and the number made; and its
@@ -31,7 +32,8 @@ const HELD: &[u8] = b"\x01\0\0\0\0\0\0\0\x03\0\0\0\0\0\0\0\x04NL01\0\0\0\0\0\0\0
     \x01\0\0\0\0\0\0\0\xfa\0\0\0\0\0\0\x4d\x0f\x01\0";
 
 /// A line of statement 9 with one part, matched with split 6.
-const LINE: &[u8] = b"\x01\0\0\0\0\0\0\0\x03\0\0\0\0\0\0\0\x09\0\0\0\0\0\0\0\x02\0\0\0\0\0\0\x4d\x0f\
+const LINE: &[u8] =
+    b"\x01\0\0\0\0\0\0\0\x03\0\0\0\0\0\0\0\x09\0\0\0\0\0\0\0\x02\0\0\0\0\0\0\x4d\x0f\
     \0\0\0\0\0\0\x4d\x10\0\0\0\0\0\0\x03\xe8\0\0\0\0\0\0\0\x04NTRF\0\0\0\0\0\0\0\x02R1\0\0\0\0\0\0\0\x03B22\
     \0\0\0\0\0\0\0\x04Rent\0\0\0\0\0\0\0\x04Home\0\0\0\0\0\0\0\x01\0\0\0\0\0\0\0\x04Flat\0\0\0\0\0\0\0\x03May\
     \xff\xff\xff\xff\xff\xff\xfe\xd4\x02\0\0\0\0\0\0\0\x06";
@@ -40,7 +42,8 @@ const LINE: &[u8] = b"\x01\0\0\0\0\0\0\0\x03\0\0\0\0\0\0\0\x09\0\0\0\0\0\0\0\x02
 const BINDING: &[u8] = b"\x01\0\0\0\0\0\0\0\x04NL02\0\0\0\0\0\0\0\x04";
 
 /// A reconciliation with the opening balance 2^64 + 2 and two marked splits.
-const RECON: &[u8] = b"\x01\0\0\0\0\0\0\0\x03\0\0\0\0\0\0\x4d\x29\0\0\0\0\0\0\0\x01\0\0\0\0\0\0\0\x02\
+const RECON: &[u8] =
+    b"\x01\0\0\0\0\0\0\0\x03\0\0\0\0\0\0\x4d\x29\0\0\0\0\0\0\0\x01\0\0\0\0\0\0\0\x02\
     \0\0\0\0\0\0\0\x05\0\0\0\0\0\0\0\x02\0\0\0\0\0\0\0\x06\xff\xff\xff\xff\xff\xff\xff\xfc\
     \0\0\0\0\0\0\0\x08\0\0\0\0\0\0\0\x0a";
 

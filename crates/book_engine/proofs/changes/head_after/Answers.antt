@@ -1,6 +1,5 @@
 use Rattle.std.proofs.Common.{◌≡◌, ℕ, ◌+◌, ◌-◌, min, sym, ap, ◌∙◌, arith}
 use Rattle.std.proofs.lemmas.Bool.Decides.{nat_tests}
-use Rattle.book_undo.specs.Edit.{edited}
 use Rattle.book_rows.specs.declared.head.Head.{Head}
 use Rattle.book_opening.specs.State.{head_of, state_of}
 use Rattle.book_engine.specs.Turned.{turned_by}

@@ -1,4 +1,4 @@
-use Rattle.std.proofs.Common.{◌≡◌, ℕ, false, List, [], sym, ap, ◌∙◌, subst}
+use Rattle.std.proofs.Common.{ℕ, false, List, [], sym, ap, ◌∙◌, subst}
 use Rattle.book_undo.specs.Book.{Book}
 use Rattle.book_undo.specs.declared.edit.Edit.{Edit}
 use Rattle.book_step.specs.Soundness.{IsSound}

@@ -1,4 +1,4 @@
-use Rattle.std.proofs.Common.{◌≡◌, Option, None, IfNone, ap, sym, ◌∙◌}
+use Rattle.std.proofs.Common.{sym}
 use Rattle.std.proofs.lemmas.Result.{IfOk-weaker}
 use Rattle.book_opening.specs.State.{state_of}
 use Rattle.book_engine.proofs.OpenLemmas.{kept_head, none_weaker, readable_whole}

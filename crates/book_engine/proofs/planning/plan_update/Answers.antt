@@ -1,4 +1,4 @@
-use Rattle.std.proofs.Common.{◌≡◌, Bool, true, false, sym, ◌∙◌, subst}
+use Rattle.std.proofs.Common.{sym, subst}
 use Rattle.book_opening.specs.State.{state_of}
 use Rattle.book_step.specs.Step.{outcome}
 use Rattle.book_engine.specs.Kept.{step_state}

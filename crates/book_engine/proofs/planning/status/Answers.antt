@@ -1,4 +1,3 @@
-use Rattle.std.proofs.Common.{sym}
 use Rattle.book_history.proofs.TurnLaws.{length_later, length_past}
 use Rattle.book_opening.specs.State.{state_of}
 use Rattle.book_engine.proofs.planning.status.Goals as goal
