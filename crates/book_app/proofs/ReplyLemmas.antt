@@ -10,7 +10,8 @@ use Rattle.book_command.specs.declared.wire_error.WireError.{WireError}
 use Rattle.book_command.specs.declared.wire_error.WireError.TheVariants as wire
 use Rattle.book_engine.specs.Acting.{IsUnchanged}
 use Rattle.book_engine.specs.Kept.{Kept}
-use Rattle.book_engine.specs.Machine.{Broken, Machine, Reply, machine_kept, machine_of, step}
+use Rattle.book_engine.specs.Books.{machine_kept, machine_of}
+use Rattle.book_engine.specs.Machine.{Broken, Machine, Reply, step}
 use Rattle.book_engine.specs.Planned.{IsPlanOf, Planned, after}
 use Rattle.book_texts.specs.AnswerText.{answer_bytes}
 use Rattle.book_texts.specs.RefusedText.{fault_bytes}

@@ -2,7 +2,7 @@ ghost use Rattle.std.specs.Prelude.{◌≡◌, ◌≢◌, ◌↔◌, None, List,
 ghost use Rattle.book_keeper.specs.Faults.{Rose};
 ghost use Rattle.book_keeper.specs.declared.row.Row.{Row};
 ghost use Rattle.book_lines.specs.RunClause.{at};
-ghost use Rattle.book_engine.specs.Machine.{machine_kept};
+ghost use Rattle.book_engine.specs.Books.{machine_kept};
 ghost use Rattle.book_engine.specs.Opening.{HasOpenCause, Opened};
 ghost use Rattle.book_engine.specs.Standing.{Stands};
 ghost use Rattle.book_app.specs.StatusClause.{HasBookPath, IsBookRun, IsLineRun, IsOpenedAt, over};

@@ -2,7 +2,8 @@ ghost use Rattle.std.specs.Prelude.{◌≡◌, ℕ, ◌^◌, ◌<◌, ◌≤◌,
 ghost use Rattle.book_keeper.specs.Faults.{Rose};
 ghost use Rattle.book_lines.specs.Marks.{Answered, Memory, Keeper as NotKept, IsAnswer, memory_answer, keeper_answer};
 ghost use Rattle.book_engine.specs.Acting.{IsChange, IsUnchanged};
-ghost use Rattle.book_engine.specs.Machine.{machine_kept, step};
+ghost use Rattle.book_engine.specs.Books.{machine_kept};
+ghost use Rattle.book_engine.specs.Machine.{step};
 ghost use Rattle.book_engine.specs.Planned.{HasRoomFor, IsPlanFor, after, commits};
 ghost use Rattle.book_engine.specs.Standing.{Stands};
 ghost use Rattle.book_texts.specs.AnswerText.{answer_bytes};
@@ -114,7 +115,7 @@ fn answer_to<K: Keeper>(
 
 impl<K: Keeper> Machine<Answering, K> for Engine {
     ghost use Rattle.std.specs.Prelude.{ℕ, refl};
-    ghost use Rattle.book_engine.specs.Machine.{machine_kept};
+    ghost use Rattle.book_engine.specs.Books.{machine_kept};
     ghost use Rattle.book_engine.specs.Standing.{Stands};
     ghost use Rattle.book_app.specs.Machine.{answers as line_answers};
     ghost use Rattle.book_app.specs.Later.{IsLater, same_later, twice_later};

@@ -32,7 +32,10 @@ fn written(alloc: Global, ended: &Ended) -> Result<String, Fail> {
 fn once_and_twice(alloc: Global, first: &str, second: &str) -> Result<(String, String), Fail> {
     let mut all = String::from_str(alloc, first)?;
     all.push_str(second)?;
-    let once = written(alloc, &ran_over(alloc, empty_keeper(alloc, &[])?, all.as_str())?)?;
+    let once = written(
+        alloc,
+        &ran_over(alloc, empty_keeper(alloc, &[])?, all.as_str())?,
+    )?;
     let half = ran_over(alloc, empty_keeper(alloc, &[])?, first)?;
     let mut twice = written(alloc, &half)?;
     let rest = ran_over(alloc, half.keeper, second)?;
@@ -63,11 +66,52 @@ fn three_hundred_steps(rt: HostRuntime) -> Result<(), Fail> {
     assert_eq!(rt; count_of(text, r#"{"ok":"redo""#), 256);
     assert_eq!(rt; count_of(text, r#"{"broken":"NothingToRedo""#), 44);
     assert_eq!(rt;
-        text.lines().filter(|line| line.starts_with(r#"{"accounts""#)).last(),
+        text.lines()
+            .filter(|line| line.starts_with(r#"{"accounts""#))
+            .last(),
         Some(concat!(
             r#"{"accounts":3,"later":0,"lines":0,"ok":"status","past":256,"recons":0,"splits":596,"#,
             r#""transactions":298,"version":812}"#
         ))
+    );
+    Ok(())
+}
+
+// The salary is taken back and made again with its numbers; the next transaction has others, and a command for another
+// version is refused.
+#[test]
+fn undo_and_redo(rt: HostRuntime) -> Result<(), Fail> {
+    let alloc = rt.alloc();
+    let post = SALARY.lines().last().ok_or("no post")?;
+    let mut lines = String::from_str(alloc, SALARY)?;
+    for more in [
+        STATUS,
+        UNDO,
+        REDO,
+        REDO,
+        post,
+        "\n{\"do\":\"undo\",\"at\":1}\n",
+        STATUS,
+    ] {
+        lines.push_str(more)?;
+    }
+    let ended = ran_over(alloc, empty_keeper(alloc, &[])?, lines.as_str())?;
+    assert_eq!(rt;
+        ended.output.written(),
+        concat!(
+            r#"{"account":3,"ok":"account_add","version":1}
+{"account":4,"ok":"account_add","version":2}
+{"balances":["250000","-250000"],"ok":"post","splits":[6,7],"transaction":5,"version":3}
+{"accounts":3,"later":0,"lines":0,"ok":"status","past":3,"recons":0,"splits":2,"transactions":1,"version":3}
+{"ok":"undo","version":4}
+{"ok":"redo","version":5}
+{"broken":"NothingToRedo","version":5}
+{"balances":["500000","-500000"],"ok":"post","splits":[9,10],"transaction":8,"version":6}
+{"broken":"Stale","now":6,"version":6}
+{"accounts":3,"later":0,"lines":0,"ok":"status","past":4,"recons":0,"splits":4,"transactions":2,"version":6}
+"#
+        )
+        .as_bytes()
     );
     Ok(())
 }
@@ -85,7 +129,8 @@ fn undo_after_opening(rt: HostRuntime) -> Result<(), Fail> {
     Ok(())
 }
 
-// A new change empties the later books, a command that leaves the book as it is keeps them, and no number is given twice.
+// A new change empties the later books, a command that leaves the book as it is keeps them, and no number is given
+// twice.
 #[test]
 fn a_change_after_an_undo(rt: HostRuntime) -> Result<(), Fail> {
     let alloc = rt.alloc();

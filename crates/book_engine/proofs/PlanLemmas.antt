@@ -4,7 +4,7 @@ use Rattle.std.proofs.Common.{◌≡◌, ◌≢◌, ℕ, ◌+◌, ◌==◌, ◌|
 use Rattle.std.proofs.Common.{List, [], None, Result, Ok, Err, IfOk, inl, inr, refl, sym, ap, ◌∙◌, subst, arith}
 use Rattle.std.proofs.lemmas.Bool.Decides.{nat_tests}
 use Rattle.book_keeper.specs.declared.row.Change.{Change}
-use Rattle.book_undo.specs.Edit.{edited, is_nothing}
+use Rattle.book_undo.specs.Edit.{edited, is_nothing, outline}
 use Rattle.book_undo.specs.EditRules.{IsAllowed}
 use Rattle.book_undo.specs.Inverse.{LeadsBack}
 use Rattle.book_undo.specs.declared.edit.Edit.{Edit, All}
@@ -24,7 +24,8 @@ use Rattle.book_step.specs.declared.step.Step.{Step}
 use Rattle.book_step.proofs.SoundStep.{outcome-sound}
 use Rattle.book_opening.specs.State.{State}
 use Rattle.book_engine.specs.Kept.{IsWhole, step_state}
-use Rattle.book_engine.specs.Machine.{Done, Machine, Reply, changed, machine_of, reply, updated}
+use Rattle.book_engine.specs.Books.{machine_of}
+use Rattle.book_engine.specs.Machine.{Done, Machine, Reply, changed, reply, updated}
 use Rattle.book_engine.specs.Planned.{IsChangeTo, IsExactTurn, IsPlanTo, IsTurnPlan, IsWholeStep, Planned, stay_plan}
 use Rattle.book_engine.specs.Planned.{turn_plan}
 use Rattle.book_engine.specs.Turned.{HaveSpellings, IsKeptStep, IsTurnFor, changes_to, is_moving, turned, turned_by}
@@ -64,15 +65,17 @@ either_made moves changes is = sym (ap (λ (b : Bool). if b then changes else []
 pub is_turn_plan :
     (state : State) (saved : Bool) (turn : Turn) (answer : Answer) (reply : Reply) → IsWhole state saved
     → IsWhole (turned turn state) true → IsTurnFor state saved turn → IsAllowed state.book turn.edit
-    → HaveSpellings saved state turn → IsExactTurn state turn
+    → HaveSpellings saved state turn → IsExactTurn state turn → LeadsBack state.book turn.edit turn.inverse
+    → outline turn.inverse ≡ outline turn.edit
     → reply ≡ Done (machine_of (turned turn state)) answer
     → IsPlanTo state saved reply (turn_plan saved state turn answer)
-is_turn_plan state saved turn answer reply whole after is allowed fit exact made = record {
+is_turn_plan state saved turn answer reply whole after is allowed fit exact leads form made = record {
   made = made;
   whole = subst (IsWhole (turned turn state)) (sym (either_true saved (is_moving turn.way) is.moving)) after;
   shallow = is.shallow;
   can = is.can;
   exact = exact;
+  back = λ commits. (leads, form);
   version_is = refl;
   changes_where = ((λ commits. other_machine state turn is.moving), (λ differ. is.moving));
   changes_are = either_made (is_moving turn.way) (changes_to saved state turn) is.moving;
@@ -95,6 +98,7 @@ is_stay_plan state saved answer reply whole made = record {
       (exact_nothing state.book (tables_rise state.book whole.sound.book)).allowed;
   can = tt;
   exact = λ none. absurd cc;
+  back = λ commits. absurd cc;
   version_is = refl;
   changes_where = ((λ commits. absurd cc), (λ differ. absurd (differ refl)));
   changes_are = refl;
@@ -194,7 +198,8 @@ planned_change state saved update taken plan whole is some made =
     (is_turn_plan state saved turn taken.answer comes whole
     (changed_whole state saved taken.edit made.inverse taken.next whole change made.leads)
     (turn_for state saved taken.edit made.inverse taken.next change.allowed made.leads) change.allowed made.fits
-    (λ new. (is.exact, exact_back state.book taken.edit made.inverse is.exact made.leads made.form))
+    (λ new. (is.exact, exact_back state.book taken.edit made.inverse is.exact made.leads made.form)) made.leads
+    made.form
     (updated_change state saved update taken made.inverse whole is some made.leads))
 
 -- ---- a kept step
@@ -239,7 +244,7 @@ kept_plan state saved way edit answer plan comes whole kept none made leads =
     (kept_whole state saved way edit made.inverse whole kept made.leads none)
     (kept_turn_for state saved way edit made.inverse whole kept made.leads)
     (kept_can state saved way edit whole kept).1.allowed made.fits
-    (λ new. absurd (not_new way state edit kept new)) leads)
+    (λ new. absurd (not_new way state edit kept new)) made.leads made.form leads)
 
 -- The plan of a step back is the machine's, and so is that of a step forth.
 pub planned_undo :

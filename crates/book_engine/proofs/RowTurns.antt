@@ -153,7 +153,8 @@ new_with false position later inverse s =
 steps_are :
     (state : State) (saved : Bool) (turn : Turn) → IsWhole state saved → IsTrue (is_moving turn.way)
     → behind_head (turned turn state)
-    ≡ behind_head (with_steps (step_changes turn.way state turn.inverse) (with_book (edited turn.edit state.book) state))
+    ≡ behind_head
+    (with_steps (step_changes turn.way state turn.inverse) (with_book (edited turn.edit state.book) state))
 steps_are state saved turn whole moving = by_way turn.way moving
   where
     by_way : (way : Way) → IsTrue (is_moving way)

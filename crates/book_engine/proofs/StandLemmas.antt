@@ -14,7 +14,7 @@ use Rattle.book_opening.specs.State.{State, head_of}
 use Rattle.book_opening.specs.Steps.{counts_fit}
 use Rattle.book_engine.specs.Acting.{IsUnchanged}
 use Rattle.book_engine.specs.Kept.{IsWhole, Kept}
-use Rattle.book_engine.specs.Machine.{machine_of}
+use Rattle.book_engine.specs.Books.{machine_of}
 use Rattle.book_engine.specs.Planned.{Planned, IsPlanFor, after, commits}
 use Rattle.book_engine.specs.Opens.{Opens, OpensTo, unsound_at, unsound_step}
 use Rattle.book_engine.specs.Standing.{StandFor, StandForKept, Stands}

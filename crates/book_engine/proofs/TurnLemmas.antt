@@ -1,5 +1,6 @@
 -- What a turn makes of a state that an engine keeps: the machine's next state, in which all holds of an engine again.
-use Rattle.std.proofs.Common.{◌≡◌, ℕ, ◌+◌, ◌-◌, ◌<◌, ◌≤◌, ◌^◌, nat_lt, not, Bool, true, false, ◌||◌, List, [], ◌∷◌, length}
+use Rattle.std.proofs.Common.{◌≡◌, ℕ, ◌+◌, ◌-◌, ◌<◌, ◌≤◌, ◌^◌, nat_lt, not, Bool, true, false, ◌||◌, List, [], ◌∷◌}
+use Rattle.std.proofs.Common.{length}
 use Rattle.std.proofs.Common.{Option, Some, None, refl, sym, ap, ◌∙◌, arith}
 use Rattle.std.proofs.lemmas.Bool.Decides.{nat_tests}
 use Rattle.book_commodity.specs.Rules.{broken_where}
@@ -24,7 +25,8 @@ use Rattle.book_history.proofs.TurnLaws.{length_later, length_past, undo_sound, 
 use Rattle.book_step.specs.Outcome.{numbers}
 use Rattle.book_opening.specs.State.{State}
 use Rattle.book_engine.specs.Kept.{IsWhole, step_state}
-use Rattle.book_engine.specs.Machine.{Broken, Done, Machine, Reply, changed, machine_of, redone, reply, undone}
+use Rattle.book_engine.specs.Books.{machine_of}
+use Rattle.book_engine.specs.Machine.{Broken, Done, Machine, Reply, changed, redone, reply, undone}
 use Rattle.book_engine.specs.Machine.{unless_broken}
 use Rattle.book_engine.specs.Planned.{IsChangeTo, IsLimitRefusal, IsRefusal}
 use Rattle.book_engine.specs.Turned.{CanTurn, IsKeptStep, turned}
@@ -35,16 +37,6 @@ use Rattle.book_engine.specs.declared.turn.Way.TheVariants.{Stay, Change as ToNe
 -- A turn by these edits.
 abbrev pub turn_of : Way → Edit → Edit → ℕ → Turn
 turn_of way edit inverse next = record { way = way; edit = edit; inverse = inverse; next = next }
-
--- Where rows were given or not, what holds of an engine holds of one for which they were.
-pub whole_saved : (state : State) (saved : Bool) → IsWhole state saved → IsWhole state true
-whole_saved state saved whole = record {
-  sound = whole.sound;
-  reached = whole.reached;
-  few = whole.few;
-  history = whole.history;
-  fresh = λ none. absurd cc;
-}
 
 -- ---- a change of the book
 pub changed_whole :
@@ -78,8 +70,8 @@ changed_machine state saved edit inverse next whole leads =
       version = state.version + 1;
       position = state.position + 1;
     } in
-    ap Of (changed_books state.next state.book state.position state.past state.later state.back state.forth whole.history
-    edit inverse leads)
+    ap Of (changed_books state.next state.book state.position state.past state.later state.back state.forth
+    whole.history edit inverse leads)
 
 -- ---- a step back or forth
 -- A kept step is sound, and can be taken.
@@ -117,8 +109,10 @@ numbers_none state none =
     elim (nat_lt (state.version + 1) (2 ^ 62)) as
     (λ (t : Bool). nat_lt (state.version + 1) (2 ^ 62) ≡ t
     → broken_where (not (nat_lt (state.next + 0) (2 ^ 62)) || not t) (Limit Numbers (2 ^ 62)) ≡ None
-    → state.version + 1 < 2 ^ 62)
-    [ true ↦ λ less e. grind (arith, nat_tests, less) | false ↦ λ past e. absurd (either (nat_lt (state.next + 0) (2 ^ 62)) e) ]
+    → state.version + 1 < 2 ^ 62) [
+      | true ↦ λ less e. grind (arith, nat_tests, less)
+      | false ↦ λ past e. absurd (either (nat_lt (state.next + 0) (2 ^ 62)) e)
+    ]
     refl none
   where
     either : (t : Bool) → broken_where (not t || true) (Limit Numbers (2 ^ 62)) ≡ None → ⊥

@@ -33,8 +33,9 @@ fresh_state = record {
 abbrev pub step_state : State → StepState
 step_state state = record { book = state.book; next = state.next; version = state.version }
 
--- The state is sound; no more steps lead to it than changes were made; its steps are those that its head counts, and
--- each leads to a sound book; and until rows were given to a keeper it is the fresh one.
+-- The state is sound; no more steps lead to it than changes were made; the numbers of its steps can be those of rows;
+-- its steps are those that its head counts, and each leads to a sound book; and until rows were given to a keeper it is
+-- the fresh one.
 pub record IsWhole (state : State) (saved : Bool) : Type 0 where
   pub sound : IsSound (step_state state)
   pub reached : state.position ≤ state.version

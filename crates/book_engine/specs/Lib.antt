@@ -1,5 +1,6 @@
 pub mod Acting
 pub mod Balances
+pub mod Books
 pub mod Changes
 pub mod Kept
 pub mod Machine

@@ -13,9 +13,6 @@ use Rattle.book_step.specs.Outcome.{Outcome, numbers}
 use Rattle.book_step.specs.Outcome as outcome
 use Rattle.book_step.specs.State.{State, fresh_book}
 use Rattle.book_step.specs.Step.{outcome as outcome_of, stale}
-use Rattle.book_engine.specs.Kept.{Kept}
-use Rattle.book_history.specs.History.{later_books, past_books}
-use Rattle.book_opening.specs.State.{State as SavedState}
 
 -- The past books, the nearest first; the present book; the later ones, the nearest first; the number that the next
 -- thing gets; the count of the changes so far; and how many steps lead from the fresh book to the present one.
@@ -30,21 +27,6 @@ pub record Machine : Type 0 where
 -- The machine of a fresh book.
 abbrev pub fresh : Machine
 fresh = record { past = []; book = fresh_book; later = []; next = 3; version = 0; position = 0 }
-
--- The machine whose steps a state keeps as edits.
-abbrev pub machine_of : SavedState → Machine
-machine_of state = record {
-  past = past_books state.back state.book;
-  book = state.book;
-  later = later_books state.forth state.book;
-  next = state.next;
-  version = state.version;
-  position = state.position;
-}
-
--- The machine that an engine keeps.
-abbrev pub machine_kept : Kept → Machine
-machine_kept kept = machine_of kept.state
 
 -- The state from which a command steps.
 abbrev pub present : Machine → State

@@ -8,7 +8,8 @@ use Rattle.book_opening.specs.Opening.{IsLeastBad, OpenAs, head_key}
 use Rattle.book_opening.specs.State.{State, head_of}
 use Rattle.book_opening.specs.Steps.{counts_fit}
 use Rattle.book_check.specs.FirstUnsound.{first_unsound, key_in}
-use Rattle.book_engine.specs.Machine.{Machine, fresh, machine_of}
+use Rattle.book_engine.specs.Books.{machine_of}
+use Rattle.book_engine.specs.Machine.{Machine, fresh}
 
 -- Rows are bad at a key, or unsound at a key, or those of a machine.
 pub data Opening : Type 0 where
@@ -16,8 +17,9 @@ pub data Opening : Type 0 where
   Unsound : RowKey → Opening
   Opens : Machine → Opening
 
--- The first step that is broken. A step is where it can't be taken or leads to an unsound book: they are asked from the
--- present book outward, first those back and then those forth, and beyond the first one that is broken no more is asked.
+-- The first step that is broken. A step is where it can't be taken or leads to an unsound book: they are asked from
+-- the present book outward, first those back and then those forth, and beyond the first one that is broken no more is
+-- asked.
 abbrev pub unsound_step : State → Option RowKey
 unsound_step state =
     first_broken
@@ -40,9 +42,9 @@ unsound_at state =
     ∷ unsound_step state
     ∷ [])
 
--- What rows open as. Without rows it is the fresh machine. They are bad at the least key whose body is no spelling, that
--- is needed and missing, or that is of a step which the head doesn't count; else they are unsound at the first key that
--- breaks its rule; else they are those of a state, and open as the machine whose books its steps lead to.
+-- What rows open as. Without rows it is the fresh machine. They are bad at the least key whose body is no spelling,
+-- that is needed and missing, or that is of a step which the head doesn't count; else they are unsound at the first key
+-- that breaks its rule; else they are those of a state, and open as the machine whose books its steps lead to.
 abbrev pub OpensTo : List Row → Opening → Type 0
 OpensTo rows (Bad key) = IsLeastBad rows key
 OpensTo rows (Unsound key) = (state : State) × OpenAs rows state × (unsound_at state ≡ Some key)

@@ -25,7 +25,8 @@ use Rattle.book_command.specs.declared.refusal.Refusal.TheVariants as refusal
 use Rattle.book_opening.specs.Opening.{OpenAs}
 use Rattle.book_opening.specs.State.{State}
 use Rattle.book_engine.specs.Kept.{IsWhole, Kept, step_state}
-use Rattle.book_engine.specs.Machine.{Broken, Done, Reply, machine_of, step}
+use Rattle.book_engine.specs.Books.{machine_of}
+use Rattle.book_engine.specs.Machine.{Broken, Done, Reply, step}
 use Rattle.book_engine.specs.Standing.{StandFor}
 use Rattle.book_engine.specs.Turned.{CanTurn, HaveSpellings, changes_to, is_moving, turned}
 use Rattle.book_engine.specs.declared.plan.Plan.TheInside.{Inside}
@@ -76,7 +77,8 @@ abbrev pub IsExactTurn : State → Turn → Type 0
 IsExactTurn state turn =
     turn.way ≡ ToNew → IsExact state.book turn.edit × IsExact (edited turn.edit state.book) turn.inverse
 
--- A plan for a state comes to this reply of the machine. It commits exactly where the machine becomes another. Then
+-- A plan for a state comes to this reply of the machine. The edit that it keeps leads back to exactly the book before,
+-- and has its form. It commits exactly where the machine becomes another. Then
 -- with its changes made the rows that stand for the state before stand for the state after.
 pub record IsPlanTo (state : State) (saved : Bool) (reply : Reply) (plan : Planned) : Type 0 where
   pub made : reply ≡ Done (machine_of (after state plan)) plan.answer
@@ -84,6 +86,8 @@ pub record IsPlanTo (state : State) (saved : Bool) (reply : Reply) (plan : Plann
   pub shallow : depth plan.turn.edit ≤ 8
   pub can : CanTurn plan.turn.way state
   pub exact : IsExactTurn state plan.turn
+  pub back : IsTrue (commits plan) → LeadsBack state.book plan.turn.edit plan.turn.inverse
+      × (outline plan.turn.inverse ≡ outline plan.turn.edit)
   pub version_is : plan.version ≡ (after state plan).version
   pub changes_where : IsTrue (commits plan) ↔ (machine_of (after state plan) ≢ machine_of state)
   pub changes_are : plan.changes ≡ (if commits plan then changes_to saved state plan.turn else [])

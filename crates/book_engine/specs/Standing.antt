@@ -4,7 +4,7 @@ use Rattle.book_keeper.specs.declared.row.Row.{Row}
 use Rattle.book_opening.specs.Opening.{OpenAs}
 use Rattle.book_opening.specs.State.{State}
 use Rattle.book_engine.specs.Kept.{Kept}
-use Rattle.book_engine.specs.Machine.{machine_of}
+use Rattle.book_engine.specs.Books.{machine_of}
 use Rattle.book_engine.specs.Opens.{Opens, OpensTo}
 
 -- Rows stand for a state: they are its rows. Where no rows were given to the keeper yet, there are none.

@@ -88,7 +88,7 @@ IsKeptStep Undo state edit = value_of state.position state.back ≡ Some edit
 IsKeptStep Redo state edit = value_of (state.position + 1) state.forth ≡ Some edit
 
 -- The changes of the kept steps: a change of the book adds a step back, for which the oldest of 256 is deleted first,
--- and deletes all steps forth.
+-- and deletes all steps forth; undo deletes the last step back and adds a step forth; redo goes the other way.
 abbrev pub step_changes : Way → State → Edit → List StepChange
 step_changes Stay state inverse = []
 step_changes ToNew state inverse =

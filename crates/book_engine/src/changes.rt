@@ -213,7 +213,8 @@ fn currency_after_all(parts: &[Edit], currency: u64) -> u64
     now
 }
 
-/// The changes of rows of a change from the fresh state, before a keeper was given rows: all rows of the state after it.
+/// The changes of rows of a change from the fresh state, before a keeper was given rows: all rows of the state after
+/// it.
 fn first_changes(alloc: Global, turn: &Turn) -> Result<Many<Change>, OutOfMemory>
     requires after { IsWhole (turned turn.now fresh_state) true }
     requires turn { IsTurnFor fresh_state false turn.now }

@@ -6,7 +6,8 @@ ghost use Rattle.book_opening.specs.Opening.{OpenAs, WasRead};
 ghost use Rattle.book_opening.specs.State.{State};
 ghost use Rattle.book_engine.specs.Acting.{HasActCause, IsUnchanged};
 ghost use Rattle.book_engine.specs.Kept.{IsWhole, step_state};
-ghost use Rattle.book_engine.specs.Machine.{Done, machine_of, step as step_from};
+ghost use Rattle.book_engine.specs.Books.{machine_of};
+ghost use Rattle.book_engine.specs.Machine.{Done, step as step_from};
 ghost use Rattle.book_engine.specs.Opening.{HasOpenCause, IsOpenedAs, Opened};
 ghost use Rattle.book_engine.specs.Planned.{after, commits, HasRoomFor, IsPlanFor, IsPlanOf, IsRefusal};
 ghost use Rattle.book_engine.specs.Standing.{Stands};
@@ -50,8 +51,8 @@ impl Engine {
     /// The engine with the state as which the rows of the keeper open. Without rows it is the fresh state, whose rows
     /// the first change writes. The keeper's rows stay, and stand for the engine's state.
     /// Keeper: the keeper failed, and its count of faults rose in this call.
-    /// BadRows: the least key whose body is no spelling, that is needed and missing, or that is of a step which the head
-    /// doesn't count.
+    /// BadRows: the least key whose body is no spelling, that is needed and missing, or that is of a step which the
+    /// head doesn't count.
     /// UnsoundBook: where all rows are spellings, the first key at which the rule of its kind is broken.
     pub fn open<K: Keeper>(alloc: Global, keeper: &mut K) -> Result<Engine, OpenError>
         ensures keeper { WasRead K.path_given K.sure K.holds keeper.old keeper.new }

@@ -94,7 +94,8 @@ fn rising(state: &Saved)
 /// and at most 256 steps in all.
 fn keeps_head(state: &Saved) -> bool
     requires { IsReadable (state_of state.now) }
-    ensures { result ≡ not (nat_lt state.now.version state.now.position || not (counts_fit (head_of (state_of state.now)))) }
+    ensures { result ≡ not (nat_lt state.now.version state.now.position
+        || not (counts_fit (head_of (state_of state.now)))) }
 {
     state.position <= state.version
         && state.past <= state.position

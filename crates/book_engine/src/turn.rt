@@ -12,7 +12,7 @@ use std::alloc::Global;
 /// How many steps are kept.
 pub(crate) const STEPS_LIMIT: u64 = 256;
 
-/// How a command moves from the state: it stays; the book is changed; the last step is taken back; or the step that was
+/// The ways from a state to the next: it stays; the book is changed; the last step is taken back; or the step that was
 /// taken back last is taken again.
 #[derive(Clone, Copy)]
 pub(crate) enum Way {
@@ -34,7 +34,8 @@ impl Way {
     }
 }
 
-/// How a command moves from the state: the edit of the book, the one that leads back, and the next number after it.
+/// What a command makes of the state: the way that it takes, the edit of the book, the edit that leads back from there,
+/// and the next number.
 #[derive(Drop)]
 pub(crate) struct Turn {
     pub(crate) way: Way,

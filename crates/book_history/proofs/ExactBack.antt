@@ -1,8 +1,8 @@
 -- The edit that leads back from an exact edit is exact too.
-use Rattle.std.proofs.Common.{◌≡◌, ◌≢◌, ℕ, ◌==◌, Bool, true, false, ◌&&◌, ◌||◌, IsTrue, List, [], ◌∷◌, ◌++◌, map}
+use Rattle.std.proofs.Common.{◌≡◌, ℕ, ◌==◌, Bool, false, ◌&&◌, ◌||◌, IsTrue, List, [], ◌∷◌, ◌++◌, map}
 use Rattle.std.proofs.Common.{refl, sym, ap, ◌∙◌, subst}
 use Rattle.book_undo.specs.Book.{Book, thing_at}
-use Rattle.book_undo.specs.Edit.{At, Begins, Ends, Key, Leaf, OfCurrency, OfPut, OfGone, Sign, edited, key_at, key_of}
+use Rattle.book_undo.specs.Edit.{At, Begins, Ends, Key, Leaf, OfCurrency, OfPut, OfGone, Sign, edited, key_of}
 use Rattle.book_undo.specs.Edit.{leaves, leaves_row, outline, outline_row}
 use Rattle.book_undo.specs.Exact.{IsExact, any_touches, has_currency}
 use Rattle.book_undo.specs.Inverse.{LeadsBack}
@@ -12,7 +12,7 @@ use Rattle.book_undo.specs.declared.edit.Edit.{Row_of-Edit, end_of-Edit, more_of
 use Rattle.book_undo.specs.declared.thing.ThingKind.{ThingKind}
 use Rattle.book_undo.specs.declared.thing.ThingKind.TheVariants as kind
 
--- The keys among some signs.
+-- The keys that stand among some signs of a form.
 abbrev keys_among : List Sign → List Key
 keys_among [] = []
 keys_among (Begins ∷ signs) = keys_among signs

@@ -34,7 +34,7 @@ unbroken_sound next book edit rise e =
     let both = sound_where_none (edited edit book) next (edited_rises edit book rise) (none_of key parts.1) in
     record { allowed = none_of rules parts.0; sound = both.0; drawn = both.1 }
 
--- And the other way round.
+-- A sound step is not broken.
 pub sound_unbroken :
     (next : ℕ) (book : Book) (edit : Edit) → IsSoundStep next book edit → is_broken next book edit ≡ false
 unfolding is_refused is_unsound

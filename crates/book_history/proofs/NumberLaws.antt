@@ -203,12 +203,6 @@ pub with_first :
 with_first from n v [] are is = refl
 with_first from n v (e ∷ es) are is = let first = are.0 in grind (arith, nat_tests, first)
 
--- So the entries are numbered from there.
-pub numbered_first :
-    {T : Type 0} (from n : ℕ) (v : T) (entries : List (ℕ × T)) → AreNumberedFrom from entries → from ≡ suc n
-    → AreNumberedFrom n ((n, v) ∷ entries)
-numbered_first from n v entries are is = (refl, numbered_same from (suc n) entries is are)
-
 -- Taking the first leaves the others.
 pub without_first :
     {T : Type 0} (from : ℕ) (e : ℕ × T) (es : List (ℕ × T)) → AreNumberedFrom from (e ∷ es)
@@ -293,15 +287,6 @@ value_there from n entries are low high =
     some_of : {T : Type 0} (o : Option T) → is_some o ≡ true → (v : T) × (o ≡ Some v)
     some_of None e = absurd cc
     some_of (Some v) e = (v, refl)
-
--- There is none from the number behind the last on.
-pub value_beyond :
-    {T : Type 0} (from n : ℕ) (entries : List (ℕ × T)) → AreNumberedFrom from entries → from + length entries ≤ n
-    → value_of n entries ≡ None
-value_beyond from n [] are past = refl
-value_beyond from n (e ∷ es) are past =
-    let first = are.0 in
-    let rest = value_beyond (suc from) n es are.1 (omega (arith, past)) in grind (arith, nat_tests, first, rest)
 
 -- ---- taking all
 -- Taking them one after another, from the first to the last, leaves none.

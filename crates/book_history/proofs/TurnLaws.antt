@@ -6,7 +6,6 @@ use Rattle.std.proofs.Common.{List, [], ◌∷◌, ◌++◌, length, take, rever
 use Rattle.std.proofs.lemmas.Bool.Decides.{nat_tests}
 use Rattle.std.proofs.lemmas.List.{append-nil, length-reverse, length_push, nil_from_length, reverse-append, take_all}
 use Rattle.book_commodity.specs.Table.{Rises, value_of, without_entry}
-use Rattle.book_commodity.proofs.TableLemmas.{above_value}
 use Rattle.book_sound.specs.Soundness.{AreDrawn, IsSoundBook}
 use Rattle.book_sound.proofs.DrawnFrames.{drawn_later}
 use Rattle.book_undo.specs.Book.{Book}
@@ -17,10 +16,9 @@ use Rattle.book_history.specs.History.{AreNumberedFrom, IsHistory, later_books, 
 use Rattle.book_history.specs.Steps.{AreSound, IsSoundStep, books_to}
 use Rattle.book_history.specs.Turns.{back_after_change, back_after_redo, back_after_undo, forth_after_redo}
 use Rattle.book_history.specs.Turns.{forth_after_undo, past_after_change, with_room}
-use Rattle.book_history.specs.Numbers.{numbers_from, without_all}
-use Rattle.book_history.proofs.NumberLaws.{between_numbered, has_last, none_left, numbered_above, numbered_between}
+use Rattle.book_history.proofs.NumberLaws.{between_numbered, has_last, numbered_between}
 use Rattle.book_history.proofs.NumberLaws.{numbered_last, numbered_same}
-use Rattle.book_history.proofs.NumberLaws.{value_beyond, value_there, with_first, with_last, without_first}
+use Rattle.book_history.proofs.NumberLaws.{with_first, with_last, without_first}
 use Rattle.book_history.proofs.NumberLaws.{without_last}
 
 -- ---- steps, one after another
@@ -98,22 +96,6 @@ reverse_last init x = reverse-append init (x ∷ [])
 
 reverse_first : {T : Type 0} (x : T) (rest : List T) → reverse (x ∷ rest) ≡ reverse rest ++ x ∷ []
 reverse_first x rest = reverse-append (x ∷ []) rest
-
--- ---- kept steps
--- They stay kept steps where the next number grows.
-pub history_later :
-    (next after : ℕ) (book : Book) (position past later : ℕ) (back forth : List (ℕ × Edit)) → next ≤ after
-    → IsHistory next book position past later back forth → IsHistory after book position past later back forth
-history_later next after book position past later back forth le h = record {
-  reached = h.reached;
-  most = h.most;
-  back_numbers = h.back_numbers;
-  back_count = h.back_count;
-  forth_numbers = h.forth_numbers;
-  forth_count = h.forth_count;
-  back_sound = sound_later next after (reverse back) book le h.back_sound;
-  forth_sound = sound_later next after forth book le h.forth_sound;
-}
 
 history_same :
     (next : ℕ) (book : Book) (position past later : ℕ) (back now_back forth now_forth : List (ℕ × Edit))
@@ -415,18 +397,6 @@ undo_sound next book position past later back forth h edit found =
     let sound : AreSound next ((position, edit) ∷ reverse last.init) book =
     subst (λ (l : List (ℕ × Edit)). AreSound next l book) last.reversed h.back_sound in sound.0
 
--- Where there are steps back, one stands under the position, and is sound.
-pub undo_step :
-    (next : ℕ) (book : Book) (position past later : ℕ) (back forth : List (ℕ × Edit))
-    → IsHistory next book position past later back forth → 1 ≤ past
-    → (edit : Edit) × (value_of position back ≡ Some edit) × IsSoundStep next book edit
-undo_step next book position past later back forth h some =
-    let last = last_step next book position past later back forth h some in (
-      last.0,
-      last.1.found,
-      undo_sound next book position past later back forth h last.0 last.1.found,
-    )
-
 -- The step that leads forth again stands before those that were taken back.
 undo_forth :
     (next : ℕ) (book : Book) (position past later : ℕ) (back forth : List (ℕ × Edit))
@@ -565,18 +535,6 @@ redo_sound next book position past later back forth h edit found =
     let sound : AreSound next ((position + 1, edit) ∷ first.rest) book =
     subst (λ (l : List (ℕ × Edit)). AreSound next l book) first.is h.forth_sound in sound.0
 
--- Where there are steps forth, one stands behind the position, and is sound.
-pub redo_step :
-    (next : ℕ) (book : Book) (position past later : ℕ) (back forth : List (ℕ × Edit))
-    → IsHistory next book position past later back forth → 1 ≤ later
-    → (edit : Edit) × (value_of (position + 1) forth ≡ Some edit) × IsSoundStep next book edit
-redo_step next book position past later back forth h some =
-    let first = first_of_forth next book position past later back forth h some in (
-      first.0,
-      first.1.found,
-      redo_sound next book position past later back forth h first.0 first.1.found,
-    )
-
 -- The step that leads back again stands behind the steps back.
 redo_back :
     (next : ℕ) (book : Book) (position past later : ℕ) (back forth : List (ℕ × Edit))
@@ -638,40 +596,3 @@ redone_books next book position past later back forth h edit inverse found leads
           ∙ ap (λ (l : List (ℕ × Edit)). books_to l (edited edit book)) (reverse_last back (position + 1, inverse))
           ∙ books_back (position + 1) book edit inverse (reverse back) leads,
     )
-
--- ---- the rows of the steps
--- Taking the steps forth one after another leaves none.
-pub forth_removed :
-    (next : ℕ) (book : Book) (position past later : ℕ) (back forth : List (ℕ × Edit))
-    → IsHistory next book position past later back forth
-    → without_all (numbers_from (position + 1) later) forth ≡ []
-forth_removed next book position past later back forth h =
-    ap (λ (count : ℕ). without_all (numbers_from (position + 1) count) forth) (sym h.forth_count)
-    ∙ none_left (position + 1) forth h.forth_numbers
-
--- Where there are 256 steps back, the oldest is there.
-pub oldest_there :
-    (next : ℕ) (book : Book) (position past later : ℕ) (back forth : List (ℕ × Edit))
-    → IsHistory next book position past later back forth → past ≡ 256
-    → (edit : Edit) × (value_of (position - 255) back ≡ Some edit)
-oldest_there next book position past later back forth h full =
-    let reached = h.reached in
-    let count = h.back_count in
-    value_there (position - past + 1) (position - 255) back h.back_numbers (omega (arith, full, reached))
-    (omega (arith, full, reached, count))
-
--- No step back stands behind the position.
-pub back_free :
-    (next : ℕ) (book : Book) (position past later : ℕ) (back forth : List (ℕ × Edit))
-    → IsHistory next book position past later back forth → value_of (position + 1) back ≡ None
-back_free next book position past later back forth h =
-    let reached = h.reached in
-    let count = h.back_count in
-    value_beyond (position - past + 1) (position + 1) back h.back_numbers (omega (arith, reached, count))
-
--- No step forth stands at the position.
-pub forth_free :
-    (next : ℕ) (book : Book) (position past later : ℕ) (back forth : List (ℕ × Edit))
-    → IsHistory next book position past later back forth → value_of position forth ≡ None
-forth_free next book position past later back forth h =
-    above_value position forth (numbered_above position (position + 1) forth (omega arith) h.forth_numbers)

@@ -9,7 +9,7 @@ abbrev pub AreNumberedFrom : {T : Type 0} → ℕ → List (ℕ × T) → Type 0
 AreNumberedFrom number [] = ⊤
 AreNumberedFrom number (entry ∷ entries) = (entry.0 ≡ number) × AreNumberedFrom (suc number) entries
 
--- The books before the present one, the nearest first: the steps back are gone from the last to the first.
+-- The books before the present one, the nearest first: the steps back are taken from the last to the first.
 abbrev pub past_books : List (ℕ × Edit) → Book → List Book
 past_books back book = books_to (reverse back) book
 
@@ -17,10 +17,10 @@ past_books back book = books_to (reverse back) book
 abbrev pub later_books : List (ℕ × Edit) → Book → List Book
 later_books forth book = books_to forth book
 
--- So many steps lead from the fresh book to the present one. Of them so many are kept to go back: the step under a
--- number leads from the book that so many steps lead to, to the one before it. So many that were taken back are kept to
--- go forth again: the step under a number leads to the book that so many steps lead to. Together they are at most 256.
--- Each step is sound from the book at which it stands.
+-- `position` steps lead from the fresh book to the present one. The last `past` of them are kept to go back: the step
+-- under a number leads from the book to which that number of steps leads, to the one before it. `later` steps that were
+-- taken back are kept to go forth again: the step under a number leads to the book to which that number of steps leads.
+-- Together at most 256 are kept. Each step is sound from the book at which it stands.
 pub record IsHistory (next : ℕ) (book : Book) (position past later : ℕ) (back forth : List (ℕ × Edit)) : Type 0 where
   pub reached : past ≤ position
   pub most : past + later ≤ 256

@@ -58,22 +58,18 @@ fn day(number: i32) -> Result<Day, OutOfMemory> {
     }
 }
 
-/// A head of a book in currency 1.
-fn head() -> Head {
-    Head {
+/// Whether the changes of a step that puts the thing under number 14 are a head's row and then the row of this kind,
+/// with that number and this body.
+fn is_put_as(alloc: Global, thing: Thing, kind: u8, body: &[u8]) -> Result<bool, OutOfMemory> {
+    let head = Head {
         next: 20,
         version: 4,
         position: 4,
         past: 0,
         later: 0,
         currency: 1,
-    }
-}
-
-/// Whether the changes of a step that puts the thing under number 14 are a head's row and then the row of this kind,
-/// with that number and this body.
-fn is_put_as(alloc: Global, thing: Thing, kind: u8, body: &[u8]) -> Result<bool, OutOfMemory> {
-    let changes = changes_of(alloc, head(), &Edit::Put(14, thing))?;
+    };
+    let changes = changes_of(alloc, head, &Edit::Put(14, thing))?;
     Ok(match changes.as_slice() {
         [Change::Put(first), Change::Put(row)] => {
             first.key == RowKey { kind: 1, id: 0 }

@@ -1,5 +1,5 @@
 use Rattle.std.proofs.Common.{sym, subst}
-use Rattle.book_engine.specs.Machine.{machine_kept}
+use Rattle.book_engine.specs.Books.{machine_kept}
 use Rattle.book_app.specs.Numbers.{status_unopened}
 use Rattle.book_app.specs.StatusClause.{IsBookRun, over}
 use Rattle.book_app.specs.declared.status.Status.{Status}

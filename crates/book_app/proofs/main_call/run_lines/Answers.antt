@@ -2,7 +2,7 @@ use Rattle.std.proofs.Common.{ℕ, List}
 use Rattle.book_lines.specs.Marks.{Mark}
 use Rattle.book_lines.proofs.CallerLemmas.{Maps, IsRun-map}
 use Rattle.book_engine.specs.Kept.{Kept}
-use Rattle.book_engine.specs.Machine.{machine_kept}
+use Rattle.book_engine.specs.Books.{machine_kept}
 use Rattle.book_app.specs.Machine.{answers}
 use Rattle.book_app.proofs.main_call.run_lines.Goals as goal
 

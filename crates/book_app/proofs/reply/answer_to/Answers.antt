@@ -3,7 +3,7 @@ use Rattle.std.proofs.lemmas.Result.{IfOk-weaker}
 use Rattle.book_command.specs.declared.command.Command.{Command}
 use Rattle.book_command.specs.declared.wire_error.WireError.{WireError}
 use Rattle.book_lines.specs.Marks.{IsAnswer}
-use Rattle.book_engine.specs.Machine.{machine_kept}
+use Rattle.book_engine.specs.Books.{machine_kept}
 use Rattle.book_wire.specs.Asked.{Asks, LineAsks, IsRead, asked_of_fault}
 use Rattle.book_app.specs.Machine.{Replies}
 use Rattle.book_app.proofs.ReplyLemmas.{handed_on, replies-fault}

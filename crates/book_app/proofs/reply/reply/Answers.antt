@@ -1,6 +1,7 @@
 use Rattle.std.proofs.Common.{◌≡◌, subst}
 use Rattle.book_command.specs.declared.rule.Rule.{Rule}
-use Rattle.book_engine.specs.Machine.{Broken, machine_kept, step}
+use Rattle.book_engine.specs.Books.{machine_kept}
+use Rattle.book_engine.specs.Machine.{Broken, step}
 use Rattle.book_engine.specs.Planned.{IsRefusal}
 use Rattle.book_engine.proofs.StandLemmas.{stands_unchanged}
 use Rattle.book_app.proofs.ReplyLemmas.{broken_outcome, done_outcome}
@@ -21,7 +22,8 @@ pub returns-in-Err-Broken-clause-answered : goal.returns-in-Err-Broken-clause-an
 returns-in-Err-Broken-clause-answered g c =
     let rule : Rule = c.in-Err-Broken.rule in
     let broken : step (machine_kept c.args.engine.now) c.args.command ≡ Broken rule =
-    subst (λ refusal. IsRefusal (step (machine_kept c.args.engine.now) c.args.command) refusal) c.in-Err-Broken.field-0-is
+    subst (λ refusal. IsRefusal (step (machine_kept c.args.engine.now) c.args.command) refusal)
+    c.in-Err-Broken.field-0-is
     c.in-Err-Broken.ensures.refused in
     broken_outcome c.rule_text.result c.answered.result c.args.engine.now c.prepare.new.self c.args.command rule
     c.version.result c.prepare.ensures.unchanged broken c.version.ensures c.answered.ensures.text c.rule_text.ensures

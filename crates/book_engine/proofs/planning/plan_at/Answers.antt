@@ -1,7 +1,8 @@
 use Rattle.std.proofs.Common.{sym, ap, ◌∙◌, subst}
 use Rattle.book_command.specs.declared.answer.Answer.{Answer}
 use Rattle.book_opening.specs.State.{state_of}
-use Rattle.book_engine.specs.Machine.{Done, machine_of, reply}
+use Rattle.book_engine.specs.Books.{machine_of}
+use Rattle.book_engine.specs.Machine.{Done, reply}
 use Rattle.book_engine.specs.Planned.{IsPlanTo, Planned}
 use Rattle.book_engine.proofs.PlanLemmas.{is_stay_plan}
 use Rattle.book_engine.proofs.planning.plan_at.Goals as goal
@@ -12,4 +13,5 @@ returns-in-Status-clause-planned c =
     let comes = reply (machine_of state) c.args.what in
     subst (λ (p : Planned). IsPlanTo state c.args.saved comes p) (sym c.plan_stay.ensures)
     (is_stay_plan state c.args.saved c.status.result comes c.requires
-    (ap (reply (machine_of state)) c.in-Status.is ∙ ap (λ (a : Answer). Done (machine_of state) a) (sym c.status.ensures)))
+    (ap (reply (machine_of state)) c.in-Status.is
+    ∙ ap (λ (a : Answer). Done (machine_of state) a) (sym c.status.ensures)))

@@ -10,7 +10,8 @@ use Rattle.book_engine.proofs.planning.plan_kept.Goals as goal
 
 pub kept_turn-requires : goal.kept_turn-requires
 kept_turn-requires c =
-    (kept_can (state_of c.args.state.now) c.args.saved c.args.way c.args.edit.now c.requires.whole c.requires.kept).1.allowed
+    let state = state_of c.args.state.now in
+    (kept_can state c.args.saved c.args.way c.args.edit.now c.requires.whole c.requires.kept).1.allowed
 
 pub plan_turn-requires-clause-after : goal.plan_turn-requires-clause-after
 plan_turn-requires-clause-after c =

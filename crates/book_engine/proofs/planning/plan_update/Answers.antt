@@ -2,7 +2,8 @@ use Rattle.std.proofs.Common.{sym, subst}
 use Rattle.book_opening.specs.State.{state_of}
 use Rattle.book_step.specs.Step.{outcome}
 use Rattle.book_engine.specs.Kept.{step_state}
-use Rattle.book_engine.specs.Machine.{machine_of, updated}
+use Rattle.book_engine.specs.Books.{machine_of}
+use Rattle.book_engine.specs.Machine.{updated}
 use Rattle.book_engine.specs.Planned.{IsPlanTo, Planned}
 use Rattle.book_engine.proofs.PlanLemmas.{change_to, is_stay_plan, planned_change, updated_stay}
 use Rattle.book_engine.proofs.planning.plan_update.Goals as goal

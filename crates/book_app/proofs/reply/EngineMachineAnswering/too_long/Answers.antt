@@ -1,7 +1,7 @@
 use Rattle.std.proofs.Common.{◌≡◌, Bool, MatchBool, length, ◌^◌, refl, sym, ap, subst, ◌∙◌}
 use Rattle.std.proofs.lemmas.Result.{IfOk-weaker}
 use Rattle.std.proofs.lemmas.Bool.{lt-ltb}
-use Rattle.book_engine.specs.Machine.{machine_kept}
+use Rattle.book_engine.specs.Books.{machine_kept}
 use Rattle.book_texts.specs.RefusedText.{too_long_bytes}
 use Rattle.book_texts.proofs.OwnLineLemmas.{too_long-own_line}
 use Rattle.book_app.specs.Machine.{Replies}
