@@ -125,16 +125,16 @@ fn ending_at(alloc: Global, fails: u64) -> Result<Ended, OutOfMemory> {
     })
 }
 
-// A keeper that fails while it is opened, or while one of its six rows or their end is read: nothing is read or
+// A keeper that fails while it is opened, or while one of its nine rows or their end is read: nothing is read or
 // written, and the rows stay. At the next call, which is a commit, the line is refused.
 #[test]
 fn a_keeper_that_fails_before_the_first_line(rt: HostRuntime) -> Result<(), Fail> {
-    for call in 1..9u64 {
+    for call in 1..12u64 {
         let unopened = Ended {
             status: Status::KeeperFault,
             written: 0,
             unread: DROP.len(),
-            rows: 6,
+            rows: 9,
         };
         assert_eq!(rt; ending_at(rt.alloc(), call)?, unopened, "at {call}");
     }
@@ -142,8 +142,8 @@ fn a_keeper_that_fails_before_the_first_line(rt: HostRuntime) -> Result<(), Fail
         status: Status::Done,
         written: KEEPER.len(),
         unread: 0,
-        rows: 6,
+        rows: 9,
     };
-    assert_eq!(rt; ending_at(rt.alloc(), 9)?, refused);
+    assert_eq!(rt; ending_at(rt.alloc(), 12)?, refused);
     Ok(())
 }
