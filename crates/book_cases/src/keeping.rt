@@ -83,7 +83,11 @@ fn failed_at(
     place: usize,
 ) -> Result<(String, usize, String, bool), Fail> {
     let lines = lines_without(alloc, all, all.len())?;
-    let failed = ran_over(alloc, empty_keeper(alloc, &[place as u64 + 1])?, &lines)?;
+    let failed = ran_over(
+        alloc,
+        empty_keeper(alloc, &[(place as u64).saturating_add(1)])?,
+        &lines,
+    )?;
     let lines = lines_without(alloc, all, place)?;
     let without = ran_over(alloc, empty_keeper(alloc, &[])?, &lines)?;
     let (text, refused) = without_refusals(alloc, &failed)?;
