@@ -1,7 +1,10 @@
+ghost use Rattle.book_rows.specs.Row.{IsWithin};
+ghost use Rattle.book_opening.specs.State.{head_of, state_of};
+
 use crate::{
     OpenFault, Saved, all_rows, back_gone, back_put, changes_of, forth_gone, forth_put, read_rows,
 };
-use book_commodity::{Bytes, Many, Table, Text};
+use book_commodity::{Bytes, Many, OutOfMemory, Table, Text};
 use book_keeper::{Change, Keeper, MemKeeper, Row, RowKey};
 use book_rows::Head;
 use book_statement::Binding;
@@ -233,6 +236,35 @@ fn steps(alloc: Global, keeper: &mut MemKeeper) -> Option<(usize, usize, u64, u6
     Some(counts)
 }
 
+/// Puts all rows of the state that was read, with one step back, into another keeper.
+fn put_anew(alloc: Global, mut saved: Saved, again: &mut MemKeeper) -> Result<(), OutOfMemory>
+    requires { IsWithin (head_of (state_of saved)) }
+{
+    let mut back = Table::new(alloc);
+    back.reserve(1)?;
+    drop(back.put(3, Edit::Currency(1)));
+    saved.past = 1;
+    saved.back = back;
+    saved.forth = Table::new(alloc);
+    let changes = all_rows(alloc, &saved)?;
+    drop(saved);
+    let _ = again.commit(changes.as_slice());
+    Ok(())
+}
+
+/// The same for what the rows of a keeper open as; false where they don't open.
+fn are_put_anew(
+    alloc: Global,
+    keeper: &mut MemKeeper,
+    again: &mut MemKeeper,
+) -> Result<bool, OutOfMemory> {
+    let Ok(Some(saved)) = read_rows(alloc, keeper) else {
+        return Ok(false);
+    };
+    put_anew(alloc, saved, again)?;
+    Ok(true)
+}
+
 // A book with a thing of each kind opens, and all its rows put anew are as many.
 #[test]
 fn rows_of_each_kind(rt: HostRuntime) -> Result<(), Fail> {
@@ -240,23 +272,7 @@ fn rows_of_each_kind(rt: HostRuntime) -> Result<(), Fail> {
     let mut keeper = kept(alloc)?;
     let mut again = MemKeeper::new(Many::new(alloc), Many::new(alloc));
     assert!(rt; counted(alloc, &mut again).is_none());
-    if let Ok(Some(saved)) = read_rows(alloc, &mut keeper) {
-        assert!(rt; saved.next == 13 && saved.position == 3 && saved.plain.currency == 1);
-        let mut back = Table::new(alloc);
-        back.reserve(1)?;
-        drop(back.put(3, Edit::Currency(1)));
-        let anew = Saved {
-            plain: saved.plain,
-            next: 13,
-            version: 3,
-            position: 3,
-            past: 1,
-            later: 0,
-            back,
-            forth: Table::new(alloc),
-        };
-        let _ = again.commit(all_rows(alloc, &anew)?.as_slice());
-    }
+    assert!(rt; are_put_anew(alloc, &mut keeper, &mut again)?);
     assert_eq!(rt; again.rows().len(), 11);
     assert!(rt; counted(alloc, &mut again) == Some((1, 1, 3)));
     assert!(rt; steps(alloc, &mut again) == Some((1, 0, 1, 0)));
