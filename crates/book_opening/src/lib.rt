@@ -6,6 +6,8 @@
 
 mod changes;
 mod fault;
+#[cfg(test)]
+mod put_tests;
 mod read;
 mod saved;
 #[cfg(test)]
