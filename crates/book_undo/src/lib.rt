@@ -9,6 +9,8 @@ mod check;
 mod copy;
 mod edit;
 mod inverse;
+#[cfg(test)]
+mod inverse_tests;
 mod needs;
 mod nesting;
 mod order;
