@@ -1,4 +1,4 @@
-ghost use Rattle.std.specs.Prelude.{◌≡◌, ◌+◌, ◌||◌, List, IfOk, IfErr, OnOk, OnErr, IsTrue};
+ghost use Rattle.std.specs.Prelude.{◌≡◌, ◌+◌, ◌||◌, false, List, IfOk, IfErr, OnOk, OnErr, IsTrue};
 ghost use Rattle.book_keeper.specs.Keeping.{HasKeepCause};
 ghost use Rattle.book_keeper.specs.declared.row.Row.{Row as HeldRow};
 ghost use Rattle.book_undo.specs.Room.{HasRoom};
@@ -103,7 +103,7 @@ impl Engine {
 
     /// Finishes what was prepared and hands out its answer: where the plan commits, the keeper makes its changes of
     /// rows, and then the state is changed, which can't fail and takes no memory. An error is that of the commit, and
-    /// then all is as before, the keeper's rows too.
+    /// then all is as before, the keeper's rows too. Where the plan doesn't commit, the keeper is left alone.
     pub fn finish<K: Keeper>(&mut self, keeper: &mut K, plan: Plan) -> Result<Answer, KeepError>
         requires made { IsPlanFor self.old.state self.old.position self.old.saved plan }
         requires room { HasRoom self.old.plain plan.edit }
@@ -113,6 +113,7 @@ impl Engine {
         ensures answer { IfOk result (λ answer. answer ≡ plan.answer) }
         ensures unchanged { OnErr result (IsUnchanged self.old self.new) }
         ensures commits { OnErr result (IsTrue (commits plan)) }
+        ensures still { commits plan ≡ false → keeper.new ≡ keeper.old }
         ensures sound { IsSound self.new.state }
         ensures path { K.path_given keeper.new ≡ K.path_given keeper.old }
         ensures sure { IsTrue (K.sure keeper.new) → IsTrue (K.sure keeper.old) }
