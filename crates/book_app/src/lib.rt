@@ -3,7 +3,7 @@
 //! `run` is the whole promise of a run: what was written is what the machine of whole books answers to the lines that were
 //! read, from the state as which the keeper's rows opened on, and the rows that the keeper then holds open as the last
 //! state. `run_over` says the same over any reader and writer of std. `run_program` does so over a program's own words
-//! and standard streams, and `Ended` is what the program's `main` answers.
+//! and standard streams, and the keeper that it is given. `Ended` is what the program's `main` answers.
 #![tactic(auto)]
 
 mod ended;

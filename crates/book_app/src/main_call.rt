@@ -12,10 +12,11 @@ ghost use Rattle.book_app.specs.Words.{named_book};
 use crate::reply::Answering;
 use crate::status::{Status, status_after, status_unopened};
 use crate::words::named_book;
-use book_commodity::Text;
+use book_commodity::{OutOfMemory, Text};
 use book_engine::{Engine, OpenError};
 use book_keeper::{KeepError, Keeper, Sink, Source};
 use book_lines::{LineRoom, run};
+use book_words::part;
 use std::alloc::Global;
 
 /// Answers the lines of the input on the output, from the engine's state on, and keeps each change by the keeper,
@@ -59,6 +60,13 @@ fn open_book<K: Keeper>(alloc: Global, keeper: &mut K, book: &str) -> Result<Eng
     }
 }
 
+/// The room for lines, once `clap` has parted the words, which name this book.
+fn room_after(alloc: Global, words: &[Text], book: &str) -> Result<LineRoom, OutOfMemory>
+{
+    part(alloc, words, book)?;
+    LineRoom::new(alloc)
+}
+
 /// Does what the words ask: `run BOOK` opens the keeper at BOOK and answers the lines of the input, from the state as
 /// which its rows open on. Usage comes exactly where the words are not these; Memory where it is out of memory before
 /// the first line; KeeperFault where the keeper failed before it, and its count of faults rose; BadRows and UnsoundBook
@@ -84,7 +92,7 @@ pub fn book_main<K: Keeper, S: Source, O: Sink>(
     let Some(book) = named_book(words) else {
         return Status::Usage;
     };
-    let Ok(mut room) = LineRoom::new(alloc) else {
+    let Ok(mut room) = room_after(alloc, words, book) else {
         return Status::Memory;
     };
     match open_book(alloc, keeper, book) {

@@ -180,15 +180,17 @@ static ROWS: [Row; 5] = [
 ];
 
 #[test]
-fn words_and_streams(rt: HostRuntime) {
+fn words_and_streams(rt: HostRuntime) -> Result<(), Fail> {
     for (words, fails, output, line, lines, number) in ROWS {
         let host = Host::new(rt.alloc(), words, output, line, fails);
-        let code = run_program(&host).report(&host);
+        let mut keeper = empty_keeper(rt.alloc(), &[])?;
+        let code = run_program(&host, &mut keeper).report(&host);
         assert_eq!(rt; code, ExitCode::from(number));
         assert_eq!(rt; host.written.get(), output.len());
         assert_eq!(rt; host.lines.get(), lines);
         assert!(rt; !host.differs.get());
     }
+    Ok(())
 }
 
 /// A reader that gives the salary's lines and then fails.

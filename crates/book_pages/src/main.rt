@@ -10,6 +10,13 @@ use crate::session::answers_to;
 use std::process::ExitCode;
 use std::{fs, io};
 
+/// The first run that the README shows, and the second one over the same book.
+const FIRST_RUN: &str = "./book run household.book < examples/salary.jsonl\n";
+
+const SECOND_RUN: &str = "echo '{\"do\":\"status\"}' | ./book run household.book\n";
+
+const STATUS: &str = "{\"do\":\"status\"}";
+
 /// Reads a page.
 fn read(rt: &HostRuntime, name: &str) -> io::Result<Page> {
     let text = fs::read_to_string(rt, name)?;
@@ -44,19 +51,27 @@ fn is_example(rt: &HostRuntime, name: &str, answered: &str) -> io::Result<bool> 
     Ok(answers.as_str() == fs::read_to_string(rt, answered)?.as_str())
 }
 
-/// Whether the README runs the salary and shows its answers, and then the last command of the month with its answer.
+/// What `status` is answered after the lines of the example, and their answers before it.
+fn status_after(rt: &HostRuntime, example: &str) -> io::Result<String> {
+    let mut lines = fs::read_to_string(rt, example)?;
+    add_line(&mut lines, STATUS)?;
+    Ok(answers_to(rt.alloc(), lines.as_str())?)
+}
+
+/// Whether the README runs the salary and shows its answers, then asks for the status of the same book, and then shows
+/// the last command of the month with its answer.
 fn is_readme(rt: &HostRuntime, name: &str, salary: &str, month: &str) -> io::Result<bool> {
     let text = fs::read_to_string(rt, name)?;
     let page = page_of(rt.alloc(), text.as_str())?;
     let lines = fs::read_to_string(rt, month)?;
     let month_answers = answers_to(rt.alloc(), lines.as_str())?;
-    let mut answers = answers_to(rt.alloc(), fs::read_to_string(rt, salary)?.as_str())?;
+    let mut answers = status_after(rt, salary)?;
     add_line(&mut answers, last_line(month_answers.as_str()))?;
     let command = page.commands.as_str().trim_end();
     println!(rt; "{name}: the last command of {month}, and {salary}")?;
     Ok(
-        text.as_str()
-            .contains("./book run household.book < examples/salary.jsonl\n")
+        text.as_str().contains(FIRST_RUN)
+            && text.as_str().contains(SECOND_RUN)
             && command == last_line(lines.as_str())
             && page.answers.as_str() == answers.as_str(),
     )

@@ -8,8 +8,9 @@ use book_keeper::{Change, KeepError, Keeper, Row, RowKey};
 use sqlite::{Connection, Error, ErrorCode, File, FileStore};
 use std::rt::HostRuntime;
 
-/// A keeper of rows in a SQLite file, which `open` opens, or makes where there is none. It reports nothing of what the
-/// file holds.
+/// A keeper of rows in a SQLite file, which `open` opens, or makes where there is none. While it is open, a log stands
+/// beside the file, and the two together hold the rows; after `close` the file alone holds them. It reports nothing of
+/// what the file holds.
 #[derive(Drop)]
 pub struct FileKeeper<'a> {
     rt: &'a HostRuntime,
@@ -29,6 +30,16 @@ impl<'a> FileKeeper<'a> {
             keeper: None,
             path: Text::new(rt.alloc()),
             faults: 0,
+        }
+    }
+
+    /// Closes the file, so that it alone holds the rows: the log beside it is copied into it. Where this fails, as on a
+    /// full disk, the rows stay in the two files together, and the next `open` finds them there.
+    pub fn close(self) -> Result<(), KeepError> {
+        let FileKeeper { keeper, .. } = self;
+        match keeper {
+            Some(keeper) => closed(keeper),
+            None => Ok(()),
         }
     }
 
@@ -53,8 +64,23 @@ fn opened(rt: &HostRuntime, path: &str) -> Result<SqliteKeeper<FileStore<File>>,
             keeper.open(path)?;
             Ok(keeper)
         }
-        Err(Error::SqliteFailure(ErrorCode::OutOfMemory)) => Err(KeepError::OutOfMemory),
-        Err(_) => Err(KeepError::Failed),
+        Err(error) => Err(keep_error(error)),
+    }
+}
+
+/// Closes the file of this keeper.
+fn closed(keeper: SqliteKeeper<FileStore<File>>) -> Result<(), KeepError> {
+    match keeper.into_connection() {
+        Some(connection) => connection.close().map_err(keep_error),
+        None => Ok(()),
+    }
+}
+
+/// What an error of the kit's is to a keeper.
+fn keep_error(error: Error) -> KeepError {
+    match error {
+        Error::SqliteFailure(ErrorCode::OutOfMemory) => KeepError::OutOfMemory,
+        _ => KeepError::Failed,
     }
 }
 

@@ -56,6 +56,13 @@ impl<S: Alter + Drop> SqliteKeeper<S> {
         }
     }
 
+    /// Gives the connection back. None where the keeper has none, since the database has another schema, or failed.
+    pub fn into_connection(self) -> Option<Connection<S>>
+        ensures { result ≡ self.connection }
+    {
+        self.connection
+    }
+
     /// Counts a fault, unless the call was out of memory.
     fn fail(&mut self, lacked_memory: bool) -> KeepError
         ensures connection { self.new.connection ≡ self.old.connection }

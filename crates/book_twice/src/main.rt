@@ -1,0 +1,52 @@
+//! Runs the program's work over a book in a file, and then again over the same book: what the first run kept is there
+//! in the second one, undo included. A third run is over a copy of the file alone, which is the whole book once it is
+//! closed. The lines of each run are this program's data, and it writes the answers.
+#![tactic(auto)]
+
+use book_app::run_over;
+use book_commodity::Text;
+use book_sqlite::FileKeeper;
+use std::alloc::{AllocError, Global};
+use std::process::{ExitCode, Termination};
+use std::{fs, io};
+
+/// The words `run BOOK`.
+fn words(alloc: Global, book: &str) -> Result<Vec<Text>, AllocError> {
+    let mut words = Vec::new(alloc);
+    words.push(Text::of(String::from_str(alloc, "run")?))?;
+    words.push(Text::of(String::from_str(alloc, book)?))?;
+    Ok(words)
+}
+
+/// Runs the lines over the book and closes it. Whether both succeeded.
+fn run(rt: &HostRuntime, book: &str, lines: &str) -> io::Result<bool> {
+    println!(rt; "{book}, {lines}")?;
+    let lines = fs::read_to_string(rt, lines)?;
+    let words = words(rt.alloc(), book)?;
+    let mut keeper = FileKeeper::new(rt);
+    let ran = run_over(
+        rt.alloc(),
+        words.as_slice(),
+        &mut keeper,
+        lines.as_bytes(),
+        io::writer(rt),
+    );
+    let closed = keeper.close();
+    Ok(ran.ended.report(rt) == ExitCode::SUCCESS && closed.is_ok())
+}
+
+/// Makes the three runs. Whether all succeeded.
+fn run_all(rt: &HostRuntime) -> io::Result<bool> {
+    if !run(rt, "household.book", "first.jsonl")? || !run(rt, "household.book", "second.jsonl")? {
+        return Ok(false);
+    }
+    fs::copy(rt, "household.book", "copy.book")?;
+    run(rt, "copy.book", "third.jsonl")
+}
+
+fn main(rt: HostRuntime) -> ExitCode {
+    match run_all(&rt) {
+        Ok(true) => ExitCode::SUCCESS,
+        _ => ExitCode::from(1),
+    }
+}

@@ -1,0 +1,44 @@
+use crate::part;
+use book_commodity::{OutOfMemory, Text};
+use std::alloc::Global;
+use std::test::Fail;
+
+/// Whether the words are parted as `run` and this book.
+fn is_parted(alloc: Global, words: &[&str], book: &str) -> Result<bool, OutOfMemory> {
+    let mut texts = Vec::new(alloc);
+    for word in words {
+        texts.push(Text::of(String::from_str(alloc, word)?))?;
+    }
+    Ok(part(alloc, texts.as_slice(), book).is_ok())
+}
+
+#[test]
+fn books_of_any_name_are_parted(rt: HostRuntime) -> Result<(), Fail> {
+    for book in [
+        "household.book",
+        "a book",
+        "run",
+        "help",
+        "=",
+        "a=b",
+        "a,b",
+        ".-",
+        "/tmp/a.book",
+        "caf\u{e9}.book",
+    ] {
+        assert!(rt; is_parted(rt.alloc(), &["run", book], book)?, "{book}");
+    }
+    Ok(())
+}
+
+#[test]
+fn other_words_are_not(rt: HostRuntime) -> Result<(), Fail> {
+    let alloc = rt.alloc();
+    assert!(rt; !is_parted(alloc, &[], "")?);
+    assert!(rt; !is_parted(alloc, &["run"], "")?);
+    assert!(rt; !is_parted(alloc, &["walk", "a.book"], "a.book")?);
+    assert!(rt; !is_parted(alloc, &["run", "-a.book"], "-a.book")?);
+    assert!(rt; !is_parted(alloc, &["run", "a.book", "b.book"], "a.book")?);
+    assert!(rt; !is_parted(alloc, &["run", "a.book"], "b.book")?);
+    Ok(())
+}
