@@ -6,8 +6,8 @@ use std::io::{Input, Print};
 use std::{env, io};
 
 /// Does what the program's words ask, over this keeper and the program's standard streams: `run_words` with the host's
-/// words, reader and writer, which has all clauses. This call has none, since std says nothing of what a host's words are
-/// and of what its streams hold.
+/// words, reader and writer, which has all clauses. This call has none, since std says nothing of what a host's words
+/// are and of what its streams hold.
 pub fn run_program<R: Env + Input + Print + AllocGlobal, K: Keeper>(
     rt: &R,
     keeper: &mut K,

@@ -1,7 +1,7 @@
 //! Stops runs of the program's work at each call of their disk, one after the other, and opens the book again: its rows
-//! are those before the commit that was stopped, or those after it. The disk is in memory and has two files, the book and
-//! its log; one of them fails from a call on. Then the machine stops, and the writes that were not synced are lost, or
-//! the program is killed, and all writes stay.
+//! are those before the commit that was stopped, or those after it. The disk is in memory and has two files, the book
+//! and its log; one of them fails from a call on. Then the machine stops, and the writes that were not synced are lost,
+//! or the program is killed, and all writes stay.
 #![tactic(auto)]
 
 mod disk;

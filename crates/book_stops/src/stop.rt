@@ -22,6 +22,14 @@ pub(crate) enum Found {
 
 type Store = FileStore<Fuse<Memory>>;
 
+/// A small book needs few pages, and a run that makes room for few takes less time.
+const FEW_PAGES: Options = Options {
+    cache_pages: 40,
+    spill_pages: 40,
+    checkpoint_frames: 1_000,
+    seed: 7,
+};
+
 /// A run that ended: how many lines were done, whether no call failed, and the files.
 #[derive(Drop)]
 struct Run {
@@ -35,7 +43,7 @@ fn opened(alloc: Global, files: FusedFiles) -> Result<Connection<Store>, FusedFi
     if !files.may_be_used() {
         return Err(files);
     }
-    match Connection::open_files(alloc, files, Options::new(7)) {
+    match Connection::open_files(alloc, files, FEW_PAGES) {
         Ok(connection) => Ok(connection),
         Err((_, left)) => Err(left.into_files()),
     }

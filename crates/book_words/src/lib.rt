@@ -1,6 +1,6 @@
-//! The words of the program, parted by the kit's `clap`. The program's own grammar decides which words are right; `part`
-//! is asked only for those, and says that `clap` finds the same parts in them. A crate of its own, since what uses the
-//! types of `clap` takes long to check.
+//! The words of the program, parted by the kit's `clap`. The program's own grammar decides which words are right;
+//! `part` is asked only for those, and says that `clap` finds the same parts in them. A crate of its own, since what
+//! uses the types of `clap` takes long to check.
 #![tactic(auto)]
 
 #[cfg(test)]

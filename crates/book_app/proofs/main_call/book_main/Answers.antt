@@ -10,8 +10,8 @@ pub returns-in_default-clause-run : goal.returns-in_default-clause-run
 returns-in_default-clause-run g c =
     run_of_nothing _ _ _ _ (λ bytes. untouched _ (λ still rows held. held))
 
-pub returns-in_default-new-clause-run : goal.returns-in_default-new-clause-run
-returns-in_default-new-clause-run g c =
+pub returns-in_default-room_after-clause-run : goal.returns-in_default-room_after-clause-run
+returns-in_default-room_after-clause-run g c =
     run_of_nothing _ _ _ _ (λ bytes. untouched _ (λ still rows held. held))
 
 pub returns-in-Ok-open_book-clause-run : goal.returns-in-Ok-open_book-clause-run
