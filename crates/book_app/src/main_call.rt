@@ -61,8 +61,7 @@ fn open_book<K: Keeper>(alloc: Global, keeper: &mut K, book: &str) -> Result<Eng
 }
 
 /// The room for lines, once `clap` has parted the words, which name this book.
-fn room_after(alloc: Global, words: &[Text], book: &str) -> Result<LineRoom, OutOfMemory>
-{
+fn room_after(alloc: Global, words: &[Text], book: &str) -> Result<LineRoom, OutOfMemory> {
     part(alloc, words, book)?;
     LineRoom::new(alloc)
 }

@@ -56,8 +56,8 @@ fn stop_at_each(rt: &HostRuntime, is_log: bool, ending: Ending) -> io::Result<()
             Found::Other => println!(rt; "{file}, call {calls}: other rows")?,
         }
     }
-    println!(
-        rt; "the {file}, {}: {} stops, {} times the rows before, {} times those after",
+    println!(rt;
+        "the {file}, {}: {} stops, {} times the rows before, {} times those after",
         ending.text(),
         counts.stopped,
         counts.before,

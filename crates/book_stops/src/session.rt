@@ -42,10 +42,12 @@ fn done<K: Keeper>(alloc: Global, keeper: &mut K, count: usize) -> Result<usize,
     let mut output = MemSink::new(alloc, ROOM, Many::new(alloc))?;
     let _ = book_main(alloc, words.as_slice(), keeper, &mut input, &mut output);
     let answers = str::from_utf8(output.written()).unwrap_or("");
-    Ok(answers
-        .lines()
-        .filter(|line| line.contains("\"ok\":"))
-        .count())
+    Ok(
+        answers
+            .lines()
+            .filter(|line| line.contains("\"ok\":"))
+            .count(),
+    )
 }
 
 /// Runs the salary over the keeper. How many of its lines were done.
