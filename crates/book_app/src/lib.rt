@@ -2,8 +2,8 @@
 //! go: `book_main` takes the words, opens the keeper, reads the input to its end, and says how it ended. Its clause
 //! `run` is the whole promise of a run: what was written is what the machine of whole books answers to the lines that were
 //! read, from the state as which the keeper's rows opened on, and the rows that the keeper then holds open as the last
-//! state. `run_over` says the same over any reader and writer of std. `run_program` does so over a program's own words
-//! and standard streams, and the keeper that it is given. `Ended` is what the program's `main` answers.
+//! state. `run_over` says the same over any reader and writer of std. `run_program` does so over a program's
+//! standard streams, the words that `words_of` reads, and the keeper that it is given. `Ended` is what the program's `main` answers.
 #![tactic(auto)]
 
 mod ended;
@@ -18,6 +18,7 @@ mod words;
 pub use book_lines::LineRoom;
 pub use ended::{Ended, Ran, run_over};
 pub use main_call::{book_main, run_lines};
-pub use program::run_program;
+pub use program::{run_program, words_of};
 pub use reply::Answering;
 pub use status::Status;
+pub use words::named_book;

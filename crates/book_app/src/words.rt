@@ -13,8 +13,9 @@ fn names_book(word: &str) -> bool
     }
 }
 
-/// The book that the words name, where they are `run` and the name of a book.
-pub(crate) fn named_book(words: &[Text]) -> Option<&str>
+/// The book that the words name, where they are `run` and the name of a book, which is not empty and does not begin with
+/// a hyphen. These are the words of the program's grammar.
+pub fn named_book(words: &[Text]) -> Option<&str>
     ensures { option_map (λ book. book.now) result ≡ named_book words.now }
 {
     match words {

@@ -43,12 +43,25 @@ impl<S: Alter + Drop> SqliteKeeper<S> {
         ensures path { result.path ≡ [] }
         ensures faults { result.faults ≡ 0 }
     {
-        let (connection, lacked_memory) = match prepared(alloc, connection) {
-            Ok(connection) => (Some(connection), false),
-            Err(error) => (None, is_want_of_memory(error)),
-        };
+        match prepared(alloc, connection) {
+            Ok(connection) => SqliteKeeper {
+                connection: Some(connection),
+                lacked_memory: false,
+                alloc,
+                path: Text::new(alloc),
+                faults: 0,
+            },
+            Err(error) => SqliteKeeper::unopened(alloc, is_want_of_memory(error)),
+        }
+    }
+
+    /// A keeper without a connection: `open` fails, or is out of memory where that was why there is none.
+    pub(crate) fn unopened(alloc: Global, lacked_memory: bool) -> SqliteKeeper<S>
+        ensures path { result.path ≡ [] }
+        ensures faults { result.faults ≡ 0 }
+    {
         SqliteKeeper {
-            connection,
+            connection: None,
             lacked_memory,
             alloc,
             path: Text::new(alloc),
@@ -79,12 +92,12 @@ impl<S: Alter + Drop> SqliteKeeper<S> {
 }
 
 /// Whether a call of the kit's was out of memory.
-fn is_want_of_memory(error: Error) -> bool {
+pub(crate) fn is_want_of_memory(error: Error) -> bool {
     matches!(error, Error::SqliteFailure(ErrorCode::OutOfMemory))
 }
 
 /// The text of these characters.
-pub fn text_of(alloc: Global, path: &str) -> Result<Text, KeepError>
+fn text_of(alloc: Global, path: &str) -> Result<Text, KeepError>
     ensures value { IfOk result (λ text. text ≡ path.now) }
     ensures memory { IfErr result (λ error. error ≡ KeepError.OutOfMemory) }
 {

@@ -130,11 +130,11 @@ fn a_row_that_is_none_of_a_book_is_a_fault(rt: HostRuntime) -> Result<(), Fail> 
 #[test]
 fn rows_stay_in_a_file(rt: HostRuntime) -> Result<(), Fail> {
     let alloc = rt.alloc();
-    let mut keeper = FileKeeper::new(&rt);
+    let mut keeper = FileKeeper::at(&rt, Some("rows.book"));
     assert_eq!(rt; keeper.open("rows.book"), Ok(()));
     assert!(rt; put(&mut keeper, alloc, EURO, b"euro")?);
     drop(keeper);
-    let mut again = FileKeeper::new(&rt);
+    let mut again = FileKeeper::at(&rt, Some("rows.book"));
     assert_eq!(rt; again.open("rows.book"), Ok(()));
     assert!(rt; matches!(again.next_row(None), Ok(Some(Row { key: EURO, body: _ }))));
     Ok(())

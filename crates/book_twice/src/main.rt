@@ -23,7 +23,7 @@ fn run(rt: &HostRuntime, book: &str, lines: &str) -> io::Result<bool> {
     println!(rt; "{book}, {lines}")?;
     let lines = fs::read_to_string(rt, lines)?;
     let words = words(rt.alloc(), book)?;
-    let mut keeper = FileKeeper::new(rt);
+    let mut keeper = FileKeeper::at(rt, Some(book));
     let ran = run_over(
         rt.alloc(),
         words.as_slice(),

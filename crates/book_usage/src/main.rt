@@ -2,11 +2,11 @@
 //! is written on standard output, and it ends with 2.
 #![tactic(auto)]
 
-use book_app::{Ended, run_program};
+use book_app::{Ended, run_program, words_of};
 use book_commodity::Many;
 use book_keeper::MemKeeper;
 
 fn main(rt: HostRuntime) -> Ended {
     let mut keeper = MemKeeper::new(Many::new(rt.alloc()), Many::new(rt.alloc()));
-    run_program(&rt, &mut keeper)
+    run_program(&rt, words_of(&rt), &mut keeper)
 }
