@@ -1,0 +1,3 @@
+pub mod Change
+pub mod Ledger
+pub mod Room
