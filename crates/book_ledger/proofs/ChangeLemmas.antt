@@ -1,7 +1,7 @@
 -- What becomes of the rows where those of one transaction are taken out and those of another put in.
 use Rattle.std.proofs.Common.{◌≡◌, ℕ, ◌+◌, ◌<◌, ◌≤◌, ◌==◌, ◌&&◌, nat_lt, Bool, true, false, cond, if◌then◌else◌}
 use Rattle.std.proofs.Common.{List, [], ◌∷◌, length, Option, Some, None, option_map, slice_get, find, refl, sym, ap, ◌∙◌}
-use Rattle.std.proofs.Common.{arith, ◌⊎◌, inl, inr, is_some}
+use Rattle.std.proofs.Common.{arith, ◌⊎◌, inl, inr, is_some, ℤ}
 use Rattle.std.specs.Option.{option_or}
 use Rattle.std.specs.Ordering.{int_eq}
 use Rattle.std.proofs.lemmas.Bool.{cases_order, eqb-true, and_parts}
@@ -39,10 +39,10 @@ mark_itself Plain = refl
 mark_itself Cleared = refl
 mark_itself Reconciled = refl
 
-day_is : (x y : _) → int_eq x y ≡ true → x ≡ y
+day_is : (x y : ℤ) → int_eq x y ≡ true → x ≡ y
 day_is x y is = grind (arith, ints, Decides-int_eq)
 
-abbrev made : RowKey → ℕ → ℕ → _ → _ → Mark2 → Entry
+abbrev made : RowKey → ℕ → ℕ → ℤ → ℤ → Mark2 → Entry
 made key split currency quantity value mark = record {
   day = key.day;
   txn = key.txn;
@@ -56,11 +56,17 @@ made key split currency quantity value mark = record {
 
 pub same_is : (one other : Entry) → is_same one other ≡ true → one ≡ other
 same_is one other is =
-    let marks = and_parts _ _ is in
-    let values = and_parts _ _ marks.0 in
-    let quantities = and_parts _ _ values.0 in
-    let currencies = and_parts _ _ quantities.0 in
-    let keys = and_parts _ _ currencies.0 in
+    let key_test = has_key (key_of one) other in
+    let split_test = one.split == other.split in
+    let currency_test = one.currency == other.currency in
+    let quantity_test = int_eq one.quantity other.quantity in
+    let value_test = int_eq one.value other.value in
+    let marks = and_parts (key_test && split_test && currency_test && quantity_test && value_test)
+    (is_same_mark one.mark other.mark) is in
+    let values = and_parts (key_test && split_test && currency_test && quantity_test) value_test marks.0 in
+    let quantities = and_parts (key_test && split_test && currency_test) quantity_test values.0 in
+    let currencies = and_parts (key_test && split_test) currency_test quantities.0 in
+    let keys = and_parts key_test split_test currencies.0 in
     let key = key_is (key_of one) other keys.0 in
     let split = eqb-true one.split other.split keys.1 in
     let currency = eqb-true one.currency other.currency currencies.1 in
@@ -81,7 +87,9 @@ same_itself row =
     let currency : (row.currency == row.currency) ≡ true = grind (arith, nat_tests) in
     let quantity : int_eq row.quantity row.quantity ≡ true = grind (arith, ints, Decides-int_eq) in
     let value : int_eq row.value row.value ≡ true = grind (arith, ints, Decides-int_eq) in
-    all_true _ _ _ _ _ _ key split currency quantity value (mark_itself row.mark)
+    all_true (has_key (key_of row) row) (row.split == row.split) (row.currency == row.currency)
+    (int_eq row.quantity row.quantity) (int_eq row.value row.value) (is_same_mark row.mark row.mark) key split
+    currency quantity value (mark_itself row.mark)
   where
     all_true :
         (a b c d e f : Bool) → a ≡ true → b ≡ true → c ≡ true → d ≡ true → e ≡ true → f ≡ true
@@ -306,7 +314,7 @@ changed_row account key (Some x) (Some y) =
   where
     pair_is : (p q : ℕ × Entry) → ((p.0 == q.0) && is_same p.1 q.1) ≡ true → p ≡ q
     pair_is p q is =
-        let both = and_parts _ _ is in
+        let both = and_parts (p.0 == q.0) (is_same p.1 q.1) is in
         let one = eqb-true p.0 q.0 both.0 in
         let two = same_is p.1 q.1 both.1 in
         ap (λ (n : ℕ). (n, p.1)) one ∙ ap (λ (e : Entry). (q.0, e)) two

@@ -1,5 +1,5 @@
 -- Registers that follow the leaves of an edit: those of a book become those of the book after the edit.
-use Rattle.std.proofs.Common.{◌≡◌, ℕ, ◌+◌, ◌<◌, ◌≤◌, ◌^◌, ◌==◌, Bool, true, false, if◌then◌else◌, List, [], ◌∷◌, ◌++◌}
+use Rattle.std.proofs.Common.{◌≡◌, ℕ, zero, suc, get_or, ◌+◌, ◌<◌, ◌≤◌, ◌^◌, ◌==◌, Bool, true, false, if◌then◌else◌, List, [], ◌∷◌, ◌++◌}
 use Rattle.std.proofs.Common.{Option, Some, None, is_some, length, find, refl, sym, ap, ◌∙◌, subst, arith, ◌⊎◌, inl, inr, All}
 use Rattle.std.proofs.lemmas.Bool.{eqb-true}
 use Rattle.std.proofs.lemmas.Bool.Decides.{nat_tests}
@@ -8,20 +8,21 @@ use Rattle.book_commodity.proofs.TableLemmas.{value_of_with, value_of_without, r
 use Rattle.book_register.specs.Register.{IsSorted, Rows, has_key}
 use Rattle.book_splits.specs.declared.transaction.Txn.{Txn}
 use Rattle.book_undo.specs.Book.{Book}
-use Rattle.book_undo.specs.Edit.{Key, Leaf, OfCurrency, OfPut, OfGone, edited, key_at, key_of, leaves}
-use Rattle.book_undo.specs.EditRules.{IsAllowed, first_unordered, is_above}
+use Rattle.book_undo.specs.Edit.{Key, Leaf, OfCurrency, OfPut, OfGone, deepest, depth, edited, key_at, key_of, leaves}
+use Rattle.book_undo.specs.EditRules.{IsAllowed, first_unordered}
 use Rattle.book_undo.specs.Thing.{kind_of, row_kind}
 use Rattle.book_undo.specs.declared.edit.Edit.{Edit}
 use Rattle.book_undo.specs.declared.thing.Thing.{Thing}
 use Rattle.book_undo.specs.declared.thing.Thing.TheVariants as thing
 use Rattle.book_undo.specs.declared.thing.ThingKind.{ThingKind}
 use Rattle.book_undo.specs.declared.thing.ThingKind.TheVariants as kind
-use Rattle.book_undo.proofs.EditLaws.{after_leaf, after_leaves, edited-leaves}
+use Rattle.book_undo.proofs.EditLaws.{after-append, after_leaf, after_leaves, edited-leaves}
 use Rattle.book_undo.proofs.ExactLaws.{allowed_order}
 use Rattle.book_undo.proofs.InverseLaws.{NotBelow, Past, past_above, rises_first}
 use Rattle.book_ledger.specs.Change.{Holds, is_there}
-use Rattle.book_ledger.specs.Ledger.{HasPlaces, Keeps, register_of, rows_at, rows_in}
-use Rattle.book_ledger.specs.Room.{AreSorted, ChangeOnce, HasRegisters, is_account, is_txn, is_txn_kind}
+use Rattle.book_ledger.specs.Ledger.{Keeps, register_of, rows_at}
+use Rattle.book_ledger.specs.Room.{AreSorted, ChangeOnce, HasRegisters, IsOnWay, LeavesHavePlaces}
+use Rattle.book_ledger.specs.Room.{is_account, is_txn, is_txn_kind, puts_on}
 use Rattle.book_ledger.proofs.OrderLemmas.{same_rows}
 use Rattle.book_ledger.proofs.RegisterLemmas.{found_in_register, register_sorted}
 use Rattle.book_ledger.proofs.SortedLemmas.{sorted_at}
@@ -126,18 +127,12 @@ pub change_once :
     (before : List (ℕ × Txn)) (key : Key) (ls : List Leaf) (now : Book) → Rises now.transactions
     → first_unordered key ls ≡ None → AboveAsBefore before key now → ChangeOnce before ls now
 change_once before key [] now r up same = tt
-change_once before key (l ∷ ls) now r up same = here l past rest
+change_once before key (l ∷ ls) now r up same =
+    let both = rises_first key l ls up in
+    let past = past_above key.kind key.number (key_of l) key (inr (refl, omega arith)) both.0 in
+    here l past (change_once before (key_of l) ls (after_leaf l now) (rises_after l now r) both.1
+    (λ m later. beside m l now r later ∙ same m (past_by key (key_of l) (key_at 4 m) past later)))
   where
-    both : (is_above (key_of l) key ≡ true) × (first_unordered (key_of l) ls ≡ None)
-    both = rises_first key l ls up
-
-    past : Past key.kind key.number (key_of l)
-    past = past_above key.kind key.number (key_of l) key (inr (refl, omega arith)) both.0
-
-    rest : ChangeOnce before ls (after_leaf l now)
-    rest = change_once before (key_of l) ls (after_leaf l now) (rises_after l now r) both.1
-        (λ m later. beside m l now r later ∙ same m (past_by key (key_of l) (key_at 4 m) past later))
-
     here :
         (leaf : Leaf) → Past key.kind key.number (key_of leaf) → ChangeOnce before ls (after_leaf leaf now)
         → ChangeOnce before (leaf ∷ ls) now
@@ -263,3 +258,65 @@ kept_edited old new b e r accounts allowed kept has in_order there follows =
 
     all : AllThere old (after_leaves (leaves e) b)
     all = live_all old (leaves e) b accounts kept.live has
+
+-- ---- leaves one after another
+pub puts-append :
+    (account : ℕ) (xs ys : List Leaf) → puts_on account (xs ++ ys) ≡ puts_on account xs + puts_on account ys
+puts-append account [] ys = omega arith
+puts-append account (OfCurrency c ∷ xs) ys = puts-append account xs ys
+puts-append account (OfPut n t ∷ xs) ys = omega (arith, puts-append account xs ys)
+puts-append account (OfGone k n ∷ xs) ys = puts-append account xs ys
+
+pub places_parts :
+    (xs ys : List Leaf) → LeavesHavePlaces (xs ++ ys) → LeavesHavePlaces xs × LeavesHavePlaces ys
+places_parts [] ys places = (tt, places)
+places_parts (OfCurrency c ∷ xs) ys places = places_parts xs ys places
+places_parts (OfPut n t ∷ xs) ys places =
+    let rest = places_parts xs ys places.1 in ((places.0, rest.0), rest.1)
+places_parts (OfGone k n ∷ xs) ys places = places_parts xs ys places
+
+pub once_parts :
+    (before : List (ℕ × Txn)) (xs ys : List Leaf) (now : Book) → ChangeOnce before (xs ++ ys) now
+    → ChangeOnce before xs now × ChangeOnce before ys (after_leaves xs now)
+once_parts before [] ys now once = (tt, once)
+once_parts before (OfCurrency c ∷ xs) ys now once = once_parts before xs ys (after_leaf (OfCurrency c) now) once
+once_parts before (OfPut n t ∷ xs) ys now once =
+    let rest = once_parts before xs ys (after_leaf (OfPut n t) now) once.1 in ((once.0, rest.0), rest.1)
+once_parts before (OfGone k n ∷ xs) ys now once =
+    let rest = once_parts before xs ys (after_leaf (OfGone k n) now) once.1 in ((once.0, rest.0), rest.1)
+
+-- registers on the way follow the leaves of one part more
+pub on_way_more :
+    (before : List (ℕ × Txn)) (old new : List (ℕ × Rows)) (part others all : List Leaf) (last : Book)
+    → all ≡ part ++ others → IsOnWay before old all last
+    → ((now : Book) → Rises now.transactions → ChangeOnce before part now → Holds old now.transactions
+    → Holds new (after_leaves part now).transactions)
+    → IsOnWay before new others last
+on_way_more before old new part others all last is way follows =
+    let once = once_parts before part others way.mid (subst (λ (l : List Leaf). ChangeOnce before l way.mid) is
+    way.once) in
+    record {
+      mid = after_leaves part way.mid;
+      rises = rises_after_all part way.mid way.rises;
+      once = once.1;
+      holds = follows way.mid way.rises once.0 way.holds;
+      leads =
+          sym (after-append part others way.mid) ∙ ap (λ (l : List Leaf). after_leaves l way.mid) (sym is)
+          ∙ way.leads;
+    }
+
+-- and at the end hold the rows of the last book
+pub on_way_end :
+    (before : List (ℕ × Txn)) (registers : List (ℕ × Rows)) (last : Book) → IsOnWay before registers [] last
+    → Holds registers last.transactions
+on_way_end before registers last way =
+    subst (λ (b : Book). Holds registers b.transactions) way.leads way.holds
+
+-- a part is no deeper than the deepest of all
+pub depth_at :
+    (parts : List Edit) (i : ℕ) (part : Edit) → i < length parts → part ≡ get_or parts i part
+    → depth part ≤ deepest parts
+depth_at [] i part lt is = absurd (omega (arith, lt))
+depth_at (first ∷ more) zero part lt is = let same = ap depth is in omega (arith, same)
+depth_at (first ∷ more) (suc i) part lt is =
+    omega (arith, depth_at more i part (omega (arith, lt)) is)

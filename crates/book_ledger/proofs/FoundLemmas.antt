@@ -1,8 +1,9 @@
 -- The row that is found at a key: in rows with one more, with one put in at a place, or with one taken out.
-use Rattle.std.proofs.Common.{◌≡◌, ℕ, zero, suc, ◌+◌, ◌<◌, ◌≤◌, nat_lt, ◌&&◌, not, Bool, true, false, cond}
+use Rattle.std.proofs.Common.{◌≡◌, ℕ, zero, suc, ◌+◌, ◌<◌, ◌≤◌, ◌==◌, nat_lt, ◌&&◌, not, Bool, true, false, cond}
 use Rattle.std.proofs.Common.{List, [], ◌∷◌, ◌++◌, length, Option, Some, None, find, refl, sym, ap, ◌∙◌, arith}
 use Rattle.std.specs.List.{insert, remove, position, position_or_len}
 use Rattle.std.specs.Option.{option_or}
+use Rattle.std.proofs.lemmas.Bool.{and_parts, eqb-true}
 use Rattle.std.proofs.lemmas.Bool.Decides.{nat_tests, Decides-int_eq}
 use Rattle.std.proofs.lemmas.Int.{ints}
 use Rattle.std.specs.Ordering.{int_eq}
@@ -39,19 +40,14 @@ find_either p false x rest = refl
 same_day : (x y : _) → int_eq x y ≡ true → x ≡ y
 same_day x y is = grind (arith, ints, Decides-int_eq)
 
-and_left_of : (s t : Bool) → (s && t) ≡ true → (s ≡ true) × (t ≡ true)
-and_left_of true true is = (refl, refl)
-and_left_of true false is = absurd cc
-and_left_of false t is = absurd cc
-
 -- a row stands at one key alone
 pub key_is : (key : RowKey) (row : Entry) → has_key key row ≡ true → key ≡ key_of row
 key_is key row is =
-    let day = and_left_of _ _ is in
-    let rest = and_left_of _ _ day.1 in
+    let day = and_parts (int_eq key.day row.day) ((key.txn == row.txn) && (key.place == row.place)) is in
+    let rest = and_parts (key.txn == row.txn) (key.place == row.place) day.1 in
     let first : key.day ≡ row.day = same_day key.day row.day day.0 in
-    let second : key.txn ≡ row.txn = grind (arith, nat_tests, rest.0) in
-    let third : key.place ≡ row.place = grind (arith, nat_tests, rest.1) in
+    let second : key.txn ≡ row.txn = eqb-true key.txn row.txn rest.0 in
+    let third : key.place ≡ row.place = eqb-true key.place row.place rest.1 in
     ap (λ d. key_at d key.txn key.place) first ∙ ap (λ n. key_at row.day n key.place) second
     ∙ ap (λ n. key_at row.day row.txn n) third
 
@@ -148,21 +144,17 @@ without_is key (row ∷ rows) = here (has_key key row) (without_is key rows)
         ap (λ t. rows_without (cond t (Some 0) None) (row ∷ rows)) first
     here false rest = moved (position_or_len (has_key key) rows) ∙ ap (λ (l : List Entry). row ∷ l) rest
 
+none_either : (t : Bool) → ◌≡◌ {A = Option Entry} None (cond t None None)
+none_either true = refl
+none_either false = refl
+
 found_left :
     (key : RowKey) (e : Entry) (rows : List Entry) → IsSorted rows
     → find (has_key key) (without (key_of e) rows) ≡ cond (has_key key e) None (find (has_key key) rows)
-found_left key e [] sorted = both (has_key key e)
-  where
-    both : (t : Bool) → None ≡ cond t None None
-    both true = refl
-    both false = refl
+found_left key e [] sorted = none_either (has_key key e)
 found_left key e (row ∷ rows) sorted =
     here (has_key (key_of e) row) (has_key key e) (has_key key row) refl refl refl (found_left key e rows sorted.1)
   where
-    Goal : Bool → Bool → Bool → Type 0
-    Goal t s r = find (has_key key) (cond t rows (row ∷ without (key_of e) rows))
-        ≡ cond s None (cond r (Some row) (find (has_key key) rows))
-
     here :
         (t s r : Bool) → has_key (key_of e) row ≡ t → has_key key e ≡ s → has_key key row ≡ r
         → find (has_key key) (without (key_of e) rows) ≡ cond s None (find (has_key key) rows)

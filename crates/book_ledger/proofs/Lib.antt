@@ -3,6 +3,7 @@ pub mod EditLemmas
 pub mod FoundLemmas
 pub mod OrderLemmas
 pub mod RegisterLemmas
+pub mod RoomLemmas
 pub mod SortedLemmas
 pub mod TableLemmas
 pub mod WorkedRows

@@ -36,6 +36,20 @@ with_replaced account register old new is = record {
   values = λ other. ap (value_of other) is ∙ value_of_with other account register old;
 }
 
+-- an empty one in the place of an account's, which is kept
+pub lent_beside :
+    (account : ℕ) (empty : Rows) (old new : List (ℕ × Rows)) → new ≡ with_entry account empty old
+    → is_there account old ≡ true → IsBeside account old new
+lent_beside account empty old new is there = record {
+  values = λ other apart.
+      ap (value_of other) is ∙ value_of_with other account empty old
+      ∙ ap (λ (t : Bool). if t then Some empty else value_of other old) apart;
+  there =
+      ap (is_there account) is ∙ ap is_some (value_of_with account account empty old)
+      ∙ (let itself : (account == account) ≡ true = grind (arith, nat_tests) in
+      ap (λ (t : Bool). is_some (if t then Some empty else value_of account old)) itself) ∙ sym there;
+}
+
 swapped_test : (a b : ℕ) → (a == b) ≡ (b == a)
 swapped_test a b = grind (arith, nat_tests)
 
@@ -164,7 +178,7 @@ room_replaced account register was old new row here there less a = by_test (a ==
         let itself : (account == a) ≡ true = grind (arith, nat_tests, same) in
         let before = ap room_in (ap (λ (n : ℕ). value_of n old) same ∙ there) in
         let after = ap room_in (here.values a ∙ ap (λ (b : Bool). if b then Some register else value_of a old) is) in
-        let one = ap (λ (b : Bool). if b then 1 else 0) itself in
+        let one = ap {B = ℕ} (λ (b : Bool). if b then 1 else 0) itself in
         omega (arith, before, after, one, less)
     by_test false is =
         let after = ap room_in (here.values a ∙ ap (λ (b : Bool). if b then Some register else value_of a old) is) in

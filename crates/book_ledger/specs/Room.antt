@@ -1,7 +1,7 @@
 -- The room that an edit needs in the registers.
 use Rattle.std.specs.Prelude.{◌≡◌, ℕ, ◌+◌, ◌^◌, ◌≤◌, ◌==◌, ◌||◌, Bool, true, false, if◌then◌else◌, count_by, length, All}
 use Rattle.std.specs.Prelude.{List, [], ◌∷◌, Option, Some, None, ⊤}
-use Rattle.book_commodity.specs.Table.{value_of}
+use Rattle.book_commodity.specs.Table.{Rises, value_of}
 use Rattle.book_register.specs.Register.{Rows, IsSorted}
 use Rattle.book_register.specs.declared.entry.Entry.{Entry}
 use Rattle.book_splits.specs.declared.split.Split.{Split}
@@ -12,8 +12,9 @@ use Rattle.book_undo.specs.declared.thing.Thing.{Thing}
 use Rattle.book_undo.specs.declared.thing.Thing.TheVariants as thing
 use Rattle.book_undo.specs.declared.thing.ThingKind.{ThingKind}
 use Rattle.book_undo.specs.declared.thing.ThingKind.TheVariants as kind
-use Rattle.book_undo.proofs.EditLaws.{after_leaf}
-use Rattle.book_ledger.specs.Change.{is_there}
+use Rattle.book_undo.proofs.EditLaws.{after_leaf, after_leaves}
+use Rattle.book_ledger.specs.Change.{Holds, is_there}
+use Rattle.book_ledger.specs.Ledger.{HasPlaces}
 
 -- The rows of each register stand in order.
 abbrev pub AreSorted : List (ℕ × Rows) → Type 0
@@ -157,3 +158,18 @@ ChangeOnce before (OfPut number thing ∷ more) now =
 ChangeOnce before (OfGone kind number ∷ more) now =
     (is_txn_kind kind ≡ true → IsAsBefore before number now)
     × ChangeOnce before more (after_leaf (OfGone kind number) now)
+
+-- Registers that followed some leaves hold the rows of the book to which these led; the others lead on from there.
+pub record IsOnWay (before : List (ℕ × Txn)) (registers : List (ℕ × Rows)) (others : List Leaf) (last : Book) : Type 0 where
+  pub mid : Book
+  pub rises : Rises mid.transactions
+  pub once : ChangeOnce before others mid
+  pub holds : Holds registers mid.transactions
+  pub leads : after_leaves others mid ≡ last
+
+-- Registers can follow leaves that change some transactions: they have room for the splits that these put, and each
+-- transaction, those put too, has at most 2^32 splits.
+pub record CanFollow (before : List (ℕ × Txn)) (registers : List (ℕ × Rows)) (changes : List Leaf) : Type 0 where
+  pub places : HasPlaces before
+  pub new_places : LeavesHavePlaces changes
+  pub room : HasRoomFor registers changes

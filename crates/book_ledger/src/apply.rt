@@ -2,7 +2,7 @@ ghost use Rattle.std.specs.Prelude.{◌≡◌, ℕ, ◌+◌, ◌≤◌, [], ◌�
 ghost use Rattle.book_commodity.specs.Table.{Rises};
 ghost use Rattle.book_ledger.specs.Change.{Holds, is_there};
 ghost use Rattle.book_ledger.specs.Ledger.{HasPlaces, Keeps};
-ghost use Rattle.book_ledger.specs.Room.{ChangeOnce, HasRoomFor, IsReady, LeavesHavePlaces, puts_on, room_of};
+ghost use Rattle.book_ledger.specs.Room.{CanFollow, ChangeOnce, IsReady, LeavesHavePlaces, puts_on, room_of};
 ghost use Rattle.book_undo.proofs.EditLaws.{after_leaves};
 ghost use Rattle.book_undo.specs.Book.{book_of};
 ghost use Rattle.book_undo.specs.Edit.{OfGone, OfPut, edited, leaves};
@@ -34,9 +34,7 @@ impl Registers {
     #[cycle(follow)]
     #[tactic(auto, using(book_undo::proofs::PartLaws::leaves_of_all))]
     fn follow(&mut self, transactions: &Txns, edit: &Edit)
-        requires places { HasPlaces transactions.now.entries }
-        requires new_places { LeavesHavePlaces (leaves edit.now) }
-        requires room { HasRoomFor self.old.entries (leaves edit.now) }
+        requires { CanFollow transactions.now.entries self.old.entries (leaves edit.now) }
         ensures rows { (now : _) → Rises now.transactions → ChangeOnce transactions.now.entries (leaves edit.now) now
             → Holds self.old.entries now.transactions
             → Holds self.new.entries (after_leaves (leaves edit.now) now).transactions }
@@ -55,9 +53,7 @@ impl Registers {
     /// Changes the registers by the leaves of edits, one after another.
     #[cycle(follow)]
     fn follow_all(&mut self, transactions: &Txns, parts: &[Edit])
-        requires places { HasPlaces transactions.now.entries }
-        requires new_places { LeavesHavePlaces (flat_map leaves parts.now) }
-        requires room { HasRoomFor self.old.entries (flat_map leaves parts.now) }
+        requires { CanFollow transactions.now.entries self.old.entries (flat_map leaves parts.now) }
         ensures rows { (now : _) → Rises now.transactions
             → ChangeOnce transactions.now.entries (flat_map leaves parts.now) now
             → Holds self.old.entries now.transactions
@@ -73,9 +69,7 @@ impl Registers {
 
     /// Changes the registers by a thing that is put under a number.
     fn follow_put(&mut self, transactions: &Txns, number: u64, thing: &Thing)
-        requires places { HasPlaces transactions.now.entries }
-        requires new_places { LeavesHavePlaces (OfPut number thing.now ∷ []) }
-        requires room { HasRoomFor self.old.entries (OfPut number thing.now ∷ []) }
+        requires { CanFollow transactions.now.entries self.old.entries (OfPut number thing.now ∷ []) }
         ensures rows { (now : _) → Rises now.transactions
             → ChangeOnce transactions.now.entries (OfPut number thing.now ∷ []) now
             → Holds self.old.entries now.transactions
@@ -91,7 +85,7 @@ impl Registers {
 
     /// Changes the registers by a thing of a kind that is deleted.
     fn follow_gone(&mut self, transactions: &Txns, kind: ThingKind, number: u64)
-        requires places { HasPlaces transactions.now.entries }
+        requires { HasPlaces transactions.now.entries }
         ensures rows { (now : _) → Rises now.transactions
             → ChangeOnce transactions.now.entries (OfGone kind number ∷ []) now
             → Holds self.old.entries now.transactions

@@ -65,7 +65,7 @@ pub(crate) fn left(
 ) -> Option<(u64, Entry)>
     requires own { length transaction.now.splits ≤ 2 ^ 32 }
     requires others { FitsPlaces (option_copied other) }
-    ensures { result ≡ left_at number (Some transaction.now) (option_copied other) place }
+    ensures { result ≡ left_at number (Some transaction.now) (option_copied other.entry) place }
 {
     let (account, row) = placed(number, transaction, place)?;
     let Some(other) = other else {
