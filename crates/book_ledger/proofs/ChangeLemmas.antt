@@ -124,7 +124,7 @@ placed_apart account key number place (Some t) other = here (slice_get t.splits 
         (false_of (has_key key row) (λ is. other (place_is key row is)))
 
 -- and none of another transaction
-placed_other :
+pub placed_other :
     (account : ℕ) (key : RowKey) (number place : ℕ) (t : Option Txn) → (key.txn ≡ number → ⊥)
     → pick account key (placed number t place) ≡ None
 placed_other account key number place None other = refl

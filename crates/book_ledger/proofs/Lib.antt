@@ -1,6 +1,8 @@
 pub mod ChangeLemmas
 pub mod EditLemmas
+pub mod ExtendLemmas
 pub mod FoundLemmas
+pub mod OpeningLemmas
 pub mod OrderLemmas
 pub mod RegisterLemmas
 pub mod RoomLemmas

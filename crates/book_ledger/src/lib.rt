@@ -4,6 +4,7 @@
 #![tactic(auto)]
 
 mod apply;
+mod opening;
 mod registers;
 mod row;
 

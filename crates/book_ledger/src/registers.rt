@@ -1,13 +1,13 @@
-ghost use Rattle.std.specs.Prelude.{◌≡◌, ℕ, ◌+◌, ◌≤◌, ◌^◌, [], length, Some, None, is_some, true};
+ghost use Rattle.std.specs.Prelude.{◌≡◌, ℕ, ◌+◌, ◌≤◌, ◌^◌, [], Some, None, OnOk, true};
 ghost use Rattle.std.specs.Option.{option_copied};
 ghost use Rattle.book_commodity.specs.Table.{value_of};
 ghost use Rattle.book_ledger.specs.Change.{AllPut, AllTaken, IsBeside, IsChanged, IsPut, IsReplaced, IsTaken, is_there};
 ghost use Rattle.book_ledger.specs.Ledger.{rows_at};
-ghost use Rattle.book_ledger.specs.Room.{AreSorted, FitsPlaces, HasRoomForRow, one_on, room_of, txn_splits_on};
+ghost use Rattle.book_ledger.specs.Room.{AreSorted, Extends, FitsPlaces, HasRoomForRow, one_on, room_of, txn_splits_on};
 ghost use Rattle.book_register.specs.Register.{IsSorted, balance as sum_of};
 
 use crate::row::{left, put_row, take_row};
-use book_commodity::{Steps, Table};
+use book_commodity::{OutOfMemory, Steps, Table};
 use book_register::{Entry, Register};
 use book_splits::Txn;
 use std::alloc::Global;
@@ -94,6 +94,35 @@ impl Registers {
         let _ = self.registers.put(account, register);
     }
 
+    /// Has a register kept for an account, an empty one where there was none.
+    pub(crate) fn begin(&mut self, account: u64) -> Result<(), OutOfMemory>
+        ensures there { OnOk result (is_there account self.new.entries ≡ true) }
+        ensures extends { Extends self.old.entries self.new.entries }
+    {
+        if self.registers.find(account).is_some() {
+            return Ok(());
+        }
+        self.registers.reserve(1)?;
+        let _ = self.registers.put(account, Register::new(self.alloc));
+        Ok(())
+    }
+
+    /// Makes room for so many more rows of an account, and has a register kept for it.
+    pub(crate) fn make_room(&mut self, account: u64, extra: usize) -> Result<(), OutOfMemory>
+        ensures there { OnOk result (is_there account self.new.entries ≡ true) }
+        ensures room { OnOk result (extra ≤ room_of account self.new.entries) }
+        ensures extends { Extends self.old.entries self.new.entries }
+    {
+        self.begin(account)?;
+        let Some(mut register) = self.lend(account) else {
+            unreachable!()
+        };
+        let made = register.reserve(extra);
+        let _ = register.len();
+        self.give_back(account, register);
+        made
+    }
+
     /// Takes a row out of the register of its account, if one is given.
     fn take(&mut self, row: Option<(u64, Entry)>)
         ensures rows { IsTaken row self.old.entries self.new.entries }
@@ -111,7 +140,7 @@ impl Registers {
     }
 
     /// Puts a row into the register of its account, if one is given, instead of one at its key.
-    fn put(&mut self, row: Option<(u64, Entry)>)
+    pub(crate) fn put(&mut self, row: Option<(u64, Entry)>)
         requires { HasRoomForRow row self.old.entries }
         ensures rows { IsPut row self.old.entries self.new.entries }
         ensures there { (account : ℕ) → is_there account self.new.entries ≡ is_there account self.old.entries }
