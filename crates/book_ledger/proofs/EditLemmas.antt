@@ -4,6 +4,7 @@ use Rattle.std.proofs.Common.{Option, Some, None, is_some, length, find, refl, s
 use Rattle.std.proofs.lemmas.Bool.{eqb-true}
 use Rattle.std.proofs.lemmas.Bool.Decides.{nat_tests}
 use Rattle.book_commodity.specs.Table.{Rises, value_of, with_entry, without_entry}
+use Rattle.book_commodity.proofs.DrawnLemmas.{value_here}
 use Rattle.book_commodity.proofs.TableLemmas.{value_of_with, value_of_without, rises_with, rises_without}
 use Rattle.book_register.specs.Register.{IsSorted, Rows, has_key}
 use Rattle.book_splits.specs.declared.transaction.Txn.{Txn}
@@ -18,10 +19,10 @@ use Rattle.book_undo.specs.declared.thing.ThingKind.{ThingKind}
 use Rattle.book_undo.specs.declared.thing.ThingKind.TheVariants as kind
 use Rattle.book_undo.proofs.EditLaws.{after-append, after_leaf, after_leaves, edited-leaves}
 use Rattle.book_undo.proofs.ExactLaws.{allowed_order}
-use Rattle.book_undo.proofs.InverseLaws.{NotBelow, Past, past_above, rises_first}
+use Rattle.book_undo.proofs.InverseLaws.{NotBelow, Past, past_above, past_not_below, rises_first}
 use Rattle.book_ledger.specs.Change.{Holds, is_there}
-use Rattle.book_ledger.specs.Ledger.{Keeps, register_of, rows_at}
-use Rattle.book_ledger.specs.Room.{AreSorted, ChangeOnce, HasRegisters, IsOnWay, LeavesHavePlaces}
+use Rattle.book_ledger.specs.Ledger.{HasPlaces, Keeps, register_of, rows_at}
+use Rattle.book_ledger.specs.Room.{AreSorted, ChangeOnce, HasPut, IsOnWay, LeavesHavePlaces, ThingHasPlaces}
 use Rattle.book_ledger.specs.Room.{is_account, is_txn, is_txn_kind, puts_on}
 use Rattle.book_ledger.proofs.OrderLemmas.{same_rows}
 use Rattle.book_ledger.proofs.RegisterLemmas.{found_in_register, register_sorted}
@@ -88,6 +89,42 @@ beside m (OfGone kind.Held n) b r past = refl
 beside m (OfGone kind.Line n) b r past = refl
 beside m (OfGone kind.Binding n) b r past = refl
 beside m (OfGone kind.Recon n) b r past = refl
+
+-- so does one whose key is above
+below_four : (n m : ℕ) → Past 4 m (key_at 4 n) → m < n
+below_four n m (inl less) = absurd (omega (arith, less))
+below_four n m (inr (same, less)) = less
+
+before :
+    (m : ℕ) (l : Leaf) (b : Book) → Rises b.transactions → Past 4 m (key_of l)
+    → value_of m (after_leaf l b).transactions ≡ value_of m b.transactions
+before m (OfCurrency c) b r past = refl
+before m (OfPut n (thing.Txn t)) b r past =
+    let less = below_four n m past in
+    let other : (m == n) ≡ false = grind (arith, nat_tests, less) in
+    value_of_with m n t b.transactions
+    ∙ ap (λ (s : Bool). if s then Some t else value_of m b.transactions) other
+before m (OfPut n (thing.Commodity x)) b r past = refl
+before m (OfPut n (thing.Account x)) b r past = refl
+before m (OfPut n (thing.Price x)) b r past = refl
+before m (OfPut n (thing.Schedule x)) b r past = refl
+before m (OfPut n (thing.Held x)) b r past = refl
+before m (OfPut n (thing.Line x)) b r past = refl
+before m (OfPut n (thing.Binding x)) b r past = refl
+before m (OfPut n (thing.Recon x)) b r past = refl
+before m (OfGone kind.Txn n) b r past =
+    let less = below_four n m past in
+    let other : (m == n) ≡ false = grind (arith, nat_tests, less) in
+    value_of_without m n b.transactions r
+    ∙ ap (λ (s : Bool). if s then None else value_of m b.transactions) other
+before m (OfGone kind.Commodity n) b r past = refl
+before m (OfGone kind.Account n) b r past = refl
+before m (OfGone kind.Price n) b r past = refl
+before m (OfGone kind.Schedule n) b r past = refl
+before m (OfGone kind.Held n) b r past = refl
+before m (OfGone kind.Line n) b r past = refl
+before m (OfGone kind.Binding n) b r past = refl
+before m (OfGone kind.Recon n) b r past = refl
 
 -- ---- leaves whose keys rise change each transaction once
 past_by : (a b c : Key) → Past a.kind a.number b → Past b.kind b.number c → Past a.kind a.number c
@@ -174,7 +211,7 @@ AllThere registers b = (a : ℕ) → is_some (value_of a b.accounts) ≡ true �
 
 live_all :
     (registers : List (ℕ × Rows)) (ls : List Leaf) (b : Book) → Rises b.accounts → AllThere registers b
-    → HasRegisters registers ls → AllThere registers (after_leaves ls b)
+    → HasPut registers ls → AllThere registers (after_leaves ls b)
 live_all registers [] b r all has = all
 live_all registers (OfCurrency c ∷ ls) b r all has = live_all registers ls (after_leaf (OfCurrency c) b) r all has
 live_all registers (OfPut n t ∷ ls) b r all has =
@@ -241,7 +278,7 @@ kept_of_held registers b r in_order holds all = record {
 -- what was kept for a book is, once it followed the leaves of an allowed edit, kept for the edited book
 pub kept_edited :
     (old new : List (ℕ × Rows)) (b : Book) (e : Edit) → Rises b.transactions → Rises b.accounts → IsAllowed b e
-    → Keeps old b → HasRegisters old (leaves e) → AreSorted new
+    → Keeps old b → HasPut old (leaves e) → AreSorted new
     → ((a : ℕ) → is_there a new ≡ is_there a old)
     → ((now : Book) → Rises now.transactions → ChangeOnce b.transactions (leaves e) now → Holds old now.transactions
     → Holds new (after_leaves (leaves e) now).transactions)
@@ -320,3 +357,54 @@ depth_at [] i part lt is = absurd (omega (arith, lt))
 depth_at (first ∷ more) zero part lt is = let same = ap depth is in omega (arith, same)
 depth_at (first ∷ more) (suc i) part lt is =
     omega (arith, depth_at more i part (omega (arith, lt)) is)
+
+-- ---- the transactions that an edit puts stand in the edited book
+-- leaves whose keys rise leave the transactions that aren't above the first of them
+untouched_by :
+    (m : ℕ) (key : Key) (ls : List Leaf) (b : Book) → Rises b.transactions → NotBelow 4 m key
+    → first_unordered key ls ≡ None → value_of m (after_leaves ls b).transactions ≡ value_of m b.transactions
+untouched_by m key [] b r ge up = refl
+untouched_by m key (l ∷ ls) b r ge up =
+    let both = rises_first key l ls up in
+    let past = past_above 4 m (key_of l) key ge both.0 in
+    untouched_by m (key_of l) ls (after_leaf l b) (rises_after l b r) (past_not_below 4 m (key_of l) past) both.1
+    ∙ before m l b r past
+
+places_put :
+    (key : Key) (ls : List Leaf) (b : Book) → Rises b.transactions → first_unordered key ls ≡ None
+    → HasPlaces (after_leaves ls b).transactions → LeavesHavePlaces ls
+places_put key [] b r up places = tt
+places_put key (OfCurrency c ∷ ls) b r up places =
+    places_put (key_at 1 0) ls (after_leaf (OfCurrency c) b) r (rises_first key (OfCurrency c) ls up).1 places
+places_put key (OfGone k n ∷ ls) b r up places =
+    places_put (key_of (OfGone k n)) ls (after_leaf (OfGone k n) b) (rises_after (OfGone k n) b r)
+    (rises_first key (OfGone k n) ls up).1 places
+places_put key (OfPut n t ∷ ls) b r up places = (
+  here t (rises_first key (OfPut n t) ls up).1 places,
+  places_put (key_of (OfPut n t)) ls (after_leaf (OfPut n t) b) (rises_after (OfPut n t) b r)
+  (rises_first key (OfPut n t) ls up).1 places,
+)
+  where
+    here :
+        (t : Thing) → first_unordered (key_of (OfPut n t)) ls ≡ None
+        → HasPlaces (after_leaves ls (after_leaf (OfPut n t) b)).transactions → ThingHasPlaces t
+    here (thing.Txn x) more places =
+        let next = after_leaf (OfPut n (thing.Txn x)) b in
+        let stays = untouched_by n (key_at 4 n) ls next (rises_after (OfPut n (thing.Txn x)) b r)
+        (inr (refl, omega arith)) more in
+        places.each n x (stays ∙ value_here n n x b.transactions refl)
+    here (thing.Commodity x) more places = tt
+    here (thing.Account x) more places = tt
+    here (thing.Price x) more places = tt
+    here (thing.Schedule x) more places = tt
+    here (thing.Held x) more places = tt
+    here (thing.Line x) more places = tt
+    here (thing.Binding x) more places = tt
+    here (thing.Recon x) more places = tt
+
+pub places_edited :
+    (b : Book) (e : Edit) → Rises b.transactions → IsAllowed b e → HasPlaces (edited e b).transactions
+    → LeavesHavePlaces (leaves e)
+places_edited b e r allowed places =
+    places_put (key_at 0 0) (leaves e) b r (allowed_order b e allowed)
+    (subst (λ (x : Book). HasPlaces x.transactions) (edited-leaves e b) places)

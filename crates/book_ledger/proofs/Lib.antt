@@ -1,4 +1,5 @@
 pub mod ChangeLemmas
+pub mod CountLemmas
 pub mod EditLemmas
 pub mod ExtendLemmas
 pub mod FoundLemmas

@@ -9,16 +9,16 @@ use Rattle.std.proofs.lemmas.Bool.{eqb-true}
 use Rattle.std.proofs.lemmas.Bool.Decides.{nat_tests}
 use Rattle.book_commodity.specs.Table.{Rises, value_of}
 use Rattle.book_commodity.proofs.TableLemmas.{above_value}
-use Rattle.book_register.specs.Register.{IsSorted, has_key, key_of} 
+use Rattle.book_register.specs.Register.{IsSorted, RowKey, Rows, has_key, key_of}
 use Rattle.book_register.specs.Register as rows
 use Rattle.book_register.specs.declared.entry.Entry.{Entry}
-use Rattle.book_register.specs.Register.{RowKey}
 use Rattle.book_splits.specs.Balance.{balance, quantity_on, splits_of, total}
 use Rattle.book_splits.specs.declared.split.Split.{Split}
 use Rattle.book_splits.specs.declared.transaction.Txn.{Txn}
 use Rattle.book_splits.proofs.BalanceLemmas.{quantity_on-append}
+use Rattle.book_undo.specs.Book.{Book}
 use Rattle.book_ledger.specs.Change.{pick, placed, row_in}
-use Rattle.book_ledger.specs.Ledger.{register_of, row_of, rows_from, rows_on, sorted}
+use Rattle.book_ledger.specs.Ledger.{Keeps, register_of, row_of, rows_at, rows_from, rows_on}
 use Rattle.book_ledger.proofs.FoundLemmas.{false_of, find_append, find_either, or_none, place_is, txn_is}
 use Rattle.book_ledger.proofs.OrderLemmas.{AreApart, balance_sorted, found_sorted, sorted_sorted}
 
@@ -184,3 +184,10 @@ balance_on account (e ∷ es) =
 pub balance_of_register :
     (account : ℕ) (ts : List (ℕ × Txn)) → rows.balance (register_of account ts) ≡ balance ts account
 balance_of_register account ts = balance_sorted (rows_on account ts) ∙ balance_on account ts
+
+-- so the sum of the rows that are kept for an account of a book is its balance there
+pub kept_balance :
+    (registers : List (ℕ × Rows)) (b : Book) (account : ℕ) → Keeps registers b
+    → rows.balance (rows_at account registers) ≡ balance b.transactions account
+kept_balance registers b account kept =
+    ap rows.balance (kept.rows account) ∙ balance_of_register account b.transactions

@@ -16,9 +16,9 @@ use Rattle.book_ledger.specs.Ledger.{rows_at, row_of}
 abbrev pub row_at : ℕ → RowKey → List (ℕ × Rows) → Option Entry
 row_at account key registers = find (has_key key) (rows_at account registers)
 
--- Whether a register is kept for an account.
-abbrev pub is_there : ℕ → List (ℕ × Rows) → Bool
-is_there account registers = is_some (value_of account registers)
+-- Whether something is kept for an account, as its register.
+abbrev pub is_there : {T : Type 0} → ℕ → List (ℕ × T) → Bool
+is_there account kept = is_some (value_of account kept)
 
 -- The row that a transaction has at a place, with its account; none where there is no transaction, or no such place.
 abbrev pub placed : ℕ → Option Txn → ℕ → Option (ℕ × Entry)

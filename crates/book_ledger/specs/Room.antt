@@ -90,13 +90,13 @@ is_account (thing.Line line) = false
 is_account (thing.Binding binding) = false
 is_account (thing.Recon reconciliation) = false
 
--- The accounts that the leaves put have registers.
-abbrev pub HasRegisters : List (ℕ × Rows) → List Leaf → Type 0
-HasRegisters registers [] = ⊤
-HasRegisters registers (OfCurrency currency ∷ more) = HasRegisters registers more
-HasRegisters registers (OfPut number thing ∷ more) =
-    (is_account thing ≡ true → is_there number registers ≡ true) × HasRegisters registers more
-HasRegisters registers (OfGone kind number ∷ more) = HasRegisters registers more
+-- Something is kept for each account that the leaves put.
+abbrev pub HasPut : {T : Type 0} → List (ℕ × T) → List Leaf → Type 0
+HasPut kept [] = ⊤
+HasPut kept (OfCurrency currency ∷ more) = HasPut kept more
+HasPut kept (OfPut number thing ∷ more) =
+    (is_account thing ≡ true → is_there number kept ≡ true) × HasPut kept more
+HasPut kept (OfGone kind number ∷ more) = HasPut kept more
 
 -- The registers have room for the splits that the leaves put.
 abbrev pub HasRoomFor : List (ℕ × Rows) → List Leaf → Type 0
@@ -106,7 +106,7 @@ HasRoomFor registers changes = (account : ℕ) → puts_on account changes ≤ r
 -- has a register.
 pub record IsReady (registers : List (ℕ × Rows)) (changes : List Leaf) : Type 0 where
   pub rows : HasRoomFor registers changes
-  pub accounts : HasRegisters registers changes
+  pub accounts : HasPut registers changes
 
 -- A thing that is a transaction has at most 2^32 splits.
 abbrev pub ThingHasPlaces : Thing → Type 0
@@ -179,3 +179,35 @@ pub record CanFollow (before : List (ℕ × Txn)) (registers : List (ℕ × Rows
   pub places : HasPlaces before
   pub new_places : LeavesHavePlaces changes
   pub room : HasRoomFor registers changes
+
+-- A count, or 0 where there is none.
+abbrev pub count_in : Option ℕ → ℕ
+count_in None = 0
+count_in (Some count) = count
+
+-- How many rows are counted for an account.
+abbrev pub counted : ℕ → List (ℕ × ℕ) → ℕ
+counted account counts = count_in (value_of account counts)
+
+-- So many more rows are counted for an account.
+pub record IsAdded (account extra : ℕ) (old new : List (ℕ × ℕ)) : Type 0 where
+  pub values :
+      (other : ℕ)
+      → value_of other new ≡ (if other == account then Some (counted account old + extra) else value_of other old)
+
+-- The rows of some splits are counted.
+pub record AreCounted (splits : List Split) (old new : List (ℕ × ℕ)) : Type 0 where
+  pub rows : (account : ℕ) → counted account new ≡ counted account old + splits_on account splits
+  pub kept : (account : ℕ) → is_there account old ≡ true → is_there account new ≡ true
+
+-- The rows that leaves put are counted, and there is a count for each account that they put.
+pub record IsCounted (changes : List Leaf) (old new : List (ℕ × ℕ)) : Type 0 where
+  pub rows : (account : ℕ) → counted account new ≡ counted account old + puts_on account changes
+  pub kept : (account : ℕ) → is_there account old ≡ true → is_there account new ≡ true
+  pub accounts : HasPut new changes
+
+-- Each of these accounts has a register with room for so many more rows.
+pub record AreMade (registers : List (ℕ × Rows)) (counts : List (ℕ × ℕ)) : Type 0 where
+  pub each :
+      (account count : ℕ) → value_of account counts ≡ Some count
+      → (is_there account registers ≡ true) × (count ≤ room_of account registers)

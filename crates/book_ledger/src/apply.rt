@@ -2,7 +2,7 @@ ghost use Rattle.std.specs.Prelude.{◌≡◌, ℕ, ◌+◌, ◌≤◌, [], ◌�
 ghost use Rattle.book_commodity.specs.Table.{Rises};
 ghost use Rattle.book_ledger.specs.Change.{Holds, is_there};
 ghost use Rattle.book_ledger.specs.Ledger.{HasPlaces, Keeps};
-ghost use Rattle.book_ledger.specs.Room.{CanFollow, ChangeOnce, IsReady, LeavesHavePlaces, puts_on, room_of};
+ghost use Rattle.book_ledger.specs.Room.{CanFollow, ChangeOnce, IsReady, puts_on, room_of};
 ghost use Rattle.book_undo.proofs.EditLaws.{after_leaves};
 ghost use Rattle.book_undo.specs.Book.{book_of};
 ghost use Rattle.book_undo.specs.Edit.{OfGone, OfPut, edited, leaves};
@@ -20,7 +20,7 @@ impl Registers {
         requires ready { IsReady self.old.entries (leaves edit.now) }
         requires allowed { IsAllowed (book_of plain.now) edit.now }
         requires places { HasPlaces plain.now.transactions.entries }
-        requires new_places { LeavesHavePlaces (leaves edit.now) }
+        requires new_places { HasPlaces (edited edit.now (book_of plain.now)).transactions }
         ensures { Keeps self.new.entries (edited edit.now (book_of plain.now)) }
     {
         let _ = plain.accounts.len();

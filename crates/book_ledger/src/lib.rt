@@ -6,6 +6,7 @@
 mod apply;
 mod opening;
 mod registers;
+mod room;
 mod row;
 
 pub use registers::Registers;

@@ -2,9 +2,10 @@ ghost use Rattle.std.specs.Prelude.{◌≡◌, ℕ, ◌+◌, ◌≤◌, ◌^◌,
 ghost use Rattle.std.specs.Option.{option_copied};
 ghost use Rattle.book_commodity.specs.Table.{value_of};
 ghost use Rattle.book_ledger.specs.Change.{AllPut, AllTaken, IsBeside, IsChanged, IsPut, IsReplaced, IsTaken, is_there};
-ghost use Rattle.book_ledger.specs.Ledger.{rows_at};
+ghost use Rattle.book_ledger.specs.Ledger.{Keeps, rows_at};
 ghost use Rattle.book_ledger.specs.Room.{AreSorted, Extends, FitsPlaces, HasRoomForRow, one_on, room_of, txn_splits_on};
 ghost use Rattle.book_register.specs.Register.{IsSorted, balance as sum_of};
+ghost use Rattle.book_splits.specs.Balance.{balance};
 
 use crate::row::{left, put_row, take_row};
 use book_commodity::{OutOfMemory, Steps, Table};
@@ -18,7 +19,7 @@ use std::marker::Model;
 #[derive(Drop)]
 pub struct Registers {
     registers: Table<Register>,
-    alloc: Global,
+    pub(crate) alloc: Global,
 }
 
 impl Model for Registers {
@@ -51,9 +52,15 @@ impl Registers {
         self.registers.find(account)
     }
 
-    /// The balance of an account over all days, in smallest units of its commodity: the sum of the quantities of its
-    /// rows.
+    /// The balance of an account over all days, in smallest units of its commodity.
     pub fn balance(&self, account: u64) -> i128
+        ensures { (book : _) → Keeps self.now.entries book → result ≡ balance book.transactions account }
+    {
+        self.sum(account)
+    }
+
+    /// The sum of the quantities of the rows that are kept for an account.
+    fn sum(&self, account: u64) -> i128
         ensures { result ≡ sum_of (rows_at account self.now.entries) }
     {
         let Some(register) = self.registers.find(account) else {
