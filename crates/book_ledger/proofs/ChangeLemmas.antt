@@ -1,7 +1,7 @@
 -- What becomes of the rows where those of one transaction are taken out and those of another put in.
-use Rattle.std.proofs.Common.{◌≡◌, ℕ, ◌+◌, ◌<◌, ◌≤◌, ◌==◌, ◌&&◌, nat_lt, Bool, true, false, cond, if◌then◌else◌}
-use Rattle.std.proofs.Common.{List, [], ◌∷◌, length, Option, Some, None, option_map, slice_get, find, refl, sym, ap, ◌∙◌}
-use Rattle.std.proofs.Common.{arith, ◌⊎◌, inl, inr, is_some, ℤ}
+use Rattle.std.proofs.Common.{◌≡◌, ℕ, ◌+◌, ◌≤◌, ◌==◌, ◌&&◌, nat_lt, Bool, true, false, cond, if◌then◌else◌}
+use Rattle.std.proofs.Common.{List, length, Option, Some, None, option_map, slice_get, refl, sym, ap, ◌∙◌}
+use Rattle.std.proofs.Common.{arith, inl, inr, ℤ}
 use Rattle.std.specs.Option.{option_or}
 use Rattle.std.specs.Ordering.{int_eq}
 use Rattle.std.proofs.lemmas.Bool.{cases_order, eqb-true, and_parts}

@@ -1,6 +1,6 @@
 -- The rows that an edit puts, counted for each account, and the room made for them.
-use Rattle.std.proofs.Common.{◌≡◌, ℕ, zero, suc, ◌+◌, ◌<◌, ◌≤◌, ◌==◌, nat_lt, Bool, true, false, if◌then◌else◌}
-use Rattle.std.proofs.Common.{List, [], ◌∷◌, ◌++◌, length, take, Option, Some, None, is_some, slice_get, refl, sym, ap}
+use Rattle.std.proofs.Common.{◌≡◌, ℕ, suc, ◌+◌, ◌<◌, ◌≤◌, ◌==◌, nat_lt, Bool, true, false, if◌then◌else◌}
+use Rattle.std.proofs.Common.{List, [], ◌∷◌, ◌++◌, length, Option, Some, None, is_some, slice_get, refl, sym, ap}
 use Rattle.std.proofs.Common.{◌∙◌, subst, arith, Result, Ok, Err, OnOk}
 use Rattle.std.proofs.lemmas.Bool.{eqb-true}
 use Rattle.std.proofs.lemmas.Bool.Decides.{nat_tests}
@@ -155,8 +155,7 @@ made_more old new counts place entry before extends is there room = record {
         let past : place ≤ k = grind (arith, nat_tests, ge) in
         let same : k ≡ place = omega (arith, past, less) in
         let both = sym is ∙ ap (slice_get counts) (sym same) ∙ here in
-        let entry_is : entry ≡ e = cc in
-        (
+        let entry_is : entry ≡ e = cc in (
           subst (λ (x : ℕ × ℕ). is_there x.0 new ≡ true) entry_is there,
           subst (λ (x : ℕ × ℕ). x.1 ≤ room_of x.0 new) entry_is room,
         )
@@ -170,9 +169,12 @@ entry_at n count (e ∷ es) there =
     → (k : ℕ) × (k < length (e ∷ es)) × (slice_get (e ∷ es) k ≡ Some (n, count)) in
     elim (n == e.0) as Here [
       | true ↦ λ same found.
-          let value : e.1 ≡ count = cc in
-          (0, omega arith, ap (λ (m : ℕ). Some (m, e.1)) (sym (eqb-true n e.0 same))
-          ∙ ap (λ (m : ℕ). Some (n, m)) value)
+          let value : e.1 ≡ count = cc in (
+            0,
+            omega arith,
+            ap (λ (m : ℕ). Some (m, e.1)) (sym (eqb-true n e.0 same))
+                ∙ ap (λ (m : ℕ). Some (n, m)) value,
+          )
       | false ↦ λ other found.
           let rest = entry_at n count es found in (suc rest.0, omega (arith, rest.1), rest.2)
     ] refl there

@@ -1,12 +1,12 @@
 -- Registers that follow the leaves of an edit: those of a book become those of the book after the edit.
-use Rattle.std.proofs.Common.{◌≡◌, ℕ, zero, suc, get_or, ◌+◌, ◌<◌, ◌≤◌, ◌^◌, ◌==◌, Bool, true, false, if◌then◌else◌, List, [], ◌∷◌, ◌++◌}
-use Rattle.std.proofs.Common.{Option, Some, None, is_some, length, find, refl, sym, ap, ◌∙◌, subst, arith, ◌⊎◌, inl, inr, All}
+use Rattle.std.proofs.Common.{◌≡◌, ℕ, zero, suc, get_or, ◌+◌, ◌<◌, ◌≤◌, ◌==◌, Bool, true, false, if◌then◌else◌, List, [], ◌∷◌, ◌++◌}
+use Rattle.std.proofs.Common.{Some, None, is_some, length, find, refl, sym, ap, ◌∙◌, subst, arith, inl, inr}
 use Rattle.std.proofs.lemmas.Bool.{eqb-true}
 use Rattle.std.proofs.lemmas.Bool.Decides.{nat_tests}
-use Rattle.book_commodity.specs.Table.{Rises, value_of, with_entry, without_entry}
+use Rattle.book_commodity.specs.Table.{Rises, value_of}
 use Rattle.book_commodity.proofs.DrawnLemmas.{value_here}
 use Rattle.book_commodity.proofs.TableLemmas.{value_of_with, value_of_without, rises_with, rises_without}
-use Rattle.book_register.specs.Register.{IsSorted, Rows, has_key}
+use Rattle.book_register.specs.Register.{Rows, has_key}
 use Rattle.book_splits.specs.declared.transaction.Txn.{Txn}
 use Rattle.book_undo.specs.Book.{Book}
 use Rattle.book_undo.specs.Edit.{Key, Leaf, OfCurrency, OfPut, OfGone, deepest, depth, edited, key_at, key_of, leaves}
@@ -382,7 +382,7 @@ places_put key (OfGone k n ∷ ls) b r up places =
 places_put key (OfPut n t ∷ ls) b r up places = (
   here t (rises_first key (OfPut n t) ls up).1 places,
   places_put (key_of (OfPut n t)) ls (after_leaf (OfPut n t) b) (rises_after (OfPut n t) b r)
-  (rises_first key (OfPut n t) ls up).1 places,
+      (rises_first key (OfPut n t) ls up).1 places,
 )
   where
     here :

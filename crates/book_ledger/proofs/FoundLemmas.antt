@@ -1,7 +1,7 @@
 -- The row that is found at a key: in rows with one more, with one put in at a place, or with one taken out.
-use Rattle.std.proofs.Common.{◌≡◌, ℕ, zero, suc, ◌+◌, ◌<◌, ◌≤◌, ◌==◌, nat_lt, ◌&&◌, not, Bool, true, false, cond}
+use Rattle.std.proofs.Common.{◌≡◌, ℕ, zero, suc, ◌+◌, ◌==◌, nat_lt, ◌&&◌, not, Bool, true, false, cond}
 use Rattle.std.proofs.Common.{List, [], ◌∷◌, ◌++◌, length, Option, Some, None, find, refl, sym, ap, ◌∙◌, arith}
-use Rattle.std.specs.List.{insert, remove, position, position_or_len}
+use Rattle.std.specs.List.{insert, position, position_or_len}
 use Rattle.std.specs.Option.{option_or}
 use Rattle.std.proofs.lemmas.Bool.{and_parts, eqb-true}
 use Rattle.std.proofs.lemmas.Bool.Decides.{nat_tests, Decides-int_eq}
@@ -10,7 +10,7 @@ use Rattle.std.specs.Ordering.{int_eq}
 use Rattle.book_register.specs.Register.{IsSorted, PrecedesAll, has_key, key_at, key_of, precedes, rows_without}
 use Rattle.book_register.specs.declared.entry.Entry.{Entry}
 use Rattle.book_register.specs.Register.{RowKey}
-use Rattle.book_register.proofs.KeyLemmas.{after-other, before-other}
+use Rattle.book_register.proofs.KeyLemmas.{after-other}
 
 -- ---- options
 pub or_none : {X : Type 0} (o : Option X) → option_or o None ≡ o

@@ -1,6 +1,6 @@
 -- Registers made from a whole book: once the rows of all transactions are put in, they are those of the book.
-use Rattle.std.proofs.Common.{◌≡◌, ℕ, ◌+◌, ◌<◌, ◌≤◌, ◌==◌, ◌||◌, ℤ, Bool, true, false, if◌then◌else◌, List, [], ◌∷◌, ◌++◌}
-use Rattle.std.proofs.Common.{Option, Some, None, is_some, find, count_by, map, refl, sym, ap, ◌∙◌, subst, arith}
+use Rattle.std.proofs.Common.{◌≡◌, ℕ, ◌+◌, ◌≤◌, ◌==◌, ◌||◌, ℤ, Bool, true, false, if◌then◌else◌, List, [], ◌∷◌, ◌++◌}
+use Rattle.std.proofs.Common.{Option, Some, None, is_some, find, count_by, map, refl, sym, ap, ◌∙◌, arith}
 use Rattle.std.specs.List.{list_any}
 use Rattle.std.specs.Option.{option_or}
 use Rattle.std.specs.List.Sorted.{IsPermutation}
@@ -8,17 +8,16 @@ use Rattle.std.proofs.lemmas.Bool.{eqb-true}
 use Rattle.std.proofs.lemmas.Bool.Decides.{nat_tests}
 use Rattle.std.proofs.lemmas.List.Sums.{sum_by-cons}
 use Rattle.std.proofs.lemmas.List.Sorted.{sum_by-IsPermutation}
-use Rattle.book_commodity.specs.Table.{Rises, value_of}
+use Rattle.book_commodity.specs.Table.{value_of}
 use Rattle.book_register.specs.Register.{RowKey, Rows, has_key}
 use Rattle.book_register.specs.declared.entry.Entry.{Entry}
 use Rattle.book_splits.specs.declared.transaction.Txn.{Txn}
-use Rattle.book_undo.specs.Book.{Book}
-use Rattle.book_ledger.specs.Change.{AllPut, ArePut, Holds, IsPut, is_there, left_at, left_of, pick, placed, row_at, row_in}
+use Rattle.book_ledger.specs.Change.{AllPut, ArePut, Holds, left_of, pick, placed, row_at, row_in}
 use Rattle.book_ledger.specs.Ledger.{rows_at}
 use Rattle.book_ledger.specs.Opening.{AreAdded, NamesAll}
 use Rattle.book_ledger.specs.Room.{Extends}
 use Rattle.book_ledger.proofs.ChangeLemmas.{placed_other}
-use Rattle.book_ledger.proofs.FoundLemmas.{or_assoc, or_none}
+use Rattle.book_ledger.proofs.FoundLemmas.{or_none}
 
 -- ---- rows that are put in after room was made
 pub put_extended :

@@ -1,7 +1,7 @@
 -- The register of an account: what is found in it at a key, that it is in order, and its sum.
-use Rattle.std.proofs.Common.{◌≡◌, ℕ, zero, suc, ◌+◌, ◌<◌, ◌≤◌, ◌==◌, ◌&&◌, Bool, true, false, cond, if◌then◌else◌}
+use Rattle.std.proofs.Common.{◌≡◌, ℕ, zero, suc, ◌+◌, ◌<◌, ◌==◌, ◌&&◌, Bool, true, false, cond, if◌then◌else◌}
 use Rattle.std.proofs.Common.{List, [], ◌∷◌, ◌++◌, Option, Some, None, find, option_map, slice_get, refl, sym, ap, ◌∙◌}
-use Rattle.std.proofs.Common.{ℤ, pos, ◌+ℤ◌, arith, map}
+use Rattle.std.proofs.Common.{◌+ℤ◌, arith, map}
 use Rattle.std.specs.Option.{option_or}
 use Rattle.std.specs.Prelude.{filter}
 use Rattle.std.proofs.Math.IntN.{+ℤ_assoc, +ℤ_idl}
@@ -131,8 +131,8 @@ apart_from account number t place (split ∷ more) rest apart none =
     elim (split.account == account) as (λ b. AreApart ((if b then row ∷ later else later) ++ rest)) [
       | true ↦ (
         find_append (has_key (key_of row)) later rest
-        ∙ ap (λ (o : Option Entry). option_or o (find (has_key (key_of row)) rest))
-        (found_before account number t (key_of row) (place + 1) more (omega arith)) ∙ none (key_of row) refl,
+            ∙ ap (λ (o : Option Entry). option_or o (find (has_key (key_of row)) rest))
+            (found_before account number t (key_of row) (place + 1) more (omega arith)) ∙ none (key_of row) refl,
         tail,
       )
       | false ↦ tail

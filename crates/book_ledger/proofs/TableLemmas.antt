@@ -1,6 +1,6 @@
 -- A register that is lent, changed and given back: what becomes of the rows and the room of all.
-use Rattle.std.proofs.Common.{◌≡◌, ℕ, ◌+◌, ◌≤◌, ◌==◌, ◌&&◌, Bool, true, false, cond, if◌then◌else◌, List, [], ◌∷◌}
-use Rattle.std.proofs.Common.{Option, Some, None, is_some, find, refl, sym, ap, ◌∙◌, subst, arith}
+use Rattle.std.proofs.Common.{◌≡◌, ℕ, ◌+◌, ◌≤◌, ◌==◌, ◌&&◌, Bool, true, false, if◌then◌else◌, List}
+use Rattle.std.proofs.Common.{Option, Some, None, is_some, find, refl, sym, ap, ◌∙◌, arith}
 use Rattle.std.specs.Option.{option_or}
 use Rattle.std.proofs.lemmas.Bool.Decides.{nat_tests}
 use Rattle.book_commodity.specs.Table.{value_of, with_entry}
@@ -8,7 +8,7 @@ use Rattle.book_commodity.proofs.TableLemmas.{value_of_with}
 use Rattle.book_register.specs.Register.{Rows, has_key}
 use Rattle.book_register.specs.declared.entry.Entry.{Entry}
 use Rattle.book_register.specs.Register.{RowKey}
-use Rattle.book_ledger.specs.Change.{IsBeside, IsPut, IsReplaced, IsTaken, cut, is_there, pick, row_at}
+use Rattle.book_ledger.specs.Change.{IsBeside, IsPut, IsReplaced, IsTaken, cut, is_there, row_at}
 use Rattle.book_ledger.specs.Ledger.{rows_in}
 use Rattle.book_ledger.specs.Room.{one_on, room_in, room_of}
 
@@ -132,7 +132,7 @@ put_row account row register was old new here there found = record {
 pub none_to_take :
     (account : ℕ) (row : Entry) (registers : List (ℕ × Rows)) → value_of account registers ≡ None
     → IsTaken (Some (account, row)) registers registers
-none_to_take account row registers none = record { rows = λ a key. by_test a key (account == a) (has_key key row) refl; }
+none_to_take account row registers none = record { rows = λ a key. by_test a key (account == a) (has_key key row) refl }
   where
     by_test :
         (a : ℕ) (key : RowKey) (s t : Bool) → (account == a) ≡ s

@@ -1,5 +1,5 @@
 -- Registers that are made from a whole book.
-use Rattle.std.specs.Prelude.{◌≡◌, ℕ, ◌==◌, ◌≤◌, ℤ, true, count_by, if◌then◌else◌, List, Some, None, is_some}
+use Rattle.std.specs.Prelude.{◌≡◌, ℕ, ◌==◌, ◌≤◌, ℤ, true, count_by, if◌then◌else◌, List, None, is_some}
 use Rattle.std.specs.List.{list_any}
 use Rattle.std.specs.Option.{option_or}
 use Rattle.book_accounts.specs.declared.account.Account.{Account}

@@ -51,7 +51,10 @@ fn placed(number: u64, transaction: &Txn, place: usize) -> Option<(u64, Entry)>
     let splits = transaction.splits.as_slice();
     if place < splits.len() {
         let split = &splits[place];
-        return Some((split.account, row_of(number, transaction, place as u32, split)));
+        return Some((
+            split.account,
+            row_of(number, transaction, place as u32, split),
+        ));
     }
     None
 }

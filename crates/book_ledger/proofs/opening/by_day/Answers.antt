@@ -1,4 +1,4 @@
-use Rattle.std.proofs.Common.{◌≡◌, ℕ, ◌+◌, ℤ, List, [], ◌∷◌, ◌++◌, map, take, to_z, of_z, w32, ap, sym, ◌∙◌}
+use Rattle.std.proofs.Common.{ℕ, ℤ, List, [], ◌∷◌, ◌++◌, map, take, to_z, of_z, w32, ap, sym, ◌∙◌}
 use Rattle.std.proofs.lemmas.List.{map-append, take_all}
 use Rattle.book_commodity.proofs.ListLemmas.{take-item}
 use Rattle.book_splits.specs.declared.transaction.Txn.{Txn}

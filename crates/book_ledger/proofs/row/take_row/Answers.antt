@@ -1,4 +1,4 @@
-use Rattle.std.proofs.Common.{◌≡◌, ℕ, List, Option, find, ap, ◌∙◌}
+use Rattle.std.proofs.Common.{ℕ, List, Option, find, ap, ◌∙◌}
 use Rattle.book_register.specs.Register.{has_key, rows_without}
 use Rattle.book_register.specs.declared.entry.Entry.{Entry}
 use Rattle.book_ledger.proofs.FoundLemmas.{found_removed}

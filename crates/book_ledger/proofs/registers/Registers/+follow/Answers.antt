@@ -1,4 +1,4 @@
-use Rattle.std.proofs.Common.{◌≡◌, ℕ, ◌+◌, ◌++◌, List, ap, sym, ◌∙◌, subst, drop, flat_map, arith, rules}
+use Rattle.std.proofs.Common.{◌≡◌, ◌+◌, List, ap, sym, ◌∙◌, subst, drop, flat_map, arith, rules}
 use Rattle.book_commodity.proofs.ListLemmas.{from-item}
 use Rattle.book_undo.specs.Edit.{deepest, depth, leaves}
 use Rattle.book_undo.specs.declared.edit.Edit.{Edit}
@@ -14,8 +14,7 @@ follow-follow_all-requires t c =
     ap leaves c.in-All.is ∙ leaves_of_all c.in-All.parts ∙ ap (flat_map leaves) (sym c.as_slice.ensures) in
     let deep : depth c.args.edit.now ≡ 1 + deepest c.as_slice.result.now =
     ap depth c.in-All.is ∙ depth_of_all c.in-All.parts
-    ∙ ap (λ (parts : List Edit). 1 + deepest parts) (sym c.as_slice.ensures) in
-    (
+    ∙ ap (λ (parts : List Edit). 1 + deepest parts) (sym c.as_slice.ensures) in (
       search (rules, deep),
       record {
         places = c.requires.places;
@@ -31,8 +30,7 @@ follow_all-follow-requires t c =
     let next : List Edit = drop (c.loop-part.part-index + 1) parts in
     let split = ap (flat_map leaves) (from-item parts c.loop-part.part-index item c.loop-part-test.true
     c.part-item.is) in
-    let size = depth_at parts c.loop-part.part-index item c.loop-part-test.true c.part-item.is in
-    (
+    let size = depth_at parts c.loop-part.part-index item c.loop-part-test.true c.part-item.is in (
       search (rules, size),
       record {
         places = c.requires.places;
@@ -41,8 +39,12 @@ follow_all-follow-requires t c =
             (subst LeavesHavePlaces split c.loop-part.invariant.places)).0;
         room = λ account.
             let count = ap (puts_on account) split in
-            omega (arith, count, puts-append account (leaves item) (flat_map leaves next),
-            c.loop-part.invariant.room account);
+            omega (
+              arith,
+              count,
+              puts-append account (leaves item) (flat_map leaves next),
+              c.loop-part.invariant.room account,
+            );
       },
     )
 
@@ -58,8 +60,13 @@ follow_all-loop-part-preserved t c =
       places = (places_parts (leaves item) (flat_map leaves next) (subst LeavesHavePlaces split inv.places)).1;
       room = λ account.
           let count = ap (puts_on account) split in
-          omega (arith, count, puts-append account (leaves item) (flat_map leaves next), inv.room account,
-          c.follow.ensures.room account);
+          omega (
+            arith,
+            count,
+            puts-append account (leaves item) (flat_map leaves next),
+            inv.room account,
+            c.follow.ensures.room account,
+          );
       rows = λ now rises once holds.
           on_way_more c.args.transactions.now.entries c.loop-part.self.entries c.follow.new.self.entries
           (leaves item) (flat_map leaves next) (flat_map leaves (drop c.loop-part.part-index parts))
@@ -67,6 +74,11 @@ follow_all-loop-part-preserved t c =
       there = λ account. c.follow.ensures.there account ∙ inv.there account;
       less = λ account.
           let count = ap (puts_on account) split in
-          omega (arith, count, puts-append account (leaves item) (flat_map leaves next), inv.less account,
-          c.follow.ensures.room account);
+          omega (
+            arith,
+            count,
+            puts-append account (leaves item) (flat_map leaves next),
+            inv.less account,
+            c.follow.ensures.room account,
+          );
     }

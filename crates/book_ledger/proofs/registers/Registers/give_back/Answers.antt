@@ -1,4 +1,4 @@
-use Rattle.std.proofs.Common.{◌≡◌, ℕ, List, ap, sym, ◌∙◌, subst}
+use Rattle.std.proofs.Common.{ℕ, ap, sym, ◌∙◌, subst}
 use Rattle.book_commodity.specs.Table.{Entries, with_entry}
 use Rattle.book_commodity.proofs.DrawnLemmas.{all_with}
 use Rattle.book_register.specs.Register.{IsSorted, Rows}

@@ -1,4 +1,4 @@
-use Rattle.std.proofs.Common.{◌≡◌, ℕ, ℤ, List, [], ap, sym, ◌∙◌, subst}
+use Rattle.std.proofs.Common.{ℕ, ℤ, List, ap, sym, ◌∙◌, subst}
 use Rattle.book_register.specs.Register.{Rows}
 use Rattle.book_undo.specs.Book.{book_of}
 use Rattle.book_ledger.specs.Ledger.{rows_at}

@@ -1,9 +1,8 @@
-use Rattle.std.proofs.Common.{◌≡◌, ℕ, ◌+◌, ◌<◌, ◌≤◌, Option, Some, Bor, length, drop, refl, sym, ap, ◌∙◌, subst, arith}
+use Rattle.std.proofs.Common.{◌≡◌, ℕ, ◌<◌, Option, Some, Bor, length, refl, sym, ap, ◌∙◌, subst, arith}
 use Rattle.std.specs.Option.{option_copied}
-use Rattle.std.proofs.lemmas.List.{drop_all}
 use Rattle.book_splits.specs.declared.transaction.Txn.{Txn}
 use Rattle.book_ledger.specs.Change.{AllPut, ArePut}
-use Rattle.book_ledger.specs.Room.{room_of, splits_on, txn_splits_on}
+use Rattle.book_ledger.specs.Room.{splits_on, txn_splits_on}
 use Rattle.book_ledger.proofs.ChangeLemmas.{all_put, put_more, put_none}
 use Rattle.book_ledger.proofs.RoomLemmas.{one_less, room_for_row}
 use Rattle.book_ledger.proofs.registers.Registers.put_in.Goals as goal
