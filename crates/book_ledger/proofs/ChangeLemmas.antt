@@ -209,7 +209,9 @@ cut_or None p row = refl
 cut_or (Some x) p row = refl
 
 -- none is taken before the first place
-pub taken_none : (number : ℕ) (t other : Option Txn) (registers : List (ℕ × Rows)) → AreTaken number t other 0 registers registers
+pub taken_none :
+    (number : ℕ) (t other : Option Txn) (registers : List (ℕ × Rows))
+    → AreTaken number t other 0 registers registers
 taken_none number t other registers = record {
   rows = λ account key.
       let none : nat_lt key.place 0 ≡ false = grind (arith, nat_tests) in
@@ -217,7 +219,9 @@ taken_none number t other registers = record {
       (row_at account key registers)) none);
 }
 
-pub put_none : (number : ℕ) (t other : Option Txn) (registers : List (ℕ × Rows)) → ArePut number t other 0 registers registers
+pub put_none :
+    (number : ℕ) (t other : Option Txn) (registers : List (ℕ × Rows))
+    → ArePut number t other 0 registers registers
 put_none number t other registers = record {
   rows = λ account key.
       let none : nat_lt key.place 0 ≡ false = grind (arith, nat_tests) in

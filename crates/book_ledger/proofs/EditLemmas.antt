@@ -1,5 +1,6 @@
 -- Registers that follow the leaves of an edit: those of a book become those of the book after the edit.
-use Rattle.std.proofs.Common.{◌≡◌, ℕ, zero, suc, get_or, ◌+◌, ◌<◌, ◌≤◌, ◌==◌, Bool, true, false, if◌then◌else◌, List, [], ◌∷◌, ◌++◌}
+use Rattle.std.proofs.Common.{◌≡◌, ℕ, zero, suc, get_or, ◌+◌, ◌<◌, ◌≤◌, ◌==◌, Bool, true, false, if◌then◌else◌, List}
+use Rattle.std.proofs.Common.{[], ◌∷◌, ◌++◌}
 use Rattle.std.proofs.Common.{Some, None, is_some, length, find, refl, sym, ap, ◌∙◌, subst, arith, inl, inr}
 use Rattle.std.proofs.lemmas.Bool.{eqb-true}
 use Rattle.std.proofs.lemmas.Bool.Decides.{nat_tests}
@@ -220,7 +221,8 @@ live_all registers (OfPut n t ∷ ls) b r all has =
     put :
         (t : Thing) → (is_account t ≡ true → is_there n registers ≡ true)
         → AllThere registers (after_leaf (OfPut n t) b)
-    put (thing.Account x) here = λ a live. with_one a (a == n) refl (sym (ap is_some (value_of_with a n x b.accounts)) ∙ live)
+    put (thing.Account x) here = λ a live.
+        with_one a (a == n) refl (sym (ap is_some (value_of_with a n x b.accounts)) ∙ live)
       where
         with_one :
             (a : ℕ) (s : Bool) → (a == n) ≡ s → is_some (if s then Some x else value_of a b.accounts) ≡ true

@@ -183,7 +183,8 @@ found_removed key e rows sorted =
     ap (find (has_key key)) (without_is (key_of e) rows) ∙ found_left key e rows sorted
 
 -- where no place has the key, no row is found
-pub none_found : (key : RowKey) (rows : List Entry) → find (has_key key) rows ≡ None → position (has_key key) rows ≡ None
+pub none_found :
+    (key : RowKey) (rows : List Entry) → find (has_key key) rows ≡ None → position (has_key key) rows ≡ None
 none_found key [] none = refl
 none_found key (row ∷ rows) none = here (has_key key row) none (none_found key rows)
   where

@@ -30,7 +30,8 @@ found_before :
 found_before account number t key place [] before = refl
 found_before account number t key place (split ∷ more) before =
     let row = row_of number t place split in
-    let other = false_of (has_key key row) (λ is. let same = place_is key row is in absurd (omega (arith, same, before))) in
+    let other = false_of (has_key key row)
+    (λ is. let same = place_is key row is in absurd (omega (arith, same, before))) in
     let rest = found_before account number t key (place + 1) more (omega (arith, before)) in
     find_either (has_key key) (split.account == account) row (rows_from account number t (place + 1) more)
     ∙ fails (split.account == account) (has_key key row) row _ other ∙ rest
@@ -95,7 +96,8 @@ found_on account key (e ∷ es) rises =
   where
     here :
         (t : Bool) → (key.txn == e.0) ≡ t → find (has_key key) (rows_on account es) ≡ row_in account key es
-        → option_or (find (has_key key) (rows_from account e.0 e.1 0 e.1.splits)) (find (has_key key) (rows_on account es))
+        → option_or (find (has_key key) (rows_from account e.0 e.1 0 e.1.splits))
+        (find (has_key key) (rows_on account es))
         ≡ pick account key (placed key.txn (if t then Some e.1 else value_of key.txn es) key.place)
     here true is rest =
         let same = eqb-true key.txn e.0 is in

@@ -166,7 +166,8 @@ ChangeOnce before (OfGone kind number ∷ more) now =
     × ChangeOnce before more (after_leaf (OfGone kind number) now)
 
 -- Registers that followed some leaves hold the rows of the book to which these led; the others lead on from there.
-pub record IsOnWay (before : List (ℕ × Txn)) (registers : List (ℕ × Rows)) (others : List Leaf) (last : Book) : Type 0 where
+pub record IsOnWay (before : List (ℕ × Txn)) (registers : List (ℕ × Rows)) (others : List Leaf)
+    (last : Book) : Type 0 where
   pub mid : Book
   pub rises : Rises mid.transactions
   pub once : ChangeOnce before others mid

@@ -168,7 +168,8 @@ impl Registers {
     fn take_out(&mut self, number: u64, old: Option<&Txn>, new: Option<&Txn>)
         requires old { FitsPlaces (option_copied old) }
         requires new { FitsPlaces (option_copied new) }
-        ensures rows { AllTaken number (option_copied old.entry) (option_copied new.entry) self.old.entries self.new.entries }
+        ensures rows { AllTaken number (option_copied old.entry) (option_copied new.entry) self.old.entries
+            self.new.entries }
         ensures there { (account : ℕ) → is_there account self.new.entries ≡ is_there account self.old.entries }
         ensures room { (account : ℕ) → room_of account self.old.entries ≤ room_of account self.new.entries }
     {
@@ -185,7 +186,8 @@ impl Registers {
         requires new { FitsPlaces (option_copied new) }
         requires old { FitsPlaces (option_copied old) }
         requires room { (account : ℕ) → txn_splits_on account (option_copied new) ≤ room_of account self.old.entries }
-        ensures rows { AllPut number (option_copied new.entry) (option_copied old.entry) self.old.entries self.new.entries }
+        ensures rows { AllPut number (option_copied new.entry) (option_copied old.entry) self.old.entries
+            self.new.entries }
         ensures there { (account : ℕ) → is_there account self.new.entries ≡ is_there account self.old.entries }
         ensures room { (account : ℕ) → room_of account self.old.entries
             ≤ room_of account self.new.entries + txn_splits_on account (option_copied new.entry) }
@@ -203,7 +205,8 @@ impl Registers {
         requires old { FitsPlaces (option_copied old) }
         requires new { FitsPlaces (option_copied new) }
         requires room { (account : ℕ) → txn_splits_on account (option_copied new) ≤ room_of account self.old.entries }
-        ensures rows { IsChanged number (option_copied old.entry) (option_copied new.entry) self.old.entries self.new.entries }
+        ensures rows { IsChanged number (option_copied old.entry) (option_copied new.entry) self.old.entries
+            self.new.entries }
         ensures there { (account : ℕ) → is_there account self.new.entries ≡ is_there account self.old.entries }
         ensures room { (account : ℕ) → room_of account self.old.entries
             ≤ room_of account self.new.entries + txn_splits_on account (option_copied new.entry) }
