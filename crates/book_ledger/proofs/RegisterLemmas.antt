@@ -1,6 +1,6 @@
 -- The register of an account: what is found in it at a key, that it is in order, and its sum.
 use Rattle.std.proofs.Common.{◌≡◌, ℕ, zero, suc, ◌+◌, ◌<◌, ◌==◌, ◌&&◌, Bool, true, false, cond, if◌then◌else◌}
-use Rattle.std.proofs.Common.{List, [], ◌∷◌, ◌++◌, Option, Some, None, find, option_map, slice_get, refl, sym, ap, ◌∙◌}
+use Rattle.std.proofs.Common.{List, [], ◌∷◌, ◌++◌, Option, Some, None, is_some, find, option_map, slice_get, refl, sym, ap, ◌∙◌}
 use Rattle.std.proofs.Common.{◌+ℤ◌, arith, map}
 use Rattle.std.specs.Option.{option_or}
 use Rattle.std.specs.Prelude.{filter}
@@ -18,7 +18,8 @@ use Rattle.book_splits.specs.declared.transaction.Txn.{Txn}
 use Rattle.book_splits.proofs.BalanceLemmas.{quantity_on-append}
 use Rattle.book_undo.specs.Book.{Book}
 use Rattle.book_ledger.specs.Change.{pick, placed, row_in}
-use Rattle.book_ledger.specs.Ledger.{Keeps, register_of, row_of, rows_at, rows_from, rows_on}
+use Rattle.book_ledger.specs.Ledger.{Keeps, live_register, register_of, row_of, rows_at, rows_from, rows_in}
+use Rattle.book_ledger.specs.Ledger.{rows_on}
 use Rattle.book_ledger.proofs.FoundLemmas.{false_of, find_append, find_either, or_none, place_is, txn_is}
 use Rattle.book_ledger.proofs.OrderLemmas.{AreApart, balance_sorted, found_sorted, sorted_sorted}
 
@@ -193,3 +194,23 @@ pub kept_balance :
     → rows.balance (rows_at account registers) ≡ balance b.transactions account
 kept_balance registers b account kept =
     ap rows.balance (kept.rows account) ∙ balance_of_register account b.transactions
+
+-- the register that is kept for an account of the book is that account's, and there is one
+pub kept_live :
+    (registers : List (ℕ × Rows)) (b : Book) (account : ℕ) → Keeps registers b
+    → is_some (value_of account b.accounts) ≡ true
+    → option_map (λ (r : Rows). r.rows) (value_of account registers) ≡ live_register b account
+kept_live registers b account kept live =
+    here (value_of account registers) (kept.live account live) (kept.rows account)
+    ∙ sym (ap (λ (t : Bool). if t then Some (register_of account b.transactions) else None) live)
+  where
+    here :
+        (o : Option Rows) → is_some o ≡ true → rows_in o ≡ register_of account b.transactions
+        → option_map (λ (r : Rows). r.rows) o ≡ Some (register_of account b.transactions)
+    here None there same = absurd cc
+    here (Some r) there same = ap (λ (l : List Entry). Some l) same
+
+pub not_live :
+    (b : Book) (account : ℕ) → is_some (value_of account b.accounts) ≡ false → None ≡ live_register b account
+not_live b account none =
+    sym (ap (λ (t : Bool). if t then Some (register_of account b.transactions) else None) none)

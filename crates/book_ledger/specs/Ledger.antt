@@ -76,6 +76,11 @@ pub record Keeps (registers : List (ℕ × Rows)) (book : Book) : Type 0 where
   pub live : (account : ℕ) → is_some (value_of account book.accounts) ≡ true
       → is_some (value_of account registers) ≡ true
 
+-- The register of an account of the book; none where the book has no such account.
+abbrev pub live_register : Book → ℕ → Option (List Entry)
+live_register book account =
+    if is_some (value_of account book.accounts) then Some (register_of account book.transactions) else None
+
 -- Each transaction has at most 2^32 splits, so that each place in it is a number of 32 bits.
 pub record HasPlaces (transactions : List (ℕ × Txn)) : Type 0 where
   pub each : (number : ℕ) (transaction : Txn) → value_of number transactions ≡ Some transaction

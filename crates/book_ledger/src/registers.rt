@@ -1,13 +1,14 @@
 ghost use Rattle.std.specs.Prelude.{◌≡◌, ℕ, ◌+◌, ◌≤◌, ◌^◌, [], Some, None, OnOk, true};
-ghost use Rattle.std.specs.Option.{option_copied};
+ghost use Rattle.std.specs.Option.{option_copied, option_map};
 ghost use Rattle.book_commodity.specs.Table.{value_of};
 ghost use Rattle.book_ledger.specs.Change.{AllPut, AllTaken, IsBeside, IsChanged, IsPut, IsReplaced, IsTaken, is_there};
-ghost use Rattle.book_ledger.specs.Ledger.{Keeps, rows_at};
+ghost use Rattle.book_ledger.specs.Ledger.{Keeps, live_register, rows_at};
 ghost use Rattle.book_ledger.specs.Room.{AreSorted, Extends, FitsPlaces, HasRoomForRow, one_on, room_of, txn_splits_on};
 ghost use Rattle.book_register.specs.Register.{IsSorted, balance as sum_of};
 ghost use Rattle.book_splits.specs.Balance.{balance};
 
 use crate::row::{left, put_row, take_row};
+use book_accounts::Tree;
 use book_commodity::{OutOfMemory, Steps, Table};
 use book_register::{Entry, Register};
 use book_splits::Txn;
@@ -45,10 +46,14 @@ impl Registers {
         }
     }
 
-    /// The register of an account; `None` where none is kept for it.
-    pub fn register(&self, account: u64) -> Option<&Register>
-        ensures { option_copied result ≡ value_of account self.now.entries }
+    /// The register of an account; `None` exactly where it isn't one of the accounts.
+    pub fn register(&self, accounts: &Tree, account: u64) -> Option<&Register>
+        ensures { (book : _) → Keeps self.now.entries book → accounts.now.entries ≡ book.accounts
+            → option_map (λ register. register.rows) (option_copied result) ≡ live_register book account }
     {
+        if accounts.find(account).is_none() {
+            return None;
+        }
         self.registers.find(account)
     }
 
