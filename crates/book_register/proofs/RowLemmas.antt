@@ -15,7 +15,7 @@ use Rattle.book_register.specs.declared.key.Key.{Key}
 use Rattle.book_register.proofs.KeyLemmas.{after-neither, after-other, before-other, precedes-past, precedes-trans}
 
 -- a key that comes before another comes before all that this one comes before
-all-before : (a b : Key) (rows : List Entry) → precedes a b ≡ true → PrecedesAll b rows → PrecedesAll a rows
+pub all-before : (a b : Key) (rows : List Entry) → precedes a b ≡ true → PrecedesAll b rows → PrecedesAll a rows
 all-before a b [] before all = tt
 all-before a b (row ∷ rows) before all = (
   precedes-trans a b

@@ -15,6 +15,10 @@ pub record Rows : Type 0 where
   pub spare : ℕ
   pub changes : ℕ
 
+-- Where a row stands: its day, its transaction's number and its place there, for the specifications of other crates.
+abbrev pub RowKey : Type 0
+RowKey = Key
+
 -- The key of a day, a transaction's number and a place in it.
 abbrev pub key_at : ℤ → ℕ → ℕ → Key
 key_at day txn place = record { day = day; txn = txn; place = place }

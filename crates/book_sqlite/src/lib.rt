@@ -1,6 +1,5 @@
 //! The rows of a book in SQLite: `SqliteKeeper` keeps them in the one table `bk_rows` of a database, over any store of
-//! the kit's `sqlite`, and `FileKeeper` opens the file that a path names and keeps them there. A commit is one
-//! transaction. Public are these two keepers.
+//! the kit's `sqlite`; `FileKeeper` is this keeper over a file. A commit is one transaction. Public are these two.
 #![tactic(auto)]
 
 mod commit;

@@ -1,0 +1,12 @@
+pub mod ChangeLemmas
+pub mod CountLemmas
+pub mod EditLemmas
+pub mod ExtendLemmas
+pub mod FoundLemmas
+pub mod OpeningLemmas
+pub mod OrderLemmas
+pub mod RegisterLemmas
+pub mod RoomLemmas
+pub mod SortedLemmas
+pub mod TableLemmas
+pub mod WorkedRows

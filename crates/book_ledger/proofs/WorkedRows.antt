@@ -1,0 +1,58 @@
+-- Worked rows: salary and a market on two accounts, and the market moved to an earlier day.
+use Rattle.std.proofs.Common.{◌≡◌, ℕ, List, [], ◌∷◌, ℤ, pos, negsuc, None, map, refl}
+use Rattle.book_register.specs.Register.{balance as sum_of}
+use Rattle.book_register.specs.declared.entry.Entry.{Entry}
+use Rattle.book_splits.specs.Balance.{balance}
+use Rattle.book_splits.specs.declared.split.Mark.TheVariants.{New}
+use Rattle.book_splits.specs.declared.split.Split.{Split}
+use Rattle.book_splits.specs.declared.transaction.Txn.{Txn}
+use Rattle.book_ledger.specs.Ledger.{register_of}
+
+abbrev split : ℕ → ℕ → ℤ → Split
+split id account amount = record {
+  id = id;
+  account = account;
+  memo = [];
+  action = [];
+  mark = New;
+  recon = None;
+  value = amount;
+  quantity = amount;
+}
+
+abbrev transaction : ℤ → List Split → Txn
+transaction day splits = record { currency = 1; day = day; num = []; description = []; splits = splits }
+
+-- on day 5 a salary of 2,500.00 on account 3 from account 4, and on a day 51.50 from account 3 to account 6
+abbrev book : ℤ → List (ℕ × Txn)
+book day =
+    (5, transaction (pos 5) (split 6 3 (pos 250000) ∷ split 7 4 (negsuc 249999) ∷ []))
+    ∷ (20, transaction day (split 21 6 (pos 5150) ∷ split 22 3 (negsuc 5149) ∷ [])) ∷ []
+
+-- each row's transaction and place
+abbrev places : ℕ → List (ℕ × Txn) → List (ℕ × ℕ)
+places account transactions = map (λ (row : Entry). (row.txn, row.place)) (register_of account transactions)
+
+later_day : places 3 (book (pos 9)) ≡ (5, 0) ∷ (20, 1) ∷ []
+later_day = refl
+
+-- a transaction that moves to an earlier day stands in front
+earlier_day : places 3 (book (pos 2)) ≡ (20, 1) ∷ (5, 0) ∷ []
+earlier_day = refl
+
+-- on one day the smaller number stands in front
+same_day : places 3 (book (pos 5)) ≡ (5, 0) ∷ (20, 1) ∷ []
+same_day = refl
+
+-- the rows of other accounts don't stand there, and one without splits has none
+other_account : places 6 (book (pos 9)) ≡ (20, 0) ∷ []
+other_account = refl
+
+no_splits : register_of 2 (book (pos 9)) ≡ []
+no_splits = refl
+
+sum_is_balance : sum_of (register_of 3 (book (pos 2))) ≡ balance (book (pos 2)) 3
+sum_is_balance = refl
+
+balance_is : balance (book (pos 2)) 3 ≡ pos 244850
+balance_is = refl

@@ -1,0 +1,16 @@
+use Rattle.std.proofs.Common.{ap, sym, ◌∙◌, subst}
+use Rattle.std.specs.Option.{option_copied}
+use Rattle.book_undo.specs.Book.{without_thing}
+use Rattle.book_undo.specs.declared.thing.ThingKind.{ThingKind}
+use Rattle.book_ledger.specs.Change.{Holds}
+use Rattle.book_ledger.specs.Room.{is_txn_kind}
+use Rattle.book_ledger.proofs.ChangeLemmas.{held_without}
+use Rattle.book_ledger.proofs.registers.Registers.follow_gone.Goals as goal
+
+pub returns-in-Txn-clause-rows : goal.returns-in-Txn-clause-rows
+returns-in-Txn-clause-rows c = λ now rises once holds.
+    let number = c.args.number in
+    let after = c.change.new.self.entries in
+    subst (λ (kind : ThingKind). Holds after (without_thing kind number now).transactions) (sym c.in-Txn.is)
+    (held_without number (option_copied c.find.result) c.args.self.now.entries after now.transactions rises
+    c.change.ensures.rows holds (once.0 (ap is_txn_kind c.in-Txn.is) ∙ sym c.find.ensures))

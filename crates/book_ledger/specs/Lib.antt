@@ -1,0 +1,4 @@
+pub mod Change
+pub mod Ledger
+pub mod Opening
+pub mod Room

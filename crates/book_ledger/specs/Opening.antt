@@ -1,0 +1,28 @@
+-- Registers that are made from a whole book.
+use Rattle.std.specs.Prelude.{◌≡◌, ℕ, ◌==◌, ◌≤◌, ℤ, true, count_by, if◌then◌else◌, List, None, is_some}
+use Rattle.std.specs.List.{list_any}
+use Rattle.std.specs.Option.{option_or}
+use Rattle.book_accounts.specs.declared.account.Account.{Account}
+use Rattle.book_commodity.specs.Table.{value_of}
+use Rattle.book_register.specs.Register.{RowKey, Rows}
+use Rattle.book_splits.specs.declared.transaction.Txn.{Txn}
+use Rattle.book_ledger.specs.Change.{is_there, row_at, row_in}
+
+-- Each of the accounts has a register.
+pub record HasAll (registers : List (ℕ × Rows)) (accounts : List (ℕ × Account)) : Type 0 where
+  pub each :
+      (account : ℕ) → is_some (value_of account accounts) ≡ true → is_there account registers ≡ true
+
+-- Each transaction's number stands in a list of days and numbers.
+pub record NamesAll (order : List (ℤ × ℕ)) (transactions : List (ℕ × Txn)) : Type 0 where
+  pub each :
+      (number : ℕ) → is_some (value_of number transactions) ≡ true
+      → 1 ≤ count_by (λ (entry : ℤ × ℕ). entry.1 == number) order
+
+-- The rows of the transactions whose numbers stand in a list are put in.
+pub record AreAdded (transactions : List (ℕ × Txn)) (order : List (ℤ × ℕ)) (old new : List (ℕ × Rows)) : Type 0 where
+  pub rows :
+      (account : ℕ) (key : RowKey)
+      → row_at account key new
+      ≡ option_or (if list_any (λ (entry : ℤ × ℕ). entry.1 == key.txn) order then row_in account key transactions
+      else None) (row_at account key old)

@@ -1,0 +1,12 @@
+//! The ledger of a book: the register of each of its accounts, kept beside the book and changed by the leaves of each
+//! edit, so that a balance or a report doesn't pass over all transactions (GnuCash Concepts Guide, account registers).
+//! Public is `Registers`.
+#![tactic(auto)]
+
+mod apply;
+mod opening;
+mod registers;
+mod room;
+mod row;
+
+pub use registers::Registers;

@@ -1,0 +1,108 @@
+ghost use Rattle.std.specs.Prelude.{◌≡◌, ◌+◌, ◌≤◌, ◌^◌, if◌then◌else◌, find, length, None, Some};
+ghost use Rattle.std.specs.Option.{option_copied};
+ghost use Rattle.book_ledger.specs.Change.{is_same as is_same_row, left_at, placed as placed_at};
+ghost use Rattle.book_ledger.specs.Ledger.{mark_of as kept_mark, row_of as row_at_place};
+ghost use Rattle.book_ledger.specs.Room.{FitsPlaces};
+ghost use Rattle.book_register.specs.Register.{IsSorted, has_key};
+
+use book_commodity::Steps;
+use book_register::{Entry, Mark2, Register};
+use book_splits::{Mark, Split, Txn};
+
+/// How far a split is reconciled, as its register keeps it.
+fn mark_of(mark: Mark) -> Mark2
+    ensures { result ≡ kept_mark mark }
+{
+    match mark {
+        Mark::New => Mark2::Plain,
+        Mark::Cleared => Mark2::Cleared,
+        Mark::Reconciled => Mark2::Reconciled,
+    }
+}
+
+/// The row of the split that stands at a place of the transaction with a number.
+fn row_of(number: u64, transaction: &Txn, place: u32, split: &Split) -> Entry
+    ensures { result ≡ row_at_place number transaction.now place split.now }
+{
+    Entry {
+        day: transaction.day,
+        txn: number,
+        place,
+        split: split.id,
+        currency: transaction.currency,
+        quantity: split.quantity,
+        value: split.value,
+        mark: mark_of(split.mark),
+    }
+}
+
+/// Whether two rows are the same.
+fn is_same(one: &Entry, other: &Entry) -> bool
+    ensures { result ≡ is_same_row one.now other.now }
+{
+    one == other
+}
+
+/// The row that a transaction has at a place, with its account; `None` where it has no such place.
+fn placed(number: u64, transaction: &Txn, place: usize) -> Option<(u64, Entry)>
+    requires { length transaction.now.splits ≤ 2 ^ 32 }
+    ensures { result ≡ placed_at number (Some transaction.now) place }
+{
+    let splits = transaction.splits.as_slice();
+    if place < splits.len() {
+        let split = &splits[place];
+        return Some((
+            split.account,
+            row_of(number, transaction, place as u32, split),
+        ));
+    }
+    None
+}
+
+/// The row that a transaction has at a place, with its account, unless the other transaction has the same there.
+pub(crate) fn left(
+    number: u64,
+    transaction: &Txn,
+    other: Option<&Txn>,
+    place: usize,
+) -> Option<(u64, Entry)>
+    requires own { length transaction.now.splits ≤ 2 ^ 32 }
+    requires others { FitsPlaces (option_copied other) }
+    ensures { result ≡ left_at number (Some transaction.now) (option_copied other.entry) place }
+{
+    let (account, row) = placed(number, transaction, place)?;
+    let Some(other) = other else {
+        return Some((account, row));
+    };
+    let Some((other_account, other_row)) = placed(number, other, place) else {
+        return Some((account, row));
+    };
+    if account == other_account && is_same(&row, &other_row) {
+        return None;
+    }
+    Some((account, row))
+}
+
+/// Takes a row out of a register, where one stands at its key.
+pub(crate) fn take_row(register: &mut Register, row: &Entry)
+    ensures found { (key : _) → find (has_key key) register.new.rows
+        ≡ (if has_key key row.now then None else find (has_key key) register.old.rows) }
+    ensures sorted { IsSorted register.new.rows }
+    ensures spare { register.old.spare ≤ register.new.spare }
+{
+    let _ = register.len();
+    let _ = register.remove(row.day, row.txn, row.place, &mut Steps::new());
+    let _ = register.len();
+}
+
+/// Puts a row into a register, instead of one at its key.
+pub(crate) fn put_row(register: &mut Register, row: Entry)
+    requires { 1 ≤ register.old.spare }
+    ensures found { (key : _) → find (has_key key) register.new.rows
+        ≡ (if has_key key row then Some row else find (has_key key) register.old.rows) }
+    ensures sorted { IsSorted register.new.rows }
+    ensures spare { register.old.spare ≤ register.new.spare + 1 }
+{
+    take_row(register, &row);
+    let _ = register.insert(row, &mut Steps::new());
+}
