@@ -1,5 +1,5 @@
 use crate::runs::{SALARY, SALARY_ANSWERS, empty_keeper};
-use book_app::{Status, run_over, run_program};
+use book_app::{Status, run_over, run_program, words_of};
 use book_commodity::Text;
 use std::alloc::{Alloc, Allocator, Global};
 use std::cell::Cell;
@@ -184,7 +184,7 @@ fn words_and_streams(rt: HostRuntime) -> Result<(), Fail> {
     for (words, fails, output, line, lines, number) in ROWS {
         let host = Host::new(rt.alloc(), words, output, line, fails);
         let mut keeper = empty_keeper(rt.alloc(), &[])?;
-        let code = run_program(&host, &mut keeper).report(&host);
+        let code = run_program(&host, words_of(&host), &mut keeper).report(&host);
         assert_eq!(rt; code, ExitCode::from(number));
         assert_eq!(rt; host.written.get(), output.len());
         assert_eq!(rt; host.lines.get(), lines);
