@@ -86,7 +86,7 @@ fn run_over(alloc: Global, connection: Connection<Store>) -> io::Result<Run> {
 }
 
 /// Runs the salary over files with these fuses.
-fn run(alloc: Global, fuses: Fuses) -> io::Result<Run> {
+fn run_on(alloc: Global, fuses: Fuses) -> io::Result<Run> {
     let files = empty_files(alloc, fuses);
     match opened(alloc, files) {
         Ok(connection) => match with_table(connection) {
@@ -129,16 +129,16 @@ pub(crate) fn found_after(
         done,
         is_whole,
         files,
-    } = run(alloc, fuses)?;
+    } = run_on(alloc, fuses)?;
     let files = next_files(alloc, files, ending)?;
     let Some(rows) = rows_again(alloc, files)? else {
         return Ok(Found::Other);
     };
-    Ok(found(rows.as_str(), done, is_whole, stages))
+    Ok(rows_of_stage(rows.as_str(), done, is_whole, stages))
 }
 
 /// Which rows these are, after a run in which so many lines were done.
-fn found(rows: &str, done: usize, is_whole: bool, stages: &[String]) -> Found {
+fn rows_of_stage(rows: &str, done: usize, is_whole: bool, stages: &[String]) -> Found {
     if is_stage(rows, stages, done) {
         if is_whole { Found::All } else { Found::Before }
     } else if is_stage(rows, stages, done.saturating_add(1)) {
