@@ -23,7 +23,7 @@ fn books_of_any_name_are_parted(rt: HostRuntime) -> Result<(), Fail> {
         "a=b",
         "a,b",
         ".-",
-        "/tmp/a.book",
+        "books/a.book",
         "caf\u{e9}.book",
     ] {
         assert!(rt; is_parted(rt.alloc(), &["run", book], book)?, "{book}");
