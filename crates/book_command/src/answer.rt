@@ -1,5 +1,12 @@
 use book_commodity::Many;
 
+/// What one whole unit of a commodity is worth: num / denom whole units of a currency.
+#[derive(Clone, Copy, Debug, PartialEq, Eq)]
+pub struct Ratio {
+    pub num: u64,
+    pub denom: u64,
+}
+
 /// What an accepted command is answered, by the command's word.
 #[derive(Drop)]
 pub enum Answer {
@@ -29,6 +36,15 @@ pub enum Answer {
         balances: Many<i128>,
     },
     Drop,
+    /// The number of the price, which is new, or that of the one in whose place it stands.
+    PriceSet {
+        price: u64,
+    },
+    PriceDrop,
+    /// What one unit of the commodity is worth in the currency; none where no price says so.
+    Price {
+        rate: Option<Ratio>,
+    },
     Undo,
     Redo,
     /// The counts of the present book's accounts, the root among them, of its lines of statements, reconciliations,

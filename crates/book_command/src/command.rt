@@ -1,5 +1,6 @@
 use book_accounts::Account;
 use book_commodity::{Commodity, Day, Many, Text};
+use book_prices::Price;
 
 /// What one line asks, and at which version, where that is given.
 #[derive(Drop)]
@@ -17,6 +18,12 @@ pub enum What {
     Undo,
     /// The change that was undone last is made again.
     Redo,
+    /// What one unit of the commodity is worth in the currency on the day.
+    Price {
+        commodity: u64,
+        currency: u64,
+        day: Day,
+    },
     /// How much of each kind the book has, and how many steps can be undone and redone.
     Status,
 }
@@ -62,6 +69,14 @@ pub enum Update {
     Drop {
         transaction: u64,
         force: bool,
+    },
+    /// The price of the commodity in the currency on the day, in the place of the one that is there.
+    PriceSet {
+        price: Price,
+    },
+    /// The price of this number is deleted.
+    PriceDrop {
+        price: u64,
     },
 }
 

@@ -1,6 +1,6 @@
 //! What a command asks, what an accepted command is answered, the rules that can refuse one, and why a line is no
 //! command, as plain types; and the words of commands. Public are `Command` with its `What`, an `Update` of the book
-//! among it, and the values given in it, `Answer`, `Rule`, `Refusal`, `WireError`, `Word` and `words`.
+//! among it, and the values given in it, `Answer` with its `Ratio`, `Rule`, `Refusal`, `WireError`, `Word` and `words`.
 #![tactic(auto)]
 
 mod answer;
@@ -10,7 +10,7 @@ mod rule;
 mod wire_error;
 mod word;
 
-pub use answer::Answer;
+pub use answer::{Answer, Ratio};
 pub use command::{Command, GivenAccount, GivenSplit, GivenTxn, Update, What};
 pub use refusal::Refusal;
 pub use rule::Rule;

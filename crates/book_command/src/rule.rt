@@ -41,6 +41,8 @@ pub enum Rule {
     Unbalanced { sum: i128 },
     /// This split is reconciled with a statement, and would be removed, or have another account or quantity.
     Reconciled { split: u64 },
+    /// A number of a price is not 1 to 10^9, or its commodity and its currency are one.
+    PriceShape,
     /// There is no change that could be undone.
     NothingToUndo,
     /// There is no undone change that could be made again.

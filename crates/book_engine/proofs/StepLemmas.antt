@@ -1,8 +1,9 @@
 -- A change that is done leaves the state as it is, or raises its version by one, and the next number doesn't fall.
-use Rattle.std.proofs.Common.{◌≡◌, ◌≤◌, ℕ, ◌+◌, ◌==◌, ℤ, Bool, true, false, if◌then◌else◌, List, [], ◌∷◌, length}
+use Rattle.std.proofs.Common.{◌≡◌, ◌≤◌, ℕ, ◌+◌, ◌==◌, ℤ, Bool, true, false, if◌then◌else◌, List, [], ◌∷◌, ◌++◌, length}
 use Rattle.std.proofs.Common.{Option, Some, None, inl, inr, sym, ap, arith, ◌⊎◌}
 use Rattle.book_commodity.specs.Table.{value_of}
 use Rattle.book_accounts.specs.declared.account.Account.{Account}
+use Rattle.book_prices.specs.declared.price.Price.{Price}
 use Rattle.book_splits.specs.declared.transaction.Txn.{Txn}
 use Rattle.book_undo.specs.Book.{Book, with_currency, with_thing, without_thing}
 use Rattle.book_undo.specs.declared.thing.Thing.TheVariants as thing
@@ -14,6 +15,7 @@ use Rattle.book_command.specs.declared.command.GivenTxn.{GivenTxn}
 use Rattle.book_command.specs.declared.command.Update.{Update}
 use Rattle.book_command.specs.declared.command.Update.TheVariants.{BookCurrency, CommodityAdd, AccountAdd}
 use Rattle.book_command.specs.declared.command.Update.TheVariants.{AccountEdit, AccountDrop, Drop, Edit, Post}
+use Rattle.book_command.specs.declared.command.Update.TheVariants.{PriceDrop, PriceSet}
 use Rattle.book_command.specs.declared.rule.Rule.{Rule}
 use Rattle.book_step.specs.Accounts.{account_drop_of, account_edit_at, add_rules, drop_rules, edit_rules}
 use Rattle.book_step.specs.Accounts.{stays, with_given}
@@ -23,6 +25,8 @@ use Rattle.book_step.specs.Editing.{book_with, book_without, drop_at, drawn_by, 
 use Rattle.book_step.specs.Editing.{edited_transaction, reconciled}
 use Rattle.book_step.specs.Outcome.{Done, changing, leaving}
 use Rattle.book_step.specs.Posting.{new_transaction, post_answer, post_rules}
+use Rattle.book_step.specs.Prices.{has_numbers, price_of_day, price_rules, price_set_at, too_many_prices}
+use Rattle.book_step.specs.Prices.{unknown_price}
 use Rattle.book_step.specs.SameTransaction.{same_transaction}
 use Rattle.book_step.specs.State.{State}
 use Rattle.book_step.specs.Step.{outcome}
@@ -89,6 +93,16 @@ drop_moves state n force (Some old) new reply e =
     changing_moves state (reconciled force old.splits [] ∷ []) (book_without state.book n old) 0 answer.Drop new
     reply e
 
+price_moves :
+    (state : State) (price : Price) (found : Option (ℕ × Price)) (new : State) (reply : Answer)
+    → price_set_at state price found ≡ Done new reply → Moves state new
+price_moves state price None new reply e =
+    changing_moves state (price_rules state.book price ++ too_many_prices state.book.prices ∷ [])
+    (with_thing state.next (thing.Price price) state.book) 1 (answer.PriceSet state.next) new reply e
+price_moves state price (Some old) new reply e =
+    either_moves (has_numbers old.1 price) state (price_rules state.book price)
+    (with_thing old.0 (thing.Price price) state.book) 0 (answer.PriceSet old.0) (answer.PriceSet old.0) new reply e
+
 -- A change that is done leaves the state as it is, or raises its version by one, and the next number does not fall.
 pub outcome_moves :
     (state : State) (update : Update) (new : State) (reply : Answer) → outcome state update ≡ Done new reply
@@ -115,3 +129,8 @@ outcome_moves state (Edit n force day given) new reply e =
     edit_moves state n force day given (value_of n state.book.transactions) new reply e
 outcome_moves state (Drop n force) new reply e =
     drop_moves state n force (value_of n state.book.transactions) new reply e
+outcome_moves state (PriceSet price) new reply e =
+    price_moves state price (price_of_day state.book.prices price) new reply e
+outcome_moves state (PriceDrop n) new reply e =
+    changing_moves state (unknown_price state.book.prices n ∷ []) (without_thing kind.Price n state.book) 0
+    answer.PriceDrop new reply e

@@ -1,16 +1,18 @@
 -- The machine of whole books: what a command comes to. No edit and no inverse stands here.
 use Rattle.std.specs.Prelude.{ℕ, ◌+◌, ◌-◌, ◌==◌, if◌then◌else◌, List, [], ◌∷◌, Option, Some, None, length, take}
 use Rattle.book_undo.specs.Book.{Book}
+use Rattle.book_commodity.specs.Rules.{first_broken}
 use Rattle.book_splits.specs.Balance.{splits_of}
 use Rattle.book_command.specs.declared.answer.Answer.{Answer}
 use Rattle.book_command.specs.declared.answer.Answer.TheVariants as answer
 use Rattle.book_command.specs.declared.command.Command.{Command}
 use Rattle.book_command.specs.declared.command.What.{What}
-use Rattle.book_command.specs.declared.command.What.TheVariants.{Update, Undo, Redo, Status}
+use Rattle.book_command.specs.declared.command.What.TheVariants.{Update, Undo, Redo, Price, Status}
 use Rattle.book_command.specs.declared.rule.Rule.{Rule}
 use Rattle.book_command.specs.declared.rule.Rule.TheVariants.{NothingToUndo, NothingToRedo}
 use Rattle.book_step.specs.Outcome.{Outcome, numbers}
 use Rattle.book_step.specs.Outcome as outcome
+use Rattle.book_step.specs.Prices.{rate_on, rate_rules}
 use Rattle.book_step.specs.State.{State, fresh_book}
 use Rattle.book_step.specs.Step.{outcome as outcome_of, stale}
 
@@ -90,6 +92,10 @@ redone (book ∷ later) machine =
     })
     answer.Redo)
 
+-- A question: the first of its rules that is broken, or its answer, which leaves the machine as it is.
+abbrev pub asked : Machine → List (Option Rule) → Answer → Reply
+asked machine rules answer = unless_broken (first_broken rules) (Done machine answer)
+
 -- How much of each kind there is.
 abbrev pub status : Machine → Answer
 status machine =
@@ -102,6 +108,9 @@ abbrev pub reply : Machine → What → Reply
 reply machine (Update update) = updated machine (outcome_of (present machine) update)
 reply machine Undo = undone machine.past machine
 reply machine Redo = redone machine.later machine
+reply machine (Price commodity currency day) =
+    asked machine (rate_rules machine.book commodity currency)
+    (answer.Price (rate_on machine.book.prices commodity currency day))
 reply machine Status = Done machine (status machine)
 
 -- The step of a command: the version is asked first.

@@ -22,7 +22,7 @@ use crate::turn::{Turn, Way};
 use book_command::What;
 use book_commodity::{Counted, Many, OutOfMemory};
 use book_opening::Saved;
-use book_step::{Answer, Command, Refusal, Rule, Step, Update, check_version, step_of};
+use book_step::{Answer, Command, Refusal, Rule, Step, Update, check_version, rate_answer, step_of};
 use book_undo::Edit;
 use std::alloc::Global;
 
@@ -57,6 +57,14 @@ fn plan_at(alloc: Global, state: &Saved, saved: bool, what: What) -> Result<Plan
         What::Update(update) => plan_update(alloc, state, saved, update),
         What::Undo => plan_undo(alloc, state, saved),
         What::Redo => plan_redo(alloc, state, saved),
+        What::Price {
+            commodity,
+            currency,
+            day,
+        } => match rate_answer(&state.plain, commodity, currency, day) {
+            Ok(answer) => Ok(plan_stay(alloc, state, answer)),
+            Err(rule) => Err(Refusal::Broken(rule)),
+        },
         What::Status => Ok(plan_stay(alloc, state, status(state))),
     }
 }

@@ -7,6 +7,7 @@ use Rattle.book_commodity.specs.Table.{Rises, value_of, with_entry}
 use Rattle.book_commodity.proofs.DrawnLemmas.{value_here}
 use Rattle.book_accounts.specs.declared.account.Account.{Account}
 use Rattle.book_splits.specs.declared.transaction.Txn.{Txn}
+use Rattle.book_prices.specs.declared.price.Price.{Price}
 use Rattle.book_undo.specs.Book.{Book, with_currency, with_thing, without_thing}
 use Rattle.book_undo.specs.Edit.{edited}
 use Rattle.book_undo.specs.declared.edit.Edit as edits
@@ -23,6 +24,8 @@ use Rattle.book_step.specs.Posting.{new_transaction, post_answer, post_rules}
 use Rattle.book_step.specs.Editing as editing
 use Rattle.book_step.specs.Editing.{book_with, book_without, drop_at, drawn_by, edit_answer, edit_at}
 use Rattle.book_step.specs.Editing.{edited_transaction, reconciled}
+use Rattle.book_step.specs.Prices.{has_numbers, price_of_day, price_rules, price_set_at, too_many_prices}
+use Rattle.book_step.specs.Prices.{unknown_price}
 use Rattle.book_step.specs.SameTransaction.{same_transaction}
 use Rattle.book_step.specs.Soundness.{IsSound}
 use Rattle.book_splits.proofs.ReplacedLemmas.{with_there}
@@ -34,6 +37,7 @@ use Rattle.book_command.specs.declared.command.GivenAccount.{GivenAccount}
 use Rattle.book_command.specs.declared.command.Update.{Update}
 use Rattle.book_command.specs.declared.command.Update.TheVariants.{BookCurrency, CommodityAdd, AccountAdd}
 use Rattle.book_command.specs.declared.command.Update.TheVariants.{AccountEdit, AccountDrop, Drop, Edit, Post}
+use Rattle.book_command.specs.declared.command.Update.TheVariants.{PriceDrop, PriceSet}
 use Rattle.book_command.specs.declared.command.GivenTxn.{GivenTxn}
 use Rattle.book_command.specs.declared.rule.Rule.{Rule}
 
@@ -141,6 +145,16 @@ taken_answered state n force (Some old) new reply e =
     changing_answered state (reconciled force old.splits [] ∷ []) (book_without state.book n old) 0 answer.Drop new
     reply tt e
 
+priced_answered :
+    (state : State) (price : Price) (found : Option (ℕ × Price)) (new : State) (reply : Answer)
+    → price_set_at state price found ≡ Done new reply → HasBalances state new reply
+priced_answered state price None new reply e =
+    changing_answered state (price_rules state.book price ++ too_many_prices state.book.prices ∷ [])
+    (with_thing state.next (thing.Price price) state.book) 1 (answer.PriceSet state.next) new reply tt e
+priced_answered state price (Some old) new reply e =
+    either_answered (has_numbers old.1 price) state (price_rules state.book price)
+    (with_thing old.0 (thing.Price price) state.book) (answer.PriceSet old.0) new reply (λ s. tt) e
+
 answered : (state : State) (update : Update) (new : State) (reply : Answer) → outcome state update ≡ Done new reply
     → HasBalances state new reply
 answered state (BookCurrency commodity) new reply e =
@@ -168,6 +182,11 @@ answered state (Edit n force day given) new reply e =
     given_answered state n force day given (value_of n state.book.transactions) new reply refl e
 answered state (Drop n force) new reply e =
     taken_answered state n force (value_of n state.book.transactions) new reply e
+answered state (PriceSet price) new reply e =
+    priced_answered state price (price_of_day state.book.prices price) new reply e
+answered state (PriceDrop n) new reply e =
+    changing_answered state (unknown_price state.book.prices n ∷ []) (without_thing kind.Price n state.book) 0
+    answer.PriceDrop new reply tt e
 
 -- ---- answers with and without balances
 filled : (old new : State) (whole : Answer) → HasBalances old new whole → with_balances new.book whole ≡ whole
@@ -179,6 +198,9 @@ filled old new answer.AccountDrop has = refl
 filled old new (answer.Post n splits balances) has = ap (λ (bs : List ℤ). answer.Post n splits bs) (sym has.1)
 filled old new (answer.Edit n splits balances) has = ap (λ (bs : List ℤ). answer.Edit n splits bs) (sym has.1)
 filled old new answer.Drop has = refl
+filled old new (answer.PriceSet n) has = refl
+filled old new answer.PriceDrop has = refl
+filled old new (answer.Price rate) has = refl
 filled old new answer.Undo has = refl
 filled old new answer.Redo has = refl
 filled old new (answer.Status accounts later lines past recons splits transactions) has = refl
@@ -192,6 +214,9 @@ filled_again book answer.AccountDrop = refl
 filled_again book (answer.Post n splits balances) = refl
 filled_again book (answer.Edit n splits balances) = refl
 filled_again book answer.Drop = refl
+filled_again book (answer.PriceSet n) = refl
+filled_again book answer.PriceDrop = refl
+filled_again book (answer.Price rate) = refl
 filled_again book answer.Undo = refl
 filled_again book answer.Redo = refl
 filled_again book (answer.Status accounts later lines past recons splits transactions) = refl
@@ -236,6 +261,9 @@ puts_whole state new change answer.AccountDrop is book has = tt
 puts_whole state new change (answer.Post n splits balances) is book has = puts state new change n balances is book has
 puts_whole state new change (answer.Edit n splits balances) is book has = puts state new change n balances is book has
 puts_whole state new change answer.Drop is book has = tt
+puts_whole state new change (answer.PriceSet n) is book has = tt
+puts_whole state new change answer.PriceDrop is book has = tt
+puts_whole state new change (answer.Price rate) is book has = tt
 puts_whole state new change answer.Undo is book has = tt
 puts_whole state new change answer.Redo is book has = tt
 puts_whole state new change (answer.Status accounts later lines past recons splits transactions) is book has = tt

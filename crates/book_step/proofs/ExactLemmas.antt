@@ -1,11 +1,13 @@
 -- The edits of the commands are exact for a sound book: each leaf may be applied, and changes what stands at its key.
 use Rattle.std.proofs.Common.{◌≡◌, ◌≢◌, ℕ, Bool, false, if◌then◌else◌, [], ◌∷◌, Option, Some, None, is_none}
-use Rattle.std.proofs.Common.{option_map, refl, sym, ap, ◌∙◌}
+use Rattle.std.proofs.Common.{option_map, refl, sym, ap, ◌∙◌, true, arith}
+use Rattle.std.proofs.lemmas.Bool.Decides.{nat_tests}
 use Rattle.book_commodity.specs.Table.{value_of}
 use Rattle.book_commodity.specs.declared.commodity.Commodity.{Commodity}
 use Rattle.book_commodity.proofs.DrawnLemmas.{drawn_free}
 use Rattle.book_accounts.specs.declared.account.Account.{Account}
 use Rattle.book_splits.specs.declared.transaction.Txn.{Txn}
+use Rattle.book_prices.specs.declared.price.Price.{Price}
 use Rattle.book_undo.specs.Book.{Book, thing_at, with_thing, without_thing}
 use Rattle.book_undo.specs.Edit.{OfGone, OfPut, edited, together}
 use Rattle.book_undo.specs.EditRules.{first_missing}
@@ -22,11 +24,16 @@ use Rattle.book_sound.proofs.SoundFacts.{tables_rise}
 use Rattle.book_command.specs.declared.command.GivenAccount.{GivenAccount}
 use Rattle.book_step.specs.Accounts.{stays, with_given}
 use Rattle.book_step.specs.Editing.{book_with, book_without}
+use Rattle.book_step.specs.Prices.{has_numbers}
 use Rattle.book_step.specs.SameTransaction.{same_transaction}
 use Rattle.book_step.specs.Soundness.{IsSound}
 use Rattle.book_step.specs.State.{State}
 
 -- ---- a leaf alone
+
+mapped_there : (found : Option Price) → is_none found ≡ false → is_none (option_map (λ p. thing.Price p) found) ≡ false
+mapped_there None there = there
+mapped_there (Some p) there = refl
 
 none_some : {X Y : Type 0} (of : X → Y) (found : Option X) (y : Y) → found ≡ None → option_map of found ≢ Some y
 none_some of None y none same = absurd cc
@@ -48,6 +55,13 @@ new_account state account is =
     let free = drawn_free state.next state.book.accounts is.drawn.accounts in
     exact_put state.book state.next (thing.Account account) (tables_rise state.book is.book)
     (none_some (λ a. thing.Account a) (value_of state.next state.book.accounts) (thing.Account account) free)
+
+pub new_price :
+    (state : State) (price : Price) → IsSound state → IsExact state.book (Put state.next (thing.Price price))
+new_price state price is =
+    let free = drawn_free state.next state.book.prices is.drawn.prices in
+    exact_put state.book state.next (thing.Price price) (tables_rise state.book is.book)
+    (none_some (λ p. thing.Price p) (value_of state.next state.book.prices) (thing.Price price) free)
 
 pub new_put :
     (state : State) (transaction : Txn) → IsSound state
@@ -76,6 +90,28 @@ other_account state n given old is there differs =
     (λ same.
     let one = one_account old new (sym (ap (option_map (λ (a : Account). thing.Account a)) there) ∙ same) in
     absurd (let same_fields = (stays old given).decides.1 one in cc))
+
+one_price : (old new : Price) → Some (thing.Price old) ≡ Some (thing.Price new) → new ≡ old
+one_price old new same = cc
+
+pub other_price :
+    (state : State) (n : ℕ) (old new : Price) → IsSound state → value_of n state.book.prices ≡ Some old
+    → has_numbers old new ≡ false → IsExact state.book (Put n (thing.Price new))
+other_price state n old new is there differs =
+    exact_put state.book n (thing.Price new) (tables_rise state.book is.book)
+    (λ same.
+    let one = one_price old new (sym (ap (option_map (λ (p : Price). thing.Price p)) there) ∙ same) in
+    let num = ap (λ (p : Price). p.num) one in
+    let denom = ap (λ (p : Price). p.denom) one in
+    let equal : has_numbers old new ≡ true = grind (arith, nat_tests, num, denom) in
+    absurd (let no = sym equal ∙ differs in cc))
+
+pub price_gone :
+    (state : State) (n : ℕ) → IsSound state → is_none (value_of n state.book.prices) ≡ false
+    → IsExact state.book (Gone kind.Price n)
+price_gone state n is there =
+    exact_gone state.book kind.Price n (tables_rise state.book is.book)
+    (mapped_there (value_of n state.book.prices) there)
 
 pub account_gone :
     (state : State) (n : ℕ) (old : Account) → IsSound state → value_of n state.book.accounts ≡ Some old

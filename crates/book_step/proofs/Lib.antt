@@ -6,11 +6,13 @@ pub mod EditingLemmas
 pub mod ExactLemmas
 pub mod OutcomeLemmas
 pub mod PostingLemmas
+pub mod PriceLemmas
 pub mod SoundAccounts
 pub mod SoundCommodities
 pub mod SoundEditing
 pub mod SoundOutcome
 pub mod SoundPosting
+pub mod SoundPrices
 pub mod SoundStep
 pub mod TableWalkLemmas
 pub mod Worked

@@ -1,8 +1,8 @@
 -- What a step comes to, from what a check of its rules reports.
 use Rattle.std.proofs.Common.{◌≡◌, ℕ, Bool, true, false, if◌then◌else◌, List, [], ◌∷◌, Option, Some, None}
-use Rattle.std.proofs.Common.{Result, Ok, Err, sym, ap, subst}
+use Rattle.std.proofs.Common.{◌++◌, ◌∙◌, Result, Ok, Err, sym, ap, subst}
 use Rattle.std.specs.Result.{IsErrAnd}
-use Rattle.book_commodity.specs.Rules.{first_broken}
+use Rattle.book_commodity.specs.Rules.{ReportsFirst, first_broken}
 use Rattle.book_commodity.proofs.RuleLemmas.{first-here, first-past}
 use Rattle.book_undo.specs.Book.{Book}
 use Rattle.book_undo.specs.declared.edit.Edit.{Edit, All}
@@ -27,6 +27,13 @@ pub refused :
     → StepsTo state outcome result
 refused state outcome rule (Ok step) h e = absurd h
 refused state outcome rule (Err error) h e = subst (λ (error : Refusal). StepsTo state outcome (Err error)) (sym h) e
+
+-- a rule that is broken among the first is the first that is broken
+pub reported :
+    {T : Type 0} (rules more : List (Option Rule)) (rule : Rule) (result : Result T Rule)
+    → IsErrAnd result (λ error. error ≡ rule) → first_broken rules ≡ Some rule → ReportsFirst (rules ++ more) result
+reported rules more rule (Ok x) h e = absurd h
+reported rules more rule (Err error) h e = first-here rules more rule e ∙ ap (λ (r : Rule). Some r) (sym h)
 
 -- a command that leaves the book is a step that changes nothing
 pub step-leaving :

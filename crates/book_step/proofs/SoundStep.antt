@@ -25,6 +25,7 @@ use Rattle.book_command.specs.declared.answer.Answer.{Answer}
 use Rattle.book_command.specs.declared.command.Update.{Update}
 use Rattle.book_command.specs.declared.command.Update.TheVariants.{BookCurrency, CommodityAdd, AccountAdd, AccountEdit}
 use Rattle.book_command.specs.declared.command.Update.TheVariants.{AccountDrop, Drop, Edit, Post}
+use Rattle.book_command.specs.declared.command.Update.TheVariants.{PriceDrop, PriceSet}
 use Rattle.book_step.specs.Outcome.{Done}
 use Rattle.book_step.specs.Soundness.{IsSound}
 use Rattle.book_step.specs.State.{State, fresh_state, fresh_book, euro, root}
@@ -33,6 +34,7 @@ use Rattle.book_step.proofs.SoundAccounts.{account_add-sound, account_drop-sound
 use Rattle.book_step.proofs.SoundCommodities.{book_currency-sound, commodity_add-sound}
 use Rattle.book_step.proofs.SoundEditing.{drop_transaction-sound, edit_transaction-sound}
 use Rattle.book_step.proofs.SoundPosting.{post-sound}
+use Rattle.book_step.proofs.SoundPrices.{price_drop-sound, price_set-sound}
 
 -- A change that is done leads from a sound state to a sound one.
 pub outcome-sound :
@@ -50,6 +52,8 @@ outcome-sound state (Edit transaction force day given) new answered is e =
     edit_transaction-sound state transaction force day given new answered is e
 outcome-sound state (Drop transaction force) new answered is e =
     drop_transaction-sound state transaction force new answered is e
+outcome-sound state (PriceSet price) new answered is e = price_set-sound state price new answered is e
+outcome-sound state (PriceDrop price) new answered is e = price_drop-sound state price new answered is e
 
 -- ---- the fresh state
 

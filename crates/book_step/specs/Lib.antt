@@ -5,6 +5,7 @@ pub mod Editing
 pub mod InUse
 pub mod Outcome
 pub mod Posting
+pub mod Prices
 pub mod SameTransaction
 pub mod Soundness
 pub mod State

@@ -7,10 +7,12 @@ use Rattle.book_step.specs.Commodities.{book_currency, commodity_add}
 use Rattle.book_step.specs.Editing.{drop_transaction, edit_transaction}
 use Rattle.book_step.specs.Outcome.{Outcome}
 use Rattle.book_step.specs.Posting.{post}
+use Rattle.book_step.specs.Prices.{price_drop, price_set}
 use Rattle.book_step.specs.State.{State}
 use Rattle.book_command.specs.declared.command.Update.{Update}
 use Rattle.book_command.specs.declared.command.Update.TheVariants.{BookCurrency, CommodityAdd, AccountAdd}
 use Rattle.book_command.specs.declared.command.Update.TheVariants.{AccountEdit, AccountDrop, Post, Edit, Drop}
+use Rattle.book_command.specs.declared.command.Update.TheVariants.{PriceSet, PriceDrop}
 use Rattle.book_command.specs.declared.rule.Rule.{Rule}
 use Rattle.book_command.specs.declared.rule.Rule.TheVariants.{Stale}
 
@@ -29,3 +31,5 @@ outcome state (AccountDrop account) = account_drop state account
 outcome state (Post day given) = post state day given
 outcome state (Edit number force day given) = edit_transaction state number force day given
 outcome state (Drop number force) = drop_transaction state number force
+outcome state (PriceSet price) = price_set state price
+outcome state (PriceDrop number) = price_drop state number

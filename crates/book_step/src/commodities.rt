@@ -59,7 +59,7 @@ pub(crate) fn is_currency(commodities: &Commodities, number: u64) -> bool
 }
 
 /// The commodity of this number is one of the book's, and a currency.
-fn check_currency(present: &Present, number: u64) -> Result<(), Rule>
+pub(crate) fn check_currency(present: &Present, number: u64) -> Result<(), Rule>
     ensures { ReportsFirst (currency_rules present.now.book number) result }
 {
     let commodities = &present.plain.commodities;

@@ -1,7 +1,8 @@
 //! The step that each change of a book takes. In `specs/` stands what such a command comes to, family by family, and
 //! the state that it is asked in; `step_of` reports what it comes to in a book, and changes nothing. `check_version`
-//! asks of any command whether it is for the present version. The types of commands, answers and rules come from
-//! `book_command`. Public are these, `Step`, `step_of` and `check_version`.
+//! asks of any command whether it is for the present version. `rate_answer` answers what a commodity is worth on a
+//! day. The types of commands, answers and rules come from `book_command`. Public are these, `Step`, `step_of`,
+//! `rate_answer` and `check_version`.
 #![tactic(auto)]
 
 mod account_edit;
@@ -13,6 +14,7 @@ mod editing;
 mod in_use;
 mod posting;
 mod present;
+mod prices;
 mod same_transaction;
 mod step;
 #[cfg(test)]
@@ -21,4 +23,5 @@ mod tests;
 pub use book_command::{
     Answer, Command, GivenAccount, GivenSplit, GivenTxn, Refusal, Rule, Update, What,
 };
+pub use prices::rate_answer;
 pub use step::{Step, check_version, step_of};

@@ -13,6 +13,7 @@ use crate::commodities::{book_currency, commodity_add};
 use crate::editing::{drop, edit};
 use crate::posting::post;
 use crate::present::Present;
+use crate::prices::{price_drop, price_set};
 use crate::{Answer, Refusal, Rule, Update};
 use book_commodity::Counted;
 use book_undo::{Edit, Plain};
@@ -110,6 +111,8 @@ pub fn step_of(
             given,
         } => edit(present, transaction, force, day, given),
         Update::Drop { transaction, force } => drop(present, transaction, force),
+        Update::PriceSet { price } => price_set(present, price),
+        Update::PriceDrop { price } => price_drop(present, price),
     }
 }
 

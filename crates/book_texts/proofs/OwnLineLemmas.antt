@@ -7,13 +7,13 @@ use Rattle.book_commodity.specs.OneLine.{is_one_line}
 use Rattle.book_command.specs.declared.answer.Answer.{Answer}
 use Rattle.book_command.specs.declared.answer.Answer.TheVariants.{AccountAdd, AccountDrop, AccountEdit}
 use Rattle.book_command.specs.declared.answer.Answer.TheVariants.{BookCurrency, CommodityAdd, Post, Edit, Drop}
-use Rattle.book_command.specs.declared.answer.Answer.TheVariants.{Undo, Redo, Status}
+use Rattle.book_command.specs.declared.answer.Answer.TheVariants.{PriceSet, PriceDrop, Price, Undo, Redo, Status}
 use Rattle.book_command.specs.declared.rule.Rule.{Rule}
 use Rattle.book_command.specs.declared.rule.Rule.TheVariants.{Basis, BasisShape, Cycle, FractionShape, InUse, Limit}
 use Rattle.book_command.specs.declared.rule.Rule.TheVariants.{NameTaken, NotEmpty, ParentKind, Placeholder, Root}
 use Rattle.book_command.specs.declared.rule.Rule.TheVariants.{Reconciled, SplitCount, Stale, Unbalanced, Unknown}
 use Rattle.book_command.specs.declared.rule.Rule.TheVariants.{NothingToRedo, NothingToUndo, ValueNotQuantity}
-use Rattle.book_command.specs.declared.rule.Rule.TheVariants.{WrongCurrency}
+use Rattle.book_command.specs.declared.rule.Rule.TheVariants.{PriceShape, WrongCurrency}
 use Rattle.book_command.specs.declared.wire_error.WireError.{WireError}
 use Rattle.book_command.specs.declared.wire_error.WireError.TheVariants.{NotJson, NotCommand, NotBuilt, OutOfMemory}
 use Rattle.book_json.proofs.OneLine.{compact_text-one_line}
@@ -64,6 +64,9 @@ answer-letter AccountDrop version = refl
 answer-letter (Post transaction splits balances) version = refl
 answer-letter (Edit transaction splits balances) version = refl
 answer-letter Drop version = refl
+answer-letter (PriceSet number) version = refl
+answer-letter PriceDrop version = refl
+answer-letter (Price rate) version = refl
 answer-letter Undo version = refl
 answer-letter Redo version = refl
 answer-letter (Status accounts later lines past recons splits transactions) version = refl
@@ -87,6 +90,7 @@ rule-letter (Basis account) version = refl
 rule-letter (ValueNotQuantity place) version = refl
 rule-letter (Unbalanced sum) version = refl
 rule-letter (Reconciled split) version = refl
+rule-letter PriceShape version = refl
 rule-letter NothingToUndo version = refl
 rule-letter NothingToRedo version = refl
 rule-letter (Limit which at) version = refl

@@ -1,8 +1,8 @@
 -- Lines at values written by hand.
-use Rattle.std.proofs.Common.{◌≡◌, [], ◌∷◌, ◌++◌, Some, codes, refl, pos, negsuc}
+use Rattle.std.proofs.Common.{◌≡◌, [], ◌∷◌, ◌++◌, Some, None, codes, refl, pos, negsuc}
 use Rattle.std.specs.Fmt.{digits}
 use Rattle.serde_json.proofs.OnLiterals.{serde_json_on_literals}
-use Rattle.book_command.specs.declared.answer.Answer.TheVariants.{Edit, Redo, Status}
+use Rattle.book_command.specs.declared.answer.Answer.TheVariants.{Edit, Price, Redo, Status}
 use Rattle.book_command.specs.declared.rule.Rule.TheVariants.{NothingToRedo, Reconciled, Unknown}
 use Rattle.book_command.specs.declared.wire_error.WireError.TheVariants.{NotCommand}
 use Rattle.book_commodity.specs.declared.counted.Counted.TheVariants.{Numbers}
@@ -40,6 +40,15 @@ edit_bytes = refl
 reconciled_bytes : rule_bytes (Reconciled 6) 5 ≡ codes "{\"broken\":\"Reconciled\",\"split\":6,\"version\":5}"
 unfolding digits serde_json_on_literals
 reconciled_bytes = refl
+
+price_bytes : answer_bytes (Price (Some (record { num = 150; denom = 100 }))) 7
+    ≡ codes "{\"ok\":\"price\",\"rate\":[150,100],\"version\":7}"
+unfolding digits word_text serde_json_on_literals
+price_bytes = refl
+
+no_price_bytes : answer_bytes (Price None) 7 ≡ codes "{\"ok\":\"price\",\"rate\":null,\"version\":7}"
+unfolding digits word_text serde_json_on_literals
+no_price_bytes = refl
 
 redo_bytes : answer_bytes Redo 5 ≡ codes "{\"ok\":\"redo\",\"version\":5}"
 unfolding digits word_text serde_json_on_literals

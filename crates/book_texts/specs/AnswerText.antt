@@ -4,12 +4,13 @@ use Rattle.serde_json.specs.Data.{Members}
 use Rattle.book_command.specs.declared.answer.Answer.{Answer}
 use Rattle.book_command.specs.declared.answer.Answer.TheVariants.{BookCurrency, CommodityAdd, AccountAdd}
 use Rattle.book_command.specs.declared.answer.Answer.TheVariants.{AccountEdit, AccountDrop, Post, Edit, Drop}
-use Rattle.book_command.specs.declared.answer.Answer.TheVariants.{Undo, Redo, Status}
+use Rattle.book_command.specs.declared.answer.Answer.TheVariants.{PriceSet, PriceDrop, Price, Undo, Redo, Status}
 use Rattle.book_texts.specs.Accounts.{account_add, account_edit, account_drop}
 use Rattle.book_texts.specs.Commodities.{book_currency, commodity_add}
 use Rattle.book_texts.specs.Fields.{line_of}
 use Rattle.book_texts.specs.History.{undo, redo, status}
 use Rattle.book_texts.specs.Posting.{post, edit, drop}
+use Rattle.book_texts.specs.Prices.{price_set, price_drop, price}
 
 -- The answer of each command, with the version after it.
 abbrev pub answer_members : Answer → ℕ → Members
@@ -21,6 +22,9 @@ answer_members AccountDrop = account_drop
 answer_members (Post transaction splits balances) = post transaction splits balances
 answer_members (Edit transaction splits balances) = edit splits balances
 answer_members Drop = drop
+answer_members (PriceSet number) = price_set number
+answer_members PriceDrop = price_drop
+answer_members (Price rate) = price rate
 answer_members Undo = undo
 answer_members Redo = redo
 answer_members (Status accounts later lines past recons splits transactions) =

@@ -4,6 +4,7 @@ pub mod Commodities
 pub mod Fields
 pub mod History
 pub mod Posting
+pub mod Prices
 pub mod RefusedText
 pub mod RuleText
 pub mod Shown

@@ -6,7 +6,7 @@ use Rattle.book_command.specs.declared.rule.Rule.{Rule}
 use Rattle.book_command.specs.declared.rule.Rule.TheVariants.{Stale, Unknown, NameTaken, Cycle, ParentKind, Root}
 use Rattle.book_command.specs.declared.rule.Rule.TheVariants.{Placeholder, NotEmpty, InUse, FractionShape}
 use Rattle.book_command.specs.declared.rule.Rule.TheVariants.{BasisShape, SplitCount, WrongCurrency, Basis}
-use Rattle.book_command.specs.declared.rule.Rule.TheVariants.{ValueNotQuantity, Unbalanced, Reconciled}
+use Rattle.book_command.specs.declared.rule.Rule.TheVariants.{ValueNotQuantity, Unbalanced, Reconciled, PriceShape}
 use Rattle.book_command.specs.declared.rule.Rule.TheVariants.{NothingToUndo, NothingToRedo, Limit}
 use Rattle.book_texts.specs.Fields.{broken, line_of}
 use Rattle.book_texts.specs.Shown.{number_data, sum_data}
@@ -36,6 +36,7 @@ rule_members (Basis account) = broken (codes "Basis") ((codes "account", number_
 rule_members (ValueNotQuantity place) = broken (codes "ValueNotQuantity") ((codes "place", number_data place) ∷ [])
 rule_members (Unbalanced sum) = broken (codes "Unbalanced") ((codes "sum", sum_data sum) ∷ [])
 rule_members (Reconciled split) = broken (codes "Reconciled") ((codes "split", number_data split) ∷ [])
+rule_members PriceShape = broken (codes "PriceShape") []
 rule_members NothingToUndo = broken (codes "NothingToUndo") []
 rule_members NothingToRedo = broken (codes "NothingToRedo") []
 rule_members (Limit which at) = broken (codes "Limit")

@@ -7,6 +7,7 @@ use crate::commodities::commodity_add;
 use crate::fields::Fields;
 use crate::history::status;
 use crate::posting::{edit, post};
+use crate::prices::{price, price_set};
 use book_command::{Answer, Word};
 use book_commodity::{Bytes, OutOfMemory};
 use std::alloc::{AllocError, Global};
@@ -39,6 +40,9 @@ fn answer_fields(alloc: Global, answer: &Answer, version: u64) -> Result<Fields,
             balances,
         } => edit(alloc, splits, balances, version),
         Answer::Drop => Fields::answered(alloc, Word::Drop, version),
+        Answer::PriceSet { price } => price_set(alloc, *price, version),
+        Answer::PriceDrop => Fields::answered(alloc, Word::PriceDrop, version),
+        Answer::Price { rate } => price(alloc, rate, version),
         Answer::Undo => Fields::answered(alloc, Word::Undo, version),
         Answer::Redo => Fields::answered(alloc, Word::Redo, version),
         Answer::Status {

@@ -9,6 +9,7 @@ mod commodities;
 mod fields;
 mod history;
 mod posting;
+mod prices;
 mod refused;
 mod rules;
 mod shown;

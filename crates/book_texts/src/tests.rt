@@ -7,7 +7,7 @@ use std::alloc::Global;
 /// A rule, the version that stands with it, and the line.
 type Row = (Rule, u64, &'static str);
 
-static RULES: [Row; 20] = [
+static RULES: [Row; 21] = [
     (
         Rule::Stale { now: 42 },
         42,
@@ -90,6 +90,11 @@ static RULES: [Row; 20] = [
         Rule::Reconciled { split: 6 },
         5,
         r#"{"broken":"Reconciled","split":6,"version":5}"#,
+    ),
+    (
+        Rule::PriceShape,
+        7,
+        r#"{"broken":"PriceShape","version":7}"#,
     ),
     (
         Rule::NothingToUndo,

@@ -13,12 +13,14 @@ use Rattle.book_wire.specs.Accounts.{account_members}
 use Rattle.book_wire.specs.Commodities.{commodity_members}
 use Rattle.book_wire.specs.History.{history_asked}
 use Rattle.book_wire.specs.Posting.{posting_members}
+use Rattle.book_wire.specs.Prices.{price_members}
 use Rattle.book_wire.specs.declared.accounts.AccountCommand.TheVariants.{AccountAdd, AccountEdit, AccountDrop}
 use Rattle.book_wire.specs.declared.commands.Built.{Built}
-use Rattle.book_wire.specs.declared.commands.Built.TheVariants.{Commodities, Accounts, Posting, History}
+use Rattle.book_wire.specs.declared.commands.Built.TheVariants.{Commodities, Accounts, Posting, Prices, History}
 use Rattle.book_wire.specs.declared.commodities.CommodityCommand.TheVariants.{BookCurrency, CommodityAdd}
 use Rattle.book_wire.specs.declared.history.HistoryCommand.TheVariants.{Undo, Redo, Status}
 use Rattle.book_wire.specs.declared.posting.PostingCommand.TheVariants.{Post, Edit, Drop}
+use Rattle.book_wire.specs.declared.prices.PriceCommand.TheVariants.{Price, PriceDrop, PriceSet}
 
 -- The text of a command's word.
 unfoldable pub word_form : Form Word
@@ -34,6 +36,9 @@ built_of word.AccountDrop = Some (Accounts AccountDrop)
 built_of word.Post = Some (Posting Post)
 built_of word.Edit = Some (Posting Edit)
 built_of word.Drop = Some (Posting Drop)
+built_of word.PriceSet = Some (Prices PriceSet)
+built_of word.PriceDrop = Some (Prices PriceDrop)
+built_of word.Price = Some (Prices Price)
 built_of word.Undo = Some (History Undo)
 built_of word.Redo = Some (History Redo)
 built_of word.Status = Some (History Status)
@@ -50,6 +55,7 @@ abbrev pub what_of : Built → Reader What
 what_of (Commodities command) = changing (commodity_members command)
 what_of (Accounts command) = changing (account_members command)
 what_of (Posting command) = changing (posting_members command)
+what_of (Prices command) = price_members command
 what_of (History command) = gives (history_asked command)
 
 -- A command, read to the end of its line: the version that it is for may be given, and is read before its own members.

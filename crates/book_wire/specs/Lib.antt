@@ -5,3 +5,4 @@ pub mod Commodities
 pub mod History
 pub mod Kinds
 pub mod Posting
+pub mod Prices

@@ -7,7 +7,8 @@ use crate::accounts::AccountCommand::{self, AccountAdd, AccountDrop, AccountEdit
 use crate::commodities::CommodityCommand::{self, BookCurrency, CommodityAdd};
 use crate::history::HistoryCommand::{self, Redo, Status, Undo};
 use crate::posting::PostingCommand::{self, Drop, Edit, Post};
-use Built::{Accounts, Commodities, History, Posting};
+use crate::prices::PriceCommand::{self, Price, PriceDrop, PriceSet};
+use Built::{Accounts, Commodities, History, Posting, Prices};
 use book_command::{Command, What, Word, words};
 use book_json::{Fault, Reading};
 
@@ -17,6 +18,7 @@ pub(crate) enum Built {
     Commodities(CommodityCommand),
     Accounts(AccountCommand),
     Posting(PostingCommand),
+    Prices(PriceCommand),
     History(HistoryCommand),
 }
 
@@ -41,6 +43,9 @@ pub(crate) fn built_of(word: Word) -> Option<Built>
         Word::Post => Some(Posting(Post)),
         Word::Edit => Some(Posting(Edit)),
         Word::Drop => Some(Posting(Drop)),
+        Word::PriceSet => Some(Prices(PriceSet)),
+        Word::PriceDrop => Some(Prices(PriceDrop)),
+        Word::Price => Some(Prices(Price)),
         Word::Undo => Some(History(Undo)),
         Word::Redo => Some(History(Redo)),
         Word::Status => Some(History(Status)),
@@ -65,6 +70,7 @@ fn what_of(built: Built, members: &mut Reading) -> Result<What, Fault>
         Commodities(command) => command.read(members)?,
         Accounts(command) => command.read(members)?,
         Posting(command) => command.read(members)?,
+        Prices(command) => return command.read(members),
         History(command) => return Ok(command.what()),
     };
     Ok(What::Update(update))

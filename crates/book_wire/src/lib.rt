@@ -10,6 +10,7 @@ mod history;
 mod kinds;
 mod line;
 mod posting;
+mod prices;
 
 pub use book_command::WireError;
 pub use book_lines::{KEEPER, MEMORY};
