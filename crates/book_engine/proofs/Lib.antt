@@ -1,6 +1,7 @@
 pub mod BalanceLemmas
 pub mod ChangeFits
 pub mod CurrencyLemmas
+pub mod MoveLemmas
 pub mod OpenLemmas
 pub mod PlanLemmas
 pub mod RowTurns

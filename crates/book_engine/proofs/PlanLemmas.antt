@@ -48,6 +48,18 @@ version_turned state turn moving = by_way turn.way moving
     by_way Undo moves = refl
     by_way Redo moves = refl
 
+-- It leads to the book after its edit.
+turned_book :
+    (state : State) (turn : Turn) → IsTrue (is_moving turn.way)
+    → (turned turn state).book ≡ edited turn.edit state.book
+turned_book state turn moving = by_way turn.way moving
+  where
+    by_way : (way : Way) → IsTrue (is_moving way) → (turned_by way turn state).book ≡ edited turn.edit state.book
+    by_way Stay moves = absurd cc
+    by_way ToNew moves = refl
+    by_way Undo moves = refl
+    by_way Redo moves = refl
+
 other_machine :
     (state : State) (turn : Turn) → IsTrue (is_moving turn.way) → machine_of (turned turn state) ≢ machine_of state
 other_machine state turn moving = λ same.
@@ -72,6 +84,8 @@ pub is_turn_plan :
 is_turn_plan state saved turn answer reply whole after is allowed fit exact leads form made = record {
   made = made;
   whole = subst (IsWhole (turned turn state)) (sym (either_true saved (is_moving turn.way) is.moving)) after;
+  allowed = allowed;
+  book = turned_book state turn is.moving;
   shallow = is.shallow;
   can = is.can;
   exact = exact;
@@ -94,6 +108,8 @@ pub is_stay_plan :
 is_stay_plan state saved answer reply whole made = record {
   made = made;
   whole = subst (IsWhole state) (sym (either_same saved)) whole;
+  allowed = (exact_nothing state.book (tables_rise state.book whole.sound.book)).allowed;
+  book = refl;
   shallow = allowed_depth state.book (All [])
       (exact_nothing state.book (tables_rise state.book whole.sound.book)).allowed;
   can = tt;

@@ -1,6 +1,9 @@
 -- What an engine keeps, seen as the state whose rows a keeper holds.
-use Rattle.std.specs.Prelude.{ℕ, ◌≡◌, ◌+◌, ◌^◌, ◌<◌, ◌≤◌, Bool, false, []}
+use Rattle.std.specs.Prelude.{ℕ, ◌≡◌, ◌+◌, ◌^◌, ◌<◌, ◌≤◌, Bool, false, List, []}
 use Rattle.book_history.specs.History.{IsHistory}
+use Rattle.book_ledger.specs.Ledger.{Keeps}
+use Rattle.book_register.specs.Register.{Rows}
+use Rattle.book_undo.specs.Book.{book_of}
 use Rattle.book_undo.specs.declared.plain.Plain.{Plain}
 use Rattle.book_step.specs.Soundness.{IsSound}
 use Rattle.book_step.specs.State.{State as StepState, fresh_book}
@@ -8,11 +11,12 @@ use Rattle.book_opening.specs.State.{State, state_of}
 use Rattle.book_engine.specs.declared.engine.Engine.TheInside.{Inside}
 
 -- The state, with its steps; whether a keeper was given the rows of a state, which until then is the fresh one; the
--- tables that hold the book; and for how many more steps back and forth there is room.
+-- tables that hold the book; the registers of its accounts; and for how many more steps back and forth there is room.
 pub record Kept : Type 0 where
   pub state : State
   pub saved : Bool
   pub plain : Plain
+  pub registers : List (ℕ × Rows)
   pub back_room : ℕ
   pub forth_room : ℕ
 
@@ -49,10 +53,12 @@ kept_by engine = record {
   state = state_of engine.state;
   saved = engine.saved;
   plain = engine.state.plain;
+  registers = engine.registers.entries;
   back_room = engine.state.back.spare;
   forth_room = engine.state.forth.spare;
 }
 
--- What holds of every engine.
-abbrev pub IsKept : Inside → Type 0
-IsKept engine = IsWhole (state_of engine.state) engine.saved
+-- What holds of every engine: its state is whole, and its registers are those of its book.
+pub record IsKept (engine : Inside) : Type 0 where
+  pub whole : IsWhole (state_of engine.state) engine.saved
+  pub registers : Keeps engine.registers.entries (book_of engine.state.plain)

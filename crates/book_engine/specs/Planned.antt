@@ -5,7 +5,8 @@ use Rattle.book_keeper.specs.Rows.{AreRising, after_changes}
 use Rattle.book_keeper.specs.declared.row.Change.{Change}
 use Rattle.book_keeper.specs.declared.row.Row.{Row}
 use Rattle.book_undo.specs.Book.{Book}
-use Rattle.book_undo.specs.Edit.{depth, edited, outline}
+use Rattle.book_ledger.specs.Room.{IsReady}
+use Rattle.book_undo.specs.Edit.{depth, edited, leaves, outline}
 use Rattle.book_undo.specs.EditRules.{IsAllowed}
 use Rattle.book_undo.specs.Inverse.{LeadsBack}
 use Rattle.book_undo.specs.Exact.{IsExact}
@@ -77,12 +78,14 @@ abbrev pub IsExactTurn : State → Turn → Type 0
 IsExactTurn state turn =
     turn.way ≡ ToNew → IsExact state.book turn.edit × IsExact (edited turn.edit state.book) turn.inverse
 
--- A plan for a state comes to this reply of the machine. The edit that it keeps leads back to exactly the book before,
--- and has its form. It commits exactly where the machine becomes another. Then
--- with its changes made the rows that stand for the state before stand for the state after.
+-- A plan for a state comes to this reply of the machine. Its edit may be applied to the book, and leads to the book
+-- after it. The edit that it keeps leads back to exactly the book before, and has its form. It commits exactly where the
+-- machine becomes another. Then with its changes made the rows that stand for the state before stand for the state after.
 pub record IsPlanTo (state : State) (saved : Bool) (reply : Reply) (plan : Planned) : Type 0 where
   pub made : reply ≡ Done (machine_of (after state plan)) plan.answer
   pub whole : IsWhole (after state plan) (saved || commits plan)
+  pub allowed : IsAllowed state.book plan.turn.edit
+  pub book : (after state plan).book ≡ edited plan.turn.edit state.book
   pub shallow : depth plan.turn.edit ≤ 8
   pub can : CanTurn plan.turn.way state
   pub exact : IsExactTurn state plan.turn
@@ -104,9 +107,11 @@ pub record IsPlanFor (state : State) (saved : Bool) (plan : Planned) : Type 0 wh
   pub command : Command
   pub plan_of : IsPlanOf state saved command plan
 
--- There is room for what a plan puts: in the tables of the book, and for one more step back or forth.
+-- There is room for what a plan puts: in the tables of the book and in the registers, and for one more step back or
+-- forth.
 pub record HasRoomFor (kept : Kept) (plan : Planned) : Type 0 where
   pub things : HasRoom kept.plain plan.turn.edit
+  pub rows : IsReady kept.registers (leaves plan.turn.edit)
   pub back : 1 ≤ kept.back_room
   pub forth : 1 ≤ kept.forth_room
 

@@ -1,25 +1,35 @@
-ghost use Rattle.std.specs.Prelude.{◌≡◌, IfOk, flat_map};
+ghost use Rattle.std.specs.Prelude.{◌≡◌, ℕ, IfOk, IfSome, flat_map};
 ghost use Rattle.std.specs.Option.{option_copied};
 ghost use Rattle.book_undo.specs.Book.{book_of};
 ghost use Rattle.book_undo.specs.Edit.{edited, leaves};
 ghost use Rattle.book_step.specs.AnswerBalances.{PutsAnswered, PutsUnder, balances_of, with_balances as filled};
-ghost use Rattle.book_engine.specs.Balances.{CanSum, put_at};
+ghost use Rattle.book_commodity.specs.Table.{with_entry};
+ghost use Rattle.book_splits.specs.Balance.{balances_in, splits_of};
+ghost use Rattle.book_splits.specs.Check.{IsSound as IsSoundTxn};
+ghost use Rattle.book_engine.specs.Balances.{CanMove, CanSum, given, moved, put_at};
 ghost use Rattle.book_engine.specs.Planned.{whole_step};
 
+use crate::moves::Moves;
 use book_commodity::{Many, OutOfMemory};
-use book_splits::{Txn, balances_after};
+use book_ledger::Registers;
+use book_splits::Txn;
 use book_step::{Answer, Step};
 use book_undo::{Edit, Plain, Thing};
 use std::alloc::Global;
 
 /// The step with the balances in its answer, which are those of the book that it leads to.
-pub(crate) fn with_balances(alloc: Global, plain: &Plain, step: Step) -> Result<Step, OutOfMemory>
-    requires { CanSum (book_of plain.now) step.edit
+pub(crate) fn with_balances(
+    alloc: Global,
+    plain: &Plain,
+    registers: &Registers,
+    step: Step,
+) -> Result<Step, OutOfMemory>
+    requires { CanSum registers.now.entries (book_of plain.now) step.edit
         (PutsAnswered (book_of plain.now) step.edit step.answer) }
     ensures { IfOk result (λ whole. whole ≡ whole_step (book_of plain.now) step) }
 {
     let Step { edit, next, answer } = step;
-    let answer = answer_with_balances(alloc, plain, &edit, answer)?;
+    let answer = answer_with_balances(alloc, plain, registers, &edit, answer)?;
     Ok(Step { edit, next, answer })
 }
 
@@ -27,10 +37,11 @@ pub(crate) fn with_balances(alloc: Global, plain: &Plain, step: Step) -> Result<
 fn answer_with_balances(
     alloc: Global,
     plain: &Plain,
+    registers: &Registers,
     edit: &Edit,
     answer: Answer,
 ) -> Result<Answer, OutOfMemory>
-    requires { CanSum (book_of plain.now) edit.now (PutsAnswered (book_of plain.now) edit.now answer) }
+    requires { CanSum registers.now.entries (book_of plain.now) edit.now (PutsAnswered (book_of plain.now) edit.now answer) }
     ensures { IfOk result (λ whole. whole ≡ filled (edited edit.now (book_of plain.now)) answer) }
 {
     match answer {
@@ -41,7 +52,7 @@ fn answer_with_balances(
         } => Ok(Answer::Post {
             transaction,
             splits,
-            balances: balances_put(alloc, plain, edit, transaction)?,
+            balances: balances_put(alloc, plain, registers, edit, transaction)?,
         }),
         Answer::Edit {
             transaction,
@@ -50,7 +61,7 @@ fn answer_with_balances(
         } => Ok(Answer::Edit {
             transaction,
             splits,
-            balances: balances_put(alloc, plain, edit, transaction)?,
+            balances: balances_put(alloc, plain, registers, edit, transaction)?,
         }),
         answer => Ok(answer),
     }
@@ -61,16 +72,42 @@ fn answer_with_balances(
 fn balances_put(
     alloc: Global,
     plain: &Plain,
+    registers: &Registers,
     edit: &Edit,
     number: u64,
 ) -> Result<Many<i128>, OutOfMemory>
-    requires { CanSum (book_of plain.now) edit.now (PutsUnder (book_of plain.now) edit.now number) }
+    requires { CanSum registers.now.entries (book_of plain.now) edit.now (PutsUnder (book_of plain.now) edit.now number) }
     ensures { IfOk result (λ balances. balances ≡ balances_of (edited edit.now (book_of plain.now)) number) }
 {
     let Some(transaction) = put(edit, number).or(plain.transactions.find(number)) else {
         unreachable!()
     };
-    balances_after(alloc, &plain.transactions, number, transaction)
+    balances_after(alloc, plain, registers, number, transaction)
+}
+
+/// For each split of the transaction, by place, the balance of its account over all days once the transaction stands
+/// under the number, instead of the one that stands there, if one does. A balance is in smallest units of the
+/// account's commodity.
+fn balances_after(
+    alloc: Global,
+    plain: &Plain,
+    registers: &Registers,
+    number: u64,
+    transaction: &Txn,
+) -> Result<Many<i128>, OutOfMemory>
+    requires { CanMove registers.now.entries (book_of plain.now) transaction.now }
+    ensures { let later = with_entry number transaction.now (book_of plain.now).transactions in
+        IfOk result (λ sums. sums ≡ balances_in (splits_of later) transaction.now.splits) }
+{
+    let splits = transaction.splits.as_slice();
+    let gained = Moves::of(alloc, splits)?;
+    let lost = given_by(alloc, plain.transactions.find(number))?;
+    let mut balances = Vec::new(alloc);
+    for split in splits {
+        let account = split.account;
+        balances.push(registers.balance(account) - lost.to(account) + gained.to(account))?;
+    }
+    Ok(Many::of(balances))
 }
 
 /// The transaction that the edit puts under the number, if it puts one there.
@@ -104,4 +141,16 @@ fn put_among(parts: &[Edit], number: u64) -> Option<&Txn>
         }
     }
     None
+}
+
+/// What a transaction gives to accounts; nothing where there is none.
+fn given_by(alloc: Global, transaction: Option<&Txn>) -> Result<Moves, OutOfMemory>
+    requires { IfSome (option_copied transaction) (λ old. IsSoundTxn old.splits) }
+    ensures { IfOk result (λ moves. (account : ℕ)
+        → moved account moves.sums.entries ≡ given account (option_copied transaction)) }
+{
+    match transaction {
+        Some(transaction) => Moves::of(alloc, transaction.splits.as_slice()),
+        None => Ok(Moves::none(alloc)),
+    }
 }

@@ -1,6 +1,8 @@
-ghost use Rattle.std.specs.Prelude.{◌≡◌, ◌||◌, List, IfOk, IfErr, OnOk, OnErr, IsTrue};
+ghost use Rattle.std.specs.Prelude.{◌≡◌, ◌||◌, List, IfOk, IfErr, OnOk, OnErr, IsTrue, option_map};
+ghost use Rattle.std.specs.Option.{option_copied};
 ghost use Rattle.book_keeper.specs.Keeping.{HasKeepCause};
 ghost use Rattle.book_keeper.specs.declared.row.Row.{Row as HeldRow};
+ghost use Rattle.book_ledger.specs.Ledger.{Keeps, live_register};
 ghost use Rattle.book_step.specs.Soundness.{IsSound};
 ghost use Rattle.book_opening.specs.Opening.{OpenAs, WasRead};
 ghost use Rattle.book_opening.specs.State.{State};
@@ -17,6 +19,8 @@ use crate::planning::plan_of;
 use crate::turn::make_turn;
 use crate::{OpenError, Plan};
 use book_commodity::OutOfMemory;
+use book_ledger::Registers;
+use book_register::Register;
 use book_keeper::{KeepError, Keeper};
 use book_opening::{Saved, read_rows};
 use book_step::{Answer, Command, Refusal};
@@ -30,6 +34,7 @@ use std::marker::Model;
 pub struct Engine {
     pub(crate) alloc: Global,
     pub(crate) state: Saved,
+    pub(crate) registers: Registers,
     pub(crate) saved: bool,
 }
 
@@ -77,6 +82,16 @@ impl Engine {
         self.state.version
     }
 
+    /// The register of an account of the present book; `None` exactly where the book has no such account.
+    pub fn register(&self, account: u64) -> Option<&Register>
+        ensures { option_map (λ register. register.rows) (option_copied result)
+            ≡ live_register self.now.state.book account }
+    {
+        let found = self.registers.register(&self.state.plain.accounts, account);
+        let _ = &self.saved;
+        found
+    }
+
     /// The present book.
     pub fn plain(&self) -> &Plain
         ensures { result.now ≡ self.now.plain }
@@ -94,7 +109,13 @@ impl Engine {
         ensures unchanged { IsUnchanged self.old self.new }
         ensures sound { IsSound (step_state self.new.state) }
     {
-        let plan = match plan_of(self.alloc, &self.state, self.saved, command) {
+        let plan = match plan_of(
+            self.alloc,
+            &self.state,
+            &self.registers,
+            self.saved,
+            command,
+        ) {
             Ok(plan) => plan,
             Err(refusal) => return Err(refusal),
         };
@@ -104,7 +125,7 @@ impl Engine {
         }
     }
 
-    /// Makes room for what the plan puts: things, and a step back or forth.
+    /// Makes room for what the plan puts: things, rows of registers, and a step back or forth.
     fn make_room(&mut self, plan: &Plan) -> Result<(), OutOfMemory>
         ensures room { OnOk result (HasRoomFor self.new plan.now) }
         ensures unchanged { IsUnchanged self.old self.new }
@@ -112,7 +133,7 @@ impl Engine {
         self.state.plain.reserve_for(plan.edit())?;
         self.state.back.reserve(1)?;
         self.state.forth.reserve(1)?;
-        Ok(())
+        self.registers.reserve_for(plan.edit())
     }
 
     /// Finishes what was prepared and hands out its answer: where the plan commits, the keeper makes its changes of
@@ -146,7 +167,8 @@ impl Engine {
 
     /// What holds of every engine holds of this one.
     fn sound(&self)
-        ensures { IsWhole self.now.state self.now.saved }
+        ensures whole { IsWhole self.now.state self.now.saved }
+        ensures registers { Keeps self.now.registers self.now.state.book }
     {
         let _ = &self.saved;
     }
@@ -167,6 +189,7 @@ impl Engine {
             answer,
             changes: _,
         } = plan;
+        self.registers.apply(&self.state.plain, &turn.edit);
         make_turn(self.alloc, &mut self.state, turn);
         self.saved = saved;
         answer

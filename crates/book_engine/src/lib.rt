@@ -11,6 +11,7 @@ mod changes;
 mod engine;
 mod fault;
 mod fresh;
+mod moves;
 mod opening;
 mod plan;
 mod planning;

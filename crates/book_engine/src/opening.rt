@@ -1,4 +1,4 @@
-ghost use Rattle.std.specs.Prelude.{◌≡◌, IfOk, IfNone, true, ◌||◌, not, nat_lt};
+ghost use Rattle.std.specs.Prelude.{◌≡◌, IfOk, IfErr, IfNone, true, ◌||◌, not, nat_lt};
 ghost use Rattle.book_commodity.specs.Table.{Rises};
 ghost use Rattle.book_opening.specs.Reading.{IsReadable};
 ghost use Rattle.book_opening.specs.State.{head_of, state_of};
@@ -15,6 +15,7 @@ use book_check::first_unsound;
 use book_commodity::{OutOfMemory, Table};
 use book_history::{first_fault_back, first_fault_forth};
 use book_keeper::RowKey;
+use book_ledger::Registers;
 use book_opening::{OpenFault, Saved};
 use std::alloc::Global;
 
@@ -37,11 +38,15 @@ pub(crate) fn begin(alloc: Global) -> Result<Engine, OpenError>
         back: Table::new(alloc),
         forth: Table::new(alloc),
     };
-    Ok(Engine {
-        alloc,
-        state,
-        saved: false,
-    })
+    match Registers::of(alloc, &state.plain) {
+        Ok(registers) => Ok(Engine {
+            alloc,
+            state,
+            registers,
+            saved: false,
+        }),
+        Err(OutOfMemory) => Err(OpenError::OutOfMemory),
+    }
 }
 
 /// The engine of a state that was read, or the first key at which that is unsound.
@@ -52,14 +57,27 @@ pub(crate) fn checked(alloc: Global, state: Saved) -> Result<Engine, OpenError>
 {
     let mut state = state;
     match first_unsound_key(alloc, &mut state) {
-        Ok(None) => Ok(Engine {
-            alloc,
-            state,
-            saved: true,
-        }),
+        Ok(None) => kept(alloc, state),
         Ok(Some(key)) => Err(OpenError::UnsoundBook {
             kind: key.kind,
             id: key.id,
+        }),
+        Err(OutOfMemory) => Err(OpenError::OutOfMemory),
+    }
+}
+
+/// The engine of a sound state that was read.
+fn kept(alloc: Global, state: Saved) -> Result<Engine, OpenError>
+    requires { IsWhole (state_of state) true }
+    ensures kept { IfOk result (λ engine. (engine.state ≡ state_of state) × (engine.saved ≡ true)) }
+    ensures memory { IfErr result (λ error. error ≡ OpenError.OutOfMemory) }
+{
+    match Registers::of(alloc, &state.plain) {
+        Ok(registers) => Ok(Engine {
+            alloc,
+            state,
+            registers,
+            saved: true,
         }),
         Err(OutOfMemory) => Err(OpenError::OutOfMemory),
     }

@@ -1,4 +1,5 @@
 ghost use Rattle.std.specs.Prelude.{◌≡◌, ◌≤◌, true, Ok, None, Some, IfOk, IfErr};
+ghost use Rattle.book_ledger.specs.Ledger.{Keeps};
 ghost use Rattle.book_undo.specs.Edit.{outline};
 ghost use Rattle.book_undo.specs.EditRules.{IsAllowed};
 ghost use Rattle.book_undo.specs.Inverse.{LeadsBack};
@@ -21,6 +22,7 @@ use crate::changes::row_changes;
 use crate::turn::{Turn, Way};
 use book_command::What;
 use book_commodity::{Counted, Many, OutOfMemory};
+use book_ledger::Registers;
 use book_opening::Saved;
 use book_step::{Answer, Command, Refusal, Rule, Step, Update, check_version, rate_answer, step_of};
 use book_undo::Edit;
@@ -33,28 +35,37 @@ const NUMBERS_LIMIT: u64 = 1 << 62;
 pub(crate) fn plan_of(
     alloc: Global,
     state: &Saved,
+    registers: &Registers,
     saved: bool,
     command: Command,
 ) -> Result<Plan, Refusal>
-    requires { IsWhole (state_of state.now) saved }
+    requires whole { IsWhole (state_of state.now) saved }
+    requires registers { Keeps registers.now.entries (state_of state.now).book }
     ensures planned { IfOk result (IsPlanOf (state_of state.now) saved command) }
     ensures refused { IfErr result (IsRefusal (step_from (machine_of (state_of state.now)) command)) }
 {
     if let Err(rule) = check_version(state.version, command.at) {
         return Err(Refusal::Broken(rule));
     }
-    plan_at(alloc, state, saved, command.what)
+    plan_at(alloc, state, registers, saved, command.what)
 }
 
 /// The plan of what is asked at the present version.
-fn plan_at(alloc: Global, state: &Saved, saved: bool, what: What) -> Result<Plan, Refusal>
-    requires { IsWhole (state_of state.now) saved }
+fn plan_at(
+    alloc: Global,
+    state: &Saved,
+    registers: &Registers,
+    saved: bool,
+    what: What,
+) -> Result<Plan, Refusal>
+    requires whole { IsWhole (state_of state.now) saved }
+    requires registers { Keeps registers.now.entries (state_of state.now).book }
     ensures planned { IfOk result (IsPlanTo (state_of state.now) saved
         (reply (machine_of (state_of state.now)) what)) }
     ensures refused { IfErr result (IsRefusal (reply (machine_of (state_of state.now)) what)) }
 {
     match what {
-        What::Update(update) => plan_update(alloc, state, saved, update),
+        What::Update(update) => plan_update(alloc, state, registers, saved, update),
         What::Undo => plan_undo(alloc, state, saved),
         What::Redo => plan_redo(alloc, state, saved),
         What::Price {
@@ -103,14 +114,21 @@ fn plan_stay(alloc: Global, state: &Saved, answer: Answer) -> Plan
 }
 
 /// The plan of a change of the book. One that leaves the book as it is leaves the state.
-fn plan_update(alloc: Global, state: &Saved, saved: bool, update: Update) -> Result<Plan, Refusal>
-    requires { IsWhole (state_of state.now) saved }
+fn plan_update(
+    alloc: Global,
+    state: &Saved,
+    registers: &Registers,
+    saved: bool,
+    update: Update,
+) -> Result<Plan, Refusal>
+    requires whole { IsWhole (state_of state.now) saved }
+    requires registers { Keeps registers.now.entries (state_of state.now).book }
     ensures planned { IfOk result (IsPlanTo (state_of state.now) saved
         (updated (machine_of (state_of state.now)) (outcome (step_state (state_of state.now)) update))) }
     ensures refused { IfErr result (IsRefusal
         (updated (machine_of (state_of state.now)) (outcome (step_state (state_of state.now)) update))) }
 {
-    let step = match answered_step(alloc, state, update) {
+    let step = match answered_step(alloc, state, registers, update) {
         Ok(step) => step,
         Err(refusal) => return Err(refusal),
     };
@@ -126,8 +144,14 @@ fn plan_update(alloc: Global, state: &Saved, saved: bool, update: Update) -> Res
 }
 
 /// The step of a change from a state, with its whole answer.
-fn answered_step(alloc: Global, state: &Saved, update: Update) -> Result<Step, Refusal>
-    requires { IsSound (step_state (state_of state.now)) }
+fn answered_step(
+    alloc: Global,
+    state: &Saved,
+    registers: &Registers,
+    update: Update,
+) -> Result<Step, Refusal>
+    requires sound { IsSound (step_state (state_of state.now)) }
+    requires registers { Keeps registers.now.entries (state_of state.now).book }
     ensures done { IfOk result (IsWholeStep (step_state (state_of state.now)) update) }
     ensures refused { IfErr result (IsStepRefusal (outcome (step_state (state_of state.now)) update)) }
 {
@@ -135,7 +159,7 @@ fn answered_step(alloc: Global, state: &Saved, update: Update) -> Result<Step, R
         Ok(step) => step,
         Err(refusal) => return Err(refusal),
     };
-    match with_balances(alloc, &state.plain, step) {
+    match with_balances(alloc, &state.plain, registers, step) {
         Ok(step) => Ok(step),
         Err(OutOfMemory) => Err(Refusal::OutOfMemory),
     }

@@ -1,8 +1,8 @@
 use Rattle.std.proofs.Common.{refl, subst, sym}
-use Rattle.book_sound.proofs.SoundFacts.{tables_rise}
 use Rattle.book_step.specs.Outcome.{after as state_after_step}
 use Rattle.book_step.specs.declared.step.Step.{Step}
 use Rattle.book_step.proofs.AnswerLemmas.{puts_answered, whole_outcome}
+use Rattle.book_step.proofs.SoundStep.{outcome-sound}
 use Rattle.book_opening.specs.State.{state_of}
 use Rattle.book_engine.specs.Kept.{step_state}
 use Rattle.book_engine.specs.Planned.{IsWholeStep}
@@ -11,12 +11,15 @@ use Rattle.book_engine.proofs.planning.answered_step.Goals as goal
 pub with_balances-requires : goal.with_balances-requires
 with_balances-requires c =
     let state = step_state (state_of c.args.state.now) in
+    let after = state_after_step state c.in-Ok.step in
     record {
-      few = c.requires.book.few_splits;
-      rise = tables_rise state.book c.requires.book;
+      kept = c.requires.registers;
+      sound = c.requires.sound.book;
+      after = (outcome-sound state c.args.update after _ c.requires.sound
+          (whole_outcome state c.args.update after c.in-Ok.step.answer c.in-Ok.ensures.leads)).book;
       allowed = c.in-Ok.ensures.exact.allowed;
       puts = puts_answered state c.args.update (state_after_step state c.in-Ok.step) c.in-Ok.step.edit
-          c.in-Ok.step.answer c.requires refl c.in-Ok.ensures.leads;
+          c.in-Ok.step.answer c.requires.sound refl c.in-Ok.ensures.leads;
     }
 
 pub returns-in-Ok-with_balances-clause-done : goal.returns-in-Ok-with_balances-clause-done
