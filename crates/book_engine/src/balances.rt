@@ -147,7 +147,7 @@ fn put_among(parts: &[Edit], number: u64) -> Option<&Txn>
 fn given_by(alloc: Global, transaction: Option<&Txn>) -> Result<Moves, OutOfMemory>
     requires { IfSome (option_copied transaction) (λ old. IsSoundTxn old.splits) }
     ensures { IfOk result (λ moves. (account : ℕ)
-        → moved account moves.sums.entries ≡ given account (option_copied transaction)) }
+        → moved account moves.sums.entries ≡ given account (option_copied transaction.entry)) }
 {
     match transaction {
         Some(transaction) => Moves::of(alloc, transaction.splits.as_slice()),

@@ -1,8 +1,8 @@
 -- What a step comes to, from what a check of its rules reports.
 use Rattle.std.proofs.Common.{◌≡◌, ℕ, Bool, true, false, if◌then◌else◌, List, [], ◌∷◌, Option, Some, None}
-use Rattle.std.proofs.Common.{◌++◌, ◌∙◌, Result, Ok, Err, sym, ap, subst}
+use Rattle.std.proofs.Common.{◌++◌, ◌∙◌, Result, Ok, Err, refl, sym, ap, subst}
 use Rattle.std.specs.Result.{IsErrAnd}
-use Rattle.book_commodity.specs.Rules.{ReportsFirst, first_broken}
+use Rattle.book_commodity.specs.Rules.{ReportsFirst, broken_where, first_broken}
 use Rattle.book_commodity.proofs.RuleLemmas.{first-here, first-past}
 use Rattle.book_undo.specs.Book.{Book}
 use Rattle.book_undo.specs.declared.edit.Edit.{Edit, All}
@@ -34,6 +34,11 @@ pub reported :
     → IsErrAnd result (λ error. error ≡ rule) → first_broken rules ≡ Some rule → ReportsFirst (rules ++ more) result
 reported rules more rule (Ok x) h e = absurd h
 reported rules more rule (Err error) h e = first-here rules more rule e ∙ ap (λ (r : Rule). Some r) (sym h)
+
+-- the only rule is kept where none is broken
+pub only_kept : (broken : Bool) (rule : Rule) → first_broken (broken_where broken rule ∷ []) ≡ None → broken ≡ false
+only_kept true rule e = absurd cc
+only_kept false rule e = refl
 
 -- a command that leaves the book is a step that changes nothing
 pub step-leaving :

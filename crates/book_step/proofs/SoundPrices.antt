@@ -19,6 +19,7 @@ use Rattle.book_undo.specs.declared.thing.Thing.TheVariants as thing
 use Rattle.book_undo.specs.declared.thing.ThingKind.TheVariants as kind
 use Rattle.book_command.specs.declared.answer.Answer.{Answer}
 use Rattle.book_command.specs.declared.answer.Answer.TheVariants as answer
+use Rattle.book_step.specs.Commodities.{is_currency_of}
 use Rattle.book_step.specs.Outcome.{Done}
 use Rattle.book_step.specs.Prices.{has_numbers, price_drop, price_of_day, price_rules, price_set, price_set_at}
 use Rattle.book_step.specs.Prices.{too_many_prices, unknown_price}
@@ -27,14 +28,27 @@ use Rattle.book_step.specs.State.{State}
 use Rattle.book_step.proofs.PriceLemmas.{alike_of, found_there}
 use Rattle.book_step.proofs.SoundOutcome.{changing_done, either_sound, sound_after}
 
+not_false : (b : Bool) → not b ≡ false → b ≡ true
+not_false true e = refl
+not_false false e = absurd cc
+
+some_of : {X : Type 0} (found : Option X) → is_none found ≡ false → is_some found ≡ true
+some_of None e = absurd cc
+some_of (Some x) e = refl
+
 -- what a price keeps that breaks no rule
 price_kept : (book : Book) (price : Price) → AllKept (price_rules book price) → IsPrice book.commodities price
 price_kept book price kept =
     let live = not-broken _ _ kept.0 in
     let currency = not-broken _ _ kept.1.1.0 in
     let shape = not-broken _ _ kept.1.1.1.0 in
-    let both = and_parts (has_ratio price) (has_pair price) ? in
-    record { commodity = ?; currency = ?; ratio = both.0; pair = both.1 }
+    let both = and_parts (has_ratio price) (has_pair price) (not_false (has_ratio price && has_pair price) shape) in
+    record {
+      commodity = some_of (value_of price.commodity book.commodities) live;
+      currency = not_false (is_currency_of (value_of price.currency book.commodities)) currency;
+      ratio = both.0;
+      pair = both.1;
+    }
 
 set_at-sound :
     (state : State) (price : Price) (found : Option (ℕ × Price)) (new : State) (answered : Answer)
