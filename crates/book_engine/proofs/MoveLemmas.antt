@@ -1,6 +1,6 @@
 -- What splits give to their accounts, and the balance of an account once one transaction stands in the place of another.
 use Rattle.std.proofs.Common.{◌≡◌, ℕ, ◌+◌, ◌<◌, ◌≤◌, ◌==◌, ◌^◌, ℤ, pos, ◌+ℤ◌, ◌-ℤ◌, Bool, true, false, if◌then◌else◌}
-use Rattle.std.proofs.Common.{List, [], ◌∷◌, ◌++◌, All, length, map, take, get_or, Option, Some, None, refl, sym, ap}
+use Rattle.std.proofs.Common.{List, [], ◌∷◌, ◌++◌, All, length, map, take, get_or, Option, Some, None, IfSome, refl, sym, ap}
 use Rattle.std.proofs.Common.{◌∙◌, subst, arith, not}
 use Rattle.std.specs.Prelude.{filter, unsigned_abs}
 use Rattle.std.proofs.Math.IntN.{+ℤ_idr}
@@ -8,16 +8,21 @@ use Rattle.std.proofs.lemmas.Bool.{eqb-true}
 use Rattle.std.proofs.lemmas.Bool.Decides.{nat_tests}
 use Rattle.std.proofs.lemmas.Int.{ints}
 use Rattle.std.proofs.lemmas.List.{map-append, length-map}
+use Rattle.std.proofs.lemmas.List.Filters.{length-filter_both}
 use Rattle.std.proofs.lemmas.List.Elements.{All-filter, All-map, All-weaker}
 use Rattle.book_commodity.specs.Table.{AllAbove, Rises, value_of, with_entry}
-use Rattle.book_commodity.proofs.ListLemmas.{length-filter_both, take-item}
+use Rattle.book_commodity.proofs.ListLemmas.{take-item}
 use Rattle.book_commodity.proofs.TableLemmas.{above_value, value_of_with}
-use Rattle.book_sound.proofs.SoundFacts.{IsAtMost, sum_is_small}
+use Rattle.book_ledger.specs.Ledger.{HasPlaces}
+use Rattle.book_sound.specs.Soundness.{IsSoundBook}
+use Rattle.book_sound.proofs.SoundFacts.{IsAtMost, sum_is_small, transactions_balance}
 use Rattle.book_splits.specs.Balance.{quantity_on, splits_beside, splits_of}
 use Rattle.book_splits.specs.Check.{HasAmounts}
+use Rattle.book_splits.specs.Check as transaction
 use Rattle.book_splits.specs.declared.split.Split.{Split}
 use Rattle.book_splits.specs.declared.transaction.Txn.{Txn}
 use Rattle.book_splits.proofs.BalanceLemmas.{quantity_on-append, quantity_on-one, quantity_on-with}
+use Rattle.book_undo.specs.Book.{Book}
 use Rattle.book_engine.specs.Balances.{IsMoved, given, moved, sum_in}
 
 -- ---- one account
@@ -77,6 +82,21 @@ given_small account splits small few =
     let same : length (map quantity picked) ≡ length picked = length-map picked quantity in
     let fewer = length-filter_both test (λ s. not (test s)) (λ s. refl) splits in
     (omega (arith, ints, sum.0, same, fewer, few), omega (arith, ints, sum.1, same, fewer, few))
+
+-- ---- the transactions of a sound book
+
+-- One that stands under a number has the form of a sound one.
+pub old_form :
+    (book : Book) (n : ℕ) (found : Option Txn) → IsSoundBook book → found ≡ value_of n book.transactions
+    → IfSome found (λ old. transaction.IsSound old.splits)
+old_form book n None is there = tt
+old_form book n (Some t) is there = transactions_balance book n t is (sym there)
+
+-- Each place in one is a number of 32 bits.
+pub has_places : (book : Book) → IsSoundBook book → HasPlaces book.transactions
+has_places book is = record {
+  each = λ n t there. (let form = transactions_balance book n t is there in omega (arith, form.few));
+}
 
 -- ---- one transaction in the place of another
 

@@ -8,6 +8,7 @@ use Rattle.book_undo.specs.Edit.{edited, is_nothing, outline}
 use Rattle.book_undo.specs.EditRules.{IsAllowed}
 use Rattle.book_undo.specs.Inverse.{LeadsBack}
 use Rattle.book_undo.specs.declared.edit.Edit.{Edit, All}
+use Rattle.book_undo.proofs.EditLaws.{edited-leaves}
 use Rattle.book_undo.proofs.ExactLaws.{exact_nothing}
 use Rattle.book_undo.proofs.InverseLaws.{allowed_depth}
 use Rattle.book_command.specs.declared.answer.Answer.{Answer}
@@ -109,7 +110,7 @@ is_stay_plan state saved answer reply whole made = record {
   made = made;
   whole = subst (IsWhole state) (sym (either_same saved)) whole;
   allowed = (exact_nothing state.book (tables_rise state.book whole.sound.book)).allowed;
-  book = refl;
+  book = sym (edited-leaves (All []) state.book);
   shallow = allowed_depth state.book (All [])
       (exact_nothing state.book (tables_rise state.book whole.sound.book)).allowed;
   can = tt;

@@ -21,13 +21,16 @@ invariant_of-result c =
       back = back;
       forth = forth;
     } in
-    subst (λ (state : State). IsWhole state false)
+    record {
+      whole = subst (λ (state : State). IsWhole state false)
     (sym (ap (λ (book : Book). Of book c.new.result.entries c.new-2.result.entries) c.in-Ok.ensures
     ∙ ap (λ (back : List (ℕ × Edit)). Of fresh_book back c.new-2.result.entries) c.new.ensures
     ∙ ap (Of fresh_book []) c.new-2.ensures))
-    fresh_whole
+    fresh_whole;
+      registers = c.in-Ok-of.ensures;
+    }
 
-pub returns-clause-sound : goal.returns-clause-sound
-returns-clause-sound c =
+pub returns-in-Ok-of-clause-sound : goal.returns-in-Ok-of-clause-sound
+returns-in-Ok-of-clause-sound c =
     let Of : Book → StepState = λ book. record { book = book; next = 3; version = 0 } in
     subst (λ (book : Book). IsSound (Of book)) (sym c.in-Ok.ensures) fresh-sound

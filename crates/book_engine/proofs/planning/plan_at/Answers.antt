@@ -11,7 +11,7 @@ pub returns-in-Status-clause-planned : goal.returns-in-Status-clause-planned
 returns-in-Status-clause-planned c =
     let state = state_of c.args.state.now in
     let comes = reply (machine_of state) c.args.what in
-    subst (λ (p : Planned). IsPlanTo state c.args.saved comes p) (sym c.plan_stay.ensures)
-    (is_stay_plan state c.args.saved c.status.result comes c.requires
+    subst (λ (p : Planned). IsPlanTo state c.args.saved comes p) (sym c.plan_stay-in-Status.ensures)
+    (is_stay_plan state c.args.saved c.status.result comes c.requires.whole
     (ap (reply (machine_of state)) c.in-Status.is
     ∙ ap (λ (a : Answer). Done (machine_of state) a) (sym c.status.ensures)))

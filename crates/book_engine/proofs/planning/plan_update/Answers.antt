@@ -14,15 +14,15 @@ returns-then-is_nothing-clause-planned c =
     let taken = c.in-Ok.step in
     let comes = updated (machine_of state) (outcome (step_state state) c.args.update) in
     subst (λ (p : Planned). IsPlanTo state c.args.saved comes p) (sym c.plan_stay.ensures)
-    (is_stay_plan state c.args.saved taken.answer comes c.requires
+    (is_stay_plan state c.args.saved taken.answer comes c.requires.whole
     (updated_stay state c.args.update taken c.in-Ok.ensures.done (sym c.if-is_nothing.ensures)))
 
 pub plan_change-requires-clause-sound : goal.plan_change-requires-clause-sound
 plan_change-requires-clause-sound c =
-    change_to (state_of c.args.state.now) c.args.saved c.args.update c.in-Ok.step c.requires c.in-Ok.ensures.done
+    change_to (state_of c.args.state.now) c.args.saved c.args.update c.in-Ok.step c.requires.whole c.in-Ok.ensures.done
     (sym c.if-is_nothing.ensures)
 
 pub returns-in-Ok-plan_change-clause-planned : goal.returns-in-Ok-plan_change-clause-planned
 returns-in-Ok-plan_change-clause-planned c =
     planned_change (state_of c.args.state.now) c.args.saved c.args.update c.in-Ok.step c.in-Ok-plan_change.plan
-    c.requires c.in-Ok.ensures.done (sym c.if-is_nothing.ensures) c.in-Ok-plan_change.ensures
+    c.requires.whole c.in-Ok.ensures.done (sym c.if-is_nothing.ensures) c.in-Ok-plan_change.ensures

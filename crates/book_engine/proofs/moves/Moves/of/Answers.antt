@@ -1,10 +1,11 @@
-use Rattle.std.proofs.Common.{ℕ, ◌+◌, ℤ, ◌≤◌, ◌^◌, List, length, take, sym, ap, subst, ◌∙◌, arith}
+use Rattle.std.proofs.Common.{ℕ, ◌+◌, ℤ, ◌≤◌, ◌^◌, List, length, take, sym, ap, subst, ◌∙◌, arith, rules}
 use Rattle.std.proofs.lemmas.List.{length-take-le, take_all}
 use Rattle.std.proofs.lemmas.List.Elements.{All-take}
 use Rattle.book_commodity.proofs.ListLemmas.{take-item}
 use Rattle.book_sound.proofs.SoundFacts.{IsAtMost}
 use Rattle.book_splits.specs.Balance.{quantity_on}
 use Rattle.book_splits.specs.Check.{HasAmounts}
+use Rattle.book_engine.specs.Balances.{IsMoved}
 use Rattle.book_engine.proofs.MoveLemmas.{given_small, moved_more}
 use Rattle.book_engine.proofs.moves.Moves.of.Goals as goal
 
@@ -21,9 +22,11 @@ pub loop-split-preserved : goal.loop-split-preserved
 loop-split-preserved c =
     let splits = c.args.splits.now in
     let i = c.loop-split.split-index in
+    let more : IsMoved c.split-item.result.account c.split-item.result.quantity c.loop-split.moves.sums.entries
+    c.add.new.self.sums.entries = search rules in
     moved_more (take i splits) c.split-item.result (take (i + 1) splits) c.loop-split.moves.sums.entries
     c.add.new.self.sums.entries (take-item splits i c.split-item.result c.loop-split-test.true c.split-item.is)
-    c.loop-split.invariant c.in_ok-add.ensures
+    c.loop-split.invariant more
 
 pub returns : goal.returns
 returns c = λ account.
