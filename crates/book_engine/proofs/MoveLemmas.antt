@@ -98,6 +98,13 @@ has_places book is = record {
   each = λ n t there. (let form = transactions_balance book n t is there in omega (arith, form.few));
 }
 
+-- So what it gives to an account is small.
+pub form_small :
+    (account : ℕ) (found : Option Txn) → IfSome found (λ old. transaction.IsSound old.splits)
+    → IsAtMost (10 ^ 15) (given account found)
+form_small account None form = (omega (arith, ints), omega (arith, ints))
+form_small account (Some t) form = given_small account t.splits form.amounts form.few
+
 -- ---- one transaction in the place of another
 
 -- What an account has is what the other transactions give to it, and what this one does.

@@ -4,11 +4,12 @@ use Rattle.std.proofs.Common.{◌≡◌, ◌≢◌, ℕ, ◌+◌, ◌==◌, ◌|
 use Rattle.std.proofs.Common.{List, [], None, Result, Ok, Err, IfOk, inl, inr, refl, sym, ap, ◌∙◌, subst, arith}
 use Rattle.std.proofs.lemmas.Bool.Decides.{nat_tests}
 use Rattle.book_keeper.specs.declared.row.Change.{Change}
-use Rattle.book_undo.specs.Edit.{edited, is_nothing, outline}
+use Rattle.book_undo.specs.Edit.{Leaf, edited, is_nothing, outline}
 use Rattle.book_undo.specs.EditRules.{IsAllowed}
 use Rattle.book_undo.specs.Inverse.{LeadsBack}
 use Rattle.book_undo.specs.declared.edit.Edit.{Edit, All}
-use Rattle.book_undo.proofs.EditLaws.{edited-leaves}
+use Rattle.book_undo.proofs.EditLaws.{after_leaves, edited-leaves}
+use Rattle.book_undo.proofs.PartLaws.{leaves_of_all}
 use Rattle.book_undo.proofs.ExactLaws.{exact_nothing}
 use Rattle.book_undo.proofs.InverseLaws.{allowed_depth}
 use Rattle.book_command.specs.declared.answer.Answer.{Answer}
@@ -110,7 +111,7 @@ is_stay_plan state saved answer reply whole made = record {
   made = made;
   whole = subst (IsWhole state) (sym (either_same saved)) whole;
   allowed = (exact_nothing state.book (tables_rise state.book whole.sound.book)).allowed;
-  book = sym (edited-leaves (All []) state.book);
+  book = sym (edited-leaves (All []) state.book ∙ ap (λ (ls : List Leaf). after_leaves ls state.book) (leaves_of_all []));
   shallow = allowed_depth state.book (All [])
       (exact_nothing state.book (tables_rise state.book whole.sound.book)).allowed;
   can = tt;

@@ -1,10 +1,11 @@
-ghost use Rattle.std.specs.Prelude.{◌≡◌, ℕ, IfOk, IfSome, flat_map};
+ghost use Rattle.std.specs.Prelude.{◌≡◌, ℕ, ◌^◌, ◌+ℤ◌, ◌-ℤ◌, IfOk, IfSome, flat_map};
 ghost use Rattle.std.specs.Option.{option_copied};
 ghost use Rattle.book_undo.specs.Book.{book_of};
 ghost use Rattle.book_undo.specs.Edit.{edited, leaves};
 ghost use Rattle.book_step.specs.AnswerBalances.{PutsAnswered, PutsUnder, balances_of, with_balances as filled};
 ghost use Rattle.book_commodity.specs.Table.{with_entry};
 ghost use Rattle.book_splits.specs.Balance.{balances_in, splits_of};
+ghost use Rattle.book_sound.proofs.SoundFacts.{IsAtMost};
 ghost use Rattle.book_splits.specs.Check.{IsSound as IsSoundTxn};
 ghost use Rattle.book_engine.specs.Balances.{CanMove, CanSum, given, moved, put_at};
 ghost use Rattle.book_engine.specs.Planned.{whole_step};
@@ -105,7 +106,12 @@ fn balances_after(
     let mut balances = Vec::new(alloc);
     for split in splits {
         let account = split.account;
-        balances.push(registers.balance(account) - lost.to(account) + gained.to(account))?;
+        let balance = registers.balance(account);
+        balances.push(moved_balance(
+            balance,
+            lost.to(account),
+            gained.to(account),
+        ))?;
     }
     Ok(Many::of(balances))
 }
@@ -141,6 +147,16 @@ fn put_among(parts: &[Edit], number: u64) -> Option<&Txn>
         }
     }
     None
+}
+
+/// A balance without what an account lost, and with what it gained.
+fn moved_balance(balance: i128, lost: i128, gained: i128) -> i128
+    requires balance { IsAtMost (10 ^ 18) balance }
+    requires lost { IsAtMost (10 ^ 15) lost }
+    requires gained { IsAtMost (10 ^ 15) gained }
+    ensures { result ≡ balance -ℤ lost +ℤ gained }
+{
+    balance - lost + gained
 }
 
 /// What a transaction gives to accounts; nothing where there is none.

@@ -16,6 +16,8 @@ mod opening;
 mod plan;
 mod planning;
 #[cfg(test)]
+mod register_tests;
+#[cfg(test)]
 mod tests;
 mod turn;
 

@@ -1,8 +1,11 @@
-use Rattle.std.proofs.Common.{sym, ap, ◌∙◌, subst}
+use Rattle.std.proofs.Common.{Option, sym, ap, ◌∙◌, subst}
 use Rattle.book_command.specs.declared.answer.Answer.{Answer}
+use Rattle.book_command.specs.declared.answer.Answer.TheVariants as answer
+use Rattle.book_command.specs.declared.rule.Rule.{Rule}
+use Rattle.book_step.specs.Prices.{rate_on}
 use Rattle.book_opening.specs.State.{state_of}
 use Rattle.book_engine.specs.Books.{machine_of}
-use Rattle.book_engine.specs.Machine.{Done, reply}
+use Rattle.book_engine.specs.Machine.{Done, reply, unless_broken}
 use Rattle.book_engine.specs.Planned.{IsPlanTo, Planned}
 use Rattle.book_engine.proofs.PlanLemmas.{is_stay_plan}
 use Rattle.book_engine.proofs.planning.plan_at.Goals as goal
@@ -15,3 +18,15 @@ returns-in-Status-clause-planned c =
     (is_stay_plan state c.args.saved c.status.result comes c.requires.whole
     (ap (reply (machine_of state)) c.in-Status.is
     ∙ ap (λ (a : Answer). Done (machine_of state) a) (sym c.status.ensures)))
+
+pub returns-in-Ok-clause-planned : goal.returns-in-Ok-clause-planned
+returns-in-Ok-clause-planned c =
+    let state = state_of c.args.state.now in
+    let machine = machine_of state in
+    let comes = reply machine c.args.what in
+    let rate = rate_on state.book.prices c.in-Price.commodity c.in-Price.currency c.in-Price.day in
+    subst (λ (p : Planned). IsPlanTo state c.args.saved comes p) (sym c.plan_stay.ensures)
+    (is_stay_plan state c.args.saved c.in-Ok.answer comes c.requires.whole
+    (ap (reply machine) c.in-Price.is
+    ∙ ap (λ (found : Option Rule). unless_broken found (Done machine (answer.Price rate))) c.in-Ok.ensures.rules
+    ∙ ap (λ (a : Answer). Done machine a) (sym c.in-Ok.ensures.answer)))
