@@ -107,11 +107,7 @@ fn balances_after(
     for split in splits {
         let account = split.account;
         let balance = registers.balance(account);
-        balances.push(moved_balance(
-            balance,
-            lost.to(account),
-            gained.to(account),
-        ))?;
+        balances.push(moved_balance(balance, lost.to(account), gained.to(account)))?;
     }
     Ok(Many::of(balances))
 }

@@ -24,7 +24,9 @@ use book_command::What;
 use book_commodity::{Counted, Many, OutOfMemory};
 use book_ledger::Registers;
 use book_opening::Saved;
-use book_step::{Answer, Command, Refusal, Rule, Step, Update, check_version, rate_answer, step_of};
+use book_step::{
+    Answer, Command, Refusal, Rule, Step, Update, check_version, rate_answer, step_of,
+};
 use book_undo::Edit;
 use std::alloc::Global;
 

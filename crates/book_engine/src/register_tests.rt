@@ -82,14 +82,13 @@ fn registers(alloc: Global) -> Option<[Option<(u64, usize)>; 5]> {
 fn register_follows(rt: HostRuntime) -> Result<(), Fail> {
     let seen = registers(rt.alloc());
     assert!(rt;
-        seen
-            == Some([
-                Some((0, 0)),
-                Some((0, 0)),
-                Some((1, 1)),
-                Some((2, 0)),
-                Some((3, 1)),
-            ])
+        seen == Some([
+            Some((0, 0)),
+            Some((0, 0)),
+            Some((1, 1)),
+            Some((2, 0)),
+            Some((3, 1)),
+        ])
     );
     Ok(())
 }

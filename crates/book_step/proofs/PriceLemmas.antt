@@ -238,11 +238,11 @@ first_that test (e ∷ more) p there passes =
     let behind : test e.1 ≡ false → Contains (map (λ x. x.1) more) p = left_behind test e more p there passes in
     elim (test e.1) as At [
       | true ↦ λ is. record {
-          entry = e;
-          found = ap (λ (t : Bool). if t then Some e else find (λ (x : ℕ × Price). test x.1) more) is;
-          passes = is;
-          there = (0, omega arith, refl);
-        }
+        entry = e;
+        found = ap (λ (t : Bool). if t then Some e else find (λ (x : ℕ × Price). test x.1) more) is;
+        passes = is;
+        there = (0, omega arith, refl);
+      }
       | false ↦ λ other. first_behind test e more other (first_that test more p (behind other) passes)
     ] refl
   where

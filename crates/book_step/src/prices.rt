@@ -55,12 +55,7 @@ fn new_price(present: &Present, price: Price) -> Result<Step, Refusal>
 }
 
 /// The price stands in the book, in the place of the one under the number.
-fn price_again(
-    present: &Present,
-    number: u64,
-    old: Price,
-    price: Price,
-) -> Result<Step, Refusal>
+fn price_again(present: &Present, number: u64, old: Price, price: Price) -> Result<Step, Refusal>
     requires { value_of number present.now.book.prices ≡ Some old }
     ensures { StepsTo present.now (price_set_at present.now price (Some (number, old))) result }
 {
@@ -152,12 +147,7 @@ fn check_there(prices: &Prices, number: u64) -> Result<(), Rule>
 
 /// The answer that says what one unit of the commodity is worth in the currency on a day, in a sound book. Broken where
 /// the book has no commodity of one of the two numbers.
-pub fn rate_answer(
-    plain: &Plain,
-    commodity: u64,
-    currency: u64,
-    day: Day,
-) -> Result<Answer, Rule>
+pub fn rate_answer(plain: &Plain, commodity: u64, currency: u64, day: Day) -> Result<Answer, Rule>
     requires { IsSoundBook (book_of plain.now) }
     ensures rules { ReportsFirst (rate_rules (book_of plain.now) commodity currency) result }
     ensures answer { IfOk result (λ answer. answer

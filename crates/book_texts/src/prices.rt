@@ -17,11 +17,7 @@ pub(crate) fn price_set(alloc: Global, price: u64, version: u64) -> Result<Field
 }
 
 /// The answer of `price`.
-pub(crate) fn price(
-    alloc: Global,
-    rate: &Option<Ratio>,
-    version: u64,
-) -> Result<Fields, AllocError>
+pub(crate) fn price(alloc: Global, rate: &Option<Ratio>, version: u64) -> Result<Fields, AllocError>
     ensures { IfOk result (λ fields. members_of fields ≡ price rate.now version) }
 {
     let fields = Fields::answered(alloc, Word::Price, version)?;

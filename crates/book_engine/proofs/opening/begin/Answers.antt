@@ -23,10 +23,10 @@ invariant_of-result c =
     } in
     record {
       whole = subst (λ (state : State). IsWhole state false)
-    (sym (ap (λ (book : Book). Of book c.new.result.entries c.new-2.result.entries) c.in-Ok.ensures
-    ∙ ap (λ (back : List (ℕ × Edit)). Of fresh_book back c.new-2.result.entries) c.new.ensures
-    ∙ ap (Of fresh_book []) c.new-2.ensures))
-    fresh_whole;
+          (sym (ap (λ (book : Book). Of book c.new.result.entries c.new-2.result.entries) c.in-Ok.ensures
+          ∙ ap (λ (back : List (ℕ × Edit)). Of fresh_book back c.new-2.result.entries) c.new.ensures
+          ∙ ap (Of fresh_book []) c.new-2.ensures))
+          fresh_whole;
       registers = c.in-Ok-of.ensures;
     }
 
