@@ -1,13 +1,16 @@
 -- From what holds at a run's end to what holds when the program's work has ended.
-use Rattle.std.proofs.Common.{◌≡◌, ◌≢◌, ℕ, List, [], Option, IsTrue, Err, refl, sym, subst, arith}
+use Rattle.std.proofs.Common.{◌≡◌, ◌≢◌, ℕ, Bool, List, [], Option, IsTrue, Result, Ok, Err, IfOk, refl, sym, subst, arith}
 use Rattle.book_keeper.proofs.StreamLemmas.{Are-some, Wrote-nil}
 use Rattle.book_keeper.specs.declared.row.Row.{Row}
 use Rattle.book_lines.specs.RunClause.{at, RunClause}
 use Rattle.book_lines.specs.declared.running.RunEnd.{RunEnd}
 use Rattle.book_lines.specs.declared.running.RunEnd.TheVariants as end
+use Rattle.book_opening.specs.Opening.{WasRead}
+use Rattle.book_engine.specs.Kept.{Kept}
 use Rattle.book_engine.specs.Machine.{Machine}
 use Rattle.book_engine.specs.Opening.{Opened}
 use Rattle.book_engine.specs.Opens.{Opens}
+use Rattle.book_engine.specs.Standing.{Stands}
 use Rattle.book_engine.specs.declared.fault.OpenError.{OpenError}
 use Rattle.book_engine.specs.declared.fault.OpenError.TheVariants as error
 use Rattle.book_app.specs.Machine.{answers}
@@ -105,3 +108,15 @@ run_without_words keeping input output Usage rows is =
 run_without_words keeping input output other rows is =
     subst (λ (s : Status). IsBookRun keeping input input output output s) (sym (is (λ same. cc)))
     (run_of_nothing keeping input output Memory (λ bytes. untouched keeping rows))
+
+-- The rows that the keeper held as an engine was opened from it stand for that engine.
+pub stands_opened :
+    {K : Type 0} (sure : K → Bool) (holds : K → List Row → Type 0) (path : K → List ℕ) (old new : K)
+    (result : Result Kept OpenError) → (IsTrue (sure old) → (rows : List Row) × holds old rows)
+    → WasRead path sure holds old new
+    → (IsTrue (sure new) → (rows : List Row) → holds old rows → Opened rows result)
+    → IfOk result (λ engine. Stands sure holds new engine)
+stands_opened sure holds path old new (Ok engine) told read opened = λ still.
+    let held = told (read.still_sure still) in
+    (held.0, read.same_rows still held.0 held.1, opened still held.0 held.1)
+stands_opened sure holds path old new (Err why) told read opened = tt
