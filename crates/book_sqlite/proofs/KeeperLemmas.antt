@@ -8,9 +8,12 @@ use Rattle.sqlite_trees.proofs.Doubt.{clean_of, no_doubt}
 use Rattle.sqlite.specs.Effect.{Database}
 use Rattle.sqlite.specs.State.{HasCleanDisk, Survives}
 use Rattle.sqlite.specs.Held.{Held, state}
+use Rattle.sqlite.specs.Files.{over_files, file_state}
+use Rattle.sqlite.specs.declared.FileStore.{FileStore}
+use Rattle.sqlite_disk.specs.declared.Disk as disk
 use Rattle.book_keeper.specs.declared.row.Row.{Row}
 use Rattle.book_sqlite.specs.Content.{rows_of}
-use Rattle.book_sqlite.specs.RowsDatabase.{IsRowsDatabase, rows_in}
+use Rattle.book_sqlite.specs.RowsDatabase.{IsRowsDatabase, rows_in, ListsRows}
 use Rattle.book_sqlite.specs.RowCalls.{IsSure, IsReady, Committed, StaysCommitted}
 use Rattle.book_sqlite.specs.KeeperInSqlite.{SqliteKept, is_sure, HoldsRows, HasEntries, MayLeave, has_clean_store}
 
@@ -97,3 +100,12 @@ module _ {S : Type 0} (g : Ghosts S) where
     crash_settles change ready made settled sure rows held holds left =
         let now = sure_from new sure in
         left.2 ∙ ap (λ (t : Trees). rows_of (t 0)) (settled left.0 now.1 left.1) ∙ sym (rows_made change ready made sure held holds)
+
+-- a keeper over a file holds what the file held
+pub found_holds :
+    {D : Type 0} {g : disk.Ghosts D} (k : SqliteKept (FileStore D g)) (c : Held (FileStore D g)) (db : Trees)
+    → (file_state c).committed.trees ≡ db
+    → (ListsRows (file_state c).committed.trees → HoldsRows over_files k (rows_of ((file_state c).committed.trees 0)))
+    → ListsRows db → HoldsRows over_files k (rows_of (db 0))
+found_holds k c db is holds lists =
+    subst (λ (t : Trees). HoldsRows over_files k (rows_of (t 0))) is (holds (subst ListsRows (sym is) lists))

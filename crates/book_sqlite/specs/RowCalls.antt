@@ -72,8 +72,8 @@ ShowsFirst Passes es (shown ∷ []) =
     × ((f : Entry) (other more : ℤ) → Has es f → HasKey f other more → Passes other more → UpTo kind id other more)
 ShowsFirst Passes es (shown ∷ next ∷ more) = ⊥
 
--- The row that is read from what a select shows: none where it shows none, or else the first, which has to be a row of a
--- book.
+-- The row that is read from what a select shows: none where it shows none, or else the first, which has to be a row
+-- of a book.
 abbrev pub ReadsFrom : List Entry → Option Row → Type 0
 ReadsFrom [] found = found ≡ None
 ReadsFrom (shown ∷ more) found =

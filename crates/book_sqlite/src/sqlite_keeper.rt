@@ -165,8 +165,8 @@ impl<S: Alter + Drop> Keeper for SqliteKeeper<S> {
         Ok(())
     }
 
-    /// Makes all the changes in one transaction or, at an error, none as far as it still knows its rows. At each exit, an
-    /// error's too, a crash leaves the rows before the call or those after all the changes; after Ok, with the
+    /// Makes all the changes in one transaction or, at an error, none, as far as it still knows its rows. At each exit,
+    /// an error's too, a crash leaves the rows before the call or those after all the changes; after Ok, with the
     /// connection open, those after them alone.
     fn commit(&mut self, changes: &[Change]) -> Result<(), KeepError>
         requires { AreRising changes.now }
