@@ -44,7 +44,10 @@ fn books_that_begin_with_any_character_but_a_hyphen_are_parted(
             let mut book = String::new(alloc);
             book.push(char::from(code))?;
             book.push_str(rest)?;
-            assert!(rt; is_parted(alloc, &["run", book.as_str()], book.as_str())?, "{code}");
+            assert!(rt;
+                is_parted(alloc, &["run", book.as_str()], book.as_str())?,
+                "{code}"
+            );
         }
     }
     Ok(())
