@@ -6,6 +6,7 @@
 use book_app::{Ended, named_book, run_program, words_of};
 use book_commodity::Text;
 use book_sqlite::FileKeeper;
+use sqlite::{Start, Unknown};
 use std::io;
 
 /// The book that the words name, where they could be read and name one.
@@ -16,11 +17,17 @@ fn book_in(words: &io::Result<Vec<Text>>) -> Option<&str> {
     }
 }
 
-fn main(rt: HostRuntime) -> Ended {
-    let words = words_of(&rt);
-    let mut keeper = FileKeeper::at(&rt, book_in(&words));
-    let ended = run_program(&rt, words, &mut keeper);
-    // Where this fails, nothing is lost: the log beside the file keeps what the file lacks.
+/// The whole run, over the file that the words name. `T` stands for what the file and its log held before. It is proved
+/// for every `T`, so what the clauses of its calls say of rows they say of any file.
+fn run_in<T: Start>(rt: &HostRuntime, words: io::Result<Vec<Text>>, start: T) -> Ended {
+    let mut keeper = FileKeeper::at(rt, book_in(&words), start);
+    let ended = run_program(rt, words, &mut keeper);
+    // Where this fails, the log stays beside the file, and the next run takes it.
     let _ = keeper.close();
     ended
+}
+
+fn main(rt: HostRuntime) -> Ended {
+    let words = words_of(&rt);
+    run_in(&rt, words, Unknown)
 }

@@ -1,5 +1,5 @@
 /// A name for each change of the database, and its statements.
-pub(crate) static CASES: [(&str, &str); 18] = [
+pub(crate) static CASES: [(&str, &str); 20] = [
     ("as it was", "DELETE FROM bk_rows WHERE kind = 200"),
     ("the head is gone", "DELETE FROM bk_rows WHERE kind = 1"),
     (
@@ -29,6 +29,30 @@ pub(crate) static CASES: [(&str, &str); 18] = [
     (
         "the transaction is gone",
         "DELETE FROM bk_rows WHERE kind = 4",
+    ),
+    (
+        "the last byte of the transaction is cut",
+        concat!(
+            "UPDATE bk_rows SET body = x'01",
+            "00000000000000010000000000004d0f0000000000000000",
+            "00000000000000035061790000000000000002",
+            "000000000000000600000000000000030000000000000000",
+            "00000000000000000100000000000003d090000000000003d090",
+            "000000000000000700000000000000040000000000000000",
+            "00000000000000000100fffffffffffc2f70fffffffffffc2f' WHERE kind = 4",
+        ),
+    ),
+    (
+        "a split has another value",
+        concat!(
+            "UPDATE bk_rows SET body = x'01",
+            "00000000000000010000000000004d0f0000000000000000",
+            "00000000000000035061790000000000000002",
+            "000000000000000600000000000000030000000000000000",
+            "000000000000000001000000000000000001000000000003d090",
+            "000000000000000700000000000000040000000000000000",
+            "00000000000000000100fffffffffffc2f70fffffffffffc2f70' WHERE kind = 4",
+        ),
     ),
     (
         "the step back from the present book is gone",

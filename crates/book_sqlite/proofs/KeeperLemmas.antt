@@ -1,17 +1,21 @@
 -- What the calls on the connection say of the keeper.
 use Rattle.std.proofs.Common.{◌≡◌, ◌⊎◌, true, ◌&&◌, List, Some, inl, inr, refl, sym, ap, subst, ◌∙◌, IsTrue, Option}
 use Rattle.std.proofs.lemmas.Bool.{and_parts, and_from}
+use Rattle.sqlite_value.specs.Order.{Row as Entry}
 use Rattle.sqlite_trees.specs.Tree.{Trees}
 use Rattle.sqlite_trees.specs.declared.store.Store.{Ghosts}
 use Rattle.sqlite_trees.proofs.Doubt.{clean_of, no_doubt}
 use Rattle.sqlite.specs.Effect.{Database}
 use Rattle.sqlite.specs.State.{HasCleanDisk, Survives}
 use Rattle.sqlite.specs.Held.{Held, state}
+use Rattle.sqlite.specs.Files.{over_files, file_state}
+use Rattle.sqlite.specs.declared.FileStore.{FileStore}
+use Rattle.sqlite_disk.specs.declared.Disk as disk
 use Rattle.book_keeper.specs.declared.row.Row.{Row}
 use Rattle.book_sqlite.specs.Content.{rows_of}
-use Rattle.book_sqlite.specs.RowsDatabase.{IsRowsDatabase, rows_in}
+use Rattle.book_sqlite.specs.RowsDatabase.{IsRowsDatabase, rows_in, ListsRows}
 use Rattle.book_sqlite.specs.RowCalls.{IsSure, IsReady, Committed, StaysCommitted}
-use Rattle.book_sqlite.specs.KeeperInSqlite.{SqliteKept, is_sure, HoldsRows, MayLeave, has_clean_store}
+use Rattle.book_sqlite.specs.KeeperInSqlite.{SqliteKept, is_sure, HoldsRows, HasEntries, MayLeave, has_clean_store}
 
 module _ {S : Type 0} (g : Ghosts S) where
   abbrev knows : Held S → Type 0
@@ -19,6 +23,14 @@ module _ {S : Type 0} (g : Ghosts S) where
 
   sure_from : (c : Held S) → knows c → IsSure (state g c)
   sure_from c sure = let parts = and_parts _ _ sure in (no_doubt _ parts.0, parts.1)
+
+  -- a keeper over a connection that was prepared holds what the trees held
+  pub opened_holds : (c : Held S) (trees : Trees) (Lists : Type 0) → (HasCleanDisk (state g c) → Lists → (state g c).committed.trees ≡ trees)
+      → knows c → Lists → rows_of (trees 0) ≡ rows_of ((state g c).committed.trees 0)
+  opened_holds c trees Lists same sure lists = ap (λ (t : Trees). rows_of (t 0)) (sym (same (sure_from c sure).0 lists))
+
+  pub opened_clean : (c old : Held S) → (HasCleanDisk (state g c) → HasCleanDisk (state g old)) → knows c → HasCleanDisk (state g old)
+  opened_clean c old back sure = back (sure_from c sure).0
 
   module _ (k : SqliteKept S) (c new : Held S) (is : k.connection ≡ Some c) (back : HasCleanDisk (state g new) → HasCleanDisk (state g c)) where
     pub sure_back : (HasCleanDisk (state g new) → IsTrue (state g new).is_open → IsTrue (state g c).is_open) → knows new → IsTrue (is_sure g k)
@@ -54,16 +66,29 @@ module _ {S : Type 0} (g : Ghosts S) where
         let before : rows ≡ rows_in (state g c).now = held_is rows holds ∙ ap rows_in (sym (ready.settled was)) in
         is_first now.0 now.1 ∙ ap first (sym before)
 
+    pub entries_passed : (P : List Entry → Type 0) → IsReady (state g c)
+        → (HasCleanDisk (state g new) → StaysCommitted (state g c) (state g new))
+        → (HasCleanDisk (state g new) → IsTrue (state g new).is_open → P ((state g c).now.trees 0))
+        → knows new → (entries : List Entry) → HasEntries g k entries → P entries
+    entries_passed P ready stays passed sure entries holds =
+        let now = sure_from new sure in
+        let was : IsSure (state g c) = (back now.0, (stays now.0).was_open now.1) in
+        let has : entries ≡ (state g c).committed.trees 0 = rw is at holds in
+        subst P (ap (λ (d : Database). d.trees 0) (ready.settled was) ∙ sym has) (passed now.0 now.1)
+
+    -- an open store leaves its last commit alone, so what a crash could leave before is what the keeper held
     pub crash_leaves : (change : List Row → List Row) → IsReady (state g c)
         → Survives (state g c) (state g new) (λ db. IsRowsDatabase (state g c).now → rows_of (db 0) ≡ change (rows_in (state g c).now))
+        → ((db : Trees) → IsTrue (state g c).is_open → (state g c).may_leave db → db ≡ (state g c).committed.trees)
         → IsTrue (is_sure g k) → IsTrue (state g new).is_clean → (rows held : List Row) → HoldsRows g k held
-        → (db : Trees) × (state g new).may_leave db × (rows ≡ rows_of (db 0)) → MayLeave g k rows ⊎ (rows ≡ change held)
-    crash_leaves change ready survives sure clean rows held holds left =
+        → (db : Trees) × (state g new).may_leave db × (rows ≡ rows_of (db 0)) → (rows ≡ held) ⊎ (rows ≡ change held)
+    crash_leaves change ready survives settled sure clean rows held holds left =
         let known : knows c = rw is at sure in
         let was = sure_from c known in
         let before : held ≡ rows_in (state g c).now = held_is held holds ∙ ap rows_in (sym (ready.settled was)) in
         elim (survives.crash (no_doubt _ clean) left.0 left.1) [
-          | inl earlier ↦ inl (rw is (left.0, earlier, left.2))
+          | inl earlier ↦
+              inl (left.2 ∙ ap (λ (t : Trees). rows_of (t 0)) (settled left.0 was.1 earlier) ∙ sym (held_is held holds))
           | inr made ↦ inr (left.2 ∙ made (ready.rows was) ∙ ap change (sym before))
         ]
 
@@ -75,3 +100,12 @@ module _ {S : Type 0} (g : Ghosts S) where
     crash_settles change ready made settled sure rows held holds left =
         let now = sure_from new sure in
         left.2 ∙ ap (λ (t : Trees). rows_of (t 0)) (settled left.0 now.1 left.1) ∙ sym (rows_made change ready made sure held holds)
+
+-- a keeper over a file holds what the file held
+pub found_holds :
+    {D : Type 0} {g : disk.Ghosts D} (k : SqliteKept (FileStore D g)) (c : Held (FileStore D g)) (db : Trees)
+    → (file_state c).committed.trees ≡ db
+    → (ListsRows (file_state c).committed.trees → HoldsRows over_files k (rows_of ((file_state c).committed.trees 0)))
+    → ListsRows db → HoldsRows over_files k (rows_of (db 0))
+found_holds k c db is holds lists =
+    subst (λ (t : Trees). HoldsRows over_files k (rows_of (t 0))) is (holds (subst ListsRows (sym is) lists))

@@ -8,6 +8,7 @@ pub mod KeeperLemmas
 pub mod Meanings
 pub mod MemberLemmas
 pub mod OpeningLemmas
+pub mod PassedLemmas
 pub mod PutLemmas
 pub mod ShownLemmas
 pub mod StateFacts

@@ -1,6 +1,7 @@
 -- A keeper in SQLite, and what it knows of its rows.
 use Rattle.std.specs.Prelude.{◌≡◌, ℕ, Bool, true, false, ◌&&◌, List, Option, Some, None, IsTrue, IfSome, refl}
 use Rattle.std.specs.Coded.{Coded, code_by, coded×, coded_ℕ, coded_list, coded_option}
+use Rattle.sqlite_value.specs.Order.{Row as Entry}
 use Rattle.sqlite_trees.specs.Tree.{Trees}
 use Rattle.sqlite_trees.specs.declared.store.Store.{Ghosts}
 use Rattle.sqlite.specs.State.{State}
@@ -18,8 +19,10 @@ pub record SqliteKept (S : Type 0) : Type 0 where
 
 abbrev pub kept_code : {S : Type 0} → Coded S → Coded (SqliteKept S)
 kept_code {S} store =
-    code_by (Option (Held S) × (List ℕ × ℕ)) (coded× (coded_option (held_code store)) (coded× (coded_list coded_ℕ) coded_ℕ))
-    (λ k. (k.connection, (k.path, k.faults))) (λ p. record { connection = p.0; path = p.1.0; faults = p.1.1 }) (λ _. refl)
+    code_by (Option (Held S) × (List ℕ × ℕ))
+    (coded× (coded_option (held_code store)) (coded× (coded_list coded_ℕ) coded_ℕ))
+    (λ k. (k.connection, (k.path, k.faults)))
+    (λ p. record { connection = p.0; path = p.1.0; faults = p.1.1 }) (λ _. refl)
 
 module _ {S : Type 0} (g : Ghosts S) where
   -- the connection is one to a file of rows
@@ -41,6 +44,14 @@ module _ {S : Type 0} (g : Ghosts S) where
   -- the keeper holds the rows of the last commit
   abbrev pub HoldsRows : SqliteKept S → List Row → Type 0
   HoldsRows k rows = held_by k.connection rows
+
+  abbrev kept_by : Option (Held S) → List Entry → Type 0
+  kept_by None entries = ⊥
+  kept_by (Some c) entries = entries ≡ (state g c).committed.trees 0
+
+  -- the keeper's table has these entries, as the last commit left them
+  abbrev pub HasEntries : SqliteKept S → List Entry → Type 0
+  HasEntries k entries = kept_by k.connection entries
 
   abbrev left_by : Option (Held S) → List Row → Type 0
   left_by None rows = ⊥

@@ -19,7 +19,9 @@ rises_of [] = tt
 rises_of (e ∷ es) = rises_held (row_held e) (rows_of es) (rises_of es)
 
 module _ {S : Type 0} (g : Ghosts S) where
-  told_by : (connection : Option (Held S)) (k : SqliteKept S) → k.connection ≡ connection → IsTrue (is_sure g k) → (rows : List Row) × HoldsRows g k rows
+  told_by :
+      (connection : Option (Held S)) (k : SqliteKept S) → k.connection ≡ connection → IsTrue (is_sure g k)
+      → (rows : List Row) × HoldsRows g k rows
   told_by None k is sure = absurd (let none : false ≡ true = rw is at sure in cc)
   told_by (Some c) k is sure = (rows_of ((state g c).committed.trees 0), rw is refl)
 
@@ -27,7 +29,9 @@ module _ {S : Type 0} (g : Ghosts S) where
   pub told_rows : (k : SqliteKept S) → IsTrue (is_sure g k) → (rows : List Row) × HoldsRows g k rows
   told_rows k sure = told_by k.connection k refl sure
 
-  rising_by : (connection : Option (Held S)) (k : SqliteKept S) (rows : List Row) → k.connection ≡ connection → HoldsRows g k rows → Rises rows
+  rising_by :
+      (connection : Option (Held S)) (k : SqliteKept S) (rows : List Row) → k.connection ≡ connection
+      → HoldsRows g k rows → Rises rows
   rising_by None k rows is holds = absurd (rw is at holds)
   rising_by (Some c) k rows is holds =
       let same : rows ≡ rows_of ((state g c).committed.trees 0) = rw is at holds in

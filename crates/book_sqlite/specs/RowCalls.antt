@@ -1,10 +1,12 @@
 -- What the calls on a connection make of the rows, where its store is clean.
-use Rattle.std.specs.Prelude.{◌≡◌, ◌⊎◌, ◌≤◌, ◌+◌, ◌-◌, ◌^◌, ℕ, ℤ, pos, negsuc, ◌<ℤ◌, ◌≤ℤ◌, true, false, List, [], ◌∷◌, Option, Some, None, IsTrue}
+use Rattle.std.specs.Prelude.{◌≡◌, ◌⊎◌, ◌≤◌, ◌+◌, ◌-◌, ◌^◌, ℕ, ℤ, pos, negsuc, ◌<ℤ◌, ◌≤ℤ◌, true, false, ⊤}
+use Rattle.std.specs.Prelude.{List, [], ◌∷◌, Option, Some, None, IsTrue}
 use Rattle.sqlite_value.specs.declared.value.Value.TheVariants.{Int}
 use Rattle.sqlite_value.specs.Order.{Row as Entry, column}
 use Rattle.sqlite_rules.specs.Lists.{Has}
 use Rattle.sqlite.specs.State.{State, HasCleanDisk}
 use Rattle.book_keeper.specs.declared.row.Row.{Row}
+use Rattle.book_keeper.specs.declared.row.RowKey.{RowKey}
 use Rattle.book_keeper.specs.Rows.{rank}
 use Rattle.book_sqlite.specs.Content.{row_made}
 use Rattle.book_sqlite.specs.RowsDatabase.{IsRowsDatabase, rows_in}
@@ -70,8 +72,8 @@ ShowsFirst Passes es (shown ∷ []) =
     × ((f : Entry) (other more : ℤ) → Has es f → HasKey f other more → Passes other more → UpTo kind id other more)
 ShowsFirst Passes es (shown ∷ next ∷ more) = ⊥
 
--- The row that is read from what a select shows: none where it shows none, or else the first, which has to be a row of a
--- book.
+-- The row that is read from what a select shows: none where it shows none, or else the first, which has to be a row
+-- of a book.
 abbrev pub ReadsFrom : List Entry → Option Row → Type 0
 ReadsFrom [] found = found ≡ None
 ReadsFrom (shown ∷ more) found =
@@ -91,3 +93,22 @@ NonePasses Passes rows = (other : Row) → Has rows other → Passes (pos other.
 abbrev pub IsFound : (ℤ → ℤ → Type 0) → List Row → Option Row → Type 0
 IsFound Passes rows None = NonePasses Passes rows
 IsFound Passes rows (Some row) = IsLeast Passes rows row
+
+-- Before the row that is found, by kind and then by number. Where none is found, every key is.
+abbrev pub IsBefore : Option Row → ℤ → ℤ → Type 0
+IsBefore None kind id = ⊤
+IsBefore (Some row) kind id = (kind <ℤ pos row.key.kind) ⊎ ((kind ≡ pos row.key.kind) × (id <ℤ pos row.key.id))
+
+-- No entry whose key passes is before the row that is found, be it a row of a book or none.
+abbrev pub NoneBefore : (ℤ → ℤ → Type 0) → List Entry → Option Row → Type 0
+NoneBefore Passes entries found =
+    (e : Entry) (kind id : ℤ) → Has entries e → HasKey e kind id → Passes kind id → IsBefore found kind id → ⊥
+
+-- Behind the key, in its kind or in a greater one, or any that SQL has.
+abbrev pub IsBehind : Option RowKey → ℤ → ℤ → Type 0
+IsBehind None kind id = From (kinds_behind None) kind id
+IsBehind (Some key) kind id = Behind (pos key.kind) (pos key.id) kind id ⊎ From (kinds_behind (Some key.kind)) kind id
+
+-- No entry behind the key is before the row that is found: what is no row of a book is not passed over.
+abbrev pub PassesNone : Option RowKey → List Entry → Option Row → Type 0
+PassesNone after = NoneBefore (IsBehind after)

@@ -1,8 +1,10 @@
 -- A database that is a file of rows.
 use Rattle.std.specs.Prelude.{◌≡◌, List, IsTrue}
 use Rattle.std.specs.List.{AllByRecursion}
-use Rattle.sqlite_trees.specs.Tree.{IsTable, rowid}
+use Rattle.sqlite_trees.specs.Tree.{Trees, IsTable, rowid}
+use Rattle.sqlite_trees.specs.Objects.{catalog_tree}
 use Rattle.sqlite_trees.specs.View.{is_int}
+use Rattle.sqlite_catalog.specs.Listing.{AreListed}
 use Rattle.sqlite.specs.Effect.{Database, IsDatabase}
 use Rattle.book_keeper.specs.declared.row.Row.{Row}
 use Rattle.book_sqlite.specs.RowsSchema.{rows_schema}
@@ -23,3 +25,7 @@ rows_in db = rows_of (db.trees 0)
 abbrev pub HasRowids : Database → Type 0
 HasRowids db =
     db.schema ≡ rows_schema → IsTable (db.trees 0) × AllByRecursion (λ r. IsTrue (is_int (rowid r))) (db.trees 0)
+
+-- The trees list the table of rows with its index, and nothing else.
+abbrev pub ListsRows : Trees → Type 0
+ListsRows db = AreListed (db catalog_tree) rows_schema

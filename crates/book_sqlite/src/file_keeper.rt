@@ -1,45 +1,44 @@
-ghost use Rattle.std.specs.Prelude.{◌≡◌, []};
+ghost use Rattle.std.specs.Prelude.{◌≡◌, [], IsTrue};
+ghost use Rattle.sqlite_trees.specs.Tree.{Trees};
+ghost use Rattle.sqlite.specs.WalFiles.{image_at};
+ghost use Rattle.sqlite.specs.Files.{over_files, HoldsDatabase};
+ghost use Rattle.book_sqlite.specs.Content.{rows_of};
+ghost use Rattle.book_sqlite.specs.RowsDatabase.{ListsRows};
+ghost use Rattle.book_sqlite.specs.KeeperInSqlite.{is_sure, HoldsRows};
 
 use crate::SqliteKeeper;
 use crate::sqlite_keeper::is_want_of_memory;
-use book_keeper::KeepError;
-use sqlite::{Connection, Error, File, FileStore};
+use sqlite::{Connection, Error, FileFrom, FileStore, Start};
 use std::rt::HostRuntime;
 
-/// A keeper of rows in a SQLite file.
-pub type FileKeeper = SqliteKeeper<FileStore<File>>;
+/// A keeper of rows in a SQLite file. `T` stands for what the file and its log held before: what is proved over every
+/// `T` is proved of every file.
+pub type FileKeeper<T> = SqliteKeeper<FileStore<FileFrom<T>>>;
 
-impl SqliteKeeper<FileStore<File>> {
-    /// A keeper over the file at the path, which is made where there is none. Without a path, and where the file can't be
-    /// opened or has another schema, `open` fails.
-    pub fn at(rt: &HostRuntime, path: Option<&str>) -> FileKeeper
+impl<T: Start> SqliteKeeper<FileStore<FileFrom<T>>> {
+    /// A keeper over the file at the path, which is made where there is none. Without a path, and where the file can't
+    /// be opened or has another schema, `open` fails.
+    pub fn at(rt: &HostRuntime, path: Option<&str>, start: T) -> FileKeeper<T>
+        ensures found { IsTrue (is_sure over_files result) → (db : Trees) → HoldsDatabase (image_at T.Start) db
+            → ListsRows db → HoldsRows over_files result (rows_of (db 0)) }
         ensures path { result.path ≡ [] }
         ensures faults { result.faults ≡ 0 }
     {
         let Some(path) = path else {
             return SqliteKeeper::unopened(rt.alloc(), false);
         };
-        match Connection::open(rt, path) {
+        match Connection::open_from(rt, path, false, start) {
             Ok(connection) => SqliteKeeper::over(rt.alloc(), connection),
-            Err(error) => SqliteKeeper::unopened(rt.alloc(), is_want_of_memory(error)),
+            Err((error, _)) => SqliteKeeper::unopened(rt.alloc(), is_want_of_memory(error)),
         }
     }
 
     /// Closes the file, so that it alone holds the rows: the log beside it is copied into it. Where this fails, as on a
     /// full disk, the rows stay in the two files together, and the next keeper finds them there.
-    pub fn close(self) -> Result<(), KeepError> {
+    pub fn close(self) -> Result<(), Error> {
         match self.into_connection() {
-            Some(connection) => connection.close().map_err(keep_error),
+            Some(connection) => connection.close(),
             None => Ok(()),
         }
-    }
-}
-
-/// What an error of the kit's is to a keeper.
-fn keep_error(error: Error) -> KeepError {
-    if is_want_of_memory(error) {
-        KeepError::OutOfMemory
-    } else {
-        KeepError::Failed
     }
 }

@@ -1,7 +1,8 @@
-ghost use Rattle.std.specs.Prelude.{◌≡◌, false, IsTrue, OnOk, IfOk};
+ghost use Rattle.std.specs.Prelude.{◌≡◌, ◌≢◌, false, IsTrue, OnOk, IfOk};
+ghost use Rattle.sqlite.specs.State.{HasCleanDisk};
 ghost use Rattle.sqlite.specs.Held.{state};
 ghost use Rattle.book_sqlite.specs.RowsSchema.{no_schema};
-ghost use Rattle.book_sqlite.specs.RowsDatabase.{HasRowids};
+ghost use Rattle.book_sqlite.specs.RowsDatabase.{HasRowids, ListsRows};
 ghost use Rattle.book_sqlite.specs.RowCalls.{IsSure, IsReady};
 
 use crate::schema_test::{is_empty, is_of_rows};
@@ -12,7 +13,8 @@ use std::alloc::Global;
 fn make_table<S: Alter>(conn: &mut Connection<S>) -> Result<(), Error>
     requires autocommit { conn.old.in_transaction ≡ false }
     requires empty { (state S.Store conn.old).now.schema ≡ no_schema }
-    ensures { OnOk result (IsReady (state S.Store conn.new)) }
+    ensures ready { OnOk result (IsReady (state S.Store conn.new)) }
+    ensures clean { HasCleanDisk (state S.Store conn.new) → HasCleanDisk (state S.Store conn.old) }
 {
     conn.execute(
         "CREATE TABLE bk_rows(kind INTEGER, id INTEGER, body BLOB, PRIMARY KEY(kind, id)) STRICT",
@@ -25,12 +27,16 @@ fn make_table<S: Alter>(conn: &mut Connection<S>) -> Result<(), Error>
     }
 }
 
-/// Makes the table of rows where the database has nothing yet. Refuses another schema than that of a file of rows.
+/// Makes the table of rows where the database has nothing yet. Refuses another schema than that of a file of rows. A
+/// database that has something is left as it is.
 fn with_table<S: Alter>(conn: &mut Connection<S>) -> Result<(), Error>
     requires autocommit { conn.old.in_transaction ≡ false }
-    requires settled { IsSure (state S.Store conn.old) → (state S.Store conn.old).now ≡ (state S.Store conn.old).committed }
+    requires settled { IsSure (state S.Store conn.old)
+        → (state S.Store conn.old).now ≡ (state S.Store conn.old).committed }
     requires rowids { IsSure (state S.Store conn.old) → HasRowids (state S.Store conn.old).now }
-    ensures { OnOk result (IsReady (state S.Store conn.new)) }
+    ensures ready { OnOk result (IsReady (state S.Store conn.new)) }
+    ensures clean { HasCleanDisk (state S.Store conn.new) → HasCleanDisk (state S.Store conn.old) }
+    ensures left { (state S.Store conn.old).now.schema ≢ no_schema → conn.new ≡ conn.old }
 {
     let schema = conn.schema();
     if is_of_rows(schema) {
@@ -42,12 +48,17 @@ fn with_table<S: Alter>(conn: &mut Connection<S>) -> Result<(), Error>
     make_table(conn)
 }
 
-/// The connection, over a file of rows: where the database has nothing yet, the table is made.
+/// The connection, over a file of rows: where the database has nothing yet, the table is made. Where it has the table,
+/// the rows are those of its last commit.
 pub fn prepared<S: Alter + Drop>(
     alloc: Global,
     connection: Connection<S>,
 ) -> Result<Connection<S>, Error>
-    ensures { IfOk result (λ c. IsReady (state S.Store c)) }
+    ensures ready { IfOk result (λ c. IsReady (state S.Store c)) }
+    ensures clean { IfOk result (λ c. HasCleanDisk (state S.Store c) → HasCleanDisk (state S.Store connection)) }
+    ensures rows { IfOk result (λ c. HasCleanDisk (state S.Store c)
+        → ListsRows (state S.Store connection).committed.trees
+        → (state S.Store c).committed.trees ≡ (state S.Store connection).committed.trees) }
 {
     let store = connection.into_store();
     if store.is_broken() {

@@ -1,6 +1,7 @@
 ghost use Rattle.std.specs.Prelude.{◌≡◌, [], ◌∷◌, IsTrue};
 ghost use Rattle.sqlite_value.specs.Keys.{plain};
-ghost use Rattle.book_sqlite.specs.RowsSchema.{strict_column, rows_table, rows_index, rows_schema, no_schema, rows_columns, HasRowsKey, HasNoMore};
+ghost use Rattle.book_sqlite.specs.RowsSchema.{strict_column, rows_table, rows_index, rows_schema, no_schema};
+ghost use Rattle.book_sqlite.specs.RowsSchema.{rows_columns, HasRowsKey, HasNoMore};
 
 use sqlite_items::Items;
 use sqlite_schema::schema::{Column, Index, Kind, Schema, Table};

@@ -7,7 +7,8 @@ ghost use Rattle.sqlite.specs.Held.{state};
 ghost use Rattle.book_keeper.specs.Rows.{rank, first_after};
 ghost use Rattle.book_sqlite.specs.Content.{row_made};
 ghost use Rattle.book_sqlite.specs.RowsDatabase.{rows_in};
-ghost use Rattle.book_sqlite.specs.RowCalls.{IsReady, StaysCommitted, ShowsFirst, Behind, From, kinds_behind, ReadsFrom, IsFound};
+ghost use Rattle.book_sqlite.specs.RowCalls.{IsReady, StaysCommitted, ShowsFirst, Behind, From, kinds_behind};
+ghost use Rattle.book_sqlite.specs.RowCalls.{ReadsFrom, IsFound, NoneBefore, PassesNone};
 
 use crate::statements::{kind_value, number};
 use book_commodity::Bytes;
@@ -34,8 +35,10 @@ fn first_behind<S: Alter>(conn: &mut Connection<S>, kind: u8, id: u64) -> Result
     requires fits { id < 2 ^ 63 }
     ensures ready { IsReady (state S.Store conn.new) }
     ensures clean { HasCleanDisk (state S.Store conn.new) → HasCleanDisk (state S.Store conn.old) }
-    ensures stays { HasCleanDisk (state S.Store conn.new) → StaysCommitted (state S.Store conn.old) (state S.Store conn.new) }
-    ensures shown { IfOk result (λ rows. HasCleanDisk (state S.Store conn.new) → IsTrue (state S.Store conn.new).is_open
+    ensures stays { HasCleanDisk (state S.Store conn.new)
+        → StaysCommitted (state S.Store conn.old) (state S.Store conn.new) }
+    ensures shown { IfOk result (λ rows. HasCleanDisk (state S.Store conn.new)
+        → IsTrue (state S.Store conn.new).is_open
         → ShowsFirst (Behind (pos kind) (pos id)) ((state S.Store conn.old).now.trees 0) rows.items) }
 {
     conn.query_all(
@@ -49,8 +52,10 @@ fn first_from<S: Alter>(conn: &mut Connection<S>, kind: Option<u8>) -> Result<Ve
     requires { IsReady (state S.Store conn.old) }
     ensures ready { IsReady (state S.Store conn.new) }
     ensures clean { HasCleanDisk (state S.Store conn.new) → HasCleanDisk (state S.Store conn.old) }
-    ensures stays { HasCleanDisk (state S.Store conn.new) → StaysCommitted (state S.Store conn.old) (state S.Store conn.new) }
-    ensures shown { IfOk result (λ rows. HasCleanDisk (state S.Store conn.new) → IsTrue (state S.Store conn.new).is_open
+    ensures stays { HasCleanDisk (state S.Store conn.new)
+        → StaysCommitted (state S.Store conn.old) (state S.Store conn.new) }
+    ensures shown { IfOk result (λ rows. HasCleanDisk (state S.Store conn.new)
+        → IsTrue (state S.Store conn.new).is_open
         → ShowsFirst (From (kinds_behind kind)) ((state S.Store conn.old).now.trees 0) rows.items) }
 {
     conn.query_all(
@@ -91,9 +96,14 @@ fn row_behind<S: Alter>(conn: &mut Connection<S>, kind: u8, id: u64) -> Result<O
     requires fits { id < 2 ^ 63 }
     ensures ready { IsReady (state S.Store conn.new) }
     ensures clean { HasCleanDisk (state S.Store conn.new) → HasCleanDisk (state S.Store conn.old) }
-    ensures stays { HasCleanDisk (state S.Store conn.new) → StaysCommitted (state S.Store conn.old) (state S.Store conn.new) }
-    ensures found { IfOk result (λ found. HasCleanDisk (state S.Store conn.new) → IsTrue (state S.Store conn.new).is_open
+    ensures stays { HasCleanDisk (state S.Store conn.new)
+        → StaysCommitted (state S.Store conn.old) (state S.Store conn.new) }
+    ensures found { IfOk result (λ found. HasCleanDisk (state S.Store conn.new)
+        → IsTrue (state S.Store conn.new).is_open
         → IsFound (Behind (pos kind) (pos id)) (rows_in (state S.Store conn.old).now) found) }
+    ensures none_before { IfOk result (λ found. HasCleanDisk (state S.Store conn.new)
+        → IsTrue (state S.Store conn.new).is_open
+        → NoneBefore (Behind (pos kind) (pos id)) ((state S.Store conn.old).now.trees 0) found) }
 {
     let shown = first_behind(conn, kind, id)?;
     first_of(shown.as_slice())
@@ -104,9 +114,14 @@ fn row_from<S: Alter>(conn: &mut Connection<S>, kind: Option<u8>) -> Result<Opti
     requires { IsReady (state S.Store conn.old) }
     ensures ready { IsReady (state S.Store conn.new) }
     ensures clean { HasCleanDisk (state S.Store conn.new) → HasCleanDisk (state S.Store conn.old) }
-    ensures stays { HasCleanDisk (state S.Store conn.new) → StaysCommitted (state S.Store conn.old) (state S.Store conn.new) }
-    ensures found { IfOk result (λ found. HasCleanDisk (state S.Store conn.new) → IsTrue (state S.Store conn.new).is_open
+    ensures stays { HasCleanDisk (state S.Store conn.new)
+        → StaysCommitted (state S.Store conn.old) (state S.Store conn.new) }
+    ensures found { IfOk result (λ found. HasCleanDisk (state S.Store conn.new)
+        → IsTrue (state S.Store conn.new).is_open
         → IsFound (From (kinds_behind kind)) (rows_in (state S.Store conn.old).now) found) }
+    ensures none_before { IfOk result (λ found. HasCleanDisk (state S.Store conn.new)
+        → IsTrue (state S.Store conn.new).is_open
+        → NoneBefore (From (kinds_behind kind)) ((state S.Store conn.old).now.trees 0) found) }
 {
     let shown = first_from(conn, kind)?;
     first_of(shown.as_slice())
@@ -117,10 +132,15 @@ fn row_next<S: Alter>(conn: &mut Connection<S>, key: RowKey) -> Result<Option<Ro
     requires { IsReady (state S.Store conn.old) }
     ensures ready { IsReady (state S.Store conn.new) }
     ensures clean { HasCleanDisk (state S.Store conn.new) → HasCleanDisk (state S.Store conn.old) }
-    ensures stays { HasCleanDisk (state S.Store conn.new) → StaysCommitted (state S.Store conn.old) (state S.Store conn.new) }
-    ensures found { IfOk result (λ found. HasCleanDisk (state S.Store conn.new) → IsTrue (state S.Store conn.new).is_open
+    ensures stays { HasCleanDisk (state S.Store conn.new)
+        → StaysCommitted (state S.Store conn.old) (state S.Store conn.new) }
+    ensures found { IfOk result (λ found. HasCleanDisk (state S.Store conn.new)
+        → IsTrue (state S.Store conn.new).is_open
         → IfSome found (λ row. rank key < rank row.key)
         → found ≡ first_after (Some key) (rows_in (state S.Store conn.old).now)) }
+    ensures none_passed { IfOk result (λ found. HasCleanDisk (state S.Store conn.new)
+        → IsTrue (state S.Store conn.new).is_open
+        → PassesNone (Some key) ((state S.Store conn.old).now.trees 0) found) }
 {
     if let Some(row) = row_behind(conn, key.kind, key.id.min(GREATEST))? {
         return Ok(Some(row));
@@ -143,9 +163,14 @@ pub fn row_after<S: Alter>(
     requires { IsReady (state S.Store conn.old) }
     ensures ready { IsReady (state S.Store conn.new) }
     ensures clean { HasCleanDisk (state S.Store conn.new) → HasCleanDisk (state S.Store conn.old) }
-    ensures stays { HasCleanDisk (state S.Store conn.new) → StaysCommitted (state S.Store conn.old) (state S.Store conn.new) }
-    ensures found { IfOk result (λ found. HasCleanDisk (state S.Store conn.new) → IsTrue (state S.Store conn.new).is_open
+    ensures stays { HasCleanDisk (state S.Store conn.new)
+        → StaysCommitted (state S.Store conn.old) (state S.Store conn.new) }
+    ensures found { IfOk result (λ found. HasCleanDisk (state S.Store conn.new)
+        → IsTrue (state S.Store conn.new).is_open
         → found ≡ first_after after (rows_in (state S.Store conn.old).now)) }
+    ensures none_passed { IfOk result (λ found. HasCleanDisk (state S.Store conn.new)
+        → IsTrue (state S.Store conn.new).is_open
+        → PassesNone after ((state S.Store conn.old).now.trees 0) found) }
     ensures above { IfOk result (λ found. IfSome found (λ row. IfSome after (λ key. rank key < rank row.key))) }
 {
     let Some(key) = after else {

@@ -1,8 +1,15 @@
-ghost use Rattle.std.specs.Prelude.{◌≡◌, ◌<◌, ◌≤◌, ◌⊎◌, false, [], List, Some, IfOk, IfErr, IfSome, OnOk, OnErr, IsTrue};
+ghost use Rattle.std.specs.Prelude.{◌≡◌, ◌↔◌, ◌<◌, ◌≤◌, ◌⊎◌, false, [], List, Some, None, IsTrue};
+ghost use Rattle.std.specs.Prelude.{IfOk, IfErr, IfSome, OnOk, OnErr};
+ghost use Rattle.sqlite_value.specs.Order.{Row as Entry};
+ghost use Rattle.sqlite.specs.State.{HasCleanDisk};
+ghost use Rattle.sqlite.specs.Held.{state};
 ghost use Rattle.book_keeper.specs.Faults.{Rose};
 ghost use Rattle.book_keeper.specs.Keeping.{HasKeepCause};
 ghost use Rattle.book_keeper.specs.Rows.{AreRising, rank, after_changes, first_after};
-ghost use Rattle.book_sqlite.specs.KeeperInSqlite.{is_sure, HoldsRows, MayLeave, has_clean_store};
+ghost use Rattle.book_sqlite.specs.Content.{rows_of};
+ghost use Rattle.book_sqlite.specs.RowsDatabase.{ListsRows};
+ghost use Rattle.book_sqlite.specs.RowCalls.{PassesNone};
+ghost use Rattle.book_sqlite.specs.KeeperInSqlite.{is_sure, HoldsRows, HasEntries, MayLeave, has_clean_store};
 
 use crate::commit::make_all;
 use crate::opening::prepared;
@@ -37,9 +44,12 @@ impl<S: Alter> Model for SqliteKeeper<S> {
 }
 
 impl<S: Alter + Drop> SqliteKeeper<S> {
-    /// A keeper over this connection. It makes the table of rows where the database has nothing yet. Where it has
-    /// another schema it is left as it is, and `open` fails.
+    /// A keeper over this connection. It makes the table of rows where the database has nothing yet. Where it has the
+    /// table, the keeper holds the rows of the last commit. Another schema is left as it is, and `open` fails.
     pub fn over(alloc: Global, connection: Connection<S>) -> SqliteKeeper<S>
+        ensures clean { IsTrue (is_sure S.Store result) → HasCleanDisk (state S.Store connection) }
+        ensures rows { IsTrue (is_sure S.Store result) → ListsRows (state S.Store connection).committed.trees
+            → HoldsRows S.Store result (rows_of ((state S.Store connection).committed.trees 0)) }
         ensures path { result.path ≡ [] }
         ensures faults { result.faults ≡ 0 }
     {
@@ -57,6 +67,7 @@ impl<S: Alter + Drop> SqliteKeeper<S> {
 
     /// A keeper without a connection: `open` fails, or is out of memory where that was why there is none.
     pub(crate) fn unopened(alloc: Global, lacked_memory: bool) -> SqliteKeeper<S>
+        ensures connection { result.connection ≡ None }
         ensures path { result.path ≡ [] }
         ensures faults { result.faults ≡ 0 }
     {
@@ -82,6 +93,7 @@ impl<S: Alter + Drop> SqliteKeeper<S> {
         ensures path { self.new.path ≡ self.old.path }
         ensures later { self.old.faults ≤ self.new.faults }
         ensures cause { result ≡ KeepError.Failed → Rose self.old.faults self.new.faults }
+        ensures memory { result ≡ KeepError.OutOfMemory → IsTrue lacked_memory }
     {
         if lacked_memory {
             return KeepError::OutOfMemory;
@@ -92,7 +104,9 @@ impl<S: Alter + Drop> SqliteKeeper<S> {
 }
 
 /// Whether a call of the kit's was out of memory.
-pub(crate) fn is_want_of_memory(error: Error) -> bool {
+pub(crate) fn is_want_of_memory(error: Error) -> bool
+    ensures { IsTrue result ↔ (error ≡ Error.SqliteFailure ErrorCode.OutOfMemory) }
+{
     matches!(error, Error::SqliteFailure(ErrorCode::OutOfMemory))
 }
 
@@ -140,7 +154,7 @@ impl<S: Alter + Drop> Keeper for SqliteKeeper<S> {
       names = S.Store.names;
     }) keeper rows held };
 
-    /// Keeps the path. Fails where the keeper has no file of rows.
+    /// Keeps the path; which store it is was said as the keeper was made. Fails where the keeper has no file of rows.
     fn open(&mut self, path: &str) -> Result<(), KeepError> {
         let text = text_of(self.alloc, path)?;
         if self.connection.is_none() {
@@ -151,15 +165,17 @@ impl<S: Alter + Drop> Keeper for SqliteKeeper<S> {
         Ok(())
     }
 
-    /// Makes all the changes in one transaction. At each exit a crash leaves rows that it could leave before the call, or
-    /// those after all the changes; after Ok, with the connection open, those after them alone.
+    /// Makes all the changes in one transaction or, at an error, none, as far as it still knows its rows. At each exit,
+    /// an error's too, a crash leaves the rows before the call or those after all the changes; after Ok, with the
+    /// connection open, those after them alone.
     fn commit(&mut self, changes: &[Change]) -> Result<(), KeepError>
         requires { AreRising changes.now }
         ensures crash { IsTrue (is_sure S.Store self.old) → IsTrue (has_clean_store S.Store self.new)
             → (rows held : List Row) → HoldsRows S.Store self.old held → MayLeave S.Store self.new rows
-            → MayLeave S.Store self.old rows ⊎ (rows ≡ after_changes changes.now held) }
-        ensures settled { OnOk result (IsTrue (is_sure S.Store self.new) → (rows held : List Row)
-            → HoldsRows S.Store self.old held → MayLeave S.Store self.new rows → rows ≡ after_changes changes.now held) }
+            → (rows ≡ held) ⊎ (rows ≡ after_changes changes.now held) }
+        ensures settled { OnOk result (IsTrue (is_sure S.Store self.new)
+            → (rows held : List Row) → HoldsRows S.Store self.old held → MayLeave S.Store self.new rows
+            → rows ≡ after_changes changes.now held) }
         ensures path { self.new.path ≡ self.old.path }
         ensures sure { IsTrue (is_sure S.Store self.new) → IsTrue (is_sure S.Store self.old) }
         ensures made { OnOk result (IsTrue (is_sure S.Store self.new) → (rows : List Row)
@@ -177,9 +193,20 @@ impl<S: Alter + Drop> Keeper for SqliteKeeper<S> {
         }
     }
 
-    /// One select within the kind and, where that shows none, one over the greater kinds. Fails at a row that is none of
-    /// a book.
-    fn next_row(&mut self, after: Option<RowKey>) -> Result<Option<Row>, KeepError> {
+    /// One select within the kind and, where that shows none, one over the greater kinds. Fails at an entry that is no
+    /// row of a book; it passes none over.
+    fn next_row(&mut self, after: Option<RowKey>) -> Result<Option<Row>, KeepError>
+        ensures none_passed { IfOk result (λ found. IsTrue (is_sure S.Store self.new) → (entries : List Entry)
+            → HasEntries S.Store self.old entries → PassesNone after entries found) }
+        ensures path { self.new.path ≡ self.old.path }
+        ensures sure { IsTrue (is_sure S.Store self.new) → IsTrue (is_sure S.Store self.old) }
+        ensures rows { IsTrue (is_sure S.Store self.new) → (rows : List Row)
+            → HoldsRows S.Store self.old rows → HoldsRows S.Store self.new rows }
+        ensures found { IfOk result (λ found. IsTrue (is_sure S.Store self.new) → (rows : List Row)
+            → HoldsRows S.Store self.old rows → found ≡ first_after after rows) }
+        ensures above { IfOk result (λ found. IfSome found (λ row. IfSome after (λ key. rank key < rank row.key))) }
+        ensures cause { HasKeepCause self.old.faults self.new.faults result }
+    {
         let Some(connection) = &mut self.connection else {
             return Err(self.fail(false));
         };

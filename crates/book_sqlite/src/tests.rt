@@ -1,8 +1,9 @@
 use crate::{FileKeeper, SqliteKeeper};
 use book_commodity::{Bytes, Many};
 use book_keeper::{Change, KeepError, Keeper, Row, RowKey};
-use sqlite::{Alter, Connection, Error};
+use sqlite::{Alter, Connection, Error, Unknown};
 use std::alloc::Global;
+use std::fs;
 use std::test::Fail;
 
 // These have no clause, so that the proof of a test does not carry the state of each call.
@@ -130,12 +131,37 @@ fn a_row_that_is_none_of_a_book_is_a_fault(rt: HostRuntime) -> Result<(), Fail> 
 #[test]
 fn rows_stay_in_a_file(rt: HostRuntime) -> Result<(), Fail> {
     let alloc = rt.alloc();
-    let mut keeper = FileKeeper::at(&rt, Some("rows.book"));
+    let mut keeper = FileKeeper::at(&rt, Some("rows.book"), Unknown);
     assert_eq!(rt; keeper.open("rows.book"), Ok(()));
     assert!(rt; put(&mut keeper, alloc, EURO, b"euro")?);
     drop(keeper);
-    let mut again = FileKeeper::at(&rt, Some("rows.book"));
+    let mut again = FileKeeper::at(&rt, Some("rows.book"), Unknown);
     assert_eq!(rt; again.open("rows.book"), Ok(()));
     assert!(rt; matches!(again.next_row(None), Ok(Some(Row { key: EURO, body: _ }))));
+    Ok(())
+}
+
+/// Makes a file with another table, and closes it.
+fn make_other(rt: &HostRuntime, path: &str) -> Result<(), Error> {
+    let mut connection = Connection::open(rt, path)?;
+    run(&mut connection, "CREATE TABLE other(kind INTEGER)")?;
+    run(&mut connection, "INSERT INTO other VALUES (7)")?;
+    connection.close()
+}
+
+/// Whether a keeper over the file fails to open it.
+fn is_refused(rt: &HostRuntime, path: &str) -> bool {
+    let mut keeper = FileKeeper::at(rt, Some(path), Unknown);
+    matches!(keeper.open(path), Err(KeepError::Failed))
+}
+
+#[test]
+fn a_file_with_another_schema_keeps_its_bytes(rt: HostRuntime) -> Result<(), Fail> {
+    make_other(&rt, "other.db")?;
+    let before = fs::read(&rt, "other.db")?;
+    assert!(rt; is_refused(&rt, "other.db"));
+    let after = fs::read(&rt, "other.db")?;
+    assert!(rt; !before.is_empty());
+    assert_eq!(rt; after.as_slice(), before.as_slice());
     Ok(())
 }

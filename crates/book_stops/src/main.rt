@@ -53,7 +53,7 @@ fn stop_at_each(rt: &HostRuntime, is_log: bool, ending: Ending) -> io::Result<()
             Found::Before => counts.count(false),
             Found::After => counts.count(true),
             Found::All => break,
-            Found::Other => println!(rt; "{file}, call {calls}: other rows")?,
+            Found::Other => println!(rt; "{file}, call {calls}: other rows or answers")?,
         }
     }
     println!(rt;

@@ -1,4 +1,4 @@
-use book_app::book_main;
+use book_app::{Status, book_main};
 use book_commodity::{Bytes, Many, OutOfMemory, Text};
 use book_keeper::{Keeper, MemKeeper, MemSink, MemSource};
 use std::alloc::Global;
@@ -31,8 +31,13 @@ fn lines(alloc: Global, count: usize) -> Result<String, OutOfMemory> {
     Ok(lines)
 }
 
-/// Runs the first lines of the salary over the keeper. How many of them were done.
-fn done<K: Keeper>(alloc: Global, keeper: &mut K, count: usize) -> Result<usize, OutOfMemory> {
+/// Runs the first lines of the salary over the keeper. How many of them were done, or none where the run says that it
+/// lacked memory: memory is ample here, and a disk that failed has to be told as the keeper's failure.
+fn done<K: Keeper>(
+    alloc: Global,
+    keeper: &mut K,
+    count: usize,
+) -> Result<Option<usize>, OutOfMemory> {
     let mut words = Vec::new(alloc);
     words.push(Text::of(String::from_str(alloc, "run")?))?;
     words.push(Text::of(String::from_str(alloc, "a.book")?))?;
@@ -40,18 +45,24 @@ fn done<K: Keeper>(alloc: Global, keeper: &mut K, count: usize) -> Result<usize,
     let bytes = Bytes::of(lines.as_bytes().to_vec(alloc)?);
     let mut input = MemSource::new(bytes, 4096, Many::new(alloc));
     let mut output = MemSink::new(alloc, ROOM, Many::new(alloc))?;
-    let _ = book_main(alloc, words.as_slice(), keeper, &mut input, &mut output);
+    let status = book_main(alloc, words.as_slice(), keeper, &mut input, &mut output);
     let answers = str::from_utf8(output.written()).unwrap_or("");
-    Ok(
+    if matches!(status, Status::Memory) || answers.contains("\"memory\"") {
+        return Ok(None);
+    }
+    Ok(Some(
         answers
             .lines()
             .filter(|line| line.contains("\"ok\":"))
             .count(),
-    )
+    ))
 }
 
-/// Runs the salary over the keeper. How many of its lines were done.
-pub(crate) fn done_of_salary<K: Keeper>(alloc: Global, keeper: &mut K) -> io::Result<usize> {
+/// Runs the salary over the keeper. How many of its lines were done, or none where it says that it lacked memory.
+pub(crate) fn done_of_salary<K: Keeper>(
+    alloc: Global,
+    keeper: &mut K,
+) -> io::Result<Option<usize>> {
     match done(alloc, keeper, SALARY.len()) {
         Ok(count) => Ok(count),
         Err(OutOfMemory) => Err(io::Error::from(ErrorKind::OutOfMemory)),
@@ -81,7 +92,7 @@ pub(crate) fn stages(alloc: Global) -> io::Result<Vec<String>> {
     let mut stages = Vec::new(alloc);
     for count in 0..=SALARY.len() {
         let mut keeper = MemKeeper::new(Many::new(alloc), Many::new(alloc));
-        if !matches!(done(alloc, &mut keeper, count), Ok(done) if done == count) {
+        if !matches!(done(alloc, &mut keeper, count), Ok(Some(done)) if done == count) {
             return Err(io::Error::from(ErrorKind::OutOfMemory));
         }
         let Some(rows) = rows_in(alloc, &mut keeper)? else {

@@ -16,7 +16,7 @@ pub(crate) enum Found {
     After,
     /// All rows, and no call was stopped.
     All,
-    /// Other rows, or none could be read.
+    /// Other rows, or none could be read, or the run said that it lacked memory.
     Other,
 }
 
@@ -30,10 +30,11 @@ const FEW_PAGES: Options = Options {
     seed: 7,
 };
 
-/// A run that ended: how many lines were done, whether no call failed, and the files.
+/// A run that ended: how many lines were done, or none where it said that it lacked memory; whether no call failed; and
+/// the files.
 #[derive(Drop)]
 struct Run {
-    done: usize,
+    done: Option<usize>,
     is_whole: bool,
     files: FusedFiles,
 }
@@ -80,7 +81,7 @@ fn run_over(alloc: Global, connection: Connection<Store>) -> io::Result<Run> {
     let (is_whole, files) = closed(connection);
     Ok(Run {
         done,
-        is_whole: is_whole && done == 3,
+        is_whole: is_whole && done == Some(3),
         files,
     })
 }
@@ -100,7 +101,7 @@ fn run_on(alloc: Global, fuses: Fuses) -> io::Result<Run> {
 /// The run that ended before its first line.
 fn unopened(files: FusedFiles) -> Run {
     Run {
-        done: 0,
+        done: Some(0),
         is_whole: false,
         files,
     }
@@ -130,6 +131,9 @@ pub(crate) fn found_after(
         is_whole,
         files,
     } = run_on(alloc, fuses)?;
+    let Some(done) = done else {
+        return Ok(Found::Other);
+    };
     let files = next_files(alloc, files, ending)?;
     let Some(rows) = rows_again(alloc, files)? else {
         return Ok(Found::Other);

@@ -3,9 +3,10 @@
 //! closed. The lines of each run are this program's data, and it writes the answers.
 #![tactic(auto)]
 
-use book_app::run_over;
+use book_app::{named_book, run_over};
 use book_commodity::Text;
 use book_sqlite::FileKeeper;
+use sqlite::{Start, Unknown};
 use std::alloc::{AllocError, Global};
 use std::process::{ExitCode, Termination};
 use std::{fs, io};
@@ -18,21 +19,32 @@ fn words(alloc: Global, book: &str) -> Result<Vec<Text>, AllocError> {
     Ok(words)
 }
 
-/// Runs the lines over the book and closes it. Whether both succeeded.
-fn run(rt: &HostRuntime, book: &str, lines: &str) -> io::Result<bool> {
-    println!(rt; "{book}, {lines}")?;
-    let lines = fs::read_to_string(rt, lines)?;
-    let words = words(rt.alloc(), book)?;
-    let mut keeper = FileKeeper::at(rt, Some(book));
+/// Runs the lines over the book that the words name, as the program does: over whatever the file held before, and then
+/// closes it. Whether both succeeded.
+fn run_in<T: Start>(
+    rt: &HostRuntime,
+    words: &[Text],
+    lines: &str,
+    start: T,
+) -> io::Result<bool> {
+    let mut keeper = FileKeeper::at(rt, named_book(words), start);
     let ran = run_over(
         rt.alloc(),
-        words.as_slice(),
+        words,
         &mut keeper,
         lines.as_bytes(),
         io::writer(rt),
     );
     let closed = keeper.close();
     Ok(ran.ended.report(rt) == ExitCode::SUCCESS && closed.is_ok())
+}
+
+/// Runs the lines of a file over the book. Whether it succeeded.
+fn run(rt: &HostRuntime, book: &str, lines: &str) -> io::Result<bool> {
+    println!(rt; "{book}, {lines}")?;
+    let lines = fs::read_to_string(rt, lines)?;
+    let words = words(rt.alloc(), book)?;
+    run_in(rt, words.as_slice(), lines.as_str(), Unknown)
 }
 
 /// Makes the three runs. Whether all succeeded.

@@ -4,7 +4,7 @@ use Rattle.sqlite.specs.Held.{state}
 use Rattle.book_sqlite.proofs.OpeningLemmas.{create_ready}
 use Rattle.book_sqlite.proofs.opening.make_table.Goals as goal
 
-pub returns-then-is_autocommit : goal.returns-then-is_autocommit
-returns-then-is_autocommit g c =
+pub returns-then-is_autocommit-clause-ready : goal.returns-then-is_autocommit-clause-ready
+returns-then-is_autocommit-clause-ready g c =
     create_ready (state g.S.Store c.args.conn.now) (state g.S.Store c.execute.new.self) c.in_ok-execute.field-0 c.requires.empty
     c.requires.autocommit (not-true _ (sym c.is_autocommit.ensures.value ∙ c.if-is_autocommit.true)) c.in_ok-execute.ensures.runs

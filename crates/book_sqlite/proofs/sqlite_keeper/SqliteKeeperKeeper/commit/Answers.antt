@@ -40,6 +40,7 @@ returns-in-Ok-clause-crash g c =
     let ready : IsReady (state g.S.Store c.in-Some.connection) = search rules in
     crash_leaves g.S.Store c.args.self.now c.in-Some.connection c.make_all.new.conn is
     (λ clean. omega (arith, clean, c.make_all.ensures.survives.clean)) (after_changes c.args.changes.now) ready c.make_all.ensures.survives
+    (g.met.S.Store.settled c.in-Some.connection.store)
 
 pub returns-in-Err-clause-crash : goal.returns-in-Err-clause-crash
 returns-in-Err-clause-crash g c =
@@ -47,7 +48,8 @@ returns-in-Err-clause-crash g c =
     let new_is : c.fail-in-Err.new.self.connection ≡ Some c.make_all.new.conn = search rules in
     let ready : IsReady (state g.S.Store c.in-Some.connection) = search rules in
     rw new_is (crash_leaves g.S.Store c.args.self.now c.in-Some.connection c.make_all.new.conn is
-    (λ clean. omega (arith, clean, c.make_all.ensures.survives.clean)) (after_changes c.args.changes.now) ready c.make_all.ensures.survives)
+    (λ clean. omega (arith, clean, c.make_all.ensures.survives.clean)) (after_changes c.args.changes.now) ready c.make_all.ensures.survives
+    (g.met.S.Store.settled c.in-Some.connection.store))
 
 pub returns-in-Ok-clause-settled : goal.returns-in-Ok-clause-settled
 returns-in-Ok-clause-settled g c =

@@ -2,8 +2,8 @@ use Rattle.std.proofs.Common.{◌≡◌, Some, refl, sym, ap, subst, ◌∙◌, 
 use Rattle.sqlite.specs.State.{HasCleanDisk}
 use Rattle.sqlite.specs.Held.{state}
 use Rattle.book_keeper.specs.Rows.{first_after}
-use Rattle.book_sqlite.specs.RowCalls.{IsReady}
-use Rattle.book_sqlite.proofs.KeeperLemmas.{sure_back, rows_stay, rows_found}
+use Rattle.book_sqlite.specs.RowCalls.{IsReady, PassesNone}
+use Rattle.book_sqlite.proofs.KeeperLemmas.{sure_back, rows_stay, rows_found, entries_passed}
 use Rattle.book_sqlite.proofs.sqlite_keeper.SqliteKeeperKeeper.next_row.Goals as goal
 
 pub returns-in-Ok-clause-sure : goal.returns-in-Ok-clause-sure
@@ -23,6 +23,13 @@ returns-in-Ok-clause-found g c =
     let ready : IsReady (state g.S.Store c.in-Some.connection) = search rules in
     rows_found g.S.Store c.args.self.now c.in-Some.connection c.row_after.new.conn is c.row_after.ensures.clean
     (first_after c.args.after) c.in-Ok.found ready c.row_after.ensures.stays c.in-Ok.ensures.found
+
+pub returns-in-Ok-clause-none_passed : goal.returns-in-Ok-clause-none_passed
+returns-in-Ok-clause-none_passed g c =
+    let is : c.args.self.now.connection ≡ Some c.in-Some.connection = search rules in
+    let ready : IsReady (state g.S.Store c.in-Some.connection) = search rules in
+    entries_passed g.S.Store c.args.self.now c.in-Some.connection c.row_after.new.conn is c.row_after.ensures.clean
+    (λ entries. PassesNone c.args.after entries c.in-Ok.found) ready c.row_after.ensures.stays c.in-Ok.ensures.none_passed
 
 pub returns-in-Err-clause-sure : goal.returns-in-Err-clause-sure
 returns-in-Err-clause-sure g c =
