@@ -32,28 +32,6 @@ fn books_of_any_name_are_parted(rt: HostRuntime) -> Result<(), Fail> {
 }
 
 #[test]
-fn books_that_begin_with_any_character_but_a_hyphen_are_parted(
-    rt: HostRuntime,
-) -> Result<(), Fail> {
-    let alloc = rt.alloc();
-    for code in 0u8..128 {
-        if code == b'-' {
-            continue;
-        }
-        for rest in ["", "a.book"] {
-            let mut book = String::new(alloc);
-            book.push(char::from(code))?;
-            book.push_str(rest)?;
-            assert!(rt;
-                is_parted(alloc, &["run", book.as_str()], book.as_str())?,
-                "{code}"
-            );
-        }
-    }
-    Ok(())
-}
-
-#[test]
 fn other_words_are_not(rt: HostRuntime) -> Result<(), Fail> {
     let alloc = rt.alloc();
     assert!(rt; !is_parted(alloc, &[], "")?);
