@@ -21,12 +21,7 @@ fn words(alloc: Global, book: &str) -> Result<Vec<Text>, AllocError> {
 
 /// Runs the lines over the book that the words name, as the program does: over whatever the file held before, and then
 /// closes it. Whether both succeeded.
-fn run_in<T: Start>(
-    rt: &HostRuntime,
-    words: &[Text],
-    lines: &str,
-    start: T,
-) -> io::Result<bool> {
+fn run_in<T: Start>(rt: &HostRuntime, words: &[Text], lines: &str, start: T) -> io::Result<bool> {
     let mut keeper = FileKeeper::at(rt, named_book(words), start);
     let ran = run_over(
         rt.alloc(),
