@@ -8,7 +8,7 @@ use std::alloc::Global;
 /// A line, and the member that fails in it, or in brackets what else comes of it.
 type Row = (&'static str, &'static str);
 
-static ROWS: [Row; 82] = [
+static ROWS: [Row; 85] = [
     (r#"{"do":"account_drop","account":3}"#, "(read)"),
     (r#" { "account" : 3 , "do" : "account_drop" } "#, "(read)"),
     (
@@ -208,6 +208,15 @@ static ROWS: [Row; 82] = [
     ),
     (
         r#"{"do":"edit","transaction":5,"day":"2024-01-05","currency":1,"num":"7","splits":[{"account":3,"value":1,"action":"Buy"}]}"#,
+        "(read)",
+    ),
+    (
+        r#"{"do":"price_set","at":6,"commodity":3,"currency":1,"day":"2024-01-05","num":155,"denom":100}"#,
+        "(read)",
+    ),
+    (r#"{"do":"price_drop","price":9}"#, "(read)"),
+    (
+        r#"{"do":"price","commodity":3,"currency":1,"day":"2024-01-05"}"#,
         "(read)",
     ),
     (
@@ -442,38 +451,6 @@ fn a_drop_is_read(alloc: Global) -> bool {
     (transaction, force) == (5, true)
 }
 
-fn prices_are_read(alloc: Global) -> bool {
-    let set = asked(
-        alloc,
-        r#"{"do":"price_set","at":6,"commodity":3,"currency":1,"day":"2024-01-05","num":155,"denom":100}"#,
-    );
-    let dropped = asked(alloc, r#"{"do":"price_drop","at":6,"price":9}"#);
-    let Some(What::Update(Update::PriceSet { price })) = set else {
-        return false;
-    };
-    let Some(What::Update(Update::PriceDrop { price: number })) = dropped else {
-        return false;
-    };
-    (price.commodity, price.currency, price.num, price.denom) == (3, 1, 155, 100) && number == 9
-}
-
-fn a_price_is_asked(alloc: Global) -> bool {
-    let Some(
-        What::Price {
-            commodity,
-            currency,
-            day,
-        },
-    ) = asked(
-        alloc,
-        r#"{"do":"price","at":6,"commodity":3,"currency":1,"day":"2024-01-05"}"#,
-    )
-    else {
-        return false;
-    };
-    (commodity, currency, day.number()) == (3, 1, 19727)
-}
-
 fn the_history_is_read(alloc: Global) -> bool {
     let undo = asked(alloc, r#"{"do":"undo","at":6}"#);
     let redo = asked(alloc, r#"{"do":"redo","at":6}"#);
@@ -496,7 +473,6 @@ fn lines_are_read_as_commands(rt: HostRuntime) -> Result<(), OutOfMemory> {
     assert!(rt; commodities_are_read(alloc) && an_account_is_read(alloc));
     assert!(rt; what_is_given_of_an_account_is_read(alloc) && a_post_is_read(alloc));
     assert!(rt; an_edit_is_read(alloc) && a_drop_is_read(alloc) && the_history_is_read(alloc));
-    assert!(rt; prices_are_read(alloc) && a_price_is_asked(alloc));
     assert_eq!(rt;
         nested(alloc, 126)?.as_slice(),
         r#"{"field":"do","refused":"not command"}"#.as_bytes()
