@@ -1,0 +1,87 @@
+-- The trial balance: for each currency the sums of the accounts, debits beside credits, which add up to the same
+-- (GnuCash Manual, reports: trial balance).
+use Rattle.std.specs.Prelude.{ℕ, ◌==◌, ℤ, pos, neg_ℤ, int_lt, if◌then◌else◌, List, [], ◌∷◌, ◌++◌, length, map, codes}
+use Rattle.std.specs.Prelude.{Option, Some, None}
+use Rattle.std.specs.List.{filter_map, flat_map}
+use Rattle.std.specs.Ordering.{int_eq}
+use Rattle.book_accounts.specs.Order.{depth_first}
+use Rattle.book_accounts.specs.Path.{path}
+use Rattle.book_commodity.specs.Amount.{amount_text}
+use Rattle.book_commodity.specs.Currency.{is_currency}
+use Rattle.book_commodity.specs.Day.{day_text}
+use Rattle.book_commodity.specs.declared.commodity.Commodity.{Commodity}
+use Rattle.book_splits.specs.Balance.{total}
+use Rattle.book_undo.specs.Book.{Book}
+use Rattle.book_reports.specs.Layout.{printed, record_text, right}
+use Rattle.book_reports.specs.Measure.{value_in}
+use Rattle.book_reports.specs.Sheet.{until}
+use Rattle.book_reports.specs.declared.form.Form.{Form}
+use Rattle.book_reports.specs.declared.form.Form.TheVariants.{Csv, Plain}
+use Rattle.book_reports.specs.declared.trial.TrialLine.{TrialLine}
+
+-- The line of an account in a currency: the sum of its values up to the day, a debit where it is positive and a credit
+-- where it is negative. There is none where the sum is zero.
+abbrev pub line_of : Book → ℤ → ℕ → ℕ → Option TrialLine
+line_of book day currency account =
+    if int_eq (value_in book (until day) currency account) (pos 0) then None
+    else Some (record { path = path book.accounts account; sum = value_in book (until day) currency account })
+
+-- The lines of a currency, in the order of the tree of accounts.
+unfoldable pub lines_of : Book → ℤ → ℕ → List TrialLine
+lines_of book day currency = filter_map (line_of book day currency) (depth_first book.accounts)
+
+-- The part of a sum that is positive, and nothing of a negative one.
+abbrev pub positive : ℤ → ℤ
+positive sum = if int_lt (pos 0) sum then sum else pos 0
+
+-- The sum of the debits.
+unfoldable pub debits : List TrialLine → ℤ
+debits lines = total (map (λ line. positive line.sum) lines)
+
+-- The sum of the credits, without their sign.
+unfoldable pub credits : List TrialLine → ℤ
+credits lines = total (map (λ line. positive (neg_ℤ line.sum)) lines)
+
+-- The text of a side: the amount where it is positive, and blank where it isn't.
+unfoldable pub side_text : ℕ → ℤ → List ℕ
+side_text fraction sum = if int_lt (pos 0) sum then amount_text sum fraction else []
+
+-- A line of debit, credit and what they are of.
+unfoldable pub plain_line : List ℕ → List ℕ → List ℕ → List ℕ
+plain_line debit credit name = right 24 debit ++ right 24 credit ++ codes "  " ++ printed name ++ 10 ∷ []
+
+-- The part of a currency: its name, its lines, and the sums of both sides.
+abbrev pub plain_part : Commodity → List TrialLine → List ℕ
+plain_part currency lines =
+    printed currency.name ++ 10 ∷ []
+    ++ flat_map (λ line. plain_line (side_text currency.fraction line.sum)
+    (side_text currency.fraction (neg_ℤ line.sum)) line.path) lines
+    ++ plain_line (amount_text (debits lines) currency.fraction) (amount_text (credits lines) currency.fraction)
+    (codes "Total")
+
+-- The same as records of currency, account, debit and credit; the sums stand as an account Total.
+abbrev pub csv_part : Commodity → List TrialLine → List ℕ
+csv_part currency lines =
+    flat_map (λ line. record_text (currency.name ∷ line.path ∷ side_text currency.fraction line.sum
+    ∷ side_text currency.fraction (neg_ℤ line.sum) ∷ [])) lines
+    ++ record_text (currency.name ∷ codes "Total" ∷ amount_text (debits lines) currency.fraction
+    ∷ amount_text (credits lines) currency.fraction ∷ [])
+
+abbrev pub part_in : Form → Commodity → List TrialLine → List ℕ
+part_in Plain currency lines = plain_part currency lines
+part_in Csv currency lines = csv_part currency lines
+
+-- The part of a commodity: nothing where it is no currency, or no account has a line.
+unfoldable pub part_of : Book → ℤ → Form → (ℕ × Commodity) → List ℕ
+part_of book day form entry =
+    if is_currency entry.1
+    then (if length (lines_of book day entry.0) == 0 then [] else part_in form entry.1 (lines_of book day entry.0))
+    else []
+
+abbrev pub heading : ℤ → Form → List ℕ
+heading day Plain = codes "Trial balance " ++ day_text day ++ 10 ∷ []
+heading day Csv = record_text (codes "currency" ∷ codes "account" ∷ codes "debit" ∷ codes "credit" ∷ [])
+
+-- The trial balance of a book up to a day, by currencies in the order of their numbers.
+unfoldable pub trial : Book → ℤ → Form → List ℕ
+trial book day form = heading day form ++ flat_map (part_of book day form) book.commodities

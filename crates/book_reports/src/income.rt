@@ -1,0 +1,110 @@
+ghost use Rattle.std.specs.Prelude.{◌≡◌, ◌++◌, IfOk, OnOk, string_bytes};
+ghost use Rattle.book_reports.specs.Income.{csv_parts, heading, income, net, parts_left_out, parts_of, plain_parts};
+
+use crate::layout::{add_amount_line, add_day, add_printed};
+use crate::period::Period;
+use crate::section::{Line, Section, add_csv_header, add_csv_summary, left_out, sum_of};
+use crate::{Form, View};
+use book_commodity::{Day, Many, OutOfMemory, Text, amount_text};
+use std::alloc::Global;
+
+/// The lines of the report of income and expenses by its sections.
+#[derive(Drop)]
+struct Parts {
+    income: Many<Line>,
+    expenses: Many<Line>,
+}
+
+/// The report of income and expenses of a book from one day to another, in the currency of the book.
+pub fn income(
+    alloc: Global,
+    view: &View,
+    from: Day,
+    to: Day,
+    form: Form,
+) -> Result<Text, OutOfMemory>
+    ensures { IfOk result (λ text. text ≡ income view.now from to form) }
+{
+    let parts = Parts::of(alloc, view, Period::between(from, to))?;
+    let fraction = view.fraction(view.plain.currency);
+    let mut out = String::new(alloc);
+    match form {
+        Form::Plain => {
+            add_heading(&mut out, view, from, to)?;
+            parts.add_plain(alloc, &mut out, fraction)?;
+        }
+        Form::Csv => {
+            add_csv_header(alloc, &mut out)?;
+            parts.add_csv(alloc, &mut out, fraction)?;
+        }
+    }
+    Ok(Text::of(out))
+}
+
+/// Adds the heading: the two days and the name of the currency.
+fn add_heading(out: &mut String, view: &View, from: Day, to: Day) -> Result<(), OutOfMemory>
+    ensures { OnOk result (string_bytes out.new ≡ string_bytes out.old ++ heading view.now from to) }
+{
+    out.push_str("Income and expenses ")?;
+    add_day(out, from)?;
+    out.push(' ')?;
+    add_day(out, to)?;
+    out.push(' ')?;
+    add_printed(out, view.name(view.plain.currency))?;
+    out.push('\n')?;
+    Ok(())
+}
+
+impl Parts {
+    /// The lines over a period.
+    fn of(alloc: Global, view: &View, period: Period) -> Result<Parts, OutOfMemory>
+        ensures { IfOk result (λ parts. parts ≡ parts_of view.now period) }
+    {
+        let order = view.plain.accounts.order()?;
+        let order = order.as_slice();
+        Ok(Parts {
+            income: Section::Income.lines(alloc, view, order, period)?,
+            expenses: Section::Expenses.lines(alloc, view, order, period)?,
+        })
+    }
+
+    /// Income less expenses.
+    fn net(&self) -> i128
+        ensures { result ≡ net self.now }
+    {
+        sum_of(self.income.as_slice()) - sum_of(self.expenses.as_slice())
+    }
+
+    /// How many accounts are left out of the sums.
+    fn left_out(&self) -> usize
+        ensures { result ≡ parts_left_out self.now }
+    {
+        left_out(self.income.as_slice()) + left_out(self.expenses.as_slice())
+    }
+
+    /// Adds the sections and the figures below them as plain text.
+    fn add_plain(&self, alloc: Global, out: &mut String, fraction: u64) -> Result<(), OutOfMemory>
+        ensures { OnOk result (string_bytes out.new ≡ string_bytes out.old ++ plain_parts fraction self.now) }
+    {
+        Section::Income.add_plain(alloc, out, fraction, self.income.as_slice())?;
+        Section::Expenses.add_plain(alloc, out, fraction, self.expenses.as_slice())?;
+        let net = amount_text(alloc, self.net(), fraction)?;
+        let left_out = self.left_out();
+        add_amount_line(out, net.as_str(), "Net")?;
+        out.push_str(format!(in alloc; "Left out: {left_out}\n")?.as_str())?;
+        Ok(())
+    }
+
+    /// Adds the sections and the figures below them as comma-separated values.
+    fn add_csv(&self, alloc: Global, out: &mut String, fraction: u64) -> Result<(), OutOfMemory>
+        ensures { OnOk result (string_bytes out.new ≡ string_bytes out.old ++ csv_parts fraction self.now) }
+    {
+        Section::Income.add_csv(alloc, out, fraction, self.income.as_slice())?;
+        Section::Expenses.add_csv(alloc, out, fraction, self.expenses.as_slice())?;
+        let net = amount_text(alloc, self.net(), fraction)?;
+        let left_out = self.left_out();
+        let left_out = format!(in alloc; "{left_out}")?;
+        add_csv_summary(alloc, out, "Net", net.as_str())?;
+        add_csv_summary(alloc, out, "Left out", left_out.as_str())
+    }
+}

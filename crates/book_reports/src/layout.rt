@@ -1,0 +1,86 @@
+ghost use Rattle.std.specs.Prelude.{◌≡◌, ◌∷◌, [], ◌++◌, IfOk, OnOk, map, replicate, string_bytes};
+ghost use Rattle.book_commodity.specs.Amount.{amount_text};
+ghost use Rattle.book_commodity.specs.Day.{day_text};
+ghost use Rattle.book_reports.specs.Layout.{amount_line, printed, record_text, right};
+
+use book_commodity::{Day, OutOfMemory};
+use csv::WriterBuilder;
+use std::alloc::{AllocError, Global};
+
+/// Adds a text in which each control character below U+0020 is a space.
+pub(crate) fn add_printed(out: &mut String, text: &str) -> Result<(), AllocError>
+    ensures { OnOk result (string_bytes out.new ≡ string_bytes out.old ++ printed text.now) }
+{
+    for letter in text.chars() {
+        out.push(if letter < ' ' { ' ' } else { letter })?;
+    }
+    Ok(())
+}
+
+/// Adds a text at the right end of so many places.
+pub(crate) fn add_right(out: &mut String, places: usize, text: &str) -> Result<(), AllocError>
+    ensures { OnOk result (string_bytes out.new ≡ string_bytes out.old ++ right places text.now) }
+{
+    for _ in 0..places.saturating_sub(text.len()) {
+        out.push(' ')?;
+    }
+    out.push_str(text)
+}
+
+/// Adds the text of a day.
+pub(crate) fn add_day(out: &mut String, day: Day) -> Result<(), AllocError>
+    ensures { OnOk result (string_bytes out.new ≡ string_bytes out.old ++ day_text day) }
+{
+    for byte in &day.text() {
+        out.push(*byte as char)?;
+    }
+    Ok(())
+}
+
+/// Adds the line of an amount in 24 places and what it is of.
+pub(crate) fn add_amount_line(
+    out: &mut String,
+    amount: &str,
+    name: &str,
+) -> Result<(), AllocError>
+    ensures { OnOk result (string_bytes out.new ≡ string_bytes out.old ++ amount_line amount.now name.now) }
+{
+    add_right(out, 24, amount)?;
+    out.push_str("  ")?;
+    add_printed(out, name)?;
+    out.push('\n')
+}
+
+/// Adds a record of comma-separated values.
+pub(crate) fn add_record(
+    alloc: Global,
+    out: &mut String,
+    fields: &[&str],
+) -> Result<(), OutOfMemory>
+    ensures { OnOk result
+        (string_bytes out.new ≡ string_bytes out.old ++ record_text (map (λ field. field.now) fields.now)) }
+{
+    let mut parts = Vec::new(alloc);
+    for field in fields {
+        parts.push(field.as_bytes())?;
+    }
+    let Ok(record) = String::from_utf8(record_bytes(alloc, parts.as_slice())?) else {
+        unreachable!()
+    };
+    out.push_str(record.as_str())?;
+    Ok(())
+}
+
+/// The bytes of a record of comma-separated values.
+fn record_bytes(alloc: Global, fields: &[&[u8]]) -> Result<Vec<u8>, OutOfMemory>
+    ensures { IfOk result (λ bytes. bytes.items ≡ record_text (map (λ field. field.now) fields.now)) }
+{
+    let mut writer = WriterBuilder::new().from_writer(Vec::new(alloc));
+    if writer.write_fields(fields).is_err() {
+        return Err(OutOfMemory);
+    }
+    match writer.into_inner() {
+        Ok(bytes) => Ok(bytes),
+        Err(_) => Err(OutOfMemory),
+    }
+}

@@ -1,0 +1,134 @@
+ghost use Rattle.std.specs.Prelude.{◌≡◌, ◌++◌, IfOk, OnOk, string_bytes};
+ghost use Rattle.book_reports.specs.Sheet.{csv_figures, csv_parts, heading, parts_of, plain_parts, plain_summary, sheet};
+ghost use Rattle.book_reports.specs.Sheet.{parts_left_out, unbooked};
+
+use crate::layout::{add_amount_line, add_day, add_printed};
+use crate::period::Period;
+use crate::section::{Line, Section, add_csv_header, add_csv_summary, left_out, sum_of};
+use crate::{Form, View};
+use book_commodity::{Day, Many, OutOfMemory, Text, amount_text};
+use std::alloc::Global;
+
+/// The lines of a balance sheet by its sections.
+#[derive(Drop)]
+struct Parts {
+    assets: Many<Line>,
+    liabilities: Many<Line>,
+    equity: Many<Line>,
+    earnings: Many<Line>,
+}
+
+/// The balance sheet of a book on a day, in the currency of the book.
+pub fn sheet(alloc: Global, view: &View, day: Day, form: Form) -> Result<Text, OutOfMemory>
+    ensures { IfOk result (λ text. text ≡ sheet view.now day form) }
+{
+    let parts = Parts::of(alloc, view, day)?;
+    let fraction = view.fraction(view.plain.currency);
+    let mut out = String::new(alloc);
+    match form {
+        Form::Plain => {
+            add_heading(&mut out, view, day)?;
+            parts.add_plain(alloc, &mut out, fraction)?;
+        }
+        Form::Csv => {
+            add_csv_header(alloc, &mut out)?;
+            parts.add_csv(alloc, &mut out, fraction)?;
+        }
+    }
+    Ok(Text::of(out))
+}
+
+/// Adds the heading: the day and the name of the currency.
+fn add_heading(out: &mut String, view: &View, day: Day) -> Result<(), OutOfMemory>
+    ensures { OnOk result (string_bytes out.new ≡ string_bytes out.old ++ heading view.now day) }
+{
+    out.push_str("Balance sheet ")?;
+    add_day(out, day)?;
+    out.push(' ')?;
+    add_printed(out, view.name(view.plain.currency))?;
+    out.push('\n')?;
+    Ok(())
+}
+
+impl Parts {
+    /// The lines on a day.
+    fn of(alloc: Global, view: &View, day: Day) -> Result<Parts, OutOfMemory>
+        ensures { IfOk result (λ parts. parts ≡ parts_of view.now day) }
+    {
+        let order = view.plain.accounts.order()?;
+        let order = order.as_slice();
+        let period = Period::until(day);
+        Ok(Parts {
+            assets: Section::Assets.lines(alloc, view, order, period)?,
+            liabilities: Section::Liabilities.lines(alloc, view, order, period)?,
+            equity: Section::Equity.lines(alloc, view, order, period)?,
+            earnings: Section::Earnings.lines(alloc, view, order, period)?,
+        })
+    }
+
+    /// Assets less liabilities, equity and retained earnings.
+    fn unbooked(&self) -> i128
+        ensures { result ≡ unbooked self.now }
+    {
+        sum_of(self.assets.as_slice())
+            - sum_of(self.liabilities.as_slice())
+            - sum_of(self.equity.as_slice())
+            - sum_of(self.earnings.as_slice())
+    }
+
+    /// How many accounts are left out of the sums.
+    fn left_out(&self) -> usize
+        ensures { result ≡ parts_left_out self.now }
+    {
+        left_out(self.assets.as_slice())
+            + left_out(self.liabilities.as_slice())
+            + left_out(self.equity.as_slice())
+            + left_out(self.earnings.as_slice())
+    }
+
+    /// Adds the sections and the figures below them as plain text.
+    fn add_plain(&self, alloc: Global, out: &mut String, fraction: u64) -> Result<(), OutOfMemory>
+        ensures { OnOk result (string_bytes out.new ≡ string_bytes out.old ++ plain_parts fraction self.now) }
+    {
+        Section::Assets.add_plain(alloc, out, fraction, self.assets.as_slice())?;
+        Section::Liabilities.add_plain(alloc, out, fraction, self.liabilities.as_slice())?;
+        Section::Equity.add_plain(alloc, out, fraction, self.equity.as_slice())?;
+        self.add_summary(alloc, out, fraction)
+    }
+
+    /// Adds the figures below the sections.
+    fn add_summary(&self, alloc: Global, out: &mut String, fraction: u64) -> Result<(), OutOfMemory>
+        ensures { OnOk result (string_bytes out.new ≡ string_bytes out.old ++ plain_summary fraction self.now) }
+    {
+        let earnings = amount_text(alloc, sum_of(self.earnings.as_slice()), fraction)?;
+        let unbooked = amount_text(alloc, self.unbooked(), fraction)?;
+        let left_out = self.left_out();
+        add_amount_line(out, earnings.as_str(), Section::Earnings.name())?;
+        add_amount_line(out, unbooked.as_str(), "Unbooked gains")?;
+        out.push_str(format!(in alloc; "Left out: {left_out}\n")?.as_str())?;
+        Ok(())
+    }
+
+    /// Adds the sections and the figures below them as comma-separated values.
+    fn add_csv(&self, alloc: Global, out: &mut String, fraction: u64) -> Result<(), OutOfMemory>
+        ensures { OnOk result (string_bytes out.new ≡ string_bytes out.old ++ csv_parts fraction self.now) }
+    {
+        Section::Assets.add_csv(alloc, out, fraction, self.assets.as_slice())?;
+        Section::Liabilities.add_csv(alloc, out, fraction, self.liabilities.as_slice())?;
+        Section::Equity.add_csv(alloc, out, fraction, self.equity.as_slice())?;
+        self.add_figures(alloc, out, fraction)
+    }
+
+    /// Adds the figures below the sections as comma-separated values.
+    fn add_figures(&self, alloc: Global, out: &mut String, fraction: u64) -> Result<(), OutOfMemory>
+        ensures { OnOk result (string_bytes out.new ≡ string_bytes out.old ++ csv_figures fraction self.now) }
+    {
+        let earnings = amount_text(alloc, sum_of(self.earnings.as_slice()), fraction)?;
+        let unbooked = amount_text(alloc, self.unbooked(), fraction)?;
+        let left_out = self.left_out();
+        let left_out = format!(in alloc; "{left_out}")?;
+        add_csv_summary(alloc, out, Section::Earnings.name(), earnings.as_str())?;
+        add_csv_summary(alloc, out, "Unbooked gains", unbooked.as_str())?;
+        add_csv_summary(alloc, out, "Left out", left_out.as_str())
+    }
+}

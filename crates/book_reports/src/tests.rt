@@ -1,0 +1,1 @@
+//! Reports on a book of a household, in both forms.
