@@ -9,7 +9,7 @@ use Rattle.book_reports.specs.Measure.{fraction_of, name_of}
 use Rattle.book_reports.specs.Sections.{csv_header, csv_section, csv_summary, left_out, lines_of, plain_section, sum_of}
 use Rattle.book_reports.specs.declared.form.Form.{Form}
 use Rattle.book_reports.specs.declared.form.Form.TheVariants.{Csv, Plain}
-use Rattle.book_reports.specs.declared.income.Parts.{Parts}
+use Rattle.book_reports.specs.declared.income_report.Parts.{Parts}
 use Rattle.book_reports.specs.declared.period.Period.{Period}
 use Rattle.book_reports.specs.declared.section.Section.TheVariants.{Expenses, Income}
 

@@ -12,7 +12,7 @@ use Rattle.book_reports.specs.declared.form.Form.{Form}
 use Rattle.book_reports.specs.declared.form.Form.TheVariants.{Csv, Plain}
 use Rattle.book_reports.specs.declared.period.Period.{Period}
 use Rattle.book_reports.specs.declared.section.Section.TheVariants.{Assets, Earnings, Equity, Liabilities}
-use Rattle.book_reports.specs.declared.sheet.Parts.{Parts}
+use Rattle.book_reports.specs.declared.balance_sheet.Parts.{Parts}
 
 -- All days up to a day.
 abbrev pub until : ℤ → Period

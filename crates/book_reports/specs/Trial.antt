@@ -17,7 +17,7 @@ use Rattle.book_reports.specs.Measure.{value_in}
 use Rattle.book_reports.specs.Sheet.{until}
 use Rattle.book_reports.specs.declared.form.Form.{Form}
 use Rattle.book_reports.specs.declared.form.Form.TheVariants.{Csv, Plain}
-use Rattle.book_reports.specs.declared.trial.TrialLine.{TrialLine}
+use Rattle.book_reports.specs.declared.trial_balance.TrialLine.{TrialLine}
 
 -- The line of an account in a currency: the sum of its values up to the day, a debit where it is positive and a credit
 -- where it is negative. There is none where the sum is zero.

@@ -3,21 +3,19 @@
 //! `income` and `register_text`, `Form`, and `View`, the book with its registers that they read.
 #![tactic(auto)]
 
+mod balance_sheet;
 mod form;
-mod income;
+mod income_report;
 mod layout;
 mod period;
-mod register_text;
+mod register_report;
 mod section;
-mod sheet;
-#[cfg(test)]
-mod tests;
-mod trial;
+mod trial_balance;
 mod view;
 
+pub use balance_sheet::sheet;
 pub use form::Form;
-pub use income::income;
-pub use register_text::register_text;
-pub use sheet::sheet;
-pub use trial::trial;
+pub use income_report::income;
+pub use register_report::register_text;
+pub use trial_balance::trial;
 pub use view::View;

@@ -24,7 +24,6 @@ pub struct View<'a> {
 }
 
 impl<'a> Model for View<'a> {
-    ghost use Rattle.std.specs.Prelude.{◌×◌};
     ghost use Rattle.book_ledger.specs.Ledger.{Keeps};
     ghost use Rattle.book_sound.specs.Soundness.{IsSoundBook};
     ghost use Rattle.book_undo.specs.Book.{Book, book_of};

@@ -1,1 +1,0 @@
-//! Reports on a book of a household, in both forms.
