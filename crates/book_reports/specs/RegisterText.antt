@@ -41,10 +41,16 @@ plain_row book row quantity after =
     ++ right 24 after ++ codes "  " ++ printed (number_in book.transactions row.txn) ++ codes "  "
     ++ printed (description_in book.transactions row.txn) ++ 10 ∷ []
 
+-- A record of day, mark, quantity, balance, number and description.
+abbrev pub csv_record : List ℕ → List ℕ → List ℕ → List ℕ → List ℕ → List ℕ → List ℕ
+csv_record day mark quantity after number description =
+    record_text (day ∷ mark ∷ quantity ∷ after ∷ number ∷ description ∷ [])
+
 -- The same as a record.
 abbrev pub csv_row : Book → Entry → List ℕ → List ℕ → List ℕ
-csv_row book row quantity after = record_text (day_text row.day ∷ mark_letter row.mark ∷ quantity ∷ after
-    ∷ number_in book.transactions row.txn ∷ description_in book.transactions row.txn ∷ [])
+csv_row book row quantity after =
+    csv_record (day_text row.day) (mark_letter row.mark) quantity after (number_in book.transactions row.txn)
+    (description_in book.transactions row.txn)
 
 -- A row of a register in a commodity with this fraction, and the balance after it.
 unfoldable pub row_in : Form → Book → ℕ → Entry → ℤ → List ℕ
@@ -65,8 +71,8 @@ abbrev pub heading : Form → Book → ℕ → ℕ → List ℕ
 heading Plain book account commodity =
     codes "Register " ++ printed (path book.accounts account) ++ 32 ∷ []
     ++ printed (name_of book.commodities commodity) ++ 10 ∷ []
-heading Csv book account commodity = record_text (codes "day" ∷ codes "mark" ∷ codes "quantity" ∷ codes "balance"
-    ∷ codes "num" ∷ codes "description" ∷ [])
+heading Csv book account commodity =
+    csv_record (codes "day") (codes "mark") (codes "quantity") (codes "balance") (codes "num") (codes "description")
 
 -- The commodity of the account with a number; 0, where there is no such account.
 abbrev pub commodity_of : Book → ℕ → ℕ

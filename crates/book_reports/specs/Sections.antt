@@ -1,6 +1,6 @@
 -- The sections of a balance sheet and of an income report: the accounts of some kinds with what they are worth.
 use Rattle.std.specs.Prelude.{ℕ, ◌&&◌, ℤ, pos, neg_ℤ, not, Bool, true, false, if◌then◌else◌, List, [], ◌∷◌, ◌++◌}
-use Rattle.std.specs.Prelude.{map, count_by, codes, Option, Some, None}
+use Rattle.std.specs.Prelude.{◌≤◌, ◌^◌, unsigned_abs, All, length, map, count_by, codes, Option, Some, None}
 use Rattle.std.specs.List.{filter_map, flat_map}
 use Rattle.std.specs.Ordering.{int_eq}
 use Rattle.book_accounts.specs.Order.{depth_first}
@@ -16,8 +16,8 @@ use Rattle.book_splits.specs.Balance.{total}
 use Rattle.book_undo.specs.Book.{Book}
 use Rattle.book_reports.specs.Layout.{amount_line, record_text}
 use Rattle.book_reports.specs.Measure.{sum_in, worth}
+use Rattle.book_reports.specs.declared.lines.Line.{Line}
 use Rattle.book_reports.specs.declared.period.Period.{Period}
-use Rattle.book_reports.specs.declared.section.Line.{Line}
 use Rattle.book_reports.specs.declared.section.Section.{Section}
 use Rattle.book_reports.specs.declared.section.Section.TheVariants.{Assets, Earnings, Equity, Expenses, Income}
 use Rattle.book_reports.specs.declared.section.Section.TheVariants.{Liabilities}
@@ -117,6 +117,11 @@ amount_in Over = pos 0
 -- The sum of a section.
 unfoldable pub sum_of : List Line → ℤ
 sum_of lines = total (map (λ line. amount_in line.worth) lines)
+
+-- The lines of a section are so few, and their worths so small, that they can be added up.
+pub record CanBeAdded (lines : List Line) : Type 0 where
+  pub few : length lines ≤ 10000
+  pub small : All (λ line. unsigned_abs (amount_in line.worth) ≤ 10 ^ 30) lines
 
 -- Whether an account is left out of the sums.
 abbrev pub is_left_out : Valuation → Bool

@@ -1,7 +1,7 @@
 -- The trial balance: for each currency the sums of the accounts, debits beside credits, which add up to the same
 -- (GnuCash Manual, reports: trial balance).
 use Rattle.std.specs.Prelude.{ℕ, ◌==◌, ℤ, pos, neg_ℤ, int_lt, if◌then◌else◌, List, [], ◌∷◌, ◌++◌, length, map, codes}
-use Rattle.std.specs.Prelude.{Option, Some, None}
+use Rattle.std.specs.Prelude.{◌≤◌, ◌^◌, unsigned_abs, All, Option, Some, None}
 use Rattle.std.specs.List.{filter_map, flat_map}
 use Rattle.std.specs.Ordering.{int_eq}
 use Rattle.book_accounts.specs.Order.{depth_first}
@@ -29,6 +29,11 @@ line_of book day currency account =
 -- The lines of a currency, in the order of the tree of accounts.
 unfoldable pub lines_of : Book → ℤ → ℕ → List TrialLine
 lines_of book day currency = filter_map (line_of book day currency) (depth_first book.accounts)
+
+-- The lines of a currency are so few, and their sums so small, that they can be added up.
+pub record CanBeAdded (lines : List TrialLine) : Type 0 where
+  pub few : length lines ≤ 10000
+  pub small : All (λ line. unsigned_abs line.sum ≤ 10 ^ 18) lines
 
 -- The part of a sum that is positive, and nothing of a negative one.
 abbrev pub positive : ℤ → ℤ
@@ -59,13 +64,17 @@ plain_part currency lines =
     ++ plain_line (amount_text (debits lines) currency.fraction) (amount_text (credits lines) currency.fraction)
     (codes "Total")
 
--- The same as records of currency, account, debit and credit; the sums stand as an account Total.
+-- A record of a currency, an account, a debit and a credit.
+abbrev pub csv_record : List ℕ → List ℕ → List ℕ → List ℕ → List ℕ
+csv_record currency account debit credit = record_text (currency ∷ account ∷ debit ∷ credit ∷ [])
+
+-- The same as records; the sums stand as an account Total.
 abbrev pub csv_part : Commodity → List TrialLine → List ℕ
 csv_part currency lines =
-    flat_map (λ line. record_text (currency.name ∷ line.path ∷ side_text currency.fraction line.sum
-    ∷ side_text currency.fraction (neg_ℤ line.sum) ∷ [])) lines
-    ++ record_text (currency.name ∷ codes "Total" ∷ amount_text (debits lines) currency.fraction
-    ∷ amount_text (credits lines) currency.fraction ∷ [])
+    flat_map (λ line. csv_record currency.name line.path (side_text currency.fraction line.sum)
+    (side_text currency.fraction (neg_ℤ line.sum))) lines
+    ++ csv_record currency.name (codes "Total") (amount_text (debits lines) currency.fraction)
+    (amount_text (credits lines) currency.fraction)
 
 abbrev pub part_in : Form → Commodity → List TrialLine → List ℕ
 part_in Plain currency lines = plain_part currency lines
@@ -80,7 +89,7 @@ part_of book day form entry =
 
 abbrev pub heading : ℤ → Form → List ℕ
 heading day Plain = codes "Trial balance " ++ day_text day ++ 10 ∷ []
-heading day Csv = record_text (codes "currency" ∷ codes "account" ∷ codes "debit" ∷ codes "credit" ∷ [])
+heading day Csv = csv_record (codes "currency") (codes "account") (codes "debit") (codes "credit")
 
 -- The trial balance of a book up to a day, by currencies in the order of their numbers.
 unfoldable pub trial : Book → ℤ → Form → List ℕ

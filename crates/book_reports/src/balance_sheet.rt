@@ -3,22 +3,24 @@ ghost use Rattle.book_reports.specs.Sheet.{csv_figures, csv_parts, heading, part
 ghost use Rattle.book_reports.specs.Sheet.{parts_left_out, unbooked};
 
 use crate::layout::{add_amount_line, add_day, add_printed};
+use crate::lines::{Lines, add_csv_header, add_csv_summary};
 use crate::period::Period;
-use crate::section::{Line, Section, add_csv_header, add_csv_summary, left_out, sum_of};
+use crate::section::Section;
 use crate::{Form, View};
-use book_commodity::{Day, Many, OutOfMemory, Text, amount_text};
+use book_commodity::{Day, OutOfMemory, Text, amount_text};
 use std::alloc::Global;
 
 /// The lines of a balance sheet by its sections.
 #[derive(Drop)]
 struct Parts {
-    assets: Many<Line>,
-    liabilities: Many<Line>,
-    equity: Many<Line>,
-    earnings: Many<Line>,
+    assets: Lines,
+    liabilities: Lines,
+    equity: Lines,
+    earnings: Lines,
 }
 
 /// The balance sheet of a book on a day, in the currency of the book.
+#[tactic(auto, unfolding(crate::specs::Sheet::sheet))]
 pub fn sheet(alloc: Global, view: &View, day: Day, form: Form) -> Result<Text, OutOfMemory>
     ensures { IfOk result (λ text. text ≡ sheet view.now day form) }
 {
@@ -52,17 +54,18 @@ fn add_heading(out: &mut String, view: &View, day: Day) -> Result<(), OutOfMemor
 
 impl Parts {
     /// The lines on a day.
+    #[tactic(auto, unfolding(crate::specs::Sections::lines_of))]
     fn of(alloc: Global, view: &View, day: Day) -> Result<Parts, OutOfMemory>
         ensures { IfOk result (λ parts. parts ≡ parts_of view.now day) }
     {
-        let order = view.plain.accounts.order()?;
+        let order = view.order()?;
         let order = order.as_slice();
-        let period = Period::until(day);
+        let period = &Period::until(day);
         Ok(Parts {
-            assets: Section::Assets.lines(alloc, view, order, period)?,
-            liabilities: Section::Liabilities.lines(alloc, view, order, period)?,
-            equity: Section::Equity.lines(alloc, view, order, period)?,
-            earnings: Section::Earnings.lines(alloc, view, order, period)?,
+            assets: Lines::of(alloc, view, order, period, Section::Assets)?,
+            liabilities: Lines::of(alloc, view, order, period, Section::Liabilities)?,
+            equity: Lines::of(alloc, view, order, period, Section::Equity)?,
+            earnings: Lines::of(alloc, view, order, period, Section::Earnings)?,
         })
     }
 
@@ -70,29 +73,29 @@ impl Parts {
     fn unbooked(&self) -> i128
         ensures { result ≡ unbooked self.now }
     {
-        sum_of(self.assets.as_slice())
-            - sum_of(self.liabilities.as_slice())
-            - sum_of(self.equity.as_slice())
-            - sum_of(self.earnings.as_slice())
+        self.assets.sum()
+            - self.liabilities.sum()
+            - self.equity.sum()
+            - self.earnings.sum()
     }
 
     /// How many accounts are left out of the sums.
     fn left_out(&self) -> usize
         ensures { result ≡ parts_left_out self.now }
     {
-        left_out(self.assets.as_slice())
-            + left_out(self.liabilities.as_slice())
-            + left_out(self.equity.as_slice())
-            + left_out(self.earnings.as_slice())
+        self.assets.left_out()
+            + self.liabilities.left_out()
+            + self.equity.left_out()
+            + self.earnings.left_out()
     }
 
     /// Adds the sections and the figures below them as plain text.
     fn add_plain(&self, alloc: Global, out: &mut String, fraction: u64) -> Result<(), OutOfMemory>
         ensures { OnOk result (string_bytes out.new ≡ string_bytes out.old ++ plain_parts fraction self.now) }
     {
-        Section::Assets.add_plain(alloc, out, fraction, self.assets.as_slice())?;
-        Section::Liabilities.add_plain(alloc, out, fraction, self.liabilities.as_slice())?;
-        Section::Equity.add_plain(alloc, out, fraction, self.equity.as_slice())?;
+        self.assets.add_plain(alloc, out, fraction, Section::Assets)?;
+        self.liabilities.add_plain(alloc, out, fraction, Section::Liabilities)?;
+        self.equity.add_plain(alloc, out, fraction, Section::Equity)?;
         self.add_summary(alloc, out, fraction)
     }
 
@@ -100,7 +103,7 @@ impl Parts {
     fn add_summary(&self, alloc: Global, out: &mut String, fraction: u64) -> Result<(), OutOfMemory>
         ensures { OnOk result (string_bytes out.new ≡ string_bytes out.old ++ plain_summary fraction self.now) }
     {
-        let earnings = amount_text(alloc, sum_of(self.earnings.as_slice()), fraction)?;
+        let earnings = amount_text(alloc, self.earnings.sum(), fraction)?;
         let unbooked = amount_text(alloc, self.unbooked(), fraction)?;
         let left_out = self.left_out();
         add_amount_line(out, earnings.as_str(), Section::Earnings.name())?;
@@ -113,9 +116,9 @@ impl Parts {
     fn add_csv(&self, alloc: Global, out: &mut String, fraction: u64) -> Result<(), OutOfMemory>
         ensures { OnOk result (string_bytes out.new ≡ string_bytes out.old ++ csv_parts fraction self.now) }
     {
-        Section::Assets.add_csv(alloc, out, fraction, self.assets.as_slice())?;
-        Section::Liabilities.add_csv(alloc, out, fraction, self.liabilities.as_slice())?;
-        Section::Equity.add_csv(alloc, out, fraction, self.equity.as_slice())?;
+        self.assets.add_csv(alloc, out, fraction, Section::Assets)?;
+        self.liabilities.add_csv(alloc, out, fraction, Section::Liabilities)?;
+        self.equity.add_csv(alloc, out, fraction, Section::Equity)?;
         self.add_figures(alloc, out, fraction)
     }
 
@@ -123,7 +126,7 @@ impl Parts {
     fn add_figures(&self, alloc: Global, out: &mut String, fraction: u64) -> Result<(), OutOfMemory>
         ensures { OnOk result (string_bytes out.new ≡ string_bytes out.old ++ csv_figures fraction self.now) }
     {
-        let earnings = amount_text(alloc, sum_of(self.earnings.as_slice()), fraction)?;
+        let earnings = amount_text(alloc, self.earnings.sum(), fraction)?;
         let unbooked = amount_text(alloc, self.unbooked(), fraction)?;
         let left_out = self.left_out();
         let left_out = format!(in alloc; "{left_out}")?;

@@ -2,20 +2,22 @@ ghost use Rattle.std.specs.Prelude.{◌≡◌, ◌++◌, IfOk, OnOk, string_byte
 ghost use Rattle.book_reports.specs.Income.{csv_parts, heading, income, net, parts_left_out, parts_of, plain_parts};
 
 use crate::layout::{add_amount_line, add_day, add_printed};
+use crate::lines::{Lines, add_csv_header, add_csv_summary};
 use crate::period::Period;
-use crate::section::{Line, Section, add_csv_header, add_csv_summary, left_out, sum_of};
+use crate::section::Section;
 use crate::{Form, View};
-use book_commodity::{Day, Many, OutOfMemory, Text, amount_text};
+use book_commodity::{Day, OutOfMemory, Text, amount_text};
 use std::alloc::Global;
 
 /// The lines of the report of income and expenses by its sections.
 #[derive(Drop)]
 struct Parts {
-    income: Many<Line>,
-    expenses: Many<Line>,
+    income: Lines,
+    expenses: Lines,
 }
 
 /// The report of income and expenses of a book from one day to another, in the currency of the book.
+#[tactic(auto, unfolding(crate::specs::Income::income))]
 pub fn income(
     alloc: Global,
     view: &View,
@@ -25,7 +27,7 @@ pub fn income(
 ) -> Result<Text, OutOfMemory>
     ensures { IfOk result (λ text. text ≡ income view.now from to form) }
 {
-    let parts = Parts::of(alloc, view, Period::between(from, to))?;
+    let parts = Parts::of(alloc, view, &Period::between(from, to))?;
     let fraction = view.fraction(view.plain.currency);
     let mut out = String::new(alloc);
     match form {
@@ -57,14 +59,15 @@ fn add_heading(out: &mut String, view: &View, from: Day, to: Day) -> Result<(), 
 
 impl Parts {
     /// The lines over a period.
-    fn of(alloc: Global, view: &View, period: Period) -> Result<Parts, OutOfMemory>
-        ensures { IfOk result (λ parts. parts ≡ parts_of view.now period) }
+    #[tactic(auto, unfolding(crate::specs::Sections::lines_of))]
+    fn of(alloc: Global, view: &View, period: &Period) -> Result<Parts, OutOfMemory>
+        ensures { IfOk result (λ parts. parts ≡ parts_of view.now period.now) }
     {
-        let order = view.plain.accounts.order()?;
+        let order = view.order()?;
         let order = order.as_slice();
         Ok(Parts {
-            income: Section::Income.lines(alloc, view, order, period)?,
-            expenses: Section::Expenses.lines(alloc, view, order, period)?,
+            income: Lines::of(alloc, view, order, period, Section::Income)?,
+            expenses: Lines::of(alloc, view, order, period, Section::Expenses)?,
         })
     }
 
@@ -72,22 +75,22 @@ impl Parts {
     fn net(&self) -> i128
         ensures { result ≡ net self.now }
     {
-        sum_of(self.income.as_slice()) - sum_of(self.expenses.as_slice())
+        self.income.sum() - self.expenses.sum()
     }
 
     /// How many accounts are left out of the sums.
     fn left_out(&self) -> usize
         ensures { result ≡ parts_left_out self.now }
     {
-        left_out(self.income.as_slice()) + left_out(self.expenses.as_slice())
+        self.income.left_out() + self.expenses.left_out()
     }
 
     /// Adds the sections and the figures below them as plain text.
     fn add_plain(&self, alloc: Global, out: &mut String, fraction: u64) -> Result<(), OutOfMemory>
         ensures { OnOk result (string_bytes out.new ≡ string_bytes out.old ++ plain_parts fraction self.now) }
     {
-        Section::Income.add_plain(alloc, out, fraction, self.income.as_slice())?;
-        Section::Expenses.add_plain(alloc, out, fraction, self.expenses.as_slice())?;
+        self.income.add_plain(alloc, out, fraction, Section::Income)?;
+        self.expenses.add_plain(alloc, out, fraction, Section::Expenses)?;
         let net = amount_text(alloc, self.net(), fraction)?;
         let left_out = self.left_out();
         add_amount_line(out, net.as_str(), "Net")?;
@@ -99,8 +102,8 @@ impl Parts {
     fn add_csv(&self, alloc: Global, out: &mut String, fraction: u64) -> Result<(), OutOfMemory>
         ensures { OnOk result (string_bytes out.new ≡ string_bytes out.old ++ csv_parts fraction self.now) }
     {
-        Section::Income.add_csv(alloc, out, fraction, self.income.as_slice())?;
-        Section::Expenses.add_csv(alloc, out, fraction, self.expenses.as_slice())?;
+        self.income.add_csv(alloc, out, fraction, Section::Income)?;
+        self.expenses.add_csv(alloc, out, fraction, Section::Expenses)?;
         let net = amount_text(alloc, self.net(), fraction)?;
         let left_out = self.left_out();
         let left_out = format!(in alloc; "{left_out}")?;

@@ -1,4 +1,4 @@
-ghost use Rattle.std.specs.Prelude.{◌≡◌, ◌∷◌, [], ◌++◌, IfOk, OnOk, map, replicate, string_bytes};
+ghost use Rattle.std.specs.Prelude.{◌≡◌, ◌∷◌, [], ◌++◌, IfOk, OnOk, if◌then◌else◌, map, nat_lt, string_bytes};
 ghost use Rattle.book_commodity.specs.Amount.{amount_text};
 ghost use Rattle.book_commodity.specs.Day.{day_text};
 ghost use Rattle.book_reports.specs.Layout.{amount_line, printed, record_text, right};
@@ -12,16 +12,24 @@ pub(crate) fn add_printed(out: &mut String, text: &str) -> Result<(), AllocError
     ensures { OnOk result (string_bytes out.new ≡ string_bytes out.old ++ printed text.now) }
 {
     for letter in text.chars() {
-        out.push(if letter < ' ' { ' ' } else { letter })?;
+        out.push(printed_letter(letter))?;
     }
     Ok(())
 }
 
+/// A character as it is printed: a control character below U+0020 as a space.
+fn printed_letter(letter: char) -> char
+    ensures { result ≡ (if nat_lt letter 32 then 32 else letter) }
+{
+    if letter < ' ' { ' ' } else { letter }
+}
+
 /// Adds a text at the right end of so many places.
+#[tactic(auto, unfolding(crate::specs::Layout::right))]
 pub(crate) fn add_right(out: &mut String, places: usize, text: &str) -> Result<(), AllocError>
     ensures { OnOk result (string_bytes out.new ≡ string_bytes out.old ++ right places text.now) }
 {
-    for _ in 0..places.saturating_sub(text.len()) {
+    for _place in 0..places.saturating_sub(text.len()) {
         out.push(' ')?;
     }
     out.push_str(text)
@@ -31,13 +39,15 @@ pub(crate) fn add_right(out: &mut String, places: usize, text: &str) -> Result<(
 pub(crate) fn add_day(out: &mut String, day: Day) -> Result<(), AllocError>
     ensures { OnOk result (string_bytes out.new ≡ string_bytes out.old ++ day_text day) }
 {
-    for byte in &day.text() {
+    let text = day.text();
+    for byte in &text {
         out.push(*byte as char)?;
     }
     Ok(())
 }
 
 /// Adds the line of an amount in 24 places and what it is of.
+#[tactic(auto, unfolding(crate::specs::Layout::amount_line))]
 pub(crate) fn add_amount_line(
     out: &mut String,
     amount: &str,

@@ -7,6 +7,7 @@ mod balance_sheet;
 mod form;
 mod income_report;
 mod layout;
+mod lines;
 mod period;
 mod register_report;
 mod section;

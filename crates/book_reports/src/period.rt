@@ -34,8 +34,8 @@ impl Period {
     }
 
     /// Whether a day lies in the period.
-    pub(crate) fn holds(self, day: Day) -> bool
-        ensures { result ≡ is_in self day }
+    pub(crate) fn holds(&self, day: Day) -> bool
+        ensures { result ≡ is_in self.now day }
     {
         match self.from {
             Some(first) if first > day => false,
@@ -44,8 +44,8 @@ impl Period {
     }
 
     /// The sum of the quantities of the rows in the period.
-    pub(crate) fn sum_in(self, register: &Register) -> i128
-        ensures { result ≡ balance (rows_in self register.now.rows) }
+    pub(crate) fn sum_in(&self, register: &Register) -> i128
+        ensures { result ≡ balance (rows_in self.now register.now.rows) }
     {
         match self.from {
             None => register.balances_at(self.to, &mut Steps::new()).all,
@@ -54,8 +54,8 @@ impl Period {
     }
 
     /// The same, row by row.
-    fn sum_of_rows(self, register: &Register) -> i128
-        ensures { result ≡ balance (rows_in self register.now.rows) }
+    fn sum_of_rows(&self, register: &Register) -> i128
+        ensures { result ≡ balance (rows_in self.now register.now.rows) }
     {
         let mut steps = Steps::new();
         let mut sum = 0i128;
@@ -69,8 +69,8 @@ impl Period {
     }
 
     /// The sum of the values of the rows in the period that stand in a currency.
-    pub(crate) fn value_in(self, register: &Register, currency: u64) -> i128
-        ensures { result ≡ value_of_rows currency (rows_in self register.now.rows) }
+    pub(crate) fn value_in(&self, register: &Register, currency: u64) -> i128
+        ensures { result ≡ value_of_rows currency (rows_in self.now register.now.rows) }
     {
         let mut steps = Steps::new();
         let mut sum = 0i128;

@@ -1,6 +1,8 @@
 ghost use Rattle.std.specs.Prelude.{◌≡◌, ◌++◌, [], IfOk, IsSome, OnOk, string_bytes};
 ghost use Rattle.book_commodity.specs.Table.{value_of};
-ghost use Rattle.book_reports.specs.RegisterText.{csv_row, description_in, heading, mark_letter, number_in, plain_row};
+ghost use Rattle.book_ledger.specs.Ledger.{register_of};
+ghost use Rattle.book_reports.specs.Measure.{fraction_of};
+ghost use Rattle.book_reports.specs.RegisterText.{commodity_of, csv_record, csv_row, description_in, heading, mark_letter, number_in, plain_row};
 ghost use Rattle.book_reports.specs.RegisterText.{register_text, row_in, rows_after};
 
 use crate::layout::{add_day, add_printed, add_record, add_right};
@@ -11,6 +13,7 @@ use book_register::{Entry, Mark2};
 use std::alloc::Global;
 
 /// The register of an account of a book from one day to another.
+#[tactic(auto, unfolding(crate::specs::RegisterText::register_text))]
 pub fn register_text(
     alloc: Global,
     view: &View,
@@ -25,7 +28,7 @@ pub fn register_text(
     let mut out = String::new(alloc);
     let commodity = view.commodity_of(account);
     add_heading(alloc, &mut out, view, account, commodity, form)?;
-    add_rows(alloc, &mut out, view, account, Period::between(from, to), form)?;
+    add_rows(alloc, &mut out, view, account, &Period::between(from, to), form)?;
     Ok(Text::of(out))
 }
 
@@ -50,10 +53,15 @@ fn add_heading(
             out.push('\n')?;
             Ok(())
         }
-        Form::Csv => add_record(
+        Form::Csv => add_csv_record(
             alloc,
             out,
-            &["day", "mark", "quantity", "balance", "num", "description"],
+            "day",
+            "mark",
+            "quantity",
+            "balance",
+            "num",
+            "description",
         ),
     }
 }
@@ -64,9 +72,13 @@ fn add_rows(
     out: &mut String,
     view: &View,
     account: u64,
-    period: Period,
+    period: &Period,
     form: Form,
 ) -> Result<(), OutOfMemory>
+    requires { IsSome (value_of account view.now.accounts) }
+    ensures { OnOk result (string_bytes out.new ≡ string_bytes out.old
+        ++ rows_after form view.now (fraction_of view.now.commodities (commodity_of view.now account)) period.now []
+        (register_of account view.now.transactions)) }
 {
     let register = view.register(account);
     let fraction = view.fraction(view.commodity_of(account));
@@ -83,6 +95,7 @@ fn add_rows(
 }
 
 /// Adds a row with the balance after it.
+#[tactic(auto, unfolding(crate::specs::RegisterText::row_in))]
 fn add_row(
     alloc: Global,
     out: &mut String,
@@ -143,11 +156,33 @@ fn add_csv_row(
     let number = view.number_of(row.txn);
     let description = view.description_of(row.txn);
     let mark = mark_letter(row.mark);
-    add_record(
+    add_csv_record(
         alloc,
         out,
-        &[day.as_str(), mark, quantity, after, number, description],
+        day.as_str(),
+        mark,
+        quantity,
+        after,
+        number,
+        description,
     )
+}
+
+/// Adds a record of day, mark, quantity, balance, number and description.
+fn add_csv_record<'t>(
+    alloc: Global,
+    out: &mut String,
+    day: &'t str,
+    mark: &'t str,
+    quantity: &'t str,
+    after: &'t str,
+    number: &'t str,
+    description: &'t str,
+) -> Result<(), OutOfMemory>
+    ensures { OnOk result (string_bytes out.new ≡ string_bytes out.old
+        ++ csv_record day.now mark.now quantity.now after.now number.now description.now) }
+{
+    add_record(alloc, out, &[day, mark, quantity, after, number, description])
 }
 
 /// The letter of a mark.

@@ -1,6 +1,8 @@
-ghost use Rattle.std.specs.Prelude.{◌≡◌, ◌++◌, IfOk, OnOk, string_bytes};
+ghost use Rattle.std.specs.Prelude.{◌≡◌, ◌++◌, ◌≤◌, All, IfOk, IsSome, OnOk, length, string_bytes};
+ghost use Rattle.book_accounts.specs.Order.{depth_first};
+ghost use Rattle.book_commodity.specs.Table.{value_of};
 ghost use Rattle.std.specs.List.{filter_map};
-ghost use Rattle.book_reports.specs.Trial.{credits, csv_part, debits, heading, line_of, part_in, part_of, plain_line};
+ghost use Rattle.book_reports.specs.Trial.{credits, csv_part, csv_record, debits, heading, line_of, part_of, plain_line};
 ghost use Rattle.book_reports.specs.Trial.{plain_part, positive, side_text, trial};
 
 use crate::layout::{add_day, add_printed, add_record, add_right};
@@ -8,6 +10,7 @@ use crate::period::Period;
 use crate::{Form, View};
 use book_commodity::{Commodity, Day, Many, OutOfMemory, Text, amount_text};
 use std::alloc::{AllocError, Global};
+use std::marker::Model;
 
 /// A line of a trial balance: the path of an account, and the sum of its values in a currency.
 #[derive(Drop)]
@@ -16,23 +19,67 @@ struct TrialLine {
     sum: i128,
 }
 
+/// The lines of a currency: so few, and of sums so small, that they can be added up.
+#[derive(Drop)]
+struct TrialLines {
+    lines: Many<TrialLine>,
+}
+
+impl Model for TrialLines {
+    ghost use Rattle.std.specs.Prelude.{List};
+    ghost use Rattle.book_reports.specs.Trial.{CanBeAdded};
+    ghost use Rattle.book_reports.specs.declared.trial_balance.TrialLine.{TrialLine};
+
+    ghost Value = { List TrialLine };
+
+    ghost view = { λ l. l.lines };
+
+    ghost invariant = { λ l. CanBeAdded l.lines };
+}
+
 /// The trial balance of a book up to a day.
+#[tactic(auto, unfolding(crate::specs::Trial::trial))]
 pub fn trial(alloc: Global, view: &View, day: Day, form: Form) -> Result<Text, OutOfMemory>
     ensures { IfOk result (λ text. text ≡ trial view.now day form) }
 {
-    let order = view.plain.accounts.order()?;
+    let order = view.order()?;
     let mut out = String::new(alloc);
     add_heading(alloc, &mut out, day, form)?;
     for (number, commodity) in view.plain.commodities.as_slice() {
-        if !commodity.is_currency() {
-            continue;
-        }
-        let lines = lines_of(alloc, view, order.as_slice(), day, *number)?;
-        if lines.len() > 0 {
-            add_part(alloc, &mut out, commodity, lines.as_slice(), form)?;
-        }
+        add_commodity(alloc, &mut out, view, order.as_slice(), day, form, *number, commodity)?;
     }
     Ok(Text::of(out))
+}
+
+/// Adds the part of a commodity, if it is a currency and an account has a line.
+#[tactic(auto, unfolding(crate::specs::Trial::part_of, crate::specs::Trial::lines_of))]
+fn add_commodity(
+    alloc: Global,
+    out: &mut String,
+    view: &View,
+    order: &[u64],
+    day: Day,
+    form: Form,
+    number: u64,
+    commodity: &Commodity,
+) -> Result<(), OutOfMemory>
+    requires order { order.now ≡ depth_first view.now.accounts }
+    requires few { length order.now ≤ 10000 }
+    requires there { All (λ account. IsSome (value_of account view.now.accounts)) order.now }
+    ensures { OnOk result
+        (string_bytes out.new ≡ string_bytes out.old ++ part_of view.now day form (number, commodity.now)) }
+{
+    if !commodity.is_currency() {
+        return Ok(());
+    }
+    let lines = TrialLines::of(alloc, view, order, day, number)?;
+    if lines.len() == 0 {
+        return Ok(());
+    }
+    match form {
+        Form::Plain => lines.add_plain(alloc, out, commodity),
+        Form::Csv => lines.add_csv(alloc, out, commodity),
+    }
 }
 
 /// Adds the heading: the day, or the names of the fields.
@@ -51,91 +98,140 @@ fn add_heading(
             out.push('\n')?;
             Ok(())
         }
-        Form::Csv => add_record(alloc, out, &["currency", "account", "debit", "credit"]),
+        Form::Csv => add_csv_record(alloc, out, "currency", "account", "debit", "credit"),
     }
 }
 
-/// The lines of a currency, in the order of the accounts that is given.
-fn lines_of(
-    alloc: Global,
-    view: &View,
-    order: &[u64],
-    day: Day,
-    currency: u64,
-) -> Result<Many<TrialLine>, OutOfMemory>
-    ensures { IfOk result (λ lines. lines ≡ filter_map (line_of view.now day currency) order.now) }
-{
-    let mut lines = Many::new(alloc);
-    for number in order {
-        let sum = view.value(*number, Period::until(day), currency);
-        if sum != 0 {
-            let path = view.plain.accounts.path_of(*number)?;
-            lines.push(TrialLine { path, sum })?;
+impl TrialLines {
+    /// The lines of a currency, in the order of the accounts that is given.
+    fn of(
+        alloc: Global,
+        view: &View,
+        order: &[u64],
+        day: Day,
+        currency: u64,
+    ) -> Result<TrialLines, OutOfMemory>
+        requires few { length order.now ≤ 10000 }
+        requires there { All (λ account. IsSome (value_of account view.now.accounts)) order.now }
+        ensures { IfOk result (λ lines. lines ≡ filter_map (line_of view.now day currency) order.now) }
+    {
+        let period = Period::until(day);
+        let mut lines = Many::new(alloc);
+        for number in order {
+            let sum = view.value(*number, &period, currency);
+            if sum != 0 {
+                let path = view.plain.accounts.path_of(*number)?;
+                lines.push(TrialLine { path, sum })?;
+            }
         }
+        Ok(TrialLines { lines })
     }
-    Ok(lines)
+
+    /// How many lines there are.
+    fn len(&self) -> usize
+        ensures { result ≡ length self.now }
+    {
+        self.lines.len()
+    }
+
+    /// The sum of the debits.
+    #[tactic(auto, unfolding(crate::specs::Trial::debits))]
+    fn debits(&self) -> i128
+        ensures { result ≡ debits self.now }
+    {
+        let mut sum = 0i128;
+        for line in self.lines.as_slice() {
+            sum += positive(line.sum);
+        }
+        sum
+    }
+
+    /// The sum of the credits, without their sign.
+    #[tactic(auto, unfolding(crate::specs::Trial::credits))]
+    fn credits(&self) -> i128
+        ensures { result ≡ credits self.now }
+    {
+        let mut sum = 0i128;
+        for line in self.lines.as_slice() {
+            sum += positive(-line.sum);
+        }
+        sum
+    }
+
+    /// Adds the part of a currency as plain text: its name, its lines, and the sums of both sides.
+    fn add_plain(
+        &self,
+        alloc: Global,
+        out: &mut String,
+        currency: &Commodity,
+    ) -> Result<(), OutOfMemory>
+        ensures { OnOk result (string_bytes out.new ≡ string_bytes out.old ++ plain_part currency.now self.now) }
+    {
+        add_printed(out, currency.name.as_str())?;
+        out.push('\n')?;
+        for line in self.lines.as_slice() {
+            let debit = side_text(alloc, line.sum, currency.fraction)?;
+            let credit = side_text(alloc, -line.sum, currency.fraction)?;
+            add_line(out, debit.as_str(), credit.as_str(), line.path.as_str())?;
+        }
+        let debits = amount_text(alloc, self.debits(), currency.fraction)?;
+        let credits = amount_text(alloc, self.credits(), currency.fraction)?;
+        add_line(out, debits.as_str(), credits.as_str(), "Total")?;
+        Ok(())
+    }
+
+    /// Adds the part of a currency as comma-separated values.
+    fn add_csv(
+        &self,
+        alloc: Global,
+        out: &mut String,
+        currency: &Commodity,
+    ) -> Result<(), OutOfMemory>
+        ensures { OnOk result (string_bytes out.new ≡ string_bytes out.old ++ csv_part currency.now self.now) }
+    {
+        let name = currency.name.as_str();
+        for line in self.lines.as_slice() {
+            let debit = side_text(alloc, line.sum, currency.fraction)?;
+            let credit = side_text(alloc, -line.sum, currency.fraction)?;
+            add_csv_record(
+                alloc,
+                out,
+                name,
+                line.path.as_str(),
+                debit.as_str(),
+                credit.as_str(),
+            )?;
+        }
+        let debits = amount_text(alloc, self.debits(), currency.fraction)?;
+        let credits = amount_text(alloc, self.credits(), currency.fraction)?;
+        add_csv_record(alloc, out, name, "Total", debits.as_str(), credits.as_str())
+    }
 }
 
-/// Adds the part of a currency.
-fn add_part(
-    alloc: Global,
-    out: &mut String,
-    currency: &Commodity,
-    lines: &[TrialLine],
-    form: Form,
-) -> Result<(), OutOfMemory>
-    ensures { OnOk result (string_bytes out.new ≡ string_bytes out.old ++ part_in form currency.now lines.now) }
+/// The part of a sum that is positive, and nothing of a negative one.
+fn positive(sum: i128) -> i128
+    ensures { result ≡ positive sum }
 {
-    match form {
-        Form::Plain => add_plain_part(alloc, out, currency, lines),
-        Form::Csv => add_csv_part(alloc, out, currency, lines),
-    }
+    if sum > 0 { sum } else { 0 }
 }
 
-/// Adds the part of a currency as plain text: its name, its lines, and the sums of both sides.
-fn add_plain_part(
+/// Adds a record of a currency, an account, a debit and a credit.
+fn add_csv_record<'t>(
     alloc: Global,
     out: &mut String,
-    currency: &Commodity,
-    lines: &[TrialLine],
+    currency: &'t str,
+    account: &'t str,
+    debit: &'t str,
+    credit: &'t str,
 ) -> Result<(), OutOfMemory>
-    ensures { OnOk result (string_bytes out.new ≡ string_bytes out.old ++ plain_part currency.now lines.now) }
+    ensures { OnOk result
+        (string_bytes out.new ≡ string_bytes out.old ++ csv_record currency.now account.now debit.now credit.now) }
 {
-    add_printed(out, currency.name.as_str())?;
-    out.push('\n')?;
-    for line in lines {
-        let debit = side_text(alloc, line.sum, currency.fraction)?;
-        let credit = side_text(alloc, -line.sum, currency.fraction)?;
-        add_line(out, debit.as_str(), credit.as_str(), line.path.as_str())?;
-    }
-    let debits = amount_text(alloc, debits(lines), currency.fraction)?;
-    let credits = amount_text(alloc, credits(lines), currency.fraction)?;
-    add_line(out, debits.as_str(), credits.as_str(), "Total")?;
-    Ok(())
-}
-
-/// Adds the part of a currency as comma-separated values.
-fn add_csv_part(
-    alloc: Global,
-    out: &mut String,
-    currency: &Commodity,
-    lines: &[TrialLine],
-) -> Result<(), OutOfMemory>
-    ensures { OnOk result (string_bytes out.new ≡ string_bytes out.old ++ csv_part currency.now lines.now) }
-{
-    let name = currency.name.as_str();
-    for line in lines {
-        let debit = side_text(alloc, line.sum, currency.fraction)?;
-        let credit = side_text(alloc, -line.sum, currency.fraction)?;
-        let fields = [name, line.path.as_str(), debit.as_str(), credit.as_str()];
-        add_record(alloc, out, &fields)?;
-    }
-    let debits = amount_text(alloc, debits(lines), currency.fraction)?;
-    let credits = amount_text(alloc, credits(lines), currency.fraction)?;
-    add_record(alloc, out, &[name, "Total", debits.as_str(), credits.as_str()])
+    add_record(alloc, out, &[currency, account, debit, credit])
 }
 
 /// Adds a line of debit, credit and what they are of.
+#[tactic(auto, unfolding(crate::specs::Trial::plain_line))]
 fn add_line(out: &mut String, debit: &str, credit: &str, name: &str) -> Result<(), AllocError>
     ensures { OnOk result
         (string_bytes out.new ≡ string_bytes out.old ++ plain_line debit.now credit.now name.now) }
@@ -148,6 +244,7 @@ fn add_line(out: &mut String, debit: &str, credit: &str, name: &str) -> Result<(
 }
 
 /// The text of an amount on its side; blank where it isn't positive.
+#[tactic(auto, unfolding(crate::specs::Trial::side_text))]
 fn side_text(alloc: Global, sum: i128, fraction: u64) -> Result<Text, OutOfMemory>
     ensures { IfOk result (λ text. text ≡ side_text fraction sum) }
 {
@@ -155,26 +252,4 @@ fn side_text(alloc: Global, sum: i128, fraction: u64) -> Result<Text, OutOfMemor
         return amount_text(alloc, sum, fraction);
     }
     Ok(Text::new(alloc))
-}
-
-/// The sum of the debits.
-fn debits(lines: &[TrialLine]) -> i128
-    ensures { result ≡ debits lines.now }
-{
-    let mut sum = 0;
-    for line in lines {
-        sum += line.sum.max(0);
-    }
-    sum
-}
-
-/// The sum of the credits, without their sign.
-fn credits(lines: &[TrialLine]) -> i128
-    ensures { result ≡ credits lines.now }
-{
-    let mut sum = 0;
-    for line in lines {
-        sum += (-line.sum).max(0);
-    }
-    sum
 }

@@ -1,15 +1,16 @@
-ghost use Rattle.std.specs.Prelude.{◌≡◌, ◌≤◌, ◌^◌, IfSome, IsSome, Some, length, unsigned_abs};
+ghost use Rattle.std.specs.Prelude.{◌≡◌, ◌≤◌, ◌^◌, All, IfOk, IsSome, length, unsigned_abs};
 ghost use Rattle.std.specs.Int.{IsInRange};
+ghost use Rattle.book_accounts.specs.Order.{depth_first};
 ghost use Rattle.book_commodity.specs.Table.{value_of};
 ghost use Rattle.book_ledger.specs.Ledger.{Keeps, register_of};
-ghost use Rattle.book_prices.specs.declared.valuation.Valuation.TheVariants.{Amount};
+ghost use Rattle.book_reports.specs.Sections.{amount_in};
 ghost use Rattle.book_reports.specs.Measure.{fraction_of, name_of, sum_in, value_in, worth};
 ghost use Rattle.book_reports.specs.RegisterText.{commodity_of, description_in, number_in};
 ghost use Rattle.book_sound.specs.Soundness.{IsSoundBook};
 ghost use Rattle.book_undo.specs.Book.{book_of};
 
 use crate::period::Period;
-use book_commodity::Day;
+use book_commodity::{Day, Many, OutOfMemory};
 use book_ledger::Registers;
 use book_prices::{Valuation, worth};
 use book_register::Register;
@@ -44,6 +45,15 @@ impl<'a> View<'a> {
         ensures { result ≡ book_of plain.now }
     {
         View { plain, registers }
+    }
+
+    /// The numbers of the accounts, in the order of their tree.
+    pub(crate) fn order(&self) -> Result<Many<u64>, OutOfMemory>
+        ensures order { IfOk result (λ order. order ≡ depth_first self.now.accounts) }
+        ensures few { IfOk result (λ order. length order ≤ 10000) }
+        ensures there { IfOk result (All (λ account. IsSome (value_of account self.now.accounts))) }
+    {
+        self.plain.accounts.order()
     }
 
     /// How many smallest units make one unit of a commodity.
@@ -109,18 +119,20 @@ impl<'a> View<'a> {
     }
 
     /// What an account changes by in a period.
-    pub(crate) fn sum(&self, account: u64, period: Period) -> i128
+    #[tactic(auto, using(crate::proofs::RowLemmas::sums_are_small), unfolding(crate::specs::Measure::sum_in))]
+    pub(crate) fn sum(&self, account: u64, period: &Period) -> i128
         requires { IsSome (value_of account self.now.accounts) }
-        ensures sum { result ≡ sum_in self.now period account }
+        ensures sum { result ≡ sum_in self.now period.now account }
         ensures small { unsigned_abs result ≤ 10 ^ 18 }
     {
         period.sum_in(self.register(account))
     }
 
     /// The same in one currency of transactions.
-    pub(crate) fn value(&self, account: u64, period: Period, currency: u64) -> i128
+    #[tactic(auto, using(crate::proofs::RowLemmas::values_are_small), unfolding(crate::specs::Measure::value_in))]
+    pub(crate) fn value(&self, account: u64, period: &Period, currency: u64) -> i128
         requires { IsSome (value_of account self.now.accounts) }
-        ensures sum { result ≡ value_in self.now period currency account }
+        ensures sum { result ≡ value_in self.now period.now currency account }
         ensures small { unsigned_abs result ≤ 10 ^ 18 }
     {
         period.value_in(self.register(account), currency)
@@ -129,7 +141,8 @@ impl<'a> View<'a> {
     /// What an amount of a commodity is worth on a day in the currency of the book.
     pub(crate) fn worth(&self, day: Day, commodity: u64, amount: i128) -> Valuation
         requires { unsigned_abs amount ≤ 10 ^ 19 }
-        ensures { result ≡ worth self.now day commodity amount }
+        ensures worth { result ≡ worth self.now day commodity amount }
+        ensures small { unsigned_abs (amount_in result) ≤ 10 ^ 30 }
     {
         let currency = self.plain.currency;
         let rate = self.plain.prices.price_at(commodity, currency, day);

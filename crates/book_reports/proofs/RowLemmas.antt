@@ -1,0 +1,162 @@
+-- The rows of the registers of a sound book are few, and their amounts small; and so are sums of them.
+use Rattle.std.proofs.Common.{◌≡◌, ℕ, ◌+◌, ◌*◌, ◌^◌, ◌≤◌, ◌==◌, ℤ, pos, negsuc, ◌+ℤ◌, unsigned_abs, Bool, true, false}
+use Rattle.std.proofs.Common.{not, if◌then◌else◌, List, [], ◌∷◌, ◌++◌, All, length, map, filter, refl, sym, ap, subst}
+use Rattle.std.proofs.Common.{◌∙◌, arith}
+use Rattle.std.proofs.lemmas.Int.{ints}
+use Rattle.std.proofs.lemmas.List.{length-append, length-map}
+use Rattle.std.proofs.lemmas.List.Elements.{All-append, All-cons, All-filter, All-head, All-map, All-nil, All-tail, All-weaker}
+use Rattle.std.proofs.lemmas.List.Filters.{length-filter_both}
+use Rattle.book_commodity.proofs.ListLemmas.{all_back, all_front}
+use Rattle.book_ledger.specs.Ledger.{register_of, row_of, rows_from, rows_on, sorted, with_row}
+use Rattle.book_register.specs.Register.{balance, key_of, precedes}
+use Rattle.book_register.specs.declared.entry.Entry.{Entry}
+use Rattle.book_sound.proofs.SoundFacts.{IsAtMost, amounts_are_small, sum_is_small}
+use Rattle.book_sound.specs.Soundness.{IsSoundBook}
+use Rattle.book_splits.specs.Balance.{splits_of, total}
+use Rattle.book_splits.specs.Check.{HasAmounts}
+use Rattle.book_splits.specs.declared.split.Split.{Split}
+use Rattle.book_splits.specs.declared.transaction.Txn.{Txn}
+use Rattle.book_undo.specs.Book.{Book}
+use Rattle.book_reports.specs.Measure.{rows_in, sum_in, value_in, value_of_rows}
+use Rattle.book_reports.specs.declared.period.Period.{Period}
+
+-- Amounts of a row that are within the limit.
+abbrev pub IsSmallRow : Entry → Type 0
+IsSmallRow row = (unsigned_abs row.value ≤ 10 ^ 12) × (unsigned_abs row.quantity ≤ 10 ^ 12)
+
+-- ---- small
+
+small_from :
+    (account number : ℕ) (t : Txn) (place : ℕ) (splits : List Split) → All HasAmounts splits
+    → All IsSmallRow (rows_from account number t place splits)
+small_from account number t place [] all = All-nil IsSmallRow
+small_from account number t place (split ∷ more) all =
+    let row = row_of number t place split in
+    let later = rows_from account number t (place + 1) more in
+    let rest = small_from account number t (place + 1) more (All-tail HasAmounts split more all) in
+    elim (split.account == account) as (λ b. All IsSmallRow (if b then row ∷ later else later)) [
+      | true ↦ All-cons IsSmallRow row later (All-head HasAmounts split more all) rest
+      | false ↦ rest
+    ]
+
+small_on : (account : ℕ) (ts : List (ℕ × Txn)) → All HasAmounts (splits_of ts) → All IsSmallRow (rows_on account ts)
+small_on account [] all = All-nil IsSmallRow
+small_on account (e ∷ es) all =
+    All-append IsSmallRow (rows_from account e.0 e.1 0 e.1.splits) (rows_on account es)
+    (small_from account e.0 e.1 0 e.1.splits (all_front HasAmounts e.1.splits (splits_of es) all))
+    (small_on account es (all_back HasAmounts e.1.splits (splits_of es) all))
+
+small_with : (row : Entry) (rows : List Entry) → IsSmallRow row → All IsSmallRow rows → All IsSmallRow (with_row row rows)
+small_with row [] small all = All-cons IsSmallRow row [] small all
+small_with row (first ∷ more) small all =
+    elim (precedes (key_of first) (key_of row)) as
+    (λ b. All IsSmallRow (if b then first ∷ with_row row more else row ∷ first ∷ more)) [
+      | true ↦ All-cons IsSmallRow first (with_row row more) (All-head IsSmallRow first more all)
+        (small_with row more small (All-tail IsSmallRow first more all))
+      | false ↦ All-cons IsSmallRow row (first ∷ more) small all
+    ]
+
+small_sorted : (rows : List Entry) → All IsSmallRow rows → All IsSmallRow (sorted rows)
+small_sorted [] all = all
+small_sorted (row ∷ more) all =
+    small_with row (sorted more) (All-head IsSmallRow row more all)
+    (small_sorted more (All-tail IsSmallRow row more all))
+
+pub rows_are_small :
+    (book : Book) (account : ℕ) → IsSoundBook book → All IsSmallRow (register_of account book.transactions)
+rows_are_small book account is =
+    small_sorted (rows_on account book.transactions)
+    (small_on account book.transactions (amounts_are_small book is))
+
+-- ---- few
+
+few_from :
+    (account number : ℕ) (t : Txn) (place : ℕ) (splits : List Split)
+    → length (rows_from account number t place splits) ≤ length splits
+few_from account number t place [] = omega arith
+few_from account number t place (split ∷ more) =
+    let row = row_of number t place split in
+    let later = rows_from account number t (place + 1) more in
+    let rest = few_from account number t (place + 1) more in
+    elim (split.account == account) as (λ b. length (if b then row ∷ later else later) ≤ length more + 1) [
+      | true ↦ omega (arith, rest)
+      | false ↦ omega (arith, rest)
+    ]
+
+few_on : (account : ℕ) (ts : List (ℕ × Txn)) → length (rows_on account ts) ≤ length (splits_of ts)
+few_on account [] = omega arith
+few_on account (e ∷ es) =
+    omega (arith, length-append (rows_from account e.0 e.1 0 e.1.splits) (rows_on account es),
+    length-append e.1.splits (splits_of es), few_from account e.0 e.1 0 e.1.splits, few_on account es)
+
+length-with : (row : Entry) (rows : List Entry) → length (with_row row rows) ≡ length rows + 1
+length-with row [] = refl
+length-with row (first ∷ more) =
+    elim (precedes (key_of first) (key_of row)) as
+    (λ b. length (if b then first ∷ with_row row more else row ∷ first ∷ more) ≡ length more + 1 + 1) [
+      | true ↦ omega (arith, length-with row more)
+      | false ↦ omega arith
+    ]
+
+length-sorted : (rows : List Entry) → length (sorted rows) ≡ length rows
+length-sorted [] = refl
+length-sorted (row ∷ more) = omega (arith, length-with row (sorted more), length-sorted more)
+
+pub rows_are_few :
+    (book : Book) (account : ℕ) → IsSoundBook book → length (register_of account book.transactions) ≤ 1000000
+rows_are_few book account is =
+    omega (arith, length-sorted (rows_on account book.transactions), few_on account book.transactions, is.few_splits)
+
+-- ---- sums
+
+size_at_most : (most : ℕ) (amount : ℤ) → IsAtMost most amount → unsigned_abs amount ≤ most
+size_at_most most (pos n) is = omega (arith, ints, is.0, is.1)
+size_at_most most (negsuc n) is = omega (arith, ints, is.0, is.1)
+
+pub balance_total : (rows : List Entry) → balance rows ≡ total (map (λ (r : Entry). r.quantity) rows)
+balance_total [] = refl
+balance_total (row ∷ rows) = ap (λ z. row.quantity +ℤ z) (balance_total rows)
+
+fewer : (test : Entry → Bool) (rows : List Entry) → length (filter test rows) ≤ length rows
+fewer test rows = omega (arith, length-filter_both test (λ r. not (test r)) (λ r. refl) rows)
+
+
+-- a sum of amounts of so few rows is small
+pub sum_of_few :
+    (amount : Entry → ℤ) (rows : List Entry) → ((r : Entry) → IsSmallRow r → unsigned_abs (amount r) ≤ 10 ^ 12)
+    → All IsSmallRow rows → length rows ≤ 1000000 → unsigned_abs (total (map amount rows)) ≤ 10 ^ 18
+sum_of_few amount rows each all few =
+    let amounts = All-map (λ (a : ℤ). unsigned_abs a ≤ 10 ^ 12) amount rows
+    (All-weaker IsSmallRow (λ (r : Entry). unsigned_abs (amount r) ≤ 10 ^ 12) each rows all) in
+    let sum = sum_is_small (map amount rows) amounts in
+    let same : length (map amount rows) ≡ length rows = length-map rows amount in
+    size_at_most (10 ^ 18) (total (map amount rows))
+    (omega (arith, ints, sum.0, same, few), omega (arith, ints, sum.1, same, few))
+
+-- what an account changes by in a period is small
+pub sums_are_small :
+    (book : Book) (period : Period) (account : ℕ) → IsSoundBook book
+    → unsigned_abs (sum_in book period account) ≤ 10 ^ 18
+unfolding sum_in
+sums_are_small book period account is =
+    let rows = register_of account book.transactions in
+    let all = rows_are_small book account is in
+    let few = rows_are_few book account is in
+    let picked = rows_in period rows in
+    subst (λ z. unsigned_abs z ≤ 10 ^ 18) (sym (balance_total picked))
+    (sum_of_few (λ (r : Entry). r.quantity) picked (λ r small. small.1) (All-filter _ IsSmallRow rows all)
+    (omega (arith, fewer _ rows, few)))
+
+-- and in one currency of transactions
+pub values_are_small :
+    (book : Book) (period : Period) (currency account : ℕ) → IsSoundBook book
+    → unsigned_abs (value_in book period currency account) ≤ 10 ^ 18
+unfolding value_in
+values_are_small book period currency account is =
+    let rows = register_of account book.transactions in
+    let all = rows_are_small book account is in
+    let few = rows_are_few book account is in
+    let picked = rows_in period rows in
+    sum_of_few (λ (r : Entry). r.value) (filter (λ (r : Entry). r.currency == currency) picked) (λ r small. small.0)
+    (All-filter _ IsSmallRow picked (All-filter _ IsSmallRow rows all))
+    (omega (arith, fewer (λ (r : Entry). r.currency == currency) picked, fewer _ rows, few))
