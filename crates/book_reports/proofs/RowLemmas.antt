@@ -1,12 +1,12 @@
 -- The rows of the registers of a sound book are few, and their amounts small; and so are sums of them.
 use Rattle.std.proofs.Common.{◌≡◌, ℕ, ◌+◌, ◌*◌, ◌^◌, ◌≤◌, ◌==◌, ℤ, pos, negsuc, ◌+ℤ◌, unsigned_abs, Bool, true, false}
 use Rattle.std.proofs.Common.{not, if◌then◌else◌, List, [], ◌∷◌, ◌++◌, All, length, map, filter, refl, sym, ap, subst}
-use Rattle.std.proofs.Common.{◌∙◌, arith}
+use Rattle.std.proofs.Common.{◌∙◌, zero, suc, add-one, take, drop, slice_get, Some, arith}
 use Rattle.std.proofs.lemmas.Int.{ints}
-use Rattle.std.proofs.lemmas.List.{length-append, length-map}
-use Rattle.std.proofs.lemmas.List.Elements.{All-append, All-cons, All-filter, All-head, All-map, All-nil, All-tail, All-weaker}
+use Rattle.std.proofs.lemmas.List.{length-append, length-map, length-take}
+use Rattle.std.proofs.lemmas.List.Elements.{All-append, All-cons, All-filter, All-head, All-map, All-nil, All-tail, All-take, All-weaker}
 use Rattle.std.proofs.lemmas.List.Filters.{length-filter_both}
-use Rattle.book_commodity.proofs.ListLemmas.{all_back, all_front}
+use Rattle.book_commodity.proofs.ListLemmas.{all_back, all_front, drop_at}
 use Rattle.book_ledger.specs.Ledger.{register_of, row_of, rows_from, rows_on, sorted, with_row}
 use Rattle.book_register.specs.Register.{balance, key_of, precedes}
 use Rattle.book_register.specs.declared.entry.Entry.{Entry}
@@ -17,7 +17,9 @@ use Rattle.book_splits.specs.Check.{HasAmounts}
 use Rattle.book_splits.specs.declared.split.Split.{Split}
 use Rattle.book_splits.specs.declared.transaction.Txn.{Txn}
 use Rattle.book_undo.specs.Book.{Book}
-use Rattle.book_reports.specs.Measure.{rows_in, sum_in, value_in, value_of_rows}
+use Rattle.book_reports.specs.Measure.{is_in, rows_in, sum_in, value_in}
+use Rattle.book_reports.specs.RegisterText.{row_in, rows_after}
+use Rattle.book_reports.specs.declared.form.Form.{Form}
 use Rattle.book_reports.specs.declared.period.Period.{Period}
 
 -- Amounts of a row that are within the limit.
@@ -78,7 +80,7 @@ few_from account number t place (split ∷ more) =
     let row = row_of number t place split in
     let later = rows_from account number t (place + 1) more in
     let rest = few_from account number t (place + 1) more in
-    elim (split.account == account) as (λ b. length (if b then row ∷ later else later) ≤ length more + 1) [
+    elim (split.account == account) as (λ b. length (if b then row ∷ later else later) ≤ suc (length more)) [
       | true ↦ omega (arith, rest)
       | false ↦ omega (arith, rest)
     ]
@@ -93,7 +95,7 @@ length-with : (row : Entry) (rows : List Entry) → length (with_row row rows) �
 length-with row [] = refl
 length-with row (first ∷ more) =
     elim (precedes (key_of first) (key_of row)) as
-    (λ b. length (if b then first ∷ with_row row more else row ∷ first ∷ more) ≡ length more + 1 + 1) [
+    (λ b. length (if b then first ∷ with_row row more else row ∷ first ∷ more) ≡ suc (length more) + 1) [
       | true ↦ omega (arith, length-with row more)
       | false ↦ omega arith
     ]
@@ -142,10 +144,11 @@ sums_are_small book period account is =
     let rows = register_of account book.transactions in
     let all = rows_are_small book account is in
     let few = rows_are_few book account is in
+    let test = λ (r : Entry). is_in period r.day in
     let picked = rows_in period rows in
     subst (λ z. unsigned_abs z ≤ 10 ^ 18) (sym (balance_total picked))
-    (sum_of_few (λ (r : Entry). r.quantity) picked (λ r small. small.1) (All-filter _ IsSmallRow rows all)
-    (omega (arith, fewer _ rows, few)))
+    (sum_of_few (λ (r : Entry). r.quantity) picked (λ r small. small.1) (All-filter test IsSmallRow rows all)
+    (omega (arith, fewer test rows, few)))
 
 -- and in one currency of transactions
 pub values_are_small :
@@ -156,7 +159,53 @@ values_are_small book period currency account is =
     let rows = register_of account book.transactions in
     let all = rows_are_small book account is in
     let few = rows_are_few book account is in
+    let test = λ (r : Entry). is_in period r.day in
+    let same = λ (r : Entry). r.currency == currency in
     let picked = rows_in period rows in
-    sum_of_few (λ (r : Entry). r.value) (filter (λ (r : Entry). r.currency == currency) picked) (λ r small. small.0)
-    (All-filter _ IsSmallRow picked (All-filter _ IsSmallRow rows all))
-    (omega (arith, fewer (λ (r : Entry). r.currency == currency) picked, fewer _ rows, few))
+    sum_of_few (λ (r : Entry). r.value) (filter same picked) (λ r small. small.0)
+    (All-filter same IsSmallRow picked (All-filter test IsSmallRow rows all))
+    (omega (arith, fewer same picked, fewer test rows, few))
+
+-- ---- rows one after another
+
+pub balance_push : (rows : List Entry) (row : Entry) → balance (rows ++ row ∷ []) ≡ balance rows +ℤ row.quantity
+balance_push [] row = omega (arith, ints)
+balance_push (first ∷ rows) row = omega (arith, ints, balance_push rows row)
+
+push_suc : (rows : List Entry) (i : ℕ) (row : Entry) → slice_get rows i ≡ Some row → take i rows ++ row ∷ [] ≡ take (suc i) rows
+push_suc [] i row there = absurd cc
+push_suc (first ∷ rows) zero row there = let same : first ≡ row = cc in ap (λ (r : Entry). r ∷ []) (sym same)
+push_suc (first ∷ rows) (suc i) row there = ap (λ l. first ∷ l) (push_suc rows i row there)
+
+-- the rows before a place and the one there are those before the next place
+pub push : (rows : List Entry) (i : ℕ) (row : Entry) → slice_get rows i ≡ Some row → take i rows ++ row ∷ [] ≡ take (i + 1) rows
+push rows i row there = push_suc rows i row there ∙ ap (λ (k : ℕ). take k rows) (sym (add-one i))
+
+-- so the balance goes on by the quantity of the row
+pub balance_next :
+    (rows : List Entry) (i : ℕ) (row : Entry) → slice_get rows i ≡ Some row
+    → balance (take (i + 1) rows) ≡ balance (take i rows) +ℤ row.quantity
+balance_next rows i row there = ap balance (sym (push rows i row there)) ∙ balance_push (take i rows) row
+
+-- the lines from a place on are that of the row there and those from the next place on
+pub rows_step :
+    (form : Form) (book : Book) (fraction : ℕ) (period : Period) (rows : List Entry) (i : ℕ) (row : Entry)
+    → slice_get rows i ≡ Some row
+    → rows_after form book fraction period (take i rows) (drop i rows)
+    ≡ (if is_in period row.day then row_in form book fraction row (balance (take (i + 1) rows)) else [])
+    ++ rows_after form book fraction period (take (i + 1) rows) (drop (i + 1) rows)
+rows_step form book fraction period rows i row there =
+    ap (λ (l : List Entry). rows_after form book fraction period (take i rows) l) (drop_at rows i row there)
+    ∙ ap (λ (before : List Entry). (if is_in period row.day then row_in form book fraction row (balance before) else [])
+    ++ rows_after form book fraction period before (drop (i + 1) rows)) (push rows i row there)
+
+-- the balance of the first rows of a register is small
+pub balance_small :
+    (book : Book) (account i : ℕ) → IsSoundBook book
+    → unsigned_abs (balance (take i (register_of account book.transactions))) ≤ 10 ^ 18
+balance_small book account i is =
+    let rows = register_of account book.transactions in
+    let few = rows_are_few book account is in
+    subst (λ z. unsigned_abs z ≤ 10 ^ 18) (sym (balance_total (take i rows)))
+    (sum_of_few (λ (r : Entry). r.quantity) (take i rows) (λ r small. small.1)
+    (All-take IsSmallRow i rows (rows_are_small book account is)) (omega (arith, length-take i rows, few)))

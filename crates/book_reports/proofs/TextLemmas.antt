@@ -47,10 +47,10 @@ printed_high (byte ∷ more) high =
 
 -- a control character is printed as a space, and each other as itself
 pub printed_char : (c : ℕ) → printed (encode_utf8 c) ≡ encode_utf8 (if nat_lt c 32 then 32 else c)
+unfolding printed
 printed_char c = by (order c 32) (order c 128)
   where
     single : (d : ℕ) → d < 128 → printed (encode_utf8 d) ≡ printed_byte d ∷ []
-    unfolding printed
     single d small = ap (map printed_byte) (one d small)
     by :
         (c < 32) ⊎ (32 ≤ c) → (c < 128) ⊎ (128 ≤ c)
@@ -114,21 +114,21 @@ feed_text : IsUtf8 (10 ∷ [])
 feed_text = plain_byte 10 (omega arith) refl
 
 escaped_char : (c : ℕ) → scalar c ≡ true → IsUtf8 (escaped default_writer (encode_utf8 c))
+unfolding escaped
 escaped_char c is = by (order c 128)
   where
     byte : c < 128 → (t : Bool) → IsUtf8 (if t then 34 ∷ c ∷ [] else c ∷ [])
     byte small true = IsUtf8-append (34 ∷ []) (c ∷ []) quote_text (plain_byte c small is)
     byte small false = plain_byte c small is
     by : (c < 128) ⊎ (128 ≤ c) → IsUtf8 (escaped default_writer (encode_utf8 c))
-    unfolding escaped
     by (inl small) = subst (λ l. IsUtf8 (escaped default_writer l)) (sym (one c small)) (byte small (c == 34))
     by (inr high) = subst IsUtf8 (sym (escaped_high (encode_utf8 c) (high_bytes c high))) (IsUtf8-encode c is)
 
 escaped_text : (bytes : List ℕ) → IsUtf8 bytes → IsUtf8 (escaped default_writer bytes)
+unfolding escaped
 escaped_text bytes u = subst (λ l. IsUtf8 (escaped default_writer l)) u.1.1 (by u.0 u.1.0)
   where
     by : (cs : List ℕ) → scalars cs ≡ true → IsUtf8 (escaped default_writer (encode_utf8_all cs))
-    unfolding escaped
     by [] is = IsUtf8-nil
     by (c ∷ cs) is =
         let parts = and_parts (scalar c) (scalars cs) is in

@@ -86,11 +86,11 @@ fn record_bytes(alloc: Global, fields: &[&[u8]]) -> Result<Vec<u8>, OutOfMemory>
     ensures { IfOk result (λ bytes. bytes.items ≡ record_text (map (λ field. field.now) fields.now)) }
 {
     let mut writer = WriterBuilder::new().from_writer(Vec::new(alloc));
-    if writer.write_fields(fields).is_err() {
+    let Ok(()) = writer.write_fields(fields) else {
         return Err(OutOfMemory);
-    }
-    match writer.into_inner() {
-        Ok(bytes) => Ok(bytes),
-        Err(_) => Err(OutOfMemory),
-    }
+    };
+    let Ok(bytes) = writer.into_inner() else {
+        return Err(OutOfMemory);
+    };
+    Ok(bytes)
 }

@@ -11,6 +11,8 @@ mod lines;
 mod period;
 mod register_report;
 mod section;
+#[cfg(test)]
+mod tests;
 mod trial_balance;
 mod view;
 

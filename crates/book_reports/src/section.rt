@@ -66,6 +66,7 @@ impl Section {
     }
 
     /// A worth with the sign that the section shows it with.
+    #[tactic(auto, using(crate::proofs::MeasureLemmas::size_turned))]
     pub(crate) fn signed(self, worth: Valuation) -> Valuation
         requires { unsigned_abs (amount_in worth) ≤ 10 ^ 30 }
         ensures { result ≡ signed_in self worth }

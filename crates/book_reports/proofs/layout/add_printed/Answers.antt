@@ -1,0 +1,18 @@
+use Rattle.std.proofs.Common.{sym, ap, ◌∙◌, append_assoc, append-nil}
+use Rattle.std.proofs.lemmas.Str.{IsUtf8-past_char}
+use Rattle.book_reports.specs.Layout.{printed}
+use Rattle.book_reports.proofs.TextLemmas.{printed_step}
+use Rattle.book_reports.proofs.layout.add_printed.Goals as goal
+
+pub loop-letter-preserved : goal.loop-letter-preserved
+loop-letter-preserved c =
+    let held = c.loop-letter.invariant in
+    let parts = c.in-Some.ensures.steps.0 in
+    let step = printed_step c.in-Some.letter _ _ parts in (
+      IsUtf8-past_char _ _ c.in-Some.letter held.0 parts,
+      rw (c.in_ok-push.ensures.bytes, c.printed_letter.ensures, append_assoc) (rw step at held.1),
+    )
+
+pub returns : goal.returns
+unfolding printed
+returns c = sym (append-nil _) ∙ rw (c.in-None.ensures.steps.0.0) at c.loop-letter.invariant.1
