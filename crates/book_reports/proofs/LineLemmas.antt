@@ -148,7 +148,7 @@ fits (e ∷ es) xs each =
     by n false is =
         let found : is_some (value_of n (e ∷ es)) ≡ is_some (value_of n es) =
         ap (λ (t : Bool). is_some (if t then Some e.1 else value_of n es)) is in
-        let most = ap (λ (t : Bool). if t then 1 else 0) found in
+        let most = ap {B = ℕ} (λ (t : Bool). if t then 1 else 0) found in
         omega (arith, each n, most, others e.0 n is xs)
 
 -- the accounts of a tree in their order are no more than the tree has

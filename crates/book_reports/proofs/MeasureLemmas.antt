@@ -6,6 +6,7 @@ use Rattle.std.proofs.lemmas.Bool.Decides.{nat_tests}
 use Rattle.std.specs.Int.{IsInRange}
 use Rattle.std.specs.Option.{option_map_or}
 use Rattle.std.specs.Ordering.{int_eq}
+use Rattle.book_commodity.specs.Amount.{scaled}
 use Rattle.book_commodity.specs.Table.{value_of}
 use Rattle.book_commodity.specs.declared.commodity.Commodity.{Commodity}
 use Rattle.book_commodity.specs.declared.rate.Rate.{Rate}
@@ -63,7 +64,7 @@ shown_small amount = here (nat_le (unsigned_abs amount) (10 ^ 30)) refl
 by_small :
     (amount : ℤ) (rate : Option Ratio) (f t : ℕ) → unsigned_abs (amount_in (worth_by amount rate f t)) ≤ 10 ^ 30
 by_small amount None f t = omega arith
-by_small amount (Some rate) f t = shown_small _
+by_small amount (Some rate) f t = shown_small (scaled amount rate.num rate.denom f t)
 
 -- a worth is at most 10 ^ 30 in size
 pub worth_small :

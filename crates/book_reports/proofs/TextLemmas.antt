@@ -1,15 +1,17 @@
 -- Texts in UTF-8: as they are printed on one line, and as fields of comma-separated values.
-use Rattle.std.proofs.Common.{◌≡◌, ℕ, ◌≤◌, ◌<◌, ◌==◌, Bool, true, false, nat_lt, cond, if◌then◌else◌, List, [], ◌∷◌}
+use Rattle.std.proofs.Common.{◌≡◌, ℕ, ◌≤◌, ◌<◌, ◌==◌, ◌/◌, Bool, true, false, nat_lt, cond, if◌then◌else◌, List, [], ◌∷◌}
 use Rattle.std.proofs.Common.{◌++◌, map, encode_utf8, encode_utf8_all, IsUtf8, refl, sym, ap, subst, ◌∙◌, arith}
-use Rattle.std.proofs.Common.{All, inl, inr, ◌⊎◌}
+use Rattle.std.proofs.Common.{All, inl, inr, ◌⊎◌, ℤ, ◌+◌, length, take, get_or, append_assoc}
+use Rattle.std.proofs.lemmas.List.{take_more}
 use Rattle.std.proofs.lemmas.Bool.{and_parts, eqb-true}
 use Rattle.std.proofs.lemmas.Bool.Decides.{nat_tests}
-use Rattle.std.proofs.lemmas.Str.{IsUtf8-append, IsUtf8-encode, IsUtf8-from_ascii, IsUtf8-nil}
-use Rattle.core.proofs.str.Laws.{four, one, order, three, two}
-use Rattle.std.proofs.lemmas.List.Elements.{All-head, All-tail}
+use Rattle.std.proofs.lemmas.Str.{IsUtf8-append, IsUtf8-encode, IsUtf8-nil, encode_ascii as one}
+use Rattle.std.proofs.lemmas.List.Elements.{All-get_or, All-head, All-tail}
+use Rattle.book_commodity.specs.Day.{IsDay, IsDayByte, day_text}
+use Rattle.book_commodity.proofs.DayTextLemmas.{day_text_bytes}
 use Rattle.csv.specs.Writing.{by_style, default_writer, escaped, field_text, fields_text, is_blank, needs_quotes, quoted}
 use Rattle.csv.specs.Writing.{row_body}
-use lib.Utf8.{scalar, scalars}
+use lib.Utf8.{encode, next, scalar, scalars}
 use Rattle.book_reports.specs.Layout.{printed, record_text}
 
 -- each byte is one of a character past ASCII
@@ -17,15 +19,31 @@ abbrev pub AreHigh : List ℕ → Type 0
 AreHigh [] = ⊤
 AreHigh (byte ∷ more) = (128 ≤ byte) × AreHigh more
 
--- the bytes of a character past ASCII
-pub high_bytes : (c : ℕ) → 128 ≤ c → AreHigh (encode_utf8 c)
-high_bytes c high = by (order c 2048) (order c 65536)
+-- one number is below another, or not
+order : (m n : ℕ) → (m < n) ⊎ (n ≤ m)
+order m n = by (nat_lt m n) refl
   where
-    by : (c < 2048) ⊎ (2048 ≤ c) → (c < 65536) ⊎ (65536 ≤ c) → AreHigh (encode_utf8 c)
-    by (inl small) more = subst AreHigh (sym (two c high small)) (omega arith, omega arith, tt)
-    by (inr large) (inl small) = subst AreHigh (sym (three c large small)) (omega arith, omega arith, omega arith, tt)
-    by (inr large) (inr larger) =
-        subst AreHigh (sym (four c larger)) (omega arith, omega arith, omega arith, omega arith, tt)
+    by : (t : Bool) → nat_lt m n ≡ t → (m < n) ⊎ (n ≤ m)
+    by true is = inl (grind (arith, nat_tests, is))
+    by false is = inr (grind (arith, nat_tests, is))
+
+-- the bytes of a character past ASCII
+pub high_bytes : (c : ℕ) → 128 ≤ c → AreHigh (encode c)
+unfolding encode
+high_bytes c high =
+    let past : nat_lt c 128 ≡ false = grind (arith, nat_tests, high) in
+    let two = (192 + c / 64) ∷ next c ∷ [] in
+    let three = (224 + c / 4096) ∷ next (c / 64) ∷ next c ∷ [] in
+    let four = (240 + c / 262144) ∷ next (c / 4096) ∷ next (c / 64) ∷ next c ∷ [] in
+    subst (λ (t : Bool). AreHigh (cond t (c ∷ []) (cond (nat_lt c 2048) two (cond (nat_lt c 65536) three four))))
+    (sym past)
+    (elim (nat_lt c 2048) as (λ b. AreHigh (cond b two (cond (nat_lt c 65536) three four))) [
+      | true ↦ (omega arith, omega arith, tt)
+      | false ↦ elim (nat_lt c 65536) as (λ b. AreHigh (cond b three four)) [
+          | true ↦ (omega arith, omega arith, omega arith, tt)
+          | false ↦ (omega arith, omega arith, omega arith, omega arith, tt)
+        ]
+    ])
 
 -- ---- printed
 
@@ -168,3 +186,22 @@ record_is_text fields all =
     by : (t : Bool) → IsUtf8 ((if t then 34 ∷ 34 ∷ [] else []) ++ 10 ∷ [])
     by true = IsUtf8-append (34 ∷ []) (34 ∷ 10 ∷ []) quote_text (IsUtf8-append (34 ∷ []) (10 ∷ []) quote_text feed_text)
     by false = feed_text
+
+-- ---- days
+
+byte_low : (byte : ℕ) → IsDayByte byte → byte < 128
+byte_low byte (inl digit) = omega (arith, digit.1)
+byte_low byte (inr hyphen) = omega (arith, hyphen)
+
+-- the bytes of a day's text are added one after another
+pub day_push :
+    (day : ℤ) → IsDay day → (bytes : List ℕ) → bytes ≡ day_text day → (i : ℕ) (start before after : List ℕ)
+    → i < length bytes → before ≡ start ++ take i bytes → after ≡ before ++ encode_utf8 (get_or bytes i 0)
+    → after ≡ start ++ take (i + 1) bytes
+day_push day is bytes same i start before after lt b a =
+    let bytes_of_day = subst (λ (l : List ℕ). All IsDayByte l) (sym same) (day_text_bytes day is) in
+    let low = byte_low (get_or bytes i 0) (All-get_or IsDayByte bytes i 0 lt bytes_of_day) in
+    a ∙ ap (λ l. l ++ encode_utf8 (get_or bytes i 0)) b
+    ∙ ap (λ l. (start ++ take i bytes) ++ l) (one (get_or bytes i 0) low)
+    ∙ append_assoc start (take i bytes) (get_or bytes i 0 ∷ [])
+    ∙ ap (λ l. start ++ l) (sym (take_more bytes i 0 lt))

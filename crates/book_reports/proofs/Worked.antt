@@ -18,7 +18,7 @@ use Rattle.csv.specs.Writing.{escaped, fields_text, is_blank}
 use Rattle.book_reports.specs.Income.{income}
 use Rattle.book_reports.specs.Layout.{amount_line, printed, record_text, right}
 use Rattle.book_reports.specs.Measure.{sum_in, value_in, worth}
-use Rattle.book_reports.specs.RegisterText.{register_text, row_in}
+use Rattle.book_reports.specs.RegisterText.{columns, register_text, row_in}
 use Rattle.book_reports.specs.Sections as sections
 use Rattle.book_reports.specs.Sections.{csv_section, left_out, line_of, plain_section, sum_of, worth_text}
 use Rattle.book_reports.specs.Sheet.{sheet}
@@ -126,5 +126,5 @@ plain_register :
     register_text book 5 (pos 40) (pos 60) Plain
     ≡ codes "Register Cash EUR\n" ++ day_text (pos 40)
     ++ codes "  n                 -7.00                    -17.00    \n"
-unfolding register_text row_in right printed amount_text decimals_of with_generations nearest_parents digits
+unfolding register_text row_in columns right printed amount_text decimals_of with_generations nearest_parents digits
 plain_register = refl

@@ -36,10 +36,13 @@ plain_parts fraction parts =
     ++ amount_line (amount_text (net parts) fraction) (codes "Net")
     ++ codes "Left out: " ++ decimal (parts_left_out parts) ++ 10 ∷ []
 
+-- The two days, with a space behind each.
+unfoldable pub days : ℤ → ℤ → List ℕ
+days first last = day_text first ++ 32 ∷ [] ++ day_text last ++ 32 ∷ []
+
 abbrev pub heading : Book → ℤ → ℤ → List ℕ
 heading book first last =
-    codes "Income and expenses " ++ day_text first ++ 32 ∷ [] ++ day_text last ++ 32 ∷ []
-    ++ printed (name_of book.commodities book.currency) ++ 10 ∷ []
+    codes "Income and expenses " ++ days first last ++ printed (name_of book.commodities book.currency) ++ 10 ∷ []
 
 abbrev pub csv_parts : ℕ → Parts → List ℕ
 csv_parts fraction parts =

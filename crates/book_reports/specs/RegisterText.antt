@@ -34,11 +34,16 @@ number_in transactions txn = option_map_or (λ t. t.num) (value_of txn transacti
 abbrev pub description_in : List (ℕ × Txn) → ℕ → List ℕ
 description_in transactions txn = option_map_or (λ t. t.description) (value_of txn transactions) []
 
--- The line of a row with the texts of its quantity and of the balance after it: day, mark, both, number and description.
+-- The columns of a row with the texts of its quantity and of the balance after it: day, mark and both.
+unfoldable pub columns : Entry → List ℕ → List ℕ → List ℕ
+columns row quantity after =
+    day_text row.day ++ codes "  " ++ mark_letter row.mark ++ codes "  " ++ right 20 quantity ++ codes "  "
+    ++ right 24 after ++ codes "  "
+
+-- The line of a row: its columns, and behind them number and description.
 abbrev pub plain_row : Book → Entry → List ℕ → List ℕ → List ℕ
 plain_row book row quantity after =
-    day_text row.day ++ codes "  " ++ mark_letter row.mark ++ codes "  " ++ right 20 quantity ++ codes "  "
-    ++ right 24 after ++ codes "  " ++ printed (number_in book.transactions row.txn) ++ codes "  "
+    columns row quantity after ++ printed (number_in book.transactions row.txn) ++ codes "  "
     ++ printed (description_in book.transactions row.txn) ++ 10 ∷ []
 
 -- A record of day, mark, quantity, balance, number and description.

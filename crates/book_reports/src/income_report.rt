@@ -1,5 +1,5 @@
 ghost use Rattle.std.specs.Prelude.{◌≡◌, ◌++◌, IfOk, OnOk, string_bytes};
-ghost use Rattle.book_reports.specs.Income.{csv_parts, heading, income, net, parts_left_out, parts_of, plain_parts};
+ghost use Rattle.book_reports.specs.Income.{csv_parts, days, heading, income, net, parts_left_out, parts_of, plain_parts};
 
 use crate::layout::{add_amount_line, add_day, add_printed};
 use crate::lines::{Lines, add_csv_header, add_csv_summary};
@@ -7,7 +7,7 @@ use crate::period::Period;
 use crate::section::Section;
 use crate::{Form, View};
 use book_commodity::{Day, OutOfMemory, Text, amount_text};
-use std::alloc::Global;
+use std::alloc::{AllocError, Global};
 
 /// The lines of the report of income and expenses by its sections.
 #[derive(Drop)]
@@ -48,13 +48,21 @@ fn add_heading(out: &mut String, view: &View, from: Day, to: Day) -> Result<(), 
     ensures { OnOk result (string_bytes out.new ≡ string_bytes out.old ++ heading view.now from to) }
 {
     out.push_str("Income and expenses ")?;
-    add_day(out, from)?;
-    out.push(' ')?;
-    add_day(out, to)?;
-    out.push(' ')?;
+    add_days(out, from, to)?;
     add_printed(out, view.name(view.plain.currency))?;
     out.push('\n')?;
     Ok(())
+}
+
+/// Adds the two days, with a space behind each.
+#[tactic(auto, unfolding(crate::specs::Income::days))]
+fn add_days(out: &mut String, from: Day, to: Day) -> Result<(), AllocError>
+    ensures { OnOk result (string_bytes out.new ≡ string_bytes out.old ++ days from to) }
+{
+    add_day(out, from)?;
+    out.push(' ')?;
+    add_day(out, to)?;
+    out.push(' ')
 }
 
 impl Parts {

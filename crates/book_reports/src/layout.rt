@@ -1,4 +1,4 @@
-ghost use Rattle.std.specs.Prelude.{◌≡◌, ◌∷◌, [], ◌++◌, IfOk, OnOk, if◌then◌else◌, map, nat_lt, string_bytes};
+ghost use Rattle.std.specs.Prelude.{◌≡◌, ◌∷◌, [], ◌++◌, All, IfOk, IsUtf8, OnOk, if◌then◌else◌, map, nat_lt, string_bytes};
 ghost use Rattle.book_commodity.specs.Amount.{amount_text};
 ghost use Rattle.book_commodity.specs.Day.{day_text};
 ghost use Rattle.book_reports.specs.Layout.{amount_line, printed, record_text, right};
@@ -39,6 +39,7 @@ pub(crate) fn add_right(out: &mut String, places: usize, text: &str) -> Result<(
 pub(crate) fn add_day(out: &mut String, day: Day) -> Result<(), AllocError>
     ensures { OnOk result (string_bytes out.new ≡ string_bytes out.old ++ day_text day) }
 {
+    let _ = day.number();
     let text = day.text();
     for byte in &text {
         out.push(*byte as char)?;
@@ -61,20 +62,17 @@ pub(crate) fn add_amount_line(
     out.push('\n')
 }
 
-/// Adds a record of comma-separated values.
+/// Adds a record of comma-separated values, each of which is a text.
 pub(crate) fn add_record(
     alloc: Global,
     out: &mut String,
-    fields: &[&str],
+    fields: &[&[u8]],
 ) -> Result<(), OutOfMemory>
+    requires { All IsUtf8 (map (λ field. field.now) fields.now) }
     ensures { OnOk result
         (string_bytes out.new ≡ string_bytes out.old ++ record_text (map (λ field. field.now) fields.now)) }
 {
-    let mut parts = Vec::new(alloc);
-    for field in fields {
-        parts.push(field.as_bytes())?;
-    }
-    let Ok(record) = String::from_utf8(record_bytes(alloc, parts.as_slice())?) else {
+    let Ok(record) = String::from_utf8(record_bytes(alloc, fields)?) else {
         unreachable!()
     };
     out.push_str(record.as_str())?;

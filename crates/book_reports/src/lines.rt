@@ -216,7 +216,7 @@ fn worth_text(alloc: Global, worth: Valuation, fraction: u64) -> Result<Text, Ou
 }
 
 /// Adds a record of a section, an account and an amount.
-fn add_csv_record<'t>(
+pub(crate) fn add_csv_record<'t>(
     alloc: Global,
     out: &mut String,
     section: &'t str,
@@ -226,7 +226,11 @@ fn add_csv_record<'t>(
     ensures { OnOk result
         (string_bytes out.new ≡ string_bytes out.old ++ csv_record section.now account.now amount.now) }
 {
-    add_record(alloc, out, &[section, account, amount])
+    add_record(
+        alloc,
+        out,
+        &[section.as_bytes(), account.as_bytes(), amount.as_bytes()],
+    )
 }
 
 /// Adds the names of the fields of a report in sections.

@@ -2,7 +2,7 @@ ghost use Rattle.std.specs.Prelude.{◌≡◌, ◌++◌, [], IfOk, IsSome, OnOk,
 ghost use Rattle.book_commodity.specs.Table.{value_of};
 ghost use Rattle.book_ledger.specs.Ledger.{register_of};
 ghost use Rattle.book_reports.specs.Measure.{fraction_of};
-ghost use Rattle.book_reports.specs.RegisterText.{commodity_of, csv_record, csv_row, description_in, heading, mark_letter, number_in, plain_row};
+ghost use Rattle.book_reports.specs.RegisterText.{columns, commodity_of, csv_record, csv_row, description_in, heading, mark_letter, number_in, plain_row};
 ghost use Rattle.book_reports.specs.RegisterText.{register_text, row_in, rows_after};
 
 use crate::layout::{add_day, add_printed, add_record, add_right};
@@ -10,7 +10,7 @@ use crate::period::Period;
 use crate::{Form, View};
 use book_commodity::{Day, OutOfMemory, Steps, Text, amount_text};
 use book_register::{Entry, Mark2};
-use std::alloc::Global;
+use std::alloc::{AllocError, Global};
 
 /// The register of an account of a book from one day to another.
 #[tactic(auto, unfolding(crate::specs::RegisterText::register_text))]
@@ -125,6 +125,24 @@ fn add_plain_row(
 ) -> Result<(), OutOfMemory>
     ensures { OnOk result (string_bytes out.new ≡ string_bytes out.old ++ plain_row view.now row.now quantity.now after.now) }
 {
+    add_columns(out, row, quantity, after)?;
+    add_printed(out, view.number_of(row.txn))?;
+    out.push_str("  ")?;
+    add_printed(out, view.description_of(row.txn))?;
+    out.push('\n')?;
+    Ok(())
+}
+
+/// Adds the columns of a row: its day, its mark, its quantity and the balance after it.
+#[tactic(auto, unfolding(crate::specs::RegisterText::columns))]
+fn add_columns(
+    out: &mut String,
+    row: &Entry,
+    quantity: &str,
+    after: &str,
+) -> Result<(), AllocError>
+    ensures { OnOk result (string_bytes out.new ≡ string_bytes out.old ++ columns row.now quantity.now after.now) }
+{
     add_day(out, row.day)?;
     out.push_str("  ")?;
     out.push_str(mark_letter(row.mark))?;
@@ -132,12 +150,7 @@ fn add_plain_row(
     add_right(out, 20, quantity)?;
     out.push_str("  ")?;
     add_right(out, 24, after)?;
-    out.push_str("  ")?;
-    add_printed(out, view.number_of(row.txn))?;
-    out.push_str("  ")?;
-    add_printed(out, view.description_of(row.txn))?;
-    out.push('\n')?;
-    Ok(())
+    out.push_str("  ")
 }
 
 /// Adds a row as comma-separated values.
@@ -182,7 +195,18 @@ fn add_csv_record<'t>(
     ensures { OnOk result (string_bytes out.new ≡ string_bytes out.old
         ++ csv_record day.now mark.now quantity.now after.now number.now description.now) }
 {
-    add_record(alloc, out, &[day, mark, quantity, after, number, description])
+    add_record(
+        alloc,
+        out,
+        &[
+            day.as_bytes(),
+            mark.as_bytes(),
+            quantity.as_bytes(),
+            after.as_bytes(),
+            number.as_bytes(),
+            description.as_bytes(),
+        ],
+    )
 }
 
 /// The letter of a mark.

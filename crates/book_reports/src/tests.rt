@@ -1,5 +1,6 @@
 //! The parts of the lines: amounts in columns, texts on one line, and records.
-use crate::layout::{add_amount_line, add_printed, add_record};
+use crate::layout::{add_amount_line, add_printed};
+use crate::lines::add_csv_record;
 use std::test::Fail;
 
 #[test]
@@ -21,7 +22,7 @@ fn prints_a_control_character_as_a_space(rt: HostRuntime) -> Result<(), Fail> {
 #[test]
 fn quotes_a_field_with_a_comma(rt: HostRuntime) -> Result<(), Fail> {
     let mut out = String::new(rt.alloc());
-    add_record(rt.alloc(), &mut out, &["Assets", "a,\"b\"", "no price"])?;
+    add_csv_record(rt.alloc(), &mut out, "Assets", "a,\"b\"", "no price")?;
     assert!(rt; out.as_str() == "Assets,\"a,\"\"b\"\"\",no price\n");
     Ok(())
 }

@@ -227,7 +227,16 @@ fn add_csv_record<'t>(
     ensures { OnOk result
         (string_bytes out.new ≡ string_bytes out.old ++ csv_record currency.now account.now debit.now credit.now) }
 {
-    add_record(alloc, out, &[currency, account, debit, credit])
+    add_record(
+        alloc,
+        out,
+        &[
+            currency.as_bytes(),
+            account.as_bytes(),
+            debit.as_bytes(),
+            credit.as_bytes(),
+        ],
+    )
 }
 
 /// Adds a line of debit, credit and what they are of.

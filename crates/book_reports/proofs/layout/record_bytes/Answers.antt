@@ -10,4 +10,4 @@ returns c =
     let plain : c.from_writer-writer.result.cfg.style ≢ style.NonNumeric = rw (from.cfg, c.new.ensures) (λ e. cc e) in
     let h = c.in-Ok.ensures.bytes from.fields from.wrote plain in
     let text = rw (from.cfg, c.new.ensures, from.wtr, c.new-2.ensures.items, from.empty) at h in
-    c.in-Ok-2.ensures.ok ∙ text
+    c.in-Ok-into_inner.ensures.ok ∙ text
