@@ -1,5 +1,5 @@
 -- The lines of a report are few, and their amounts small, so that they can be added up.
-use Rattle.std.proofs.Common.{◌≡◌, ℕ, zero, suc, ◌+◌, ◌*◌, ◌^◌, ◌≤◌, ℤ, pos, ◌-ℤ◌, ◌≤ℤ◌, ◌&&◌, not, unsigned_abs, Bool, true}
+use Rattle.std.proofs.Common.{◌≡◌, ℕ, zero, suc, ◌+◌, ◌*◌, ◌^◌, ◌≤◌, ◌<◌, get_or, ℤ, pos, ◌-ℤ◌, ◌≤ℤ◌, ◌&&◌, not, unsigned_abs, Bool, true}
 use Rattle.std.proofs.Common.{false, nat_eq, ◌==◌, if◌then◌else◌, List, [], ◌∷◌, All, IfSome, length, map, filter, take}
 use Rattle.std.proofs.Common.{Option, Some, None, is_some, count_by, refl, sym, ap, subst, ◌∙◌, arith}
 use Rattle.std.specs.List.{cons_option, filter_map}
@@ -8,7 +8,7 @@ use Rattle.std.proofs.lemmas.Bool.{eqb-true}
 use Rattle.std.proofs.lemmas.Bool.Decides.{nat_tests}
 use Rattle.std.proofs.lemmas.Int.{ints}
 use Rattle.std.proofs.lemmas.List.{length-take}
-use Rattle.std.proofs.lemmas.List.Elements.{All-cons, All-head, All-nil, All-tail, All-take}
+use Rattle.std.proofs.lemmas.List.Elements.{All-cons, All-get_or, All-nil}
 use Rattle.std.proofs.lemmas.List.Filters.{length-filter_both}
 use Rattle.std.proofs.lemmas.List.Sums.{length-filter}
 use Rattle.book_accounts.specs.Order.{ListsEachOnce}
@@ -75,6 +75,12 @@ can_be_added book period section order few = record {
   small = all_found IsSmallLine (line_of book period section)
       (λ n. line_small book period section n (value_of n book.accounts)) order;
 }
+
+-- the amount of a line that can be added up
+pub item_small :
+    (lines : List Line) (i : ℕ) (d : Line) → CanBeAdded lines → i < length lines
+    → unsigned_abs (amount_in (get_or lines i d).worth) ≤ 10 ^ 30
+item_small lines i d can within = All-get_or IsSmallLine lines i d within can.small
 
 -- ---- numbers that are each listed once
 

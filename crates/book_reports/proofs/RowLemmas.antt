@@ -17,7 +17,7 @@ use Rattle.book_splits.specs.Check.{HasAmounts}
 use Rattle.book_splits.specs.declared.split.Split.{Split}
 use Rattle.book_splits.specs.declared.transaction.Txn.{Txn}
 use Rattle.book_undo.specs.Book.{Book}
-use Rattle.book_reports.specs.Measure.{is_in, rows_in, sum_in, value_in}
+use Rattle.book_reports.specs.Measure.{is_in, rows_in, sum_in, value_in, value_of_rows}
 use Rattle.book_reports.specs.RegisterText.{row_in, rows_after}
 use Rattle.book_reports.specs.declared.form.Form.{Form}
 use Rattle.book_reports.specs.declared.period.Period.{Period}
@@ -209,3 +209,78 @@ balance_small book account i is =
     subst (λ z. unsigned_abs z ≤ 10 ^ 18) (sym (balance_total (take i rows)))
     (sum_of_few (λ (r : Entry). r.quantity) (take i rows) (λ r small. small.1)
     (All-take IsSmallRow i rows (rows_are_small book account is)) (omega (arith, length-take i rows, few)))
+
+sum_push :
+    (period : Period) (rows : List Entry) (row : Entry)
+    → balance (rows_in period (rows ++ row ∷ []))
+    ≡ balance (rows_in period rows) +ℤ (if is_in period row.day then row.quantity else pos 0)
+sum_push period [] row =
+    elim (is_in period row.day) as
+    (λ b. balance (if b then row ∷ [] else []) ≡ pos 0 +ℤ (if b then row.quantity else pos 0)) [
+      | true ↦ omega (arith, ints)
+      | false ↦ omega (arith, ints)
+    ]
+sum_push period (first ∷ rows) row =
+    let more = sum_push period rows row in
+    let amount = if is_in period row.day then row.quantity else pos 0 in
+    elim (is_in period first.day) as
+    (λ b. balance (if b then first ∷ rows_in period (rows ++ row ∷ []) else rows_in period (rows ++ row ∷ []))
+    ≡ balance (if b then first ∷ rows_in period rows else rows_in period rows) +ℤ amount) [
+      | true ↦ omega (arith, ints, more)
+      | false ↦ more
+    ]
+
+-- the sum over a period goes on by the quantity of the next row, where it lies in the period
+pub sum_next :
+    (period : Period) (rows : List Entry) (i : ℕ) (row : Entry) → slice_get rows i ≡ Some row
+    → balance (rows_in period (take (i + 1) rows))
+    ≡ balance (rows_in period (take i rows)) +ℤ (if is_in period row.day then row.quantity else pos 0)
+sum_next period rows i row there =
+    ap (λ (l : List Entry). balance (rows_in period l)) (sym (push rows i row there)) ∙ sum_push period (take i rows) row
+
+abbrev amount_of : Period → ℕ → Entry → ℤ
+amount_of period currency row =
+    if is_in period row.day then (if row.currency == currency then row.value else pos 0) else pos 0
+
+value_push :
+    (period : Period) (currency : ℕ) (rows : List Entry) (row : Entry)
+    → value_of_rows currency (rows_in period (rows ++ row ∷ []))
+    ≡ value_of_rows currency (rows_in period rows) +ℤ amount_of period currency row
+value_push period currency [] row =
+    elim (is_in period row.day) as
+    (λ b. value_of_rows currency (if b then row ∷ [] else [])
+    ≡ pos 0 +ℤ (if b then (if row.currency == currency then row.value else pos 0) else pos 0)) [
+      | true ↦ elim (row.currency == currency) as
+        (λ b. total (map (λ (r : Entry). r.value) (if b then row ∷ [] else []))
+        ≡ pos 0 +ℤ (if b then row.value else pos 0)) [
+          | true ↦ omega (arith, ints)
+          | false ↦ omega (arith, ints)
+        ]
+      | false ↦ omega (arith, ints)
+    ]
+value_push period currency (first ∷ rows) row =
+    let more = value_push period currency rows row in
+    let amount = amount_of period currency row in
+    let long = rows_in period (rows ++ row ∷ []) in
+    let short = rows_in period rows in
+    let test = λ (r : Entry). r.currency == currency in
+    elim (is_in period first.day) as
+    (λ b. value_of_rows currency (if b then first ∷ long else long)
+    ≡ value_of_rows currency (if b then first ∷ short else short) +ℤ amount) [
+      | true ↦ elim (first.currency == currency) as
+        (λ b. total (map (λ (r : Entry). r.value) (if b then first ∷ filter test long else filter test long))
+        ≡ total (map (λ (r : Entry). r.value) (if b then first ∷ filter test short else filter test short)) +ℤ amount) [
+          | true ↦ omega (arith, ints, more)
+          | false ↦ more
+        ]
+      | false ↦ more
+    ]
+
+-- the sum of values over a period goes on by the value of the next row, where it is in the period and the currency
+pub value_next :
+    (period : Period) (currency : ℕ) (rows : List Entry) (i : ℕ) (row : Entry) → slice_get rows i ≡ Some row
+    → value_of_rows currency (rows_in period (take (i + 1) rows))
+    ≡ value_of_rows currency (rows_in period (take i rows)) +ℤ amount_of period currency row
+value_next period currency rows i row there =
+    ap (λ (l : List Entry). value_of_rows currency (rows_in period l)) (sym (push rows i row there))
+    ∙ value_push period currency (take i rows) row

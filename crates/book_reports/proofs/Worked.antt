@@ -18,7 +18,7 @@ use Rattle.csv.specs.Writing.{escaped, fields_text, is_blank}
 use Rattle.book_reports.specs.Income.{income}
 use Rattle.book_reports.specs.Layout.{amount_line, printed, record_text, right}
 use Rattle.book_reports.specs.Measure.{sum_in, value_in, worth}
-use Rattle.book_reports.specs.RegisterText.{columns, register_text, row_in}
+use Rattle.book_reports.specs.RegisterText.{columns, register_text, row_in, title}
 use Rattle.book_reports.specs.Sections as sections
 use Rattle.book_reports.specs.Sections.{csv_section, left_out, line_of, plain_section, sum_of, worth_text}
 use Rattle.book_reports.specs.Sheet.{sheet}
@@ -79,7 +79,7 @@ plain_sheet :
     ++ codes "                    0.00  Total Equity\n" ++ codes "                    0.00  Retained earnings\n"
     ++ codes "                    5.50  Unbooked gains\n" ++ codes "Left out: 0\n"
 unfolding sheet sections.lines_of line_of sum_in worth sum_of left_out worth_text plain_section amount_line right printed
-    amount_text decimals_of scaled with_generations nearest_parents digits
+    amount_text decimals_of scaled with_generations nearest_parents digits day_text
 plain_sheet = refl
 
 csv_sheet :
@@ -109,8 +109,8 @@ plain_trial :
     ++ codes "                                            1.00  Broker\n"
     ++ codes "                    1.00                          Cash\n"
     ++ codes "                    1.00                    1.00  Total\n"
-unfolding trial part_of trials.lines_of value_in debits credits side_text plain_line right printed amount_text
-    decimals_of with_generations nearest_parents digits
+unfolding trial trials.title part_of trials.lines_of value_in debits credits side_text plain_line right printed amount_text
+    decimals_of with_generations nearest_parents digits day_text
 plain_trial = refl
 
 no_income :
@@ -126,5 +126,6 @@ plain_register :
     register_text book 5 (pos 40) (pos 60) Plain
     ≡ codes "Register Cash EUR\n" ++ day_text (pos 40)
     ++ codes "  n                 -7.00                    -17.00    \n"
-unfolding register_text row_in columns right printed amount_text decimals_of with_generations nearest_parents digits
+unfolding register_text row_in columns title right printed amount_text decimals_of with_generations nearest_parents
+    digits day_text
 plain_register = refl

@@ -72,12 +72,20 @@ rows_after form book fraction period before (row ∷ more) =
     (if is_in period row.day then row_in form book fraction row (balance (before ++ row ∷ [])) else [])
     ++ rows_after form book fraction period (before ++ row ∷ []) more
 
-abbrev pub heading : Form → Book → ℕ → ℕ → List ℕ
-heading Plain book account commodity =
+-- The title: the path of the account and the name of its commodity.
+unfoldable pub title : Book → ℕ → ℕ → List ℕ
+title book account commodity =
     codes "Register " ++ printed (path book.accounts account) ++ 32 ∷ []
     ++ printed (name_of book.commodities commodity) ++ 10 ∷ []
-heading Csv book account commodity =
+
+-- The names of the fields.
+unfoldable pub header : List ℕ
+header =
     csv_record (codes "day") (codes "mark") (codes "quantity") (codes "balance") (codes "num") (codes "description")
+
+abbrev pub heading : Form → Book → ℕ → ℕ → List ℕ
+heading Plain book account commodity = title book account commodity
+heading Csv book account commodity = header
 
 -- The commodity of the account with a number; 0, where there is no such account.
 abbrev pub commodity_of : Book → ℕ → ℕ

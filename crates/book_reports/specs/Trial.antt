@@ -87,8 +87,12 @@ part_of book day form entry =
     then (if length (lines_of book day entry.0) == 0 then [] else part_in form entry.1 (lines_of book day entry.0))
     else []
 
+-- The title with the day.
+unfoldable pub title : ℤ → List ℕ
+title day = codes "Trial balance " ++ day_text day ++ 10 ∷ []
+
 abbrev pub heading : ℤ → Form → List ℕ
-heading day Plain = codes "Trial balance " ++ day_text day ++ 10 ∷ []
+heading day Plain = title day
 heading day Csv = csv_record (codes "currency") (codes "account") (codes "debit") (codes "credit")
 
 -- The trial balance of a book up to a day, by currencies in the order of their numbers.

@@ -39,6 +39,7 @@ impl Model for Lines {
 
 impl Lines {
     /// The lines of a section over a period, in the order of the accounts that is given.
+    #[tactic(auto, using(crate::proofs::LineLemmas::can_be_added))]
     pub(crate) fn of(
         alloc: Global,
         view: &View,
@@ -59,7 +60,7 @@ impl Lines {
     }
 
     /// The sum of the lines.
-    #[tactic(auto, unfolding(crate::specs::Sections::sum_of))]
+    #[tactic(auto, using(crate::proofs::LineLemmas::item_small), unfolding(crate::specs::Sections::sum_of))]
     pub(crate) fn sum(&self) -> i128
         ensures sum { result ≡ sum_of self.now }
         ensures small { unsigned_abs result ≤ 10 ^ 34 }
@@ -135,8 +136,7 @@ fn line_of(
 ) -> Result<Option<Line>, OutOfMemory>
     ensures { IfOk result (λ line. line ≡ line_of view.now period.now section number) }
 {
-    let accounts = &view.plain.accounts;
-    let Some(account) = accounts.find(number) else {
+    let Some(account) = view.plain.accounts.find(number) else {
         return Ok(None);
     };
     if !section.holds(account.kind) {
@@ -148,7 +148,7 @@ fn line_of(
     }
     let worth = view.worth(period.to, account.commodity, sum);
     Ok(Some(Line {
-        path: accounts.path_of(number)?,
+        path: view.path(number)?,
         worth: section.signed(worth),
     }))
 }

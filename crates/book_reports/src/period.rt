@@ -1,9 +1,9 @@
-ghost use Rattle.std.specs.Prelude.{◌≡◌, ◌≤◌, ◌*◌, ◌^◌, length, unsigned_abs};
+ghost use Rattle.std.specs.Prelude.{◌≡◌, ◌==◌, pos, None, Some, if◌then◌else◌};
 ghost use Rattle.book_register.specs.Register.{balance};
 ghost use Rattle.book_reports.specs.Measure.{is_in, rows_in, value_of_rows};
 
 use book_commodity::{Day, Steps};
-use book_register::Register;
+use book_register::{Entry, Register};
 
 /// A period: all days up to the last, or those from a first day on.
 #[derive(Clone, Copy, Debug)]
@@ -43,6 +43,25 @@ impl Period {
         }
     }
 
+    /// The quantity of a row in the period; nothing of another row.
+    fn quantity_in(&self, row: &Entry) -> i64
+        ensures { result ≡ (if is_in self.now row.now.day then row.now.quantity else pos 0) }
+    {
+        if self.holds(row.day) { row.quantity } else { 0 }
+    }
+
+    /// The value of a row in the period that stands in a currency; nothing of another row.
+    fn amount_in(&self, row: &Entry, currency: u64) -> i64
+        ensures { result ≡ (if is_in self.now row.now.day
+            then (if row.now.currency == currency then row.now.value else pos 0) else pos 0) }
+    {
+        if self.holds(row.day) && row.currency == currency {
+            row.value
+        } else {
+            0
+        }
+    }
+
     /// The sum of the quantities of the rows in the period.
     pub(crate) fn sum_in(&self, register: &Register) -> i128
         ensures { result ≡ balance (rows_in self.now register.now.rows) }
@@ -54,6 +73,7 @@ impl Period {
     }
 
     /// The same, row by row.
+    #[tactic(auto, using(crate::proofs::RowLemmas::sum_next))]
     fn sum_of_rows(&self, register: &Register) -> i128
         ensures { result ≡ balance (rows_in self.now register.now.rows) }
     {
@@ -61,14 +81,13 @@ impl Period {
         let mut sum = 0i128;
         for place in 0..register.len() {
             let row = register.row(place, &mut steps);
-            if self.holds(row.day) {
-                sum += i128::from(row.quantity);
-            }
+            sum += i128::from(self.quantity_in(&row));
         }
         sum
     }
 
     /// The sum of the values of the rows in the period that stand in a currency.
+    #[tactic(auto, using(crate::proofs::RowLemmas::value_next))]
     pub(crate) fn value_in(&self, register: &Register, currency: u64) -> i128
         ensures { result ≡ value_of_rows currency (rows_in self.now register.now.rows) }
     {
@@ -76,9 +95,7 @@ impl Period {
         let mut sum = 0i128;
         for place in 0..register.len() {
             let row = register.row(place, &mut steps);
-            if row.currency == currency && self.holds(row.day) {
-                sum += i128::from(row.value);
-            }
+            sum += i128::from(self.amount_in(&row, currency));
         }
         sum
     }

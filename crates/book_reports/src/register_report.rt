@@ -2,8 +2,8 @@ ghost use Rattle.std.specs.Prelude.{◌≡◌, ◌++◌, [], IfOk, IsSome, OnOk,
 ghost use Rattle.book_commodity.specs.Table.{value_of};
 ghost use Rattle.book_ledger.specs.Ledger.{register_of};
 ghost use Rattle.book_reports.specs.Measure.{fraction_of};
-ghost use Rattle.book_reports.specs.RegisterText.{columns, commodity_of, csv_record, csv_row, description_in, heading, mark_letter, number_in, plain_row};
-ghost use Rattle.book_reports.specs.RegisterText.{register_text, row_in, rows_after};
+ghost use Rattle.book_reports.specs.RegisterText.{columns, commodity_of, csv_record, csv_row, description_in, header, heading, mark_letter, number_in, plain_row};
+ghost use Rattle.book_reports.specs.RegisterText.{register_text, row_in, rows_after, title};
 
 use crate::layout::{add_day, add_printed, add_record, add_right};
 use crate::period::Period;
@@ -45,25 +45,46 @@ fn add_heading(
     ensures { OnOk result (string_bytes out.new ≡ string_bytes out.old ++ heading form view.now account commodity) }
 {
     match form {
-        Form::Plain => {
-            out.push_str("Register ")?;
-            add_printed(out, view.plain.accounts.path_of(account)?.as_str())?;
-            out.push(' ')?;
-            add_printed(out, view.name(commodity))?;
-            out.push('\n')?;
-            Ok(())
-        }
-        Form::Csv => add_csv_record(
-            alloc,
-            out,
-            "day",
-            "mark",
-            "quantity",
-            "balance",
-            "num",
-            "description",
-        ),
+        Form::Plain => add_title(out, view, account, commodity),
+        Form::Csv => add_header(alloc, out),
     }
+}
+
+/// Adds the path of an account and the name of its commodity.
+#[tactic(auto, unfolding(crate::specs::RegisterText::title))]
+fn add_title(
+    out: &mut String,
+    view: &View,
+    account: u64,
+    commodity: u64,
+) -> Result<(), OutOfMemory>
+    requires { IsSome (value_of account view.now.accounts) }
+    ensures { OnOk result (string_bytes out.new ≡ string_bytes out.old ++ title view.now account commodity) }
+{
+    let path = view.path(account)?;
+    out.push_str("Register ")?;
+    add_printed(out, path.as_str())?;
+    out.push(' ')?;
+    add_printed(out, view.name(commodity))?;
+    out.push('\n')?;
+    Ok(())
+}
+
+/// Adds the names of the fields.
+#[tactic(auto, unfolding(crate::specs::RegisterText::header))]
+fn add_header(alloc: Global, out: &mut String) -> Result<(), OutOfMemory>
+    ensures { OnOk result (string_bytes out.new ≡ string_bytes out.old ++ header) }
+{
+    add_csv_record(
+        alloc,
+        out,
+        "day",
+        "mark",
+        "quantity",
+        "balance",
+        "num",
+        "description",
+    )
 }
 
 /// Adds the rows of an account in a period.

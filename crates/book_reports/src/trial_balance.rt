@@ -1,9 +1,9 @@
-ghost use Rattle.std.specs.Prelude.{◌≡◌, ◌++◌, ◌≤◌, All, IfOk, IsSome, OnOk, length, string_bytes};
+ghost use Rattle.std.specs.Prelude.{◌≡◌, ◌++◌, ◌≤◌, All, IfOk, IsSome, OnOk, length, string_bytes, unsigned_abs};
 ghost use Rattle.book_accounts.specs.Order.{depth_first};
 ghost use Rattle.book_commodity.specs.Table.{value_of};
 ghost use Rattle.std.specs.List.{filter_map};
 ghost use Rattle.book_reports.specs.Trial.{credits, csv_part, csv_record, debits, heading, line_of, part_of, plain_line};
-ghost use Rattle.book_reports.specs.Trial.{plain_part, positive, side_text, trial};
+ghost use Rattle.book_reports.specs.Trial.{plain_part, positive, side_text, title, trial};
 
 use crate::layout::{add_day, add_printed, add_record, add_right};
 use crate::period::Period;
@@ -51,6 +51,17 @@ pub fn trial(alloc: Global, view: &View, day: Day, form: Form) -> Result<Text, O
     Ok(Text::of(out))
 }
 
+/// Adds the title with the day.
+#[tactic(auto, unfolding(crate::specs::Trial::title))]
+fn add_title(out: &mut String, day: Day) -> Result<(), OutOfMemory>
+    ensures { OnOk result (string_bytes out.new ≡ string_bytes out.old ++ title day) }
+{
+    out.push_str("Trial balance ")?;
+    add_day(out, day)?;
+    out.push('\n')?;
+    Ok(())
+}
+
 /// Adds the part of a commodity, if it is a currency and an account has a line.
 #[tactic(auto, unfolding(crate::specs::Trial::part_of, crate::specs::Trial::lines_of))]
 fn add_commodity(
@@ -92,12 +103,7 @@ fn add_heading(
     ensures { OnOk result (string_bytes out.new ≡ string_bytes out.old ++ heading day form) }
 {
     match form {
-        Form::Plain => {
-            out.push_str("Trial balance ")?;
-            add_day(out, day)?;
-            out.push('\n')?;
-            Ok(())
-        }
+        Form::Plain => add_title(out, day),
         Form::Csv => add_csv_record(alloc, out, "currency", "account", "debit", "credit"),
     }
 }
@@ -120,7 +126,7 @@ impl TrialLines {
         for number in order {
             let sum = view.value(*number, &period, currency);
             if sum != 0 {
-                let path = view.plain.accounts.path_of(*number)?;
+                let path = view.path(*number)?;
                 lines.push(TrialLine { path, sum })?;
             }
         }
@@ -210,7 +216,8 @@ impl TrialLines {
 
 /// The part of a sum that is positive, and nothing of a negative one.
 fn positive(sum: i128) -> i128
-    ensures { result ≡ positive sum }
+    ensures part { result ≡ positive sum }
+    ensures small { unsigned_abs result ≤ unsigned_abs sum }
 {
     if sum > 0 { sum } else { 0 }
 }

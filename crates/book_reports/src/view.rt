@@ -1,6 +1,7 @@
 ghost use Rattle.std.specs.Prelude.{◌≡◌, ◌≤◌, ◌^◌, All, IfOk, IsSome, length, unsigned_abs};
 ghost use Rattle.std.specs.Int.{IsInRange};
 ghost use Rattle.book_accounts.specs.Order.{depth_first};
+ghost use Rattle.book_accounts.specs.Path.{path};
 ghost use Rattle.book_commodity.specs.Table.{value_of};
 ghost use Rattle.book_ledger.specs.Ledger.{Keeps, register_of};
 ghost use Rattle.book_reports.specs.Sections.{amount_in};
@@ -10,7 +11,7 @@ ghost use Rattle.book_sound.specs.Soundness.{IsSoundBook};
 ghost use Rattle.book_undo.specs.Book.{book_of};
 
 use crate::period::Period;
-use book_commodity::{Day, Many, OutOfMemory};
+use book_commodity::{Day, Many, OutOfMemory, Text};
 use book_ledger::Registers;
 use book_prices::{Valuation, worth};
 use book_register::Register;
@@ -54,6 +55,14 @@ impl<'a> View<'a> {
         ensures there { IfOk result (All (λ account. IsSome (value_of account self.now.accounts))) }
     {
         self.plain.accounts.order()
+    }
+
+    /// The path of an account of the book.
+    pub(crate) fn path(&self, account: u64) -> Result<Text, OutOfMemory>
+        requires { IsSome (value_of account self.now.accounts) }
+        ensures { IfOk result (λ text. text ≡ path self.now.accounts account) }
+    {
+        self.plain.accounts.path_of(account)
     }
 
     /// How many smallest units make one unit of a commodity.

@@ -1,4 +1,4 @@
-use Rattle.std.proofs.Common.{sym, ap, ◌∙◌, append_assoc, append-nil}
+use Rattle.std.proofs.Common.{ℕ, List, ◌++◌, string_bytes, sym, ap, ◌∙◌, append_assoc, append-nil}
 use Rattle.std.proofs.lemmas.Str.{IsUtf8-past_char}
 use Rattle.book_reports.specs.Layout.{printed}
 use Rattle.book_reports.proofs.TextLemmas.{printed_step}
@@ -15,4 +15,7 @@ loop-letter-preserved c =
 
 pub returns : goal.returns
 unfolding printed
-returns c = sym (append-nil _) ∙ rw (c.in-None.ensures.steps.0.0) at c.loop-letter.invariant.1
+returns c =
+    sym (append-nil (string_bytes c.loop-letter.out))
+    ∙ ap (λ (l : List ℕ). string_bytes c.loop-letter.out ++ printed l) (sym c.in-None.ensures.steps.0.0)
+    ∙ c.loop-letter.invariant.1
