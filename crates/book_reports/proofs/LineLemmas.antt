@@ -1,5 +1,5 @@
 -- The lines of a report are few, and their amounts small, so that they can be added up.
-use Rattle.std.proofs.Common.{◌≡◌, ℕ, zero, suc, ◌+◌, ◌*◌, ◌^◌, ◌≤◌, ◌<◌, get_or, ℤ, pos, ◌-ℤ◌, ◌≤ℤ◌, ◌&&◌, not, unsigned_abs, Bool, true}
+use Rattle.std.proofs.Common.{◌≡◌, ℕ, zero, suc, ◌+◌, ◌*◌, ◌^◌, ◌≤◌, ◌<◌, get_or, ℤ, pos, negsuc, neg_ℤ, int_lt, ◌-ℤ◌, ◌≤ℤ◌, ◌&&◌, not, unsigned_abs, Bool, true}
 use Rattle.std.proofs.Common.{false, nat_eq, ◌==◌, if◌then◌else◌, List, [], ◌∷◌, All, IfSome, length, map, filter, take}
 use Rattle.std.proofs.Common.{Option, Some, None, is_some, count_by, refl, sym, ap, subst, ◌∙◌, arith}
 use Rattle.std.specs.List.{cons_option, filter_map}
@@ -7,8 +7,9 @@ use Rattle.std.specs.Ordering.{int_eq}
 use Rattle.std.proofs.lemmas.Bool.{eqb-true}
 use Rattle.std.proofs.lemmas.Bool.Decides.{nat_tests}
 use Rattle.std.proofs.lemmas.Int.{ints}
-use Rattle.std.proofs.lemmas.List.{length-take}
-use Rattle.std.proofs.lemmas.List.Elements.{All-cons, All-get_or, All-nil}
+use Rattle.std.proofs.lemmas.List.{length-map, length-take}
+use Rattle.std.proofs.lemmas.List.Elements.{All-cons, All-get_or, All-head, All-map, All-nil, All-tail, All-take}
+use Rattle.std.proofs.lemmas.List.Elements.{All-weaker}
 use Rattle.std.proofs.lemmas.List.Filters.{length-filter_both}
 use Rattle.std.proofs.lemmas.List.Sums.{length-filter}
 use Rattle.book_accounts.specs.Order.{ListsEachOnce}
@@ -17,12 +18,47 @@ use Rattle.book_accounts.specs.declared.account.Account.{Account}
 use Rattle.book_commodity.specs.Table.{Rises, value_of}
 use Rattle.book_splits.specs.Balance.{total}
 use Rattle.book_undo.specs.Book.{Book}
-use Rattle.book_reports.specs.Measure.{sum_in, worth}
+use Rattle.book_sound.specs.Soundness.{IsSoundBook}
+use Rattle.book_reports.specs.Measure.{sum_in, value_in, worth}
 use Rattle.book_reports.specs.Sections.{CanBeAdded, amount_in, holds, line_of, line_with, signed_in}
 use Rattle.book_reports.specs.declared.lines.Line.{Line}
 use Rattle.book_reports.specs.declared.period.Period.{Period}
+use Rattle.book_reports.specs.Sheet.{until}
+use Rattle.book_reports.specs.Trial as trial
+use Rattle.book_reports.specs.Trial.{positive}
 use Rattle.book_reports.specs.declared.section.Section.{Section}
-use Rattle.book_reports.proofs.MeasureLemmas.{signed_small, worth_small}
+use Rattle.book_reports.specs.declared.trial_balance.TrialLine.{TrialLine}
+use Rattle.book_reports.proofs.MeasureLemmas.{signed_small, size_turned, worth_small}
+use Rattle.book_reports.proofs.RowLemmas.{value_small}
+
+-- ---- sums
+
+size_at_most :
+    (most : ℕ) (z : ℤ) → (pos 0 -ℤ pos most) ≤ℤ z → z ≤ℤ pos most → unsigned_abs z ≤ most
+size_at_most most (pos n) low high = omega (arith, ints, low, high)
+size_at_most most (negsuc n) low high = omega (arith, ints, low, high)
+
+within : (most : ℕ) (z : ℤ) → unsigned_abs z ≤ most → ((pos 0 -ℤ pos most) ≤ℤ z) × (z ≤ℤ pos most)
+within most (pos n) small = (omega (arith, ints, small), omega (arith, ints, small))
+within most (negsuc n) small = (omega (arith, ints, small), omega (arith, ints, small))
+
+bounded :
+    (amounts : List ℤ) → All (λ (a : ℤ). unsigned_abs a ≤ 10 ^ 30) amounts
+    → ((pos 0 -ℤ pos (10 ^ 30 * length amounts)) ≤ℤ total amounts) × (total amounts ≤ℤ pos (10 ^ 30 * length amounts))
+bounded [] small = (omega (arith, ints), omega (arith, ints))
+bounded (a ∷ amounts) small =
+    let Small : ℤ → Type 0 = λ x. unsigned_abs x ≤ 10 ^ 30 in
+    let first = within (10 ^ 30) a (All-head Small a amounts small) in
+    let rest = bounded amounts (All-tail Small a amounts small) in
+    (omega (arith, ints, first.0, rest.0), omega (arith, ints, first.1, rest.1))
+
+-- the sum of at most 10,000 amounts of at most 10 ^ 30 in size
+total_small :
+    (amounts : List ℤ) → All (λ (a : ℤ). unsigned_abs a ≤ 10 ^ 30) amounts → length amounts ≤ 10000
+    → unsigned_abs (total amounts) ≤ 10 ^ 34
+total_small amounts small few =
+    let is = bounded amounts small in
+    size_at_most (10 ^ 34) (total amounts) (omega (arith, ints, is.0, few)) (omega (arith, ints, is.1, few))
 
 -- ---- what is found in a list
 
@@ -81,6 +117,82 @@ pub item_small :
     (lines : List Line) (i : ℕ) (d : Line) → CanBeAdded lines → i < length lines
     → unsigned_abs (amount_in (get_or lines i d).worth) ≤ 10 ^ 30
 item_small lines i d can within = All-get_or IsSmallLine lines i d within can.small
+
+-- the sum of the first lines is small
+pub first_small :
+    (lines : List Line) (i : ℕ) → CanBeAdded lines
+    → unsigned_abs (total (map (λ (l : Line). amount_in l.worth) (take i lines))) ≤ 10 ^ 34
+first_small lines i can =
+    total_small (map (λ (l : Line). amount_in l.worth) (take i lines))
+    (All-map (λ (a : ℤ). unsigned_abs a ≤ 10 ^ 30) (λ (l : Line). amount_in l.worth) (take i lines)
+    (All-take IsSmallLine i lines can.small))
+    (omega (arith, length-map (take i lines) (λ (l : Line). amount_in l.worth), length-take i lines, can.few))
+
+-- ---- the lines of a currency
+
+abbrev IsSmallSide : TrialLine → Type 0
+IsSmallSide line = (unsigned_abs line.debit ≤ 10 ^ 18) × (unsigned_abs line.credit ≤ 10 ^ 18)
+
+-- the sum of the first debits is small
+pub debits_small :
+    (lines : List TrialLine) (i : ℕ) → trial.CanBeAdded lines
+    → unsigned_abs (total (map (λ (l : TrialLine). l.debit) (take i lines))) ≤ 10 ^ 34
+debits_small lines i can =
+    total_small (map (λ (l : TrialLine). l.debit) (take i lines))
+    (All-map (λ (a : ℤ). unsigned_abs a ≤ 10 ^ 30) (λ (l : TrialLine). l.debit) (take i lines)
+    (All-weaker IsSmallSide (λ (l : TrialLine). unsigned_abs l.debit ≤ 10 ^ 30) (λ l small. omega (arith, small.0))
+    (take i lines) (All-take IsSmallSide i lines can.small)))
+    (omega (arith, length-map (take i lines) (λ (l : TrialLine). l.debit), length-take i lines, can.few))
+
+-- and so is that of the first credits
+pub credits_small :
+    (lines : List TrialLine) (i : ℕ) → trial.CanBeAdded lines
+    → unsigned_abs (total (map (λ (l : TrialLine). l.credit) (take i lines))) ≤ 10 ^ 34
+credits_small lines i can =
+    total_small (map (λ (l : TrialLine). l.credit) (take i lines))
+    (All-map (λ (a : ℤ). unsigned_abs a ≤ 10 ^ 30) (λ (l : TrialLine). l.credit) (take i lines)
+    (All-weaker IsSmallSide (λ (l : TrialLine). unsigned_abs l.credit ≤ 10 ^ 30) (λ l small. omega (arith, small.1))
+    (take i lines) (All-take IsSmallSide i lines can.small)))
+    (omega (arith, length-map (take i lines) (λ (l : TrialLine). l.credit), length-take i lines, can.few))
+
+-- the sides of a line that can be added up
+pub side_small :
+    (lines : List TrialLine) (i : ℕ) (d : TrialLine) → trial.CanBeAdded lines → i < length lines
+    → IsSmallSide (get_or lines i d)
+side_small lines i d can within = All-get_or IsSmallSide lines i d within can.small
+
+positive_small : (sum : ℤ) → unsigned_abs sum ≤ 10 ^ 18 → unsigned_abs (positive sum) ≤ 10 ^ 18
+positive_small sum small =
+    elim (int_lt (pos 0) sum) as (λ b. unsigned_abs (if b then sum else pos 0) ≤ 10 ^ 18) [
+      | true ↦ small
+      | false ↦ omega arith
+    ]
+
+side_found :
+    (book : Book) (day : ℤ) (currency account : ℕ) → IsSoundBook book
+    → IfSome (trial.line_of book day currency account) IsSmallSide
+side_found book day currency account is =
+    let sum = value_in book (until day) currency account in
+    let small = value_small book (until day) currency account is in
+    elim (int_eq sum (pos 0)) as
+    (λ b. IfSome (if b then None
+    else Some (record { path = path book.accounts account; debit = positive sum; credit = positive (neg_ℤ sum) }))
+    IsSmallSide) [
+      | true ↦ tt
+      | false ↦ (
+        positive_small sum small,
+        positive_small (neg_ℤ sum) (subst (λ n. n ≤ 10 ^ 18) (sym (size_turned sum)) small),
+      )
+    ]
+
+pub sides_can_be_added :
+    (book : Book) (day : ℤ) (currency : ℕ) (order : List ℕ) → IsSoundBook book → length order ≤ 10000
+    → trial.CanBeAdded (filter_map (trial.line_of book day currency) order)
+sides_can_be_added book day currency order is few = record {
+  few = omega (arith, few_found (trial.line_of book day currency) order, few);
+  small = all_found IsSmallSide (trial.line_of book day currency)
+      (λ n. side_found book day currency n is) order;
+}
 
 -- ---- numbers that are each listed once
 

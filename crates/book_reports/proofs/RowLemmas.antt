@@ -17,7 +17,7 @@ use Rattle.book_splits.specs.Check.{HasAmounts}
 use Rattle.book_splits.specs.declared.split.Split.{Split}
 use Rattle.book_splits.specs.declared.transaction.Txn.{Txn}
 use Rattle.book_undo.specs.Book.{Book}
-use Rattle.book_reports.specs.Measure.{is_in, rows_in, sum_in, value_in, value_of_rows}
+use Rattle.book_reports.specs.Measure.{CanBeSummed, is_in, rows_in, value_in, value_of_rows}
 use Rattle.book_reports.specs.RegisterText.{row_in, rows_after}
 use Rattle.book_reports.specs.declared.form.Form.{Form}
 use Rattle.book_reports.specs.declared.period.Period.{Period}
@@ -135,36 +135,46 @@ sum_of_few amount rows each all few =
     size_at_most (10 ^ 18) (total (map amount rows))
     (omega (arith, ints, sum.0, same, few), omega (arith, ints, sum.1, same, few))
 
+-- the rows of a sound book can be added up
+pub can_be_summed :
+    (book : Book) (account : ℕ) → IsSoundBook book → CanBeSummed (register_of account book.transactions)
+can_be_summed book account is = record { few = rows_are_few book account is; small = rows_are_small book account is }
+
 -- what an account changes by in a period is small
-pub sums_are_small :
-    (book : Book) (period : Period) (account : ℕ) → IsSoundBook book
-    → unsigned_abs (sum_in book period account) ≤ 10 ^ 18
-unfolding sum_in
-sums_are_small book period account is =
-    let rows = register_of account book.transactions in
-    let all = rows_are_small book account is in
-    let few = rows_are_few book account is in
+pub period_small :
+    (period : Period) (rows : List Entry) → CanBeSummed rows → unsigned_abs (balance (rows_in period rows)) ≤ 10 ^ 18
+period_small period rows can =
     let test = λ (r : Entry). is_in period r.day in
     let picked = rows_in period rows in
     subst (λ z. unsigned_abs z ≤ 10 ^ 18) (sym (balance_total picked))
-    (sum_of_few (λ (r : Entry). r.quantity) picked (λ r small. small.1) (All-filter test IsSmallRow rows all)
-    (omega (arith, fewer test rows, few)))
+    (sum_of_few (λ (r : Entry). r.quantity) picked (λ r small. small.1) (All-filter test IsSmallRow rows can.small)
+    (omega (arith, fewer test rows, can.few)))
 
 -- and in one currency of transactions
-pub values_are_small :
-    (book : Book) (period : Period) (currency account : ℕ) → IsSoundBook book
-    → unsigned_abs (value_in book period currency account) ≤ 10 ^ 18
-unfolding value_in
-values_are_small book period currency account is =
-    let rows = register_of account book.transactions in
-    let all = rows_are_small book account is in
-    let few = rows_are_few book account is in
+pub currency_small :
+    (period : Period) (currency : ℕ) (rows : List Entry) → CanBeSummed rows
+    → unsigned_abs (value_of_rows currency (rows_in period rows)) ≤ 10 ^ 18
+currency_small period currency rows can =
     let test = λ (r : Entry). is_in period r.day in
     let same = λ (r : Entry). r.currency == currency in
     let picked = rows_in period rows in
     sum_of_few (λ (r : Entry). r.value) (filter same picked) (λ r small. small.0)
-    (All-filter same IsSmallRow picked (All-filter test IsSmallRow rows all))
-    (omega (arith, fewer same picked, fewer test rows, few))
+    (All-filter same IsSmallRow picked (All-filter test IsSmallRow rows can.small))
+    (omega (arith, fewer same picked, fewer test rows, can.few))
+
+pub value_small :
+    (book : Book) (period : Period) (currency account : ℕ) → IsSoundBook book
+    → unsigned_abs (value_in book period currency account) ≤ 10 ^ 18
+unfolding value_in
+value_small book period currency account is =
+    currency_small period currency (register_of account book.transactions) (can_be_summed book account is)
+
+-- the first of the rows can be added up
+pub first_can_be_summed : (rows : List Entry) (i : ℕ) → CanBeSummed rows → CanBeSummed (take i rows)
+first_can_be_summed rows i can = record {
+  few = omega (arith, length-take i rows, can.few);
+  small = All-take IsSmallRow i rows can.small;
+}
 
 -- ---- rows one after another
 
@@ -199,16 +209,11 @@ rows_step form book fraction period rows i row there =
     ∙ ap (λ (before : List Entry). (if is_in period row.day then row_in form book fraction row (balance before) else [])
     ++ rows_after form book fraction period before (drop (i + 1) rows)) (push rows i row there)
 
--- the balance of the first rows of a register is small
-pub balance_small :
-    (book : Book) (account i : ℕ) → IsSoundBook book
-    → unsigned_abs (balance (take i (register_of account book.transactions))) ≤ 10 ^ 18
-balance_small book account i is =
-    let rows = register_of account book.transactions in
-    let few = rows_are_few book account is in
-    subst (λ z. unsigned_abs z ≤ 10 ^ 18) (sym (balance_total (take i rows)))
-    (sum_of_few (λ (r : Entry). r.quantity) (take i rows) (λ r small. small.1)
-    (All-take IsSmallRow i rows (rows_are_small book account is)) (omega (arith, length-take i rows, few)))
+-- the balance of rows is small
+pub balance_small : (rows : List Entry) → CanBeSummed rows → unsigned_abs (balance rows) ≤ 10 ^ 18
+balance_small rows can =
+    subst (λ z. unsigned_abs z ≤ 10 ^ 18) (sym (balance_total rows))
+    (sum_of_few (λ (r : Entry). r.quantity) rows (λ r small. small.1) can.small can.few)
 
 sum_push :
     (period : Period) (rows : List Entry) (row : Entry)

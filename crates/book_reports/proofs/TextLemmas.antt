@@ -39,10 +39,10 @@ high_bytes c high =
     subst (λ (t : Bool). AreHigh (cond t (c ∷ []) (cond (nat_lt c 2048) two (cond (nat_lt c 65536) three four))))
     (sym past)
     (elim (nat_lt c 2048) as (λ b. AreHigh (cond b two (cond (nat_lt c 65536) three four))) [
-      | true ↦ (omega arith, omega arith, tt)
+      | true ↦ (omega arith, (omega arith, tt))
       | false ↦ elim (nat_lt c 65536) as (λ b. AreHigh (cond b three four)) [
-          | true ↦ (omega arith, omega arith, omega arith, tt)
-          | false ↦ (omega arith, omega arith, omega arith, omega arith, tt)
+          | true ↦ (omega arith, (omega arith, (omega arith, tt)))
+          | false ↦ (omega arith, (omega arith, (omega arith, (omega arith, tt))))
         ]
     ])
 
@@ -86,6 +86,12 @@ printed_char c = by (order c 32) (order c 128)
         let plain : nat_lt c 32 ≡ false = grind (arith, nat_tests, large) in
         printed_high (encode_utf8 c) (high_bytes c high)
         ∙ ap (λ (t : Bool). encode_utf8 (if t then 32 else c)) (sym plain)
+
+-- the printed text of nothing
+pub printed_none : (bytes : List ℕ) → 0 ≡ length bytes → printed bytes ≡ []
+unfolding printed
+printed_none [] none = refl
+printed_none (byte ∷ more) none = absurd (omega (arith, none))
 
 -- the printed text of a character and those behind it
 pub printed_step :

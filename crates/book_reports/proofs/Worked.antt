@@ -20,7 +20,7 @@ use Rattle.book_reports.specs.Layout.{amount_line, printed, record_text, right}
 use Rattle.book_reports.specs.Measure.{sum_in, value_in, worth}
 use Rattle.book_reports.specs.RegisterText.{columns, register_text, row_in, title}
 use Rattle.book_reports.specs.Sections as sections
-use Rattle.book_reports.specs.Sections.{csv_section, left_out, line_of, plain_section, sum_of, worth_text}
+use Rattle.book_reports.specs.Sections.{csv_section, csv_summary, left_out, left_out_line, line_of, plain_section, sum_of, worth_text}
 use Rattle.book_reports.specs.Sheet.{sheet}
 use Rattle.book_reports.specs.Trial as trials
 use Rattle.book_reports.specs.Trial.{credits, debits, part_of, plain_line, side_text, trial}
@@ -78,8 +78,8 @@ plain_sheet :
     ++ codes "                    0.00  Total Liabilities\n" ++ codes "Equity\n"
     ++ codes "                    0.00  Total Equity\n" ++ codes "                    0.00  Retained earnings\n"
     ++ codes "                    5.50  Unbooked gains\n" ++ codes "Left out: 0\n"
-unfolding sheet sections.lines_of line_of sum_in worth sum_of left_out worth_text plain_section amount_line right printed
-    amount_text decimals_of scaled with_generations nearest_parents digits day_text
+unfolding sheet sections.lines_of line_of sum_in worth sum_of left_out worth_text plain_section left_out_line amount_line right
+    printed amount_text decimals_of scaled with_generations nearest_parents digits day_text
 plain_sheet = refl
 
 csv_sheet :
@@ -88,7 +88,7 @@ csv_sheet :
     ++ codes "Assets,Total,5.50\n" ++ codes "Liabilities,Total,0.00\n" ++ codes "Equity,Total,0.00\n"
     ++ codes "Summary,Retained earnings,0.00\n" ++ codes "Summary,Unbooked gains,5.50\n"
     ++ codes "Summary,Left out,0\n"
-unfolding sheet sections.lines_of line_of sum_in worth sum_of left_out worth_text csv_section record_text amount_text
+unfolding sheet sections.lines_of line_of sum_in worth sum_of left_out worth_text csv_section csv_summary record_text amount_text
     decimals_of scaled with_generations nearest_parents digits escaped fields_text is_blank
 csv_sheet = refl
 
@@ -99,7 +99,7 @@ without_price :
     ++ codes "Assets,Total,-17.00\n" ++ codes "Liabilities,Total,0.00\n" ++ codes "Equity,Total,0.00\n"
     ++ codes "Summary,Retained earnings,0.00\n" ++ codes "Summary,Unbooked gains,-17.00\n"
     ++ codes "Summary,Left out,1\n"
-unfolding sheet sections.lines_of line_of sum_in worth sum_of left_out worth_text csv_section record_text amount_text
+unfolding sheet sections.lines_of line_of sum_in worth sum_of left_out worth_text csv_section csv_summary record_text amount_text
     decimals_of scaled with_generations nearest_parents digits escaped fields_text is_blank
 without_price = refl
 
@@ -117,7 +117,7 @@ no_income :
     income book (pos 0) (pos 90) Csv
     ≡ codes "section,account,worth\n" ++ codes "Income,Total,0.00\n" ++ codes "Expenses,Total,0.00\n"
     ++ codes "Summary,Net,0.00\n" ++ codes "Summary,Left out,0\n"
-unfolding income sections.lines_of line_of sum_in worth sum_of left_out worth_text csv_section record_text amount_text
+unfolding income sections.lines_of line_of sum_in worth sum_of left_out worth_text csv_section csv_summary record_text amount_text
     decimals_of scaled with_generations nearest_parents digits escaped fields_text is_blank
 no_income = refl
 

@@ -6,7 +6,8 @@ use Rattle.book_commodity.specs.Day.{day_text}
 use Rattle.book_undo.specs.Book.{Book}
 use Rattle.book_reports.specs.Layout.{amount_line, printed}
 use Rattle.book_reports.specs.Measure.{fraction_of, name_of}
-use Rattle.book_reports.specs.Sections.{csv_header, csv_section, csv_summary, left_out, lines_of, plain_section, sum_of}
+use Rattle.book_reports.specs.Sections.{csv_header, csv_section, csv_summary, left_out, left_out_line, lines_of}
+use Rattle.book_reports.specs.Sections.{plain_section, sum_of}
 use Rattle.book_reports.specs.declared.form.Form.{Form}
 use Rattle.book_reports.specs.declared.form.Form.TheVariants.{Csv, Plain}
 use Rattle.book_reports.specs.declared.income_report.Parts.{Parts}
@@ -34,7 +35,7 @@ abbrev pub plain_parts : ℕ → Parts → List ℕ
 plain_parts fraction parts =
     plain_section fraction Income parts.income ++ plain_section fraction Expenses parts.expenses
     ++ amount_line (amount_text (net parts) fraction) (codes "Net")
-    ++ codes "Left out: " ++ decimal (parts_left_out parts) ++ 10 ∷ []
+    ++ left_out_line (parts_left_out parts)
 
 -- The two days, with a space behind each.
 unfoldable pub days : ℤ → ℤ → List ℕ

@@ -1,6 +1,6 @@
 -- The sections of a balance sheet and of an income report: the accounts of some kinds with what they are worth.
 use Rattle.std.specs.Prelude.{ℕ, ◌&&◌, ℤ, pos, neg_ℤ, not, Bool, true, false, if◌then◌else◌, List, [], ◌∷◌, ◌++◌}
-use Rattle.std.specs.Prelude.{◌≤◌, ◌^◌, unsigned_abs, All, length, map, count_by, codes, Option, Some, None}
+use Rattle.std.specs.Prelude.{◌≤◌, ◌^◌, unsigned_abs, All, length, map, count_by, codes, decimal, Option, Some, None}
 use Rattle.std.specs.List.{filter_map, flat_map}
 use Rattle.std.specs.Ordering.{int_eq}
 use Rattle.book_accounts.specs.Order.{depth_first}
@@ -151,6 +151,10 @@ plain_section fraction section lines =
     section_name section ++ 10 ∷ [] ++ plain_lines fraction lines
     ++ amount_line (amount_text (sum_of lines) fraction) (codes "Total " ++ section_name section)
 
+-- How many accounts are left out of the sums of a report.
+unfoldable pub left_out_line : ℕ → List ℕ
+left_out_line count = codes "Left out: " ++ decimal count ++ 10 ∷ []
+
 -- ---- comma-separated values
 
 -- A record of a section, an account and an amount.
@@ -171,5 +175,5 @@ csv_section fraction section lines =
     ++ csv_record (section_name section) (codes "Total") (amount_text (sum_of lines) fraction)
 
 -- A figure of the whole report, in the section Summary.
-abbrev pub csv_summary : List ℕ → List ℕ → List ℕ
+unfoldable pub csv_summary : List ℕ → List ℕ → List ℕ
 csv_summary name amount = csv_record (codes "Summary") name amount

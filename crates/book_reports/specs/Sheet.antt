@@ -6,7 +6,8 @@ use Rattle.book_commodity.specs.Day.{day_text}
 use Rattle.book_undo.specs.Book.{Book}
 use Rattle.book_reports.specs.Layout.{amount_line, printed}
 use Rattle.book_reports.specs.Measure.{fraction_of, name_of}
-use Rattle.book_reports.specs.Sections.{csv_header, csv_section, csv_summary, left_out, lines_of, plain_section}
+use Rattle.book_reports.specs.Sections.{csv_header, csv_section, csv_summary, left_out, left_out_line, lines_of}
+use Rattle.book_reports.specs.Sections.{plain_section}
 use Rattle.book_reports.specs.Sections.{section_name, sum_of}
 use Rattle.book_reports.specs.declared.form.Form.{Form}
 use Rattle.book_reports.specs.declared.form.Form.TheVariants.{Csv, Plain}
@@ -27,9 +28,13 @@ parts_of book day = record {
   earnings = lines_of book (until day) Earnings;
 }
 
--- Assets less liabilities, equity and retained earnings: what prices added that no transaction says.
+-- Assets less liabilities and equity.
+abbrev pub rest_of : Parts → ℤ
+rest_of parts = sum_of parts.assets -ℤ sum_of parts.liabilities -ℤ sum_of parts.equity
+
+-- The same less retained earnings: what prices added that no transaction says.
 abbrev pub unbooked : Parts → ℤ
-unbooked parts = sum_of parts.assets -ℤ sum_of parts.liabilities -ℤ sum_of parts.equity -ℤ sum_of parts.earnings
+unbooked parts = rest_of parts -ℤ sum_of parts.earnings
 
 -- How many accounts are left out of the sums.
 abbrev pub parts_left_out : Parts → ℕ
@@ -41,7 +46,7 @@ abbrev pub plain_summary : ℕ → Parts → List ℕ
 plain_summary fraction parts =
     amount_line (amount_text (sum_of parts.earnings) fraction) (section_name Earnings)
     ++ amount_line (amount_text (unbooked parts) fraction) (codes "Unbooked gains")
-    ++ codes "Left out: " ++ decimal (parts_left_out parts) ++ 10 ∷ []
+    ++ left_out_line (parts_left_out parts)
 
 abbrev pub plain_parts : ℕ → Parts → List ℕ
 plain_parts fraction parts =

@@ -19,12 +19,20 @@ use Rattle.book_reports.specs.declared.form.Form.{Form}
 use Rattle.book_reports.specs.declared.form.Form.TheVariants.{Csv, Plain}
 use Rattle.book_reports.specs.declared.trial_balance.TrialLine.{TrialLine}
 
--- The line of an account in a currency: the sum of its values up to the day, a debit where it is positive and a credit
--- where it is negative. There is none where the sum is zero.
+-- The part of a sum that is positive, and nothing of a negative one.
+abbrev pub positive : ℤ → ℤ
+positive sum = if int_lt (pos 0) sum then sum else pos 0
+
+-- The line of an account in a currency: the sum of its values up to the day, as debit where it is positive and as
+-- credit, without its sign, where it is negative. There is none where the sum is zero.
 abbrev pub line_of : Book → ℤ → ℕ → ℕ → Option TrialLine
 line_of book day currency account =
     if int_eq (value_in book (until day) currency account) (pos 0) then None
-    else Some (record { path = path book.accounts account; sum = value_in book (until day) currency account })
+    else Some (record {
+      path = path book.accounts account;
+      debit = positive (value_in book (until day) currency account);
+      credit = positive (neg_ℤ (value_in book (until day) currency account));
+    })
 
 -- The lines of a currency, in the order of the tree of accounts.
 unfoldable pub lines_of : Book → ℤ → ℕ → List TrialLine
@@ -33,34 +41,33 @@ lines_of book day currency = filter_map (line_of book day currency) (depth_first
 -- The lines of a currency are so few, and their sums so small, that they can be added up.
 pub record CanBeAdded (lines : List TrialLine) : Type 0 where
   pub few : length lines ≤ 10000
-  pub small : All (λ line. unsigned_abs line.sum ≤ 10 ^ 18) lines
-
--- The part of a sum that is positive, and nothing of a negative one.
-abbrev pub positive : ℤ → ℤ
-positive sum = if int_lt (pos 0) sum then sum else pos 0
+  pub small : All (λ line. (unsigned_abs line.debit ≤ 10 ^ 18) × (unsigned_abs line.credit ≤ 10 ^ 18)) lines
 
 -- The sum of the debits.
 unfoldable pub debits : List TrialLine → ℤ
-debits lines = total (map (λ line. positive line.sum) lines)
+debits lines = total (map (λ line. line.debit) lines)
 
--- The sum of the credits, without their sign.
+-- The sum of the credits.
 unfoldable pub credits : List TrialLine → ℤ
-credits lines = total (map (λ line. positive (neg_ℤ line.sum)) lines)
+credits lines = total (map (λ line. line.credit) lines)
 
 -- The text of a side: the amount where it is positive, and blank where it isn't.
 unfoldable pub side_text : ℕ → ℤ → List ℕ
-side_text fraction sum = if int_lt (pos 0) sum then amount_text sum fraction else []
+side_text fraction amount = if int_lt (pos 0) amount then amount_text amount fraction else []
 
 -- A line of debit, credit and what they are of.
 unfoldable pub plain_line : List ℕ → List ℕ → List ℕ → List ℕ
 plain_line debit credit name = right 24 debit ++ right 24 credit ++ codes "  " ++ printed name ++ 10 ∷ []
 
+-- The lines of the accounts.
+abbrev pub plain_lines : ℕ → List TrialLine → List ℕ
+plain_lines fraction lines =
+    flat_map (λ line. plain_line (side_text fraction line.debit) (side_text fraction line.credit) line.path) lines
+
 -- The part of a currency: its name, its lines, and the sums of both sides.
 abbrev pub plain_part : Commodity → List TrialLine → List ℕ
 plain_part currency lines =
-    printed currency.name ++ 10 ∷ []
-    ++ flat_map (λ line. plain_line (side_text currency.fraction line.sum)
-    (side_text currency.fraction (neg_ℤ line.sum)) line.path) lines
+    printed currency.name ++ 10 ∷ [] ++ plain_lines currency.fraction lines
     ++ plain_line (amount_text (debits lines) currency.fraction) (amount_text (credits lines) currency.fraction)
     (codes "Total")
 
@@ -68,11 +75,16 @@ plain_part currency lines =
 abbrev pub csv_record : List ℕ → List ℕ → List ℕ → List ℕ → List ℕ
 csv_record currency account debit credit = record_text (currency ∷ account ∷ debit ∷ credit ∷ [])
 
+-- The records of the accounts.
+abbrev pub csv_lines : Commodity → List TrialLine → List ℕ
+csv_lines currency lines =
+    flat_map (λ line. csv_record currency.name line.path (side_text currency.fraction line.debit)
+    (side_text currency.fraction line.credit)) lines
+
 -- The same as records; the sums stand as an account Total.
 abbrev pub csv_part : Commodity → List TrialLine → List ℕ
 csv_part currency lines =
-    flat_map (λ line. csv_record currency.name line.path (side_text currency.fraction line.sum)
-    (side_text currency.fraction (neg_ℤ line.sum))) lines
+    csv_lines currency lines
     ++ csv_record currency.name (codes "Total") (amount_text (debits lines) currency.fraction)
     (amount_text (credits lines) currency.fraction)
 

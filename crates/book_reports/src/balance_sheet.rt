@@ -1,9 +1,9 @@
-ghost use Rattle.std.specs.Prelude.{◌≡◌, ◌++◌, IfOk, OnOk, string_bytes};
+ghost use Rattle.std.specs.Prelude.{◌≡◌, ◌++◌, ◌≤◌, ◌^◌, IfOk, OnOk, string_bytes, unsigned_abs};
 ghost use Rattle.book_reports.specs.Sheet.{csv_figures, csv_parts, heading, parts_of, plain_parts, plain_summary, sheet};
-ghost use Rattle.book_reports.specs.Sheet.{parts_left_out, unbooked};
+ghost use Rattle.book_reports.specs.Sheet.{parts_left_out, rest_of, unbooked};
 
 use crate::layout::{add_amount_line, add_day, add_printed};
-use crate::lines::{Lines, add_csv_header, add_csv_summary};
+use crate::lines::{Lines, add_csv_header, add_csv_summary, add_left_out};
 use crate::period::Period;
 use crate::section::Section;
 use crate::{Form, View};
@@ -69,14 +69,19 @@ impl Parts {
         })
     }
 
-    /// Assets less liabilities, equity and retained earnings.
+    /// Assets less liabilities and equity.
+    fn rest(&self) -> i128
+        ensures rest { result ≡ rest_of self.now }
+        ensures small { unsigned_abs result ≤ 10 ^ 35 }
+    {
+        self.assets.sum() - self.liabilities.sum() - self.equity.sum()
+    }
+
+    /// The same less retained earnings.
     fn unbooked(&self) -> i128
         ensures { result ≡ unbooked self.now }
     {
-        self.assets.sum()
-            - self.liabilities.sum()
-            - self.equity.sum()
-            - self.earnings.sum()
+        self.rest() - self.earnings.sum()
     }
 
     /// How many accounts are left out of the sums.
@@ -108,8 +113,7 @@ impl Parts {
         let left_out = self.left_out();
         add_amount_line(out, earnings.as_str(), Section::Earnings.name())?;
         add_amount_line(out, unbooked.as_str(), "Unbooked gains")?;
-        out.push_str(format!(in alloc; "Left out: {left_out}\n")?.as_str())?;
-        Ok(())
+        add_left_out(alloc, out, left_out)
     }
 
     /// Adds the sections and the figures below them as comma-separated values.

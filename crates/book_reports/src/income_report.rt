@@ -2,7 +2,7 @@ ghost use Rattle.std.specs.Prelude.{◌≡◌, ◌++◌, IfOk, OnOk, string_byte
 ghost use Rattle.book_reports.specs.Income.{csv_parts, days, heading, income, net, parts_left_out, parts_of, plain_parts};
 
 use crate::layout::{add_amount_line, add_day, add_printed};
-use crate::lines::{Lines, add_csv_header, add_csv_summary};
+use crate::lines::{Lines, add_csv_header, add_csv_summary, add_left_out};
 use crate::period::Period;
 use crate::section::Section;
 use crate::{Form, View};
@@ -102,8 +102,7 @@ impl Parts {
         let net = amount_text(alloc, self.net(), fraction)?;
         let left_out = self.left_out();
         add_amount_line(out, net.as_str(), "Net")?;
-        out.push_str(format!(in alloc; "Left out: {left_out}\n")?.as_str())?;
-        Ok(())
+        add_left_out(alloc, out, left_out)
     }
 
     /// Adds the sections and the figures below them as comma-separated values.

@@ -1,7 +1,7 @@
 ghost use Rattle.std.specs.Prelude.{◌≡◌, ◌++◌, ◌≤◌, ◌^◌, IfOk, OnOk, length, string_bytes, unsigned_abs};
 ghost use Rattle.std.specs.List.{filter_map};
 ghost use Rattle.book_reports.specs.Sections.{amount_in, csv_header, csv_lines, csv_record, csv_section, csv_summary};
-ghost use Rattle.book_reports.specs.Sections.{is_left_out, left_out, line_of, plain_lines, plain_section, sum_of, worth_text};
+ghost use Rattle.book_reports.specs.Sections.{is_left_out, left_out, left_out_line, line_of, plain_lines, plain_section, sum_of, worth_text};
 
 use crate::View;
 use crate::layout::{add_amount_line, add_record};
@@ -39,7 +39,6 @@ impl Model for Lines {
 
 impl Lines {
     /// The lines of a section over a period, in the order of the accounts that is given.
-    #[tactic(auto, using(crate::proofs::LineLemmas::can_be_added))]
     pub(crate) fn of(
         alloc: Global,
         view: &View,
@@ -50,17 +49,12 @@ impl Lines {
         requires { length order.now ≤ 10000 }
         ensures { IfOk result (λ lines. lines ≡ filter_map (line_of view.now period.now section) order.now) }
     {
-        let mut lines = Many::new(alloc);
-        for number in order {
-            if let Some(line) = line_of(view, *number, period, section)? {
-                lines.push(line)?;
-            }
-        }
+        let lines = found_lines(alloc, view, order, period, section)?;
         Ok(Lines { lines })
     }
 
     /// The sum of the lines.
-    #[tactic(auto, using(crate::proofs::LineLemmas::item_small), unfolding(crate::specs::Sections::sum_of))]
+    #[tactic(auto, unfolding(crate::specs::Sections::sum_of))]
     pub(crate) fn sum(&self) -> i128
         ensures sum { result ≡ sum_of self.now }
         ensures small { unsigned_abs result ≤ 10 ^ 34 }
@@ -124,6 +118,25 @@ impl Lines {
         let sum = amount_text(alloc, self.sum(), fraction)?;
         add_csv_record(alloc, out, section.name(), "Total", sum.as_str())
     }
+}
+
+/// The lines of the accounts that stand in a section.
+fn found_lines(
+    alloc: Global,
+    view: &View,
+    order: &[u64],
+    period: &Period,
+    section: Section,
+) -> Result<Many<Line>, OutOfMemory>
+    ensures { IfOk result (λ lines. lines ≡ filter_map (line_of view.now period.now section) order.now) }
+{
+    let mut lines = Many::new(alloc);
+    for number in order {
+        if let Some(line) = line_of(view, *number, period, section)? {
+            lines.push(line)?;
+        }
+    }
+    Ok(lines)
 }
 
 /// The line of an account, if it stands in the section and its sum isn't zero.
@@ -240,7 +253,21 @@ pub(crate) fn add_csv_header(alloc: Global, out: &mut String) -> Result<(), OutO
     add_csv_record(alloc, out, "section", "account", "worth")
 }
 
+/// Adds how many accounts are left out.
+#[tactic(auto, unfolding(crate::specs::Sections::left_out_line))]
+pub(crate) fn add_left_out(
+    alloc: Global,
+    out: &mut String,
+    count: usize,
+) -> Result<(), OutOfMemory>
+    ensures { OnOk result (string_bytes out.new ≡ string_bytes out.old ++ left_out_line count) }
+{
+    out.push_str(format!(in alloc; "Left out: {count}\n")?.as_str())?;
+    Ok(())
+}
+
 /// Adds a figure of the whole report.
+#[tactic(auto, unfolding(crate::specs::Sections::csv_summary))]
 pub(crate) fn add_csv_summary(
     alloc: Global,
     out: &mut String,

@@ -1,6 +1,6 @@
-ghost use Rattle.std.specs.Prelude.{◌≡◌, ◌==◌, pos, None, Some, if◌then◌else◌};
+ghost use Rattle.std.specs.Prelude.{◌≡◌, ◌==◌, ◌^◌, ◌≤◌, unsigned_abs, pos, None, Some, if◌then◌else◌};
 ghost use Rattle.book_register.specs.Register.{balance};
-ghost use Rattle.book_reports.specs.Measure.{is_in, rows_in, value_of_rows};
+ghost use Rattle.book_reports.specs.Measure.{CanBeSummed, is_in, rows_in, value_of_rows};
 
 use book_commodity::{Day, Steps};
 use book_register::{Entry, Register};
@@ -63,8 +63,11 @@ impl Period {
     }
 
     /// The sum of the quantities of the rows in the period.
+    #[tactic(auto, using(crate::proofs::RowLemmas::period_small))]
     pub(crate) fn sum_in(&self, register: &Register) -> i128
-        ensures { result ≡ balance (rows_in self.now register.now.rows) }
+        requires { CanBeSummed register.now.rows }
+        ensures sum { result ≡ balance (rows_in self.now register.now.rows) }
+        ensures small { unsigned_abs result ≤ 10 ^ 18 }
     {
         match self.from {
             None => register.balances_at(self.to, &mut Steps::new()).all,
@@ -73,9 +76,10 @@ impl Period {
     }
 
     /// The same, row by row.
-    #[tactic(auto, using(crate::proofs::RowLemmas::sum_next))]
     fn sum_of_rows(&self, register: &Register) -> i128
-        ensures { result ≡ balance (rows_in self.now register.now.rows) }
+        requires { CanBeSummed register.now.rows }
+        ensures sum { result ≡ balance (rows_in self.now register.now.rows) }
+        ensures small { unsigned_abs result ≤ 10 ^ 18 }
     {
         let mut steps = Steps::new();
         let mut sum = 0i128;
@@ -87,9 +91,10 @@ impl Period {
     }
 
     /// The sum of the values of the rows in the period that stand in a currency.
-    #[tactic(auto, using(crate::proofs::RowLemmas::value_next))]
     pub(crate) fn value_in(&self, register: &Register, currency: u64) -> i128
-        ensures { result ≡ value_of_rows currency (rows_in self.now register.now.rows) }
+        requires { CanBeSummed register.now.rows }
+        ensures sum { result ≡ value_of_rows currency (rows_in self.now register.now.rows) }
+        ensures small { unsigned_abs result ≤ 10 ^ 18 }
     {
         let mut steps = Steps::new();
         let mut sum = 0i128;

@@ -1,9 +1,9 @@
-ghost use Rattle.std.specs.Prelude.{◌≡◌, ◌++◌, ◌≤◌, All, IfOk, IsSome, OnOk, length, string_bytes, unsigned_abs};
+ghost use Rattle.std.specs.Prelude.{◌≡◌, ◌++◌, ◌≤◌, All, IfOk, IsSome, OnOk, length, string_bytes};
 ghost use Rattle.book_accounts.specs.Order.{depth_first};
 ghost use Rattle.book_commodity.specs.Table.{value_of};
 ghost use Rattle.std.specs.List.{filter_map};
-ghost use Rattle.book_reports.specs.Trial.{credits, csv_part, csv_record, debits, heading, line_of, part_of, plain_line};
-ghost use Rattle.book_reports.specs.Trial.{plain_part, positive, side_text, title, trial};
+ghost use Rattle.book_reports.specs.Trial.{credits, csv_lines, csv_part, csv_record, debits, heading, line_of, part_of, plain_line};
+ghost use Rattle.book_reports.specs.Trial.{plain_lines, plain_part, positive, side_text, title, trial};
 
 use crate::layout::{add_day, add_printed, add_record, add_right};
 use crate::period::Period;
@@ -12,11 +12,12 @@ use book_commodity::{Commodity, Day, Many, OutOfMemory, Text, amount_text};
 use std::alloc::{AllocError, Global};
 use std::marker::Model;
 
-/// A line of a trial balance: the path of an account, and the sum of its values in a currency.
+/// A line of a trial balance: the path of an account, and the sum of its values in a currency as debit or credit.
 #[derive(Drop)]
 struct TrialLine {
     path: Text,
-    sum: i128,
+    debit: i128,
+    credit: i128,
 }
 
 /// The lines of a currency: so few, and of sums so small, that they can be added up.
@@ -121,15 +122,8 @@ impl TrialLines {
         requires there { All (λ account. IsSome (value_of account view.now.accounts)) order.now }
         ensures { IfOk result (λ lines. lines ≡ filter_map (line_of view.now day currency) order.now) }
     {
-        let period = Period::until(day);
-        let mut lines = Many::new(alloc);
-        for number in order {
-            let sum = view.value(*number, &period, currency);
-            if sum != 0 {
-                let path = view.path(*number)?;
-                lines.push(TrialLine { path, sum })?;
-            }
-        }
+        let lines = found_lines(alloc, view, order, day, currency)?;
+        let _ = view.plain.accounts.len();
         Ok(TrialLines { lines })
     }
 
@@ -147,19 +141,19 @@ impl TrialLines {
     {
         let mut sum = 0i128;
         for line in self.lines.as_slice() {
-            sum += positive(line.sum);
+            sum += line.debit;
         }
         sum
     }
 
-    /// The sum of the credits, without their sign.
+    /// The sum of the credits.
     #[tactic(auto, unfolding(crate::specs::Trial::credits))]
     fn credits(&self) -> i128
         ensures { result ≡ credits self.now }
     {
         let mut sum = 0i128;
         for line in self.lines.as_slice() {
-            sum += positive(-line.sum);
+            sum += line.credit;
         }
         sum
     }
@@ -175,11 +169,7 @@ impl TrialLines {
     {
         add_printed(out, currency.name.as_str())?;
         out.push('\n')?;
-        for line in self.lines.as_slice() {
-            let debit = side_text(alloc, line.sum, currency.fraction)?;
-            let credit = side_text(alloc, -line.sum, currency.fraction)?;
-            add_line(out, debit.as_str(), credit.as_str(), line.path.as_str())?;
-        }
+        add_plain_lines(alloc, out, currency.fraction, self.lines.as_slice())?;
         let debits = amount_text(alloc, self.debits(), currency.fraction)?;
         let credits = amount_text(alloc, self.credits(), currency.fraction)?;
         add_line(out, debits.as_str(), credits.as_str(), "Total")?;
@@ -195,29 +185,105 @@ impl TrialLines {
     ) -> Result<(), OutOfMemory>
         ensures { OnOk result (string_bytes out.new ≡ string_bytes out.old ++ csv_part currency.now self.now) }
     {
-        let name = currency.name.as_str();
-        for line in self.lines.as_slice() {
-            let debit = side_text(alloc, line.sum, currency.fraction)?;
-            let credit = side_text(alloc, -line.sum, currency.fraction)?;
-            add_csv_record(
-                alloc,
-                out,
-                name,
-                line.path.as_str(),
-                debit.as_str(),
-                credit.as_str(),
-            )?;
-        }
+        add_csv_lines(alloc, out, currency, self.lines.as_slice())?;
         let debits = amount_text(alloc, self.debits(), currency.fraction)?;
         let credits = amount_text(alloc, self.credits(), currency.fraction)?;
-        add_csv_record(alloc, out, name, "Total", debits.as_str(), credits.as_str())
+        add_csv_record(
+            alloc,
+            out,
+            currency.name.as_str(),
+            "Total",
+            debits.as_str(),
+            credits.as_str(),
+        )
     }
+}
+
+/// The lines of the accounts whose sums aren't zero.
+fn found_lines(
+    alloc: Global,
+    view: &View,
+    order: &[u64],
+    day: Day,
+    currency: u64,
+) -> Result<Many<TrialLine>, OutOfMemory>
+    requires { All (λ account. IsSome (value_of account view.now.accounts)) order.now }
+    ensures { IfOk result (λ lines. lines ≡ filter_map (line_of view.now day currency) order.now) }
+{
+    let mut lines = Many::new(alloc);
+    for number in order {
+        if let Some(line) = line_of(view, *number, day, currency)? {
+            lines.push(line)?;
+        }
+    }
+    Ok(lines)
+}
+
+/// The line of an account, if its sum isn't zero.
+fn line_of(
+    view: &View,
+    account: u64,
+    day: Day,
+    currency: u64,
+) -> Result<Option<TrialLine>, OutOfMemory>
+    requires { IsSome (value_of account view.now.accounts) }
+    ensures { IfOk result (λ line. line ≡ line_of view.now day currency account) }
+{
+    let sum = view.value(account, &Period::until(day), currency);
+    if sum == 0 {
+        return Ok(None);
+    }
+    Ok(Some(TrialLine {
+        path: view.path(account)?,
+        debit: positive(sum),
+        credit: positive(-sum),
+    }))
+}
+
+/// Adds the lines of the accounts as plain text.
+fn add_plain_lines(
+    alloc: Global,
+    out: &mut String,
+    fraction: u64,
+    lines: &[TrialLine],
+) -> Result<(), OutOfMemory>
+    ensures { OnOk result (string_bytes out.new ≡ string_bytes out.old ++ plain_lines fraction lines.now) }
+{
+    for line in lines {
+        let debit = side_text(alloc, line.debit, fraction)?;
+        let credit = side_text(alloc, line.credit, fraction)?;
+        add_line(out, debit.as_str(), credit.as_str(), line.path.as_str())?;
+    }
+    Ok(())
+}
+
+/// Adds the lines of the accounts as comma-separated values.
+fn add_csv_lines(
+    alloc: Global,
+    out: &mut String,
+    currency: &Commodity,
+    lines: &[TrialLine],
+) -> Result<(), OutOfMemory>
+    ensures { OnOk result (string_bytes out.new ≡ string_bytes out.old ++ csv_lines currency.now lines.now) }
+{
+    for line in lines {
+        let debit = side_text(alloc, line.debit, currency.fraction)?;
+        let credit = side_text(alloc, line.credit, currency.fraction)?;
+        add_csv_record(
+            alloc,
+            out,
+            currency.name.as_str(),
+            line.path.as_str(),
+            debit.as_str(),
+            credit.as_str(),
+        )?;
+    }
+    Ok(())
 }
 
 /// The part of a sum that is positive, and nothing of a negative one.
 fn positive(sum: i128) -> i128
-    ensures part { result ≡ positive sum }
-    ensures small { unsigned_abs result ≤ unsigned_abs sum }
+    ensures { result ≡ positive sum }
 {
     if sum > 0 { sum } else { 0 }
 }
@@ -261,11 +327,11 @@ fn add_line(out: &mut String, debit: &str, credit: &str, name: &str) -> Result<(
 
 /// The text of an amount on its side; blank where it isn't positive.
 #[tactic(auto, unfolding(crate::specs::Trial::side_text))]
-fn side_text(alloc: Global, sum: i128, fraction: u64) -> Result<Text, OutOfMemory>
-    ensures { IfOk result (λ text. text ≡ side_text fraction sum) }
+fn side_text(alloc: Global, amount: i128, fraction: u64) -> Result<Text, OutOfMemory>
+    ensures { IfOk result (λ text. text ≡ side_text fraction amount) }
 {
-    if sum > 0 {
-        return amount_text(alloc, sum, fraction);
+    if amount > 0 {
+        return amount_text(alloc, amount, fraction);
     }
     Ok(Text::new(alloc))
 }

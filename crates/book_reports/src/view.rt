@@ -5,7 +5,7 @@ ghost use Rattle.book_accounts.specs.Path.{path};
 ghost use Rattle.book_commodity.specs.Table.{value_of};
 ghost use Rattle.book_ledger.specs.Ledger.{Keeps, register_of};
 ghost use Rattle.book_reports.specs.Sections.{amount_in};
-ghost use Rattle.book_reports.specs.Measure.{fraction_of, name_of, sum_in, value_in, worth};
+ghost use Rattle.book_reports.specs.Measure.{CanBeSummed, fraction_of, name_of, sum_in, value_in, worth};
 ghost use Rattle.book_reports.specs.RegisterText.{commodity_of, description_in, number_in};
 ghost use Rattle.book_sound.specs.Soundness.{IsSoundBook};
 ghost use Rattle.book_undo.specs.Book.{book_of};
@@ -119,7 +119,8 @@ impl<'a> View<'a> {
     /// The register of an account of the book.
     pub(crate) fn register(&self, account: u64) -> &Register
         requires { IsSome (value_of account self.now.accounts) }
-        ensures { result.now.rows ≡ register_of account self.now.transactions }
+        ensures rows { result.now.rows ≡ register_of account self.now.transactions }
+        ensures summed { CanBeSummed result.now.rows }
     {
         let Some(register) = self.registers.register(&self.plain.accounts, account) else {
             unreachable!()
@@ -128,7 +129,7 @@ impl<'a> View<'a> {
     }
 
     /// What an account changes by in a period.
-    #[tactic(auto, using(crate::proofs::RowLemmas::sums_are_small), unfolding(crate::specs::Measure::sum_in))]
+    #[tactic(auto, unfolding(crate::specs::Measure::sum_in))]
     pub(crate) fn sum(&self, account: u64, period: &Period) -> i128
         requires { IsSome (value_of account self.now.accounts) }
         ensures sum { result ≡ sum_in self.now period.now account }
@@ -138,7 +139,7 @@ impl<'a> View<'a> {
     }
 
     /// The same in one currency of transactions.
-    #[tactic(auto, using(crate::proofs::RowLemmas::values_are_small), unfolding(crate::specs::Measure::value_in))]
+    #[tactic(auto, unfolding(crate::specs::Measure::value_in))]
     pub(crate) fn value(&self, account: u64, period: &Period, currency: u64) -> i128
         requires { IsSome (value_of account self.now.accounts) }
         ensures sum { result ≡ value_in self.now period.now currency account }

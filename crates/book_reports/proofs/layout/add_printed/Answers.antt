@@ -1,7 +1,6 @@
 use Rattle.std.proofs.Common.{ℕ, List, ◌++◌, string_bytes, sym, ap, ◌∙◌, append_assoc, append-nil}
 use Rattle.std.proofs.lemmas.Str.{IsUtf8-past_char}
-use Rattle.book_reports.specs.Layout.{printed}
-use Rattle.book_reports.proofs.TextLemmas.{printed_step}
+use Rattle.book_reports.proofs.TextLemmas.{printed_none, printed_step}
 use Rattle.book_reports.proofs.layout.add_printed.Goals as goal
 
 pub loop-letter-preserved : goal.loop-letter-preserved
@@ -14,8 +13,7 @@ loop-letter-preserved c =
     )
 
 pub returns : goal.returns
-unfolding printed
 returns c =
     sym (append-nil (string_bytes c.loop-letter.out))
-    ∙ ap (λ (l : List ℕ). string_bytes c.loop-letter.out ++ printed l) (sym c.in-None.ensures.steps.0.0)
+    ∙ ap (λ (l : List ℕ). string_bytes c.loop-letter.out ++ l) (sym (printed_none _ c.in-None.ensures.steps.0.0))
     ∙ c.loop-letter.invariant.1

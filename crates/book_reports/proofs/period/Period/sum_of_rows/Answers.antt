@@ -1,0 +1,17 @@
+use Rattle.std.proofs.Common.{rules, take, arith}
+use Rattle.book_reports.proofs.RowLemmas.{first_can_be_summed, period_small, sum_next}
+use Rattle.book_reports.proofs.period.Period.sum_of_rows.Goals as goal
+
+pub overflow_add-sum : goal.overflow_add-sum
+overflow_add-sum c =
+    let rows = c.args.register.now.rows in
+    let i = c.loop-place.place in
+    let before = period_small c.args.self.now (take i rows) (first_can_be_summed rows i c.requires) in
+    let after = period_small c.args.self.now (take (i + 1) rows) (first_can_be_summed rows (i + 1) c.requires) in
+    let next = sum_next c.args.self.now rows i c.row-row.result c.row-row.ensures.row in
+    search (rules, before, after, next, c.quantity_in.ensures)
+
+pub loop-place-preserved : goal.loop-place-preserved
+loop-place-preserved c =
+    let next = sum_next c.args.self.now c.args.register.now.rows c.loop-place.place c.row-row.result c.row-row.ensures.row in
+    search (rules, next, c.quantity_in.ensures)
