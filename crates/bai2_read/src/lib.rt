@@ -9,8 +9,6 @@ mod checks;
 mod context;
 mod days;
 mod details;
-#[cfg(test)]
-mod drawn_tests;
 mod extent;
 mod fields;
 mod funds;
@@ -23,8 +21,6 @@ mod statements;
 mod summaries;
 mod sums;
 mod tally;
-#[cfg(test)]
-mod tests;
 mod texts;
 
 pub use reading::read_bai2;

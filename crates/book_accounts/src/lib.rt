@@ -11,8 +11,6 @@ mod kind;
 mod order;
 mod path;
 mod rule;
-#[cfg(test)]
-mod tests;
 mod tree;
 
 pub use account::Account;

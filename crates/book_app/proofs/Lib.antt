@@ -1,2 +1,4 @@
+pub mod FreshLemmas
 pub mod ReplyLemmas
 pub mod StatusClauseLemmas
+pub mod WordLemmas

@@ -1,5 +1,5 @@
 -- From what holds at a run's end to what holds when the program's work has ended.
-use Rattle.std.proofs.Common.{◌≡◌, ◌≢◌, ℕ, Bool, List, [], Option, IsTrue, Result, Ok, Err, IfOk, refl, sym, subst, arith}
+use Rattle.std.proofs.Common.{◌≡◌, ◌≢◌, ℕ, Bool, List, [], Option, Some, None, IsTrue, Result, Ok, Err, IfOk, refl, sym, subst, ◌∙◌, arith}
 use Rattle.book_keeper.proofs.StreamLemmas.{Are-some, Wrote-nil}
 use Rattle.book_keeper.specs.declared.row.Row.{Row}
 use Rattle.book_lines.specs.RunClause.{at, RunClause}
@@ -14,11 +14,19 @@ use Rattle.book_engine.specs.Standing.{Stands}
 use Rattle.book_engine.specs.declared.fault.OpenError.{OpenError}
 use Rattle.book_engine.specs.declared.fault.OpenError.TheVariants as error
 use Rattle.book_app.specs.Machine.{answers}
-use Rattle.book_app.specs.Numbers.{status_of, status_unopened}
+use Rattle.book_app.specs.Numbers.{status_of, status_shown, status_unopened}
 use Rattle.book_app.specs.StatusClause.{IsBookRun, IsLineRun, IsSession, IsUntouched, Keeping, NowOpensTo, OpenedTo}
-use Rattle.book_app.specs.StatusClause.{StatusClause}
+use Rattle.book_app.specs.StatusClause.{HasBookPath, IsShownAs, SampleClause, StatusClause}
+use Rattle.book_app.specs.Words.{named_number}
 use Rattle.book_app.specs.declared.status.Status.{Status}
-use Rattle.book_app.specs.declared.status.Status.TheVariants.{Memory, Usage}
+use Rattle.book_app.specs.declared.status.Status.TheVariants.{Done, Usage, Memory, InputFault}
+use Rattle.book_app.specs.declared.status.Status.TheVariants.{OutputFault, KeeperFault, BadRows, UnsoundBook}
+use Rattle.book_app.specs.declared.status.Status.TheVariants.{InputLimit}
+use Rattle.book_engine.specs.Machine.{fresh}
+use Rattle.book_sample.specs.Sample.{sample_text}
+use Rattle.book_sample.specs.Shown.{IsShown, ShownClause}
+use Rattle.book_sample.specs.declared.showing.SampleEnd.{SampleEnd}
+use Rattle.book_sample.specs.declared.showing.SampleEnd.TheVariants as shown
 
 session_clause :
     (keeping : Keeping) (before after : List ℕ → Type 0) (bytes read left text : List ℕ) (ended : RunEnd)
@@ -36,7 +44,7 @@ pub run_of_lines :
     → OpenedTo keeping (Opens first) → NowOpensTo keeping last
     → IsLineRun (at first output_before faults) input_before input_after (at last output_after keeping.faults_after)
     status
-    → IsBookRun keeping input_before input_after output_before output_after status
+    → IsBookRun None keeping input_before input_after output_before output_after status
 run_of_lines keeping first last faults input_before input_after output_before output_after status same opened kept run =
     let session : IsSession keeping output_before output_after run.bytes run.read run.left run.text run.ended =
     record {
@@ -68,7 +76,7 @@ run_of_lines keeping first last faults input_before input_after output_before ou
 pub run_of_nothing :
     (keeping : Keeping) (input : Option (List ℕ)) (output : List ℕ → Type 0) (status : Status)
     → ((bytes : List ℕ) → StatusClause keeping output output bytes [] bytes [] status)
-    → IsBookRun keeping input input output output status
+    → IsBookRun None keeping input input output output status
 run_of_nothing keeping input output status holds = let bytes = Are-some input in record {
   bytes = bytes.0;
   read = [];
@@ -102,12 +110,77 @@ unopened_clause keeping output bytes error.OutOfMemory rows opened = untouched k
 pub run_without_words :
     (keeping : Keeping) (input : Option (List ℕ)) (output : List ℕ → Type 0) (status : Status)
     → (IsTrue keeping.sure → (rows : List Row) → keeping.held rows → keeping.holds rows)
-    → (status ≢ Usage → status ≡ Memory) → IsBookRun keeping input input output output status
+    → (status ≢ Usage → status ≡ Memory) → IsBookRun None keeping input input output output status
 run_without_words keeping input output Usage rows is =
     run_of_nothing keeping input output Usage (λ bytes. untouched keeping rows)
 run_without_words keeping input output other rows is =
-    subst (λ (s : Status). IsBookRun keeping input input output output s) (sym (is (λ same. cc)))
+    subst (λ (s : Status). IsBookRun None keeping input input output output s) (sym (is (λ same. cc)))
     (run_of_nothing keeping input output Memory (λ bytes. untouched keeping rows))
+
+shown_clause :
+    (number : ℕ) (text : List ℕ) (end : SampleEnd) → ShownClause answers fresh (sample_text number) text end
+    → SampleClause number text (status_shown end)
+shown_clause number text shown.Done h = h
+shown_clause number text shown.OutOfMemory h = h
+shown_clause number text shown.OutputFault h = h
+
+-- a sample that was shown from the fresh machine on
+pub sample_shown :
+    (number : ℕ) (before after : List ℕ → Type 0) (end : SampleEnd) (status : Status) → status ≡ status_shown end
+    → IsShown answers fresh (sample_text number) before after end → IsShownAs number before after status
+sample_shown number before after end status is run = record {
+  text = run.text;
+  wrote = run.wrote;
+  clause = subst (λ (s : Status). SampleClause number run.text s) (sym is) (shown_clause number run.text end run.clause);
+}
+
+-- where nothing was shown
+pub nothing_shown : (number : ℕ) (output : List ℕ → Type 0) → IsShownAs number output output Memory
+nothing_shown number output = record { text = []; wrote = Wrote-nil output; clause = refl }
+
+-- a sample ends by no other status than Done, Memory and OutputFault
+pub no_sample :
+    (number : ℕ) (before after : List ℕ → Type 0) (status other : Status) → IsShownAs number before after status
+    → ((text : List ℕ) → SampleClause number text other → ⊥) → status ≡ other → ⊥
+no_sample number before after status other run never is =
+    never run.text (subst (λ (s : Status). SampleClause number run.text s) is run.clause)
+
+-- of the keeper's path nothing is said with the words of a sample
+pub path_of_sample :
+    (words : List (List ℕ)) (path : List ℕ) (number : ℕ) (status : Status) → Some number ≡ named_number words
+    → HasBookPath words path status
+path_of_sample words path number Usage is = tt
+path_of_sample words path number Memory is = tt
+path_of_sample words path number KeeperFault is = tt
+path_of_sample words path number Done is = λ none. absurd (let e : Some number ≡ None = is ∙ none in cc)
+path_of_sample words path number InputFault is = λ none. absurd (let e : Some number ≡ None = is ∙ none in cc)
+path_of_sample words path number OutputFault is = λ none. absurd (let e : Some number ≡ None = is ∙ none in cc)
+path_of_sample words path number InputLimit is = λ none. absurd (let e : Some number ≡ None = is ∙ none in cc)
+path_of_sample words path number (BadRows kind id) is = λ none. absurd (let e : Some number ≡ None = is ∙ none in cc)
+path_of_sample words path number (UnsoundBook kind id) is =
+    λ none. absurd (let e : Some number ≡ None = is ∙ none in cc)
+
+-- a sample leaves the input and the keeper as they are
+pub run_of_sample :
+    (named : Option ℕ) (number : ℕ) (keeping : Keeping) (input : Option (List ℕ)) (before after : List ℕ → Type 0)
+    (status : Status) → (IsTrue keeping.sure → (rows : List Row) → keeping.held rows → keeping.holds rows)
+    → Some number ≡ named → IsShownAs number before after status
+    → IsBookRun named keeping input input before after status
+run_of_sample named number keeping input before after status rows is run =
+    let bytes = Are-some input in
+    subst (λ n. IsBookRun n keeping input input before after status) is
+    (record {
+      bytes = bytes.0;
+      read = [];
+      left = bytes.0;
+      text = run.text;
+      bytes_are = bytes.1;
+      left_are = bytes.1;
+      parts = refl;
+      few = omega arith;
+      wrote = run.wrote;
+      clause = (record { input = refl; rows = rows }, run.clause);
+    })
 
 -- The rows that the keeper held as an engine was opened from it stand for that engine.
 pub stands_opened :

@@ -1,3 +1,4 @@
+pub mod Fresh
 pub mod Later
 pub mod Machine
 pub mod Numbers

@@ -4,6 +4,8 @@ use Rattle.book_lines.specs.declared.running.RunEnd.{RunEnd}
 use Rattle.book_lines.specs.declared.running.RunEnd.TheVariants as end
 use Rattle.book_engine.specs.declared.fault.OpenError.{OpenError}
 use Rattle.book_engine.specs.declared.fault.OpenError.TheVariants as error
+use Rattle.book_sample.specs.declared.showing.SampleEnd.{SampleEnd}
+use Rattle.book_sample.specs.declared.showing.SampleEnd.TheVariants as shown
 use Rattle.book_app.specs.declared.status.Status.{Status}
 use Rattle.book_app.specs.declared.status.Status.TheVariants.{Done, Usage, Memory, InputFault, OutputFault, KeeperFault}
 use Rattle.book_app.specs.declared.status.Status.TheVariants.{BadRows, UnsoundBook, InputLimit}
@@ -23,7 +25,7 @@ number_of InputLimit = 9
 -- The line that the program prints on standard error; at Done it prints none.
 abbrev pub message_of : Status → List ℕ
 message_of Done = []
-message_of Usage = codes "usage: book run BOOK"
+message_of Usage = codes "usage: book run BOOK | sample NUMBER"
 message_of Memory = codes "book: out of memory"
 message_of InputFault = codes "book: the input failed"
 message_of OutputFault = codes "book: the output failed"
@@ -38,6 +40,12 @@ status_of end.Done = Done
 status_of end.InputLimit = InputLimit
 status_of end.InputFault = InputFault
 status_of end.OutputFault = OutputFault
+
+-- The status of a sample that was shown.
+abbrev pub status_shown : SampleEnd → Status
+status_shown shown.Done = Done
+status_shown shown.OutOfMemory = Memory
+status_shown shown.OutputFault = OutputFault
 
 -- The status where no book was opened for this reason.
 abbrev pub status_unopened : OpenError → Status

@@ -1,19 +1,21 @@
 -- What holds when the program's work has ended, by its status.
-use Rattle.std.specs.Prelude.{◌≡◌, ℕ, ◌+◌, ◌^◌, ◌≤◌, ⊤, Bool, IsTrue, List, [], ◌++◌, Option, Some, Result, Ok, Err}
+use Rattle.std.specs.Prelude.{◌≡◌, ℕ, ◌+◌, ◌^◌, ◌<◌, ◌≤◌, ⊤, Bool, IsTrue, List, [], ◌++◌, Option, Some, None, Result, Ok, Err}
 use Rattle.std.specs.Prelude.{length}
 use Rattle.book_keeper.specs.Stream.{Are, Wrote}
 use Rattle.book_keeper.specs.declared.row.Row.{Row}
 use Rattle.book_lines.specs.RunClause.{Moment, at, RunClause}
 use Rattle.book_lines.specs.declared.running.RunEnd.{RunEnd}
 use Rattle.book_lines.specs.declared.running.RunEnd.TheVariants as end
-use Rattle.book_engine.specs.Machine.{Machine}
+use Rattle.book_engine.specs.Machine.{Machine, fresh}
 use Rattle.book_engine.specs.Opening.{row_key}
 use Rattle.book_engine.specs.declared.fault.OpenError.{OpenError}
 use Rattle.book_engine.specs.declared.fault.OpenError.TheVariants as error
 use Rattle.book_engine.specs.Opens.{Bad, Opening, Opens, OpensTo, Unsound}
 use Rattle.book_app.specs.Machine.{answers}
 use Rattle.book_app.specs.Numbers.{status_of}
-use Rattle.book_app.specs.Words.{named_book}
+use Rattle.book_sample.specs.Sample.{sample_text}
+use Rattle.book_sample.specs.Shown.{AreLastAnswers}
+use Rattle.book_app.specs.Words.{named_book, named_number}
 use Rattle.book_app.specs.declared.status.Status.{Status}
 use Rattle.book_app.specs.declared.status.Status.TheVariants.{Done, Usage, Memory, InputFault, OutputFault, KeeperFault}
 use Rattle.book_app.specs.declared.status.Status.TheVariants.{BadRows, UnsoundBook, InputLimit}
@@ -80,11 +82,45 @@ StatusClause keeping before after bytes read left text (BadRows kind id) =
 StatusClause keeping before after bytes read left text (UnsoundBook kind id) =
     IsUntouched keeping read text × OpenedTo keeping (Unsound (row_key kind id))
 
+-- Nothing was read, and the keeper's rows are as they were.
+pub record IsLeft (keeping : Keeping) (read : List ℕ) : Type 0 where
+  pub input : read ≡ []
+  pub rows : IsTrue keeping.sure → (rows : List Row) → keeping.held rows → keeping.holds rows
+
+-- With the words of `sample`, by the status: at Done `text` is the last two answers to all lines of the sample, which
+-- the machine answers itself from the fresh one on; at OutputFault a front part of them and not all. There are no other
+-- statuses but Memory.
+abbrev pub SampleClause : ℕ → List ℕ → Status → Type 0
+SampleClause number text Done = AreLastAnswers answers fresh (sample_text number) text
+SampleClause number text OutputFault =
+    (more : List ℕ) × (0 < length more) × AreLastAnswers answers fresh (sample_text number) (text ++ more)
+SampleClause number text Memory = text ≡ []
+SampleClause number text Usage = ⊥
+SampleClause number text InputFault = ⊥
+SampleClause number text KeeperFault = ⊥
+SampleClause number text (BadRows kind id) = ⊥
+SampleClause number text (UnsoundBook kind id) = ⊥
+SampleClause number text InputLimit = ⊥
+
+-- A text was added to what the output may have been given, and of it holds what belongs to the status of the sample.
+pub record IsShownAs (number : ℕ) (output_before output_after : List ℕ → Type 0) (status : Status) : Type 0 where
+  pub text : List ℕ
+  pub wrote : Wrote output_before output_after text
+  pub clause : SampleClause number text status
+
+-- By the number that the words of `sample` name, and without one by the status alone.
+abbrev pub WordsClause :
+    Option ℕ → Keeping → (List ℕ → Type 0) → (List ℕ → Type 0) → List ℕ → List ℕ → List ℕ → List ℕ → Status → Type 0
+WordsClause None keeping before after bytes read left text status =
+    StatusClause keeping before after bytes read left text status
+WordsClause (Some number) keeping before after bytes read left text status =
+    IsLeft keeping read × SampleClause number text status
+
 -- A run of the program over a keeper. There are the bytes that the input had left, as far as it reports them: what was
 -- read, at most one byte past the limit, and then what it has left now. There is the text that the output gained, as
--- far as it reports it. Of these holds what belongs to the status.
+-- far as it reports it. Of these holds what belongs to the status and to the number that the words of `sample` name.
 pub record IsBookRun
-    (keeping : Keeping) (input_before input_after : Option (List ℕ)) (output_before output_after : List ℕ → Type 0)
+    (named : Option ℕ) (keeping : Keeping) (input_before input_after : Option (List ℕ)) (output_before output_after : List ℕ → Type 0)
     (status : Status) : Type 0 where
   pub bytes : List ℕ
   pub read : List ℕ
@@ -95,7 +131,7 @@ pub record IsBookRun
   pub parts : bytes ≡ read ++ left
   pub few : length read ≤ 2 ^ 33 + 1
   pub wrote : Wrote output_before output_after text
-  pub clause : StatusClause keeping output_before output_after bytes read left text status
+  pub clause : WordsClause named keeping output_before output_after bytes read left text status
 
 -- A run of lines from a machine to a machine: the same, and it ends neither by Usage nor before the first line.
 pub record IsLineRun
@@ -114,12 +150,13 @@ pub record IsLineRun
   pub status_is : status ≡ status_of ended
   pub clause : RunClause answers before bytes read left text after ended
 
--- The keeper's path is the book that the words name, once it was opened: at each status but these three.
+-- The keeper's path is the book that the words name, once it was opened: at each status but these three, where the
+-- words are not those of a sample.
 abbrev pub HasBookPath : List (List ℕ) → List ℕ → Status → Type 0
 HasBookPath words path Usage = ⊤
 HasBookPath words path Memory = ⊤
 HasBookPath words path KeeperFault = ⊤
-HasBookPath words path other = named_book words ≡ Some path
+HasBookPath words path other = named_number words ≡ None → named_book words ≡ Some path
 
 -- The keeper's path is that of the book, unless it failed or the program was out of memory before it was opened.
 abbrev pub IsOpenedAt : {T : Type 0} → List ℕ → List ℕ → Result T OpenError → Type 0

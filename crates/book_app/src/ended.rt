@@ -1,4 +1,4 @@
-ghost use Rattle.std.specs.Prelude.{◌≡◌, ◌≢◌, ◌↔◌, None, IfOk, OnErr, MatchResult};
+ghost use Rattle.std.specs.Prelude.{◌≡◌, ◌≢◌, ◌↔◌, IfOk, OnErr, MatchResult};
 ghost use Rattle.std.specs.IoError.{error_kind};
 ghost use Rattle.std.specs.Process.{exit_status};
 ghost use Rattle.book_keeper.specs.Faults.{Rose};
@@ -6,7 +6,7 @@ ghost use Rattle.book_keeper.specs.OverStd.{left_of, sink_over, source_faults, s
 ghost use Rattle.book_keeper.specs.Written.{may_hold};
 ghost use Rattle.book_app.specs.Numbers.{number_of};
 ghost use Rattle.book_app.specs.StatusClause.{HasBookPath, IsBookRun, over};
-ghost use Rattle.book_app.specs.Words.{named_book};
+ghost use Rattle.book_app.specs.Words.{AreNoWords, given_number, named_number};
 
 use crate::main_call::book_main;
 use crate::status::Status;
@@ -42,11 +42,11 @@ pub fn run_over<K: Keeper, I: Read, O: Write>(
     reader: I,
     writer: O,
 ) -> Ran<I, O>
-    ensures run { IsBookRun (over K.sure K.holds K.faults keeper.old keeper.new)
+    ensures run { IsBookRun (named_number words.now) (over K.sure K.holds K.faults keeper.old keeper.new)
         (I.remaining reader) (left_of I.remaining result.input)
         (may_hold O.contents (sink_over writer)) (may_hold O.contents result.output) result.ended.status }
     ensures path { HasBookPath words.now (K.path_given keeper.new) result.ended.status }
-    ensures usage { (result.ended.status ≡ Status.Usage) ↔ (named_book words.now ≡ None) }
+    ensures usage { (result.ended.status ≡ Status.Usage) ↔ AreNoWords words.now }
     ensures keeper_fault { result.ended.status ≡ Status.KeeperFault
         → Rose (K.faults keeper.old) (K.faults keeper.new) }
     ensures input_fault { result.ended.status ≡ Status.InputFault → Rose 0 (source_faults result.input) }
@@ -73,11 +73,11 @@ pub(crate) fn run_words<K: Keeper, I: Read, O: Write>(
     reader: I,
     writer: O,
 ) -> Ran<I, O>
-    ensures run { IsBookRun (over K.sure K.holds K.faults keeper.old keeper.new)
-        (I.remaining reader) (left_of I.remaining result.input)
+    ensures run { IsBookRun (given_number (λ given. given.items) words)
+        (over K.sure K.holds K.faults keeper.old keeper.new) (I.remaining reader) (left_of I.remaining result.input)
         (may_hold O.contents (sink_over writer)) (may_hold O.contents result.output) result.ended.status }
     ensures usage { (result.ended.status ≡ Status.Usage) ↔ MatchResult words
-        (λ given. named_book given.items ≡ None) (λ error. error_kind error ≡ ErrorKind.InvalidData) }
+        (λ given. AreNoWords given.items) (λ error. error_kind error ≡ ErrorKind.InvalidData) }
     ensures path { IfOk words (λ given. HasBookPath given.items (K.path_given keeper.new) result.ended.status) }
     ensures memory { OnErr words (result.ended.status ≢ Status.Usage → result.ended.status ≡ Status.Memory) }
     ensures keeper_fault { result.ended.status ≡ Status.KeeperFault

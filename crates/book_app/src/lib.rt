@@ -2,7 +2,8 @@
 //! go: `book_main` takes the words, opens the keeper, reads the input to its end, and says how it ended. Its clause
 //! `run` is the whole promise of a run: what was written is what the machine of whole books answers to the lines that were
 //! read, from the state as which the keeper's rows opened on, and the rows that the keeper then holds open as the last
-//! state. `run_over` says the same over any reader and writer of std. `run_program` does so over a program's
+//! state. With the words of `sample` it is the last two answers to the lines of `sample_lines`. `run_over` says the
+//! same over any reader and writer of std. `run_program` does so over a program's
 //! standard streams, the words that `words_of` reads, and the keeper that it is given. `Ended` is what the program's `main` answers.
 #![tactic(auto)]
 
@@ -10,9 +11,12 @@ mod ended;
 mod main_call;
 mod program;
 mod reply;
+mod sample;
 mod status;
 mod words;
 
+/// The lines of the sample of a number.
+pub use book_sample::sample_lines;
 /// What `run_lines` keeps between two lines: the room for a begun line, of 8 MiB, and for the piece that is read at a
 /// time. It is made once.
 pub use book_lines::LineRoom;
@@ -21,4 +25,4 @@ pub use main_call::{book_main, run_lines};
 pub use program::{run_program, words_of};
 pub use reply::Answering;
 pub use status::Status;
-pub use words::named_book;
+pub use words::{named_book, named_number};

@@ -5,13 +5,14 @@ ghost use Rattle.book_lines.specs.RunClause.{at};
 ghost use Rattle.book_engine.specs.Books.{machine_kept};
 ghost use Rattle.book_engine.specs.Opening.{HasOpenCause, Opened};
 ghost use Rattle.book_engine.specs.Standing.{Stands};
-ghost use Rattle.book_app.specs.StatusClause.{HasBookPath, IsBookRun, IsLineRun, IsOpenedAt, over};
+ghost use Rattle.book_app.specs.StatusClause.{HasBookPath, IsBookRun, IsLineRun, IsOpenedAt, IsShownAs, over};
 ghost use Rattle.book_app.specs.Later.{IsLater};
-ghost use Rattle.book_app.specs.Words.{named_book};
+ghost use Rattle.book_app.specs.Words.{AreNoWords, named_book, named_number};
 
 use crate::reply::Answering;
-use crate::status::{Status, status_after, status_unopened};
-use crate::words::named_book;
+use crate::sample::show_in_memory;
+use crate::status::{Status, status_after, status_shown, status_unopened};
+use crate::words::{named_book, named_number};
 use book_commodity::{OutOfMemory, Text};
 use book_engine::{Engine, OpenError};
 use book_keeper::{KeepError, Keeper, Sink, Source};
@@ -60,26 +61,23 @@ fn open_book<K: Keeper>(alloc: Global, keeper: &mut K, book: &str) -> Result<Eng
     }
 }
 
-/// The room for lines, once `clap` has parted the words, which name this book.
-fn room_after(alloc: Global, words: &[Text], book: &str) -> Result<LineRoom, OutOfMemory> {
-    part(alloc, words, book)?;
+/// The room for lines, once `clap` has parted the words, which are of the grammar.
+fn room_after(alloc: Global, words: &[Text]) -> Result<LineRoom, OutOfMemory> {
+    part(alloc, words)?;
     LineRoom::new(alloc)
 }
 
-/// Does what the words ask: `run BOOK` opens the keeper at BOOK and answers the lines of the input, from the state as
-/// which its rows open on. Usage comes exactly where the words are not these; Memory where it is out of memory before
-/// the first line; KeeperFault where the keeper failed before it, and its count of faults rose; BadRows and UnsoundBook
-/// where the rows are no rows of a sound book; over such rows the run ends by one of these five alone. InputFault and
-/// OutputFault come exactly where the input or the output failed in this call.
-pub fn book_main<K: Keeper, S: Source, O: Sink>(
+/// Opens the keeper at the book that the words name, and answers the lines of the input, from the state as which its
+/// rows open on. The words name no number.
+fn run_book<K: Keeper, S: Source, O: Sink>(
     alloc: Global,
     words: &[Text],
     keeper: &mut K,
     input: &mut S,
     output: &mut O,
 ) -> Status
-    ensures run { IsBookRun (over K.sure K.holds K.faults keeper.old keeper.new) (S.left input.old) (S.left input.new)
-        (O.written output.old) (O.written output.new) result }
+    ensures run { IsBookRun None (over K.sure K.holds K.faults keeper.old keeper.new) (S.left input.old)
+        (S.left input.new) (O.written output.old) (O.written output.new) result }
     ensures path { HasBookPath words.now (K.path_given keeper.new) result }
     ensures usage { (result ≡ Status.Usage) ↔ (named_book words.now ≡ None) }
     ensures keeper_fault { result ≡ Status.KeeperFault → Rose (K.faults keeper.old) (K.faults keeper.new) }
@@ -91,11 +89,53 @@ pub fn book_main<K: Keeper, S: Source, O: Sink>(
     let Some(book) = named_book(words) else {
         return Status::Usage;
     };
-    let Ok(mut room) = room_after(alloc, words, book) else {
+    let Ok(mut room) = room_after(alloc, words) else {
         return Status::Memory;
     };
     match open_book(alloc, keeper, book) {
         Ok(mut engine) => run_lines(alloc, &mut engine, keeper, input, output, &mut room),
         Err(error) => status_unopened(error),
+    }
+}
+
+/// Shows the sample of the number that the words name, once `clap` has parted them.
+fn run_sample<O: Sink>(alloc: Global, words: &[Text], number: u64, output: &mut O) -> Status
+    ensures shown { IsShownAs number (O.written output.old) (O.written output.new) result }
+    ensures output_fault { result ≡ Status.OutputFault → Rose (O.faults output.old) (O.faults output.new) }
+    ensures no_output_fault { result ≢ Status.OutputFault → O.faults output.new ≡ O.faults output.old }
+{
+    let Ok(mut room) = room_after(alloc, words) else {
+        return Status::Memory;
+    };
+    status_shown(show_in_memory(alloc, number, output, &mut room))
+}
+
+/// Does what the words ask. `run BOOK` opens the keeper at BOOK and answers the lines of the input, from the state as
+/// which its rows open on. `sample NUMBER` writes the last two answers to the lines of the sample of NUMBER, from a new
+/// book in memory on; it leaves the keeper and the input as they were, and ends by Done, Memory or OutputFault. Usage
+/// comes exactly where the words are not these; Memory where it is out of memory before the first line, or at any time
+/// in a sample; KeeperFault where the keeper failed before the first line, and its count of faults rose; BadRows and
+/// UnsoundBook where the rows are no rows of a sound book; over such rows a run ends by one of these five alone.
+/// InputFault and OutputFault come exactly where the input or the output failed in this call.
+pub fn book_main<K: Keeper, S: Source, O: Sink>(
+    alloc: Global,
+    words: &[Text],
+    keeper: &mut K,
+    input: &mut S,
+    output: &mut O,
+) -> Status
+    ensures run { IsBookRun (named_number words.now) (over K.sure K.holds K.faults keeper.old keeper.new)
+        (S.left input.old) (S.left input.new) (O.written output.old) (O.written output.new) result }
+    ensures path { HasBookPath words.now (K.path_given keeper.new) result }
+    ensures usage { (result ≡ Status.Usage) ↔ AreNoWords words.now }
+    ensures keeper_fault { result ≡ Status.KeeperFault → Rose (K.faults keeper.old) (K.faults keeper.new) }
+    ensures input_fault { result ≡ Status.InputFault → Rose (S.faults input.old) (S.faults input.new) }
+    ensures no_input_fault { result ≢ Status.InputFault → S.faults input.new ≡ S.faults input.old }
+    ensures output_fault { result ≡ Status.OutputFault → Rose (O.faults output.old) (O.faults output.new) }
+    ensures no_output_fault { result ≢ Status.OutputFault → O.faults output.new ≡ O.faults output.old }
+{
+    match named_number(words) {
+        Some(number) => run_sample(alloc, words, number, output),
+        None => run_book(alloc, words, keeper, input, output),
     }
 }

@@ -1,17 +1,18 @@
 ghost use Rattle.std.specs.Prelude.{◌≡◌};
-ghost use Rattle.book_app.specs.Numbers.{number_of, message_of, status_of, status_unopened};
+ghost use Rattle.book_app.specs.Numbers.{number_of, message_of, status_of, status_shown, status_unopened};
 
 use book_engine::OpenError;
 use book_lines::RunEnd;
+use book_sample::SampleEnd;
 
 /// How the program's work ended.
 #[derive(Clone, Copy, Debug, PartialEq, Eq)]
 pub enum Status {
-    /// The input was read to its end and all was written.
+    /// The input was read to its end and all was written; for a sample, all was written.
     Done,
     /// The words are not those of a command of the program.
     Usage,
-    /// It was out of memory before the first line.
+    /// It was out of memory before the first line; for a sample, at any time.
     Memory,
     /// The input failed.
     InputFault,
@@ -50,7 +51,7 @@ impl Status {
     {
         match self {
             Status::Done => "",
-            Status::Usage => "usage: book run BOOK",
+            Status::Usage => "usage: book run BOOK | sample NUMBER",
             Status::Memory => "book: out of memory",
             Status::InputFault => "book: the input failed",
             Status::OutputFault => "book: the output failed",
@@ -70,6 +71,17 @@ pub(crate) fn status_after(end: RunEnd) -> Status
         RunEnd::InputLimit => Status::InputLimit,
         RunEnd::InputFault => Status::InputFault,
         RunEnd::OutputFault => Status::OutputFault,
+    }
+}
+
+/// The status of a sample that was shown.
+pub(crate) fn status_shown(end: SampleEnd) -> Status
+    ensures { result ≡ status_shown end }
+{
+    match end {
+        SampleEnd::Done => Status::Done,
+        SampleEnd::OutOfMemory => Status::Memory,
+        SampleEnd::OutputFault => Status::OutputFault,
     }
 }
 

@@ -5,9 +5,33 @@ use std::test::Fail;
 /// Command lines, and what they are answered.
 type Row = (&'static str, &'static str);
 
-// A post that does not balance; an amount past its limit; a stock split and a post without splits; a root that stays;
-// a cycle and a command that is not built yet; lines that are no command.
-static ROWS: [Row; 6] = [
+// Reports on names of several scripts with control characters; a post that does not balance; an amount past its limit;
+// a stock split and a post without splits; a root that stays; a cycle and a command that is not built yet; lines that
+// are no command.
+static ROWS: [Row; 7] = [
+    (
+        concat!(
+            r#"{"do":"account_add","name":"Банк 銀行\t\u001f","kind":"BANK","commodity":1,"parent":2}
+{"do":"account_add","name":"Löhne, \"brutto\"","kind":"INCOME","commodity":1,"parent":2}
+{"do":"post","day":"2024-01-05","currency":1,"#,
+            r#""splits":[{"account":3,"value":5},{"account":4,"value":-5}]}
+{"do":"trial","day":"2024-01-05"}
+{"do":"trial","day":"2024-01-05","csv":true}
+"#
+        ),
+        concat!(
+            r#"{"account":3,"ok":"account_add","version":1}
+{"account":4,"ok":"account_add","version":2}
+{"balances":["5","-5"],"ok":"post","splits":[6,7],"transaction":5,"version":3}
+{"ok":"trial","text":"Trial balance 2024-01-05\nEUR\n"#,
+            r"                    0.05                          Банк 銀行  \n",
+            r#"                                            0.05  Löhne, \"brutto\"\n"#,
+            r#"                    0.05                    0.05  Total\n","version":3}
+{"ok":"trial","text":"currency,account,debit,credit\nEUR,Банк 銀行\t\u001f,0.05,\nEUR,"#,
+            r#"\"Löhne, \"\"brutto\"\"\",,0.05\nEUR,Total,0.05,0.05\n","version":3}
+"#
+        ),
+    ),
     (
         concat!(
             r#"{"do":"account_add","name":"Bank","kind":"BANK","commodity":1,"parent":2}
@@ -140,16 +164,25 @@ fn blanks(rt: HostRuntime) -> Result<(), Fail> {
     Ok(())
 }
 
-// Words other than `run BOOK` are refused, and nothing is read or written.
+// Words other than `run BOOK` and `sample NUMBER` are refused, and nothing is read or written.
 #[test]
 fn words(rt: HostRuntime) -> Result<(), Fail> {
-    let all: [&[&str]; 6] = [
+    let all: [&[&str]; 15] = [
         &[],
         &["run"],
         &["run", ""],
         &["run", "-x"],
         &["import", "b"],
         &["run", "a", "b"],
+        &["sample"],
+        &["sample", ""],
+        &["sample", "007"],
+        &["sample", "-7"],
+        &["sample", "+7"],
+        &["sample", "7 "],
+        &["sample", "seven"],
+        &["sample", "4611686018427387904"],
+        &["sample", "7", "7"],
     ];
     for words in all {
         let ended = ran(rt.alloc(), words, SALARY.as_bytes(), 1, &[], &[])?;

@@ -28,6 +28,10 @@ mod refusals;
 #[cfg(test)]
 mod runs;
 #[cfg(test)]
+mod sample;
+#[cfg(test)]
+mod schedules;
+#[cfg(test)]
 mod sizes;
 #[cfg(test)]
 mod texts;

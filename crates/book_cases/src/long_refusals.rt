@@ -100,8 +100,8 @@ static OF_ACCOUNTS: [Row; 14] = [
     (r#"{"do":}"#, r#"{"refused":"not json"}"#),
 ];
 
-// A refusal of each kind by the commands on transactions.
-static OF_TRANSACTIONS: [Row; 14] = [
+// A refusal of each kind by the commands on transactions, and by the reports.
+static OF_TRANSACTIONS: [Row; 16] = [
     (
         r#"{"do":"drop","transaction":10,"at":7}"#,
         r#"{"broken":"Stale","now":8,"version":8}"#,
@@ -163,6 +163,14 @@ static OF_TRANSACTIONS: [Row; 14] = [
     (
         r#"{"do":"drop","transaction":10,"force":1}"#,
         r#"{"field":"force","refused":"not command"}"#,
+    ),
+    (
+        r#"{"do":"income","from":"2024-01-06","to":"2024-01-05"}"#,
+        r#"{"broken":"DayRange","version":8}"#,
+    ),
+    (
+        r#"{"do":"register","account":99,"from":"2024-01-06","to":"2024-01-05"}"#,
+        r#"{"broken":"Unknown","id":99,"kind":"account","version":8}"#,
     ),
 ];
 

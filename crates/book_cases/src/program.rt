@@ -129,7 +129,7 @@ impl Eprint for Host {
     }
 }
 
-const USAGE: &str = "usage: book run BOOK";
+const USAGE: &str = "usage: book run BOOK | sample NUMBER";
 
 /// A host's words, whether its output fails, what is written, what is said on standard error, how often, and the
 /// number at the end.

@@ -6,7 +6,7 @@ use std::alloc::Global;
 use std::test::Fail;
 
 /// The last commands after two thousand posts, and the answer to the last of them.
-static PAST_ALL: [Row; 11] = [
+static PAST_ALL: [Row; 12] = [
     (
         "",
         concat!(
@@ -57,6 +57,15 @@ static PAST_ALL: [Row; 11] = [
     (
         r#"{"do":"account_drop"}"#,
         r#"{"field":"account","refused":"not command"}"#,
+    ),
+    (
+        r#"{"do":"trial","day":"2024-01-05"}"#,
+        concat!(
+            r#"{"ok":"trial","text":"Trial balance 2024-01-05\nEUR\n"#,
+            r"                   80.00                          Bank\n",
+            r"                                           80.00  Salary\n",
+            r#"                   80.00                   80.00  Total\n","version":2002}"#
+        ),
     ),
     ("{", r#"{"refused":"not json"}"#),
 ];

@@ -21,8 +21,6 @@ mod schedules;
 mod seen;
 mod splits;
 mod statements;
-#[cfg(test)]
-mod tests;
 mod transactions;
 
 pub use book::first_unsound;

@@ -12,8 +12,6 @@ mod many;
 mod number;
 mod optional;
 mod pair;
-#[cfg(test)]
-mod tests;
 mod text;
 mod whole;
 

@@ -1,10 +1,17 @@
-use book_commodity::Many;
+use book_commodity::{Day, Many, Text};
 
 /// What one whole unit of a commodity is worth: num / denom whole units of a currency.
 #[derive(Clone, Copy, Debug, PartialEq, Eq)]
 pub struct Ratio {
     pub num: u64,
     pub denom: u64,
+}
+
+/// A day on which a transaction of a schedule is due, by the schedule's number.
+#[derive(Clone, Copy, Debug, PartialEq, Eq)]
+pub struct DueDay {
+    pub schedule: u64,
+    pub day: Day,
 }
 
 /// What an accepted command is answered, by the command's word.
@@ -44,6 +51,43 @@ pub enum Answer {
     /// What one unit of the commodity is worth in the currency; none where no price says so.
     Price {
         rate: Option<Ratio>,
+    },
+    /// The text of the account's register.
+    Register {
+        text: Text,
+    },
+    /// The text of the trial balance.
+    Trial {
+        text: Text,
+    },
+    /// The text of the balance sheet.
+    Sheet {
+        text: Text,
+    },
+    /// The text of the account's lots.
+    Lots {
+        text: Text,
+    },
+    /// What sales gained, in smallest units of the account's basis.
+    Gains {
+        gain: i128,
+    },
+    /// The text of the report of income and expenses.
+    Income {
+        text: Text,
+    },
+    /// The number of the new schedule.
+    ScheduleAdd {
+        schedule: u64,
+    },
+    ScheduleDrop,
+    /// The numbers of the new transactions, in order of their schedules and days.
+    ScheduleRun {
+        transactions: Many<u64>,
+    },
+    /// The days that are due, in order of their schedules and days.
+    Due {
+        due: Many<DueDay>,
     },
     Undo,
     Redo,

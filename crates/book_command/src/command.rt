@@ -1,6 +1,7 @@
 use book_accounts::Account;
 use book_commodity::{Commodity, Day, Many, Text};
 use book_prices::Price;
+use book_schedule::{End, Recurrence};
 
 /// What one line asks, and at which version, where that is given.
 #[derive(Drop)]
@@ -24,8 +25,55 @@ pub enum What {
         currency: u64,
         day: Day,
     },
+    /// A report on the present book.
+    Report(Report),
+    /// Which days of the schedules are due up to the day.
+    Due {
+        upto: Day,
+    },
     /// How much of each kind the book has, and how many steps can be undone and redone.
     Status,
+}
+
+/// A report on the present book, by the command's word: a text in columns for a person or, where `csv` is true,
+/// comma-separated values. Gains are one sum.
+#[derive(Drop)]
+pub enum Report {
+    /// The rows of the account from one day to another, with the balance after each. A day that isn't given is the
+    /// first or the last of all.
+    Register {
+        account: u64,
+        from: Option<Day>,
+        to: Option<Day>,
+        csv: bool,
+    },
+    /// The trial balance up to the day.
+    Trial {
+        day: Day,
+        csv: bool,
+    },
+    /// The balance sheet on the day.
+    Sheet {
+        day: Day,
+        csv: bool,
+    },
+    /// The lots of the account: what was bought and what was sold, paired first in first out.
+    Lots {
+        account: u64,
+        csv: bool,
+    },
+    /// What sales gained on the account from one day to another.
+    Gains {
+        account: u64,
+        from: Day,
+        to: Day,
+    },
+    /// Income and expenses from one day to another.
+    Income {
+        from: Day,
+        to: Day,
+        csv: bool,
+    },
 }
 
 /// A change of the book, by the command's word.
@@ -78,6 +126,19 @@ pub enum Update {
     PriceDrop {
         price: u64,
     },
+    /// A new schedule.
+    ScheduleAdd {
+        given: GivenSchedule,
+    },
+    /// The schedule of this number is deleted.
+    ScheduleDrop {
+        schedule: u64,
+    },
+    /// The transactions that are due up to the day are made, of all schedules or of the one of this number.
+    ScheduleRun {
+        upto: Day,
+        schedule: Option<u64>,
+    },
 }
 
 /// What an account is to have from now on; what isn't given stays as it is.
@@ -111,4 +172,15 @@ pub struct GivenSplit {
     pub memo: Text,
     pub action: Text,
     pub id: Option<u64>,
+}
+
+/// A schedule as a command gives it: its name, its recurrences and its end, how many days in advance its transactions
+/// are made, and the transaction that is made.
+#[derive(Drop)]
+pub struct GivenSchedule {
+    pub name: Text,
+    pub recurrences: Many<Recurrence>,
+    pub end: End,
+    pub advance: u32,
+    pub template: GivenTxn,
 }

@@ -1,6 +1,7 @@
 //! What a command asks, what an accepted command is answered, the rules that can refuse one, and why a line is no
 //! command, as plain types; and the words of commands. Public are `Command` with its `What`, an `Update` of the book
-//! among it, and the values given in it, `Answer` with its `Ratio`, `Rule`, `Refusal`, `WireError`, `Word` and `words`.
+//! and a `Report` on it among them, and the values given in it, `Answer` with its `Ratio` and `DueDay`, `Rule`,
+//! `Refusal`, `WireError`, `Word` and `words`.
 #![tactic(auto)]
 
 mod answer;
@@ -10,8 +11,10 @@ mod rule;
 mod wire_error;
 mod word;
 
-pub use answer::{Answer, Ratio};
-pub use command::{Command, GivenAccount, GivenSplit, GivenTxn, Update, What};
+pub use answer::{Answer, DueDay, Ratio};
+pub use command::{
+    Command, GivenAccount, GivenSchedule, GivenSplit, GivenTxn, Report, Update, What,
+};
 pub use refusal::Refusal;
 pub use rule::Rule;
 pub use wire_error::WireError;

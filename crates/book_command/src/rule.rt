@@ -43,6 +43,12 @@ pub enum Rule {
     Reconciled { split: u64 },
     /// A number of a price is not 1 to 10^9, or its commodity and its currency are one.
     PriceShape,
+    /// The first day of a period comes after its last.
+    DayRange,
+    /// The recurrence at this place, counted from 0, steps on by none or by more than 10,000 at a time. Or the place is
+    /// the count of the recurrences, and that isn't 1 to 12, or the end leaves room for none, or the days in advance
+    /// are more than 366.
+    RecurrenceShape { place: u64 },
     /// There is no change that could be undone.
     NothingToUndo,
     /// There is no undone change that could be made again.

@@ -91,6 +91,3 @@ fn power_of_ten(exponent: usize) -> u128
 {
     POWERS_OF_TEN[exponent] as u128
 }
-
-#[cfg(test)]
-mod tests;

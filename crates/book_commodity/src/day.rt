@@ -204,6 +204,3 @@ fn value_of_digits(tens: u8, ones: u8) -> Option<u32>
     }
     Some((tens - b'0') as u32 * 10 + (ones - b'0') as u32)
 }
-
-#[cfg(test)]
-mod tests;

@@ -14,8 +14,6 @@ mod many;
 mod memory;
 mod rate;
 mod table;
-#[cfg(test)]
-mod tests;
 mod text;
 
 pub use amount::amount_text;

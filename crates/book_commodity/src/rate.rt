@@ -51,6 +51,3 @@ fn with_sign_of(amount: i128, size: u128) -> i128
     let size = size as i128;
     if amount < 0 { -size } else { size }
 }
-
-#[cfg(test)]
-mod tests;

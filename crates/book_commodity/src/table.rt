@@ -136,6 +136,3 @@ impl<T: Drop> Table<T> {
         }
     }
 }
-
-#[cfg(test)]
-mod tests;

@@ -1,6 +1,8 @@
 pub mod BalanceLemmas
 pub mod ChangeFits
+pub mod ChangedLemmas
 pub mod CurrencyLemmas
+pub mod DueLemmas
 pub mod MoveLemmas
 pub mod OpenLemmas
 pub mod PlanLemmas

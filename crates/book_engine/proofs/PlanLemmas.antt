@@ -1,7 +1,7 @@
 -- A turn with its changes of rows is a plan: it commits exactly where it changes the machine, and with its changes made
 -- the rows that stand for the state before stand for the state after.
 use Rattle.std.proofs.Common.{◌≡◌, ◌≢◌, ℕ, ◌+◌, ◌==◌, ◌||◌, Bool, true, false, if◌then◌else◌, IsTrue}
-use Rattle.std.proofs.Common.{List, [], None, Result, Ok, Err, IfOk, inl, inr, refl, sym, ap, ◌∙◌, subst, arith}
+use Rattle.std.proofs.Common.{List, [], None, Option, Result, Ok, Err, IfOk, inl, inr, refl, sym, ap, ◌∙◌, subst, arith}
 use Rattle.std.proofs.lemmas.Bool.Decides.{nat_tests}
 use Rattle.book_keeper.specs.declared.row.Change.{Change}
 use Rattle.book_undo.specs.Edit.{Leaf, edited, is_nothing, outline}
@@ -15,6 +15,9 @@ use Rattle.book_undo.proofs.InverseLaws.{allowed_depth}
 use Rattle.book_command.specs.declared.answer.Answer.{Answer}
 use Rattle.book_command.specs.declared.answer.Answer.TheVariants as answer
 use Rattle.book_command.specs.declared.command.Update.{Update}
+use Rattle.book_command.specs.declared.refusal.Refusal.{Refusal}
+use Rattle.book_command.specs.declared.refusal.Refusal.TheVariants as refusal
+use Rattle.book_command.specs.declared.rule.Rule.{Rule}
 use Rattle.book_command.specs.declared.command.What.TheVariants.{Redo as AskRedo, Undo as AskUndo}
 use Rattle.book_sound.proofs.SoundFacts.{tables_rise}
 use Rattle.book_history.proofs.ExactBack.{exact_back}
@@ -27,9 +30,9 @@ use Rattle.book_step.proofs.SoundStep.{outcome-sound}
 use Rattle.book_opening.specs.State.{State}
 use Rattle.book_engine.specs.Kept.{IsWhole, step_state}
 use Rattle.book_engine.specs.Books.{machine_of}
-use Rattle.book_engine.specs.Machine.{Done, Machine, Reply, changed, reply, updated}
+use Rattle.book_engine.specs.Machine.{Done, Machine, Reply, asked, changed, reply, unless_broken, updated}
 use Rattle.book_engine.specs.Planned.{IsChangeTo, IsExactTurn, IsPlanTo, IsTurnPlan, IsWholeStep, Planned, stay_plan}
-use Rattle.book_engine.specs.Planned.{turn_plan}
+use Rattle.book_engine.specs.Planned.{IsAskRefusal, IsRefusal, turn_plan}
 use Rattle.book_engine.specs.Turned.{HaveSpellings, IsKeptStep, IsTurnFor, changes_to, is_moving, turned, turned_by}
 use Rattle.book_engine.specs.declared.turn.Turn.{Turn}
 use Rattle.book_engine.specs.declared.turn.Way.{Way}
@@ -102,6 +105,15 @@ is_turn_plan state saved turn answer reply whole after is allowed fit exact lead
 either_same : (saved : Bool) → (saved || false) ≡ saved
 either_same true = refl
 either_same false = refl
+
+-- A refusal of a question is one of the machine's reply.
+pub ask_refused :
+    (machine : Machine) (rules : List (Option Rule)) (given : Answer) (refused : Refusal) → IsAskRefusal rules refused
+    → IsRefusal (asked machine rules given) refused
+ask_refused machine rules given (refusal.Broken rule) e =
+    ap (λ (found : Option Rule). unless_broken found (Done machine given)) e
+ask_refused machine rules given refusal.Keeper e = e
+ask_refused machine rules given refusal.OutOfMemory e = tt
 
 -- A reply that leaves the machine has the plan that stays.
 pub is_stay_plan :

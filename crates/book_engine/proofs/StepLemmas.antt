@@ -1,9 +1,10 @@
 -- A change that is done leaves the state as it is, or raises its version by one, and the next number doesn't fall.
 use Rattle.std.proofs.Common.{◌≡◌, ◌≤◌, ℕ, ◌+◌, ◌==◌, ℤ, Bool, true, false, if◌then◌else◌, List, [], ◌∷◌, ◌++◌, length}
-use Rattle.std.proofs.Common.{Option, Some, None, inl, inr, sym, ap, arith, ◌⊎◌}
+use Rattle.std.proofs.Common.{map, Option, Some, None, inl, inr, sym, ap, arith, ◌⊎◌}
 use Rattle.book_commodity.specs.Table.{value_of}
 use Rattle.book_accounts.specs.declared.account.Account.{Account}
 use Rattle.book_prices.specs.declared.price.Price.{Price}
+use Rattle.book_schedule.specs.declared.recurrence.Recurrence.{Recurrence}
 use Rattle.book_splits.specs.declared.transaction.Txn.{Txn}
 use Rattle.book_undo.specs.Book.{Book, with_currency, with_thing, without_thing}
 use Rattle.book_undo.specs.declared.thing.Thing.TheVariants as thing
@@ -11,11 +12,13 @@ use Rattle.book_undo.specs.declared.thing.ThingKind.TheVariants as kind
 use Rattle.book_command.specs.declared.answer.Answer.{Answer}
 use Rattle.book_command.specs.declared.answer.Answer.TheVariants as answer
 use Rattle.book_command.specs.declared.command.GivenAccount.{GivenAccount}
+use Rattle.book_command.specs.declared.command.GivenSchedule.{GivenSchedule}
 use Rattle.book_command.specs.declared.command.GivenTxn.{GivenTxn}
 use Rattle.book_command.specs.declared.command.Update.{Update}
 use Rattle.book_command.specs.declared.command.Update.TheVariants.{BookCurrency, CommodityAdd, AccountAdd}
 use Rattle.book_command.specs.declared.command.Update.TheVariants.{AccountEdit, AccountDrop, Drop, Edit, Post}
-use Rattle.book_command.specs.declared.command.Update.TheVariants.{PriceDrop, PriceSet}
+use Rattle.book_command.specs.declared.command.Update.TheVariants.{PriceDrop, PriceSet, ScheduleAdd, ScheduleDrop}
+use Rattle.book_command.specs.declared.command.Update.TheVariants.{ScheduleRun}
 use Rattle.book_command.specs.declared.rule.Rule.{Rule}
 use Rattle.book_step.specs.Accounts.{account_drop_of, account_edit_at, add_rules, drop_rules, edit_rules}
 use Rattle.book_step.specs.Accounts.{stays, with_given}
@@ -28,6 +31,11 @@ use Rattle.book_step.specs.Posting.{new_transaction, post_answer, post_rules}
 use Rattle.book_step.specs.Prices.{has_numbers, price_of_day, price_rules, price_set_at, too_many_prices}
 use Rattle.book_step.specs.Prices.{unknown_price}
 use Rattle.book_step.specs.SameTransaction.{same_transaction}
+use Rattle.book_step.specs.ScheduleRuns as schedule_runs
+use Rattle.book_step.specs.ScheduleRuns.{asked, asked_rules, book_ran, made_by, schedule_run_of, too_many_made}
+use Rattle.book_step.specs.ScheduleRuns.{too_many_splits_made}
+use Rattle.book_step.specs.Schedules as schedules
+use Rattle.book_step.specs.Schedules.{Run, new_schedule, runs_of, schedule_add_from, unknown_schedule}
 use Rattle.book_step.specs.State.{State}
 use Rattle.book_step.specs.Step.{outcome}
 use Rattle.book_step.proofs.SoundOutcome.{changing_done, leaving_done}
@@ -103,6 +111,26 @@ price_moves state price (Some old) new reply e =
     either_moves (has_numbers old.1 price) state (price_rules state.book price)
     (with_thing old.0 (thing.Price price) state.book) 0 (answer.PriceSet old.0) (answer.PriceSet old.0) new reply e
 
+schedule_moves :
+    (state : State) (given : GivenSchedule) (rs : List Recurrence) (new : State) (reply : Answer)
+    → schedule_add_from state given rs ≡ Done new reply → Moves state new
+schedule_moves state given [] new reply e = absurd cc
+schedule_moves state given (first ∷ more) new reply e =
+    let schedule = new_schedule first.start given in
+    changing_moves state (schedules.add_rules state.book schedule)
+    (with_thing state.next (thing.Schedule schedule) state.book) 1 (answer.ScheduleAdd state.next) new reply e
+
+run_moves :
+    (state : State) (rules : List (Option Rule)) (runs : List Run) (new : State) (reply : Answer)
+    → schedule_run_of state rules runs ≡ Done new reply → Moves state new
+run_moves state rules [] new reply e = leaving_moves state rules (answer.ScheduleRun []) new reply e
+run_moves state rules (run ∷ more) new reply e =
+    let runs = run ∷ more in
+    changing_moves state
+    (rules ++ too_many_made state.book runs ∷ too_many_splits_made state.book runs ∷ [])
+    (book_ran state.book state.next runs) (schedule_runs.drawn_by runs)
+    (answer.ScheduleRun (map (λ (entry : ℕ × Txn). entry.0) (made_by state.next runs))) new reply e
+
 -- A change that is done leaves the state as it is, or raises its version by one, and the next number does not fall.
 pub outcome_moves :
     (state : State) (update : Update) (new : State) (reply : Answer) → outcome state update ≡ Done new reply
@@ -134,3 +162,9 @@ outcome_moves state (PriceSet price) new reply e =
 outcome_moves state (PriceDrop n) new reply e =
     changing_moves state (unknown_price state.book.prices n ∷ []) (without_thing kind.Price n state.book) 0
     answer.PriceDrop new reply e
+outcome_moves state (ScheduleAdd given) new reply e = schedule_moves state given given.recurrences new reply e
+outcome_moves state (ScheduleDrop n) new reply e =
+    changing_moves state (unknown_schedule state.book.schedules n ∷ []) (without_thing kind.Schedule n state.book) 0
+    answer.ScheduleDrop new reply e
+outcome_moves state (ScheduleRun upto only) new reply e =
+    run_moves state (asked_rules state upto only) (runs_of upto (asked only state.book.schedules)) new reply e

@@ -7,14 +7,16 @@ use Rattle.book_command.specs.declared.answer.Answer.{Answer}
 use Rattle.book_command.specs.declared.answer.Answer.TheVariants as answer
 use Rattle.book_command.specs.declared.command.Command.{Command}
 use Rattle.book_command.specs.declared.command.What.{What}
-use Rattle.book_command.specs.declared.command.What.TheVariants.{Update, Undo, Redo, Price, Status}
+use Rattle.book_command.specs.declared.command.What.TheVariants.{Update, Undo, Redo, Price, Report, Due, Status}
 use Rattle.book_command.specs.declared.rule.Rule.{Rule}
 use Rattle.book_command.specs.declared.rule.Rule.TheVariants.{NothingToUndo, NothingToRedo}
 use Rattle.book_step.specs.Outcome.{Outcome, numbers}
 use Rattle.book_step.specs.Outcome as outcome
 use Rattle.book_step.specs.Prices.{rate_on, rate_rules}
+use Rattle.book_step.specs.Schedules.{day_rules, due_of}
 use Rattle.book_step.specs.State.{State, fresh_book}
 use Rattle.book_step.specs.Step.{outcome as outcome_of, stale}
+use Rattle.book_engine.specs.Reports.{report_answer, report_rules}
 
 -- The past books, the nearest first; the present book; the later ones, the nearest first; the number that the next
 -- thing gets; the count of the changes so far; and how many steps lead from the fresh book to the present one.
@@ -111,6 +113,10 @@ reply machine Redo = redone machine.later machine
 reply machine (Price commodity currency day) =
     asked machine (rate_rules machine.book commodity currency)
     (answer.Price (rate_on machine.book.prices commodity currency day))
+reply machine (Report report) =
+    asked machine (report_rules machine.book report) (report_answer machine.book report)
+reply machine (Due upto) =
+    asked machine (day_rules upto machine.book.schedules) (answer.Due (due_of machine.book upto))
 reply machine Status = Done machine (status machine)
 
 -- The step of a command: the version is asked first.

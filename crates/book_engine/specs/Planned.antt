@@ -1,6 +1,7 @@
 -- A plan: what finishing it makes of the state and of the rows, and the answer.
 use Rattle.std.specs.Prelude.{◌≡◌, ◌≢◌, ◌↔◌, ℕ, ◌≤◌, ⊤, ◌||◌, if◌then◌else◌, Bool, IsTrue, List, []}
-use Rattle.std.specs.Prelude.{◌+◌, Some}
+use Rattle.std.specs.Prelude.{◌+◌, Option, Some}
+use Rattle.book_commodity.specs.Rules.{first_broken}
 use Rattle.book_keeper.specs.Rows.{AreRising, after_changes}
 use Rattle.book_keeper.specs.declared.row.Change.{Change}
 use Rattle.book_keeper.specs.declared.row.Row.{Row}
@@ -23,6 +24,7 @@ use Rattle.book_command.specs.declared.command.Command.{Command}
 use Rattle.book_command.specs.declared.command.Update.{Update}
 use Rattle.book_command.specs.declared.refusal.Refusal.{Refusal}
 use Rattle.book_command.specs.declared.refusal.Refusal.TheVariants as refusal
+use Rattle.book_command.specs.declared.rule.Rule.{Rule}
 use Rattle.book_opening.specs.Opening.{OpenAs}
 use Rattle.book_opening.specs.State.{State}
 use Rattle.book_engine.specs.Kept.{IsWhole, Kept, step_state}
@@ -147,6 +149,13 @@ abbrev pub IsStepRefusal : Outcome → Refusal → Type 0
 IsStepRefusal outcome (refusal.Broken rule) = outcome ≡ StepBroken rule
 IsStepRefusal outcome refusal.Keeper = ⊥
 IsStepRefusal outcome refusal.OutOfMemory = ⊤
+
+-- A refusal of a question comes where the first of its rules that is broken is that one, or out of memory. No keeper is
+-- asked.
+abbrev pub IsAskRefusal : List (Option Rule) → Refusal → Type 0
+IsAskRefusal rules (refusal.Broken rule) = first_broken rules ≡ Some rule
+IsAskRefusal rules refusal.Keeper = ⊥
+IsAskRefusal rules refusal.OutOfMemory = ⊤
 
 -- A refusal of a turn comes where one more version goes past the limit, or out of memory.
 abbrev pub IsLimitRefusal : State → Refusal → Type 0

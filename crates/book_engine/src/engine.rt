@@ -7,6 +7,7 @@ ghost use Rattle.book_step.specs.Soundness.{IsSound};
 ghost use Rattle.book_opening.specs.Opening.{OpenAs, WasRead};
 ghost use Rattle.book_opening.specs.State.{State};
 ghost use Rattle.book_engine.specs.Acting.{HasActCause, IsUnchanged};
+ghost use Rattle.book_engine.specs.Changed.{AreChanged, AreLeft, live_changes};
 ghost use Rattle.book_engine.specs.Kept.{IsWhole, step_state};
 ghost use Rattle.book_engine.specs.Books.{machine_of};
 ghost use Rattle.book_engine.specs.Machine.{Done, step as step_from};
@@ -84,12 +85,16 @@ impl Engine {
 
     /// The register of an account of the present book; `None` exactly where the book has no such account.
     pub fn register(&self, account: u64) -> Option<&Register>
-        ensures { option_map (λ register. register.rows) (option_copied result)
+        ensures rows { option_map (λ register. register.rows) (option_copied result)
             ≡ live_register self.now.state.book account }
+        ensures changes { option_map (λ register. register.changes) (option_copied result)
+            ≡ live_changes self.now account }
     {
-        let found = self.registers.register(&self.state.plain.accounts, account);
+        if self.state.plain.accounts.find(account).is_none() {
+            return None;
+        }
         let _ = &self.saved;
-        found
+        self.registers.kept(account)
     }
 
     /// The present book.
@@ -107,6 +112,7 @@ impl Engine {
         ensures room { IfOk result (HasRoomFor self.new) }
         ensures refused { IfErr result (IsRefusal (step_from (machine_of self.old.state) command)) }
         ensures unchanged { IsUnchanged self.old self.new }
+        ensures left { AreLeft self.old self.new }
         ensures sound { IsSound (step_state self.new.state) }
     {
         let plan = match plan_of(
@@ -129,6 +135,7 @@ impl Engine {
     fn make_room(&mut self, plan: &Plan) -> Result<(), OutOfMemory>
         ensures room { OnOk result (HasRoomFor self.new plan.now) }
         ensures unchanged { IsUnchanged self.old self.new }
+        ensures left { AreLeft self.old self.new }
     {
         self.state.plain.reserve_for(plan.edit())?;
         self.state.back.reserve(1)?;
@@ -137,15 +144,18 @@ impl Engine {
     }
 
     /// Finishes what was prepared and hands out its answer: where the plan commits, the keeper makes its changes of
-    /// rows, and then the state is changed, which can't fail and takes no memory. An error is that of the commit, and
-    /// then all is as before, the keeper's rows too.
+    /// rows, and then the state is changed, which can't fail and takes no memory: in each register only the rows that
+    /// differ are taken out and put in. An error is that of the commit, and then all is as before, the keeper's rows
+    /// too.
     pub fn finish<K: Keeper>(&mut self, keeper: &mut K, plan: Plan) -> Result<Answer, KeepError>
         requires made { IsPlanFor self.old.state self.old.saved plan }
         requires room { HasRoomFor self.old plan }
         ensures state { OnOk result (self.new.state ≡ after self.old.state plan) }
         ensures saved { OnOk result (self.new.saved ≡ (self.old.saved || commits plan)) }
         ensures answer { IfOk result (λ answer. answer ≡ plan.answer) }
+        ensures changes { OnOk result (AreChanged self.old self.new) }
         ensures unchanged { OnErr result (IsUnchanged self.old self.new) }
+        ensures left { OnErr result (AreLeft self.old self.new) }
         ensures commits { OnErr result (IsTrue (commits plan)) }
         ensures sound { IsSound (step_state self.new.state) }
         ensures path { K.path_given keeper.new ≡ K.path_given keeper.old }
@@ -180,6 +190,7 @@ impl Engine {
         ensures state { self.new.state ≡ after self.old.state plan }
         ensures saved { self.new.saved ≡ (self.old.saved || commits plan) }
         ensures answer { result ≡ plan.answer }
+        ensures changes { AreChanged self.old self.new }
         ensures whole { IsWhole self.new.state self.new.saved }
     {
         let saved = self.saved || plan.commits();

@@ -15,14 +15,11 @@ mod moves;
 mod opening;
 mod plan;
 mod planning;
-#[cfg(test)]
-mod register_tests;
-#[cfg(test)]
-mod tests;
+mod reports;
 mod turn;
 
 pub use book_command::{
-    Answer, Command, GivenAccount, GivenSplit, GivenTxn, Refusal, Rule, Update, What,
+    Answer, Command, GivenAccount, GivenSplit, GivenTxn, Refusal, Report, Rule, Update, What,
 };
 pub use engine::Engine;
 pub use fault::OpenError;

@@ -6,26 +6,30 @@ ghost use Rattle.book_undo.specs.Inverse.{LeadsBack};
 ghost use Rattle.book_step.specs.Outcome.{numbers};
 ghost use Rattle.book_step.specs.Soundness.{IsSound};
 ghost use Rattle.book_step.specs.Step.{outcome};
+ghost use Rattle.book_step.specs.Schedules.{Finds, day_rules, due_of};
+ghost use Rattle.book_command.specs.declared.answer.Answer.TheVariants.{Due as DueAnswer};
 ghost use Rattle.book_command.specs.declared.command.What.TheVariants.{Redo as AskRedo, Undo as AskUndo};
 ghost use Rattle.book_opening.specs.State.{state_of};
 ghost use Rattle.book_engine.specs.Kept.{IsWhole, step_state};
 ghost use Rattle.book_engine.specs.Books.{machine_of};
-ghost use Rattle.book_engine.specs.Machine.{reply, status, step as step_from, updated};
+ghost use Rattle.book_engine.specs.Machine.{asked, reply, status, step as step_from, updated};
 ghost use Rattle.book_engine.specs.Planned.{IsChangeTo, IsLimitRefusal, IsPlanOf, IsPlanTo, IsRefusal, IsStepRefusal};
 ghost use Rattle.book_engine.specs.Planned.{IsTurnPlan, IsWholeStep, stay_plan, turn_plan};
+ghost use Rattle.book_engine.specs.Reports.{report_answer as report_answer_of, report_rules};
 ghost use Rattle.book_engine.specs.Turned.{HaveSpellings, IsKeptStep, IsTurnFor, turned};
 ghost use Rattle.book_engine.specs.declared.turn.Way.TheVariants.{Change as ToNew};
 
 use crate::Plan;
 use crate::balances::with_balances;
 use crate::changes::row_changes;
+use crate::reports::report_answer;
 use crate::turn::{Turn, Way};
-use book_command::What;
-use book_commodity::{Counted, Many, OutOfMemory};
+use book_command::{Report, What};
+use book_commodity::{Counted, Day, Many, OutOfMemory};
 use book_ledger::Registers;
 use book_opening::Saved;
 use book_step::{
-    Answer, Command, Refusal, Rule, Step, Update, check_version, rate_answer, step_of,
+    Answer, Command, Refusal, Rule, Step, Update, check_version, due_answer, rate_answer, step_of,
 };
 use book_undo::Edit;
 use std::alloc::Global;
@@ -78,7 +82,46 @@ fn plan_at(
             Ok(answer) => Ok(plan_stay(alloc, state, answer)),
             Err(rule) => Err(Refusal::Broken(rule)),
         },
+        What::Report(report) => plan_report(alloc, state, registers, saved, &report),
+        What::Due { upto } => plan_due(alloc, state, upto),
         What::Status => Ok(plan_stay(alloc, state, status(state))),
+    }
+}
+
+/// The plan of a question for a report, which leaves the state as it is.
+#[tactic(auto, using(crate::proofs::PlanLemmas::ask_refused))]
+fn plan_report(
+    alloc: Global,
+    state: &Saved,
+    registers: &Registers,
+    saved: bool,
+    report: &Report,
+) -> Result<Plan, Refusal>
+    requires whole { IsWhole (state_of state.now) saved }
+    requires registers { Keeps registers.now.entries (state_of state.now).book }
+    ensures planned { IfOk result (IsPlanTo (state_of state.now) saved
+        (asked (machine_of (state_of state.now)) (report_rules (state_of state.now).book report.now)
+        (report_answer_of (state_of state.now).book report.now))) }
+    ensures refused { IfErr result (IsRefusal
+        (asked (machine_of (state_of state.now)) (report_rules (state_of state.now).book report.now)
+        (report_answer_of (state_of state.now).book report.now))) }
+{
+    let _ = saved;
+    match report_answer(alloc, &state.plain, registers, report) {
+        Ok(answer) => Ok(plan_stay(alloc, state, answer)),
+        Err(refusal) => Err(refusal),
+    }
+}
+
+/// The plan of the question which days are due up to the day. It leaves the state as it is.
+fn plan_due(alloc: Global, state: &Saved, upto: Day) -> Result<Plan, Refusal>
+    requires { IsWhole (state_of state.now) true }
+    ensures { Finds (day_rules upto (state_of state.now).book.schedules)
+        (λ plan. plan ≡ stay_plan (state_of state.now) (DueAnswer (due_of (state_of state.now).book upto))) result }
+{
+    match due_answer(alloc, &state.plain, upto) {
+        Ok(answer) => Ok(plan_stay(alloc, state, answer)),
+        Err(refusal) => Err(refusal),
     }
 }
 

@@ -3,8 +3,6 @@
 //! the present book; they go along the steps on the book itself, and come back by their inverses.
 #![tactic(auto)]
 
-#[cfg(test)]
-mod tests;
 mod walk;
 
 pub use walk::{first_fault_back, first_fault_forth};

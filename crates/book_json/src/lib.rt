@@ -18,6 +18,3 @@ pub use inside::Object;
 pub use object::{NotRead, object_of};
 pub use reading::Reading;
 pub use word::{named, word_of};
-
-#[cfg(test)]
-mod tests;

@@ -6,7 +6,7 @@ ghost use Rattle.book_json.specs.Members.{without, needed, optional, text, flag,
 ghost use Rattle.book_json.specs.Reads.{rest, IsFaultOf, Gives, Completes};
 ghost use Rattle.book_json.specs.Words.{rows_of};
 
-use crate::inside::list;
+use crate::inside::{inner, list};
 use crate::word::among;
 use crate::{Fault, Form, Object};
 use book_commodity::{Many, Text};
@@ -87,6 +87,37 @@ impl Reading {
             return Ok(None);
         };
         let Some(read) = F::read(self.alloc, value)? else {
+            return Err(self.fault(name));
+        };
+        Ok(Some(read))
+    }
+
+    /// The member of that name by a table of words, `None` where it is absent; it fails where it is not the text of one
+    /// of the words.
+    pub fn optional_word<W: Copy + Drop>(
+        &mut self,
+        name: &str,
+        table: &[(&str, W)],
+    ) -> Result<Option<W>, Fault>
+        ensures { Gives (optional (among (rows_of table.now)) name.now (rest self.old)) result (rest self.new) }
+    {
+        let Some(value) = self.take(name) else {
+            return Ok(None);
+        };
+        let Some(read) = among(value, table) else {
+            return Err(self.fault(name));
+        };
+        Ok(Some(read))
+    }
+
+    /// The member of that name, an object, `None` where it is absent; it fails where it is of another form.
+    pub fn optional_object<O: Object>(&mut self, name: &str) -> Result<Option<O::Value>, Fault>
+        ensures { Gives (optional (inner O.reader) name.now (rest self.old)) result (rest self.new) }
+    {
+        let Some(value) = self.take(name) else {
+            return Ok(None);
+        };
+        let Some(read) = inner::<O>(self.alloc, value)? else {
             return Err(self.fault(name));
         };
         Ok(Some(read))

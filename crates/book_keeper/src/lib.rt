@@ -19,8 +19,6 @@ mod row;
 mod sink;
 mod source;
 mod stream_sink;
-#[cfg(test)]
-mod tests;
 mod writing;
 
 pub use file_source::FileSource;

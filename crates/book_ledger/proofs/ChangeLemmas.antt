@@ -300,9 +300,21 @@ all_put number t other old new put = record {
 }
 
 -- ---- one transaction in the place of another
-cut_itself : (o : Option Entry) → cut o o ≡ None
+pub cut_itself : (o : Option Entry) → cut o o ≡ None
 cut_itself None = refl
 cut_itself (Some x) = refl
+
+pub pair_is : (p q : ℕ × Entry) → ((p.0 == q.0) && is_same p.1 q.1) ≡ true → p ≡ q
+pair_is p q is =
+    let both = and_parts (p.0 == q.0) (is_same p.1 q.1) is in
+    let one = eqb-true p.0 q.0 both.0 in
+    let two = same_is p.1 q.1 both.1 in
+    ap (λ (n : ℕ). (n, p.1)) one ∙ ap (λ (e : Entry). (q.0, e)) two
+
+pub pair_itself : (p : ℕ × Entry) → ((p.0 == p.0) && is_same p.1 p.1) ≡ true
+pair_itself p =
+    let number : (p.0 == p.0) ≡ true = grind (arith, nat_tests) in
+    ap (λ t. t && is_same p.1 p.1) number ∙ same_itself p.1
 
 -- with the rows of the old one that the new one hasn't taken out, and those of the new one that the old one hasn't put
 -- in, the rows are those of the new one
@@ -316,18 +328,6 @@ changed_row account key (Some x) None = or_none (pick account key (Some x))
 changed_row account key (Some x) (Some y) =
     here ((x.0 == y.0) && is_same x.1 y.1) ((y.0 == x.0) && is_same y.1 x.1) refl refl
   where
-    pair_is : (p q : ℕ × Entry) → ((p.0 == q.0) && is_same p.1 q.1) ≡ true → p ≡ q
-    pair_is p q is =
-        let both = and_parts (p.0 == q.0) (is_same p.1 q.1) is in
-        let one = eqb-true p.0 q.0 both.0 in
-        let two = same_is p.1 q.1 both.1 in
-        ap (λ (n : ℕ). (n, p.1)) one ∙ ap (λ (e : Entry). (q.0, e)) two
-
-    pair_itself : (p : ℕ × Entry) → ((p.0 == p.0) && is_same p.1 p.1) ≡ true
-    pair_itself p =
-        let number : (p.0 == p.0) ≡ true = grind (arith, nat_tests) in
-        ap (λ t. t && is_same p.1 p.1) number ∙ same_itself p.1
-
     here :
         (s t : Bool) → ((x.0 == y.0) && is_same x.1 y.1) ≡ s → ((y.0 == x.0) && is_same y.1 x.1) ≡ t
         → option_or (pick account key (if s then None else Some x))

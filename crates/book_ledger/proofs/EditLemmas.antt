@@ -277,6 +277,12 @@ kept_of_held registers b r in_order holds all = record {
   live = all;
 }
 
+-- the leaves of an allowed edit change each transaction once
+pub edited_once :
+    (b : Book) (e : Edit) → Rises b.transactions → IsAllowed b e → ChangeOnce b.transactions (leaves e) b
+edited_once b e r allowed =
+    change_once b.transactions (key_at 0 0) (leaves e) b r (allowed_order b e allowed) (λ m past. refl)
+
 -- what was kept for a book is, once it followed the leaves of an allowed edit, kept for the edited book
 pub kept_edited :
     (old new : List (ℕ × Rows)) (b : Book) (e : Edit) → Rises b.transactions → Rises b.accounts → IsAllowed b e
@@ -293,7 +299,7 @@ kept_edited old new b e r accounts allowed kept has in_order there follows =
     after = after_leaves (leaves e) b
 
     once : ChangeOnce b.transactions (leaves e) b
-    once = change_once b.transactions (key_at 0 0) (leaves e) b r (allowed_order b e allowed) (λ m past. refl)
+    once = edited_once b e r allowed
 
     all : AllThere old (after_leaves (leaves e) b)
     all = live_all old (leaves e) b accounts kept.live has

@@ -10,6 +10,7 @@ use Rattle.book_commodity.proofs.TableLemmas.{value_of_with}
 use Rattle.book_register.specs.Register.{Rows}
 use Rattle.book_undo.specs.Book.{Book}
 use Rattle.book_ledger.specs.Change.{IsReplaced, is_there}
+use Rattle.book_ledger.specs.Changes.{changes_in, changes_of}
 use Rattle.book_ledger.specs.Ledger.{Keeps, rows_at, rows_in}
 use Rattle.book_ledger.specs.Opening.{HasAll}
 use Rattle.book_ledger.specs.Room.{Extends, room_in, room_of}
@@ -18,6 +19,7 @@ pub extends_itself : (registers : List (ℕ × Rows)) → Extends registers regi
 extends_itself registers = record {
   rows = λ account. refl;
   kept = λ account there. there;
+  changes = λ account. refl;
   room = λ account. omega arith;
 }
 
@@ -25,16 +27,18 @@ pub extends_by : (old mid new : List (ℕ × Rows)) → Extends old mid → Exte
 extends_by old mid new one two = record {
   rows = λ account. two.rows account ∙ one.rows account;
   kept = λ account there. two.kept account (one.kept account there);
+  changes = λ account. two.changes account ∙ one.changes account;
   room = λ account. omega (arith, one.room account, two.room account);
 }
 
 -- with an empty one for an account that had none
 pub extends_begun :
     (account : ℕ) (empty : Rows) (old new : List (ℕ × Rows)) → new ≡ with_entry account empty old
-    → value_of account old ≡ None → empty.rows ≡ [] → Extends old new
-extends_begun account empty old new is none no_rows = record {
+    → value_of account old ≡ None → empty.rows ≡ [] → empty.changes ≡ 0 → Extends old new
+extends_begun account empty old new is none no_rows no_changes = record {
   rows = λ a. value a ∙ rows a (a == account) refl;
   kept = λ a there. ap is_some (found a) ∙ kept a (a == account) there;
+  changes = λ a. ap changes_in (found a) ∙ changes a (a == account) refl;
   room = λ a. let here = ap room_in (found a) in let less = room a (a == account) refl in omega (arith, here, less);
 }
   where
@@ -53,19 +57,28 @@ extends_begun account empty old new is none no_rows = record {
     kept a true there = refl
     kept a false there = there
 
+    changes :
+        (a : ℕ) (t : Bool) → (a == account) ≡ t
+        → changes_in (if t then Some empty else value_of a old) ≡ changes_of a old
+    changes a true same =
+        no_changes ∙ sym (ap changes_in (ap (λ (n : ℕ). value_of n old) (eqb-true a account same) ∙ none))
+    changes a false same = refl
+
     room : (a : ℕ) (t : Bool) → (a == account) ≡ t → room_of a old ≤ room_in (if t then Some empty else value_of a old)
     room a true same =
         let nothing = ap room_in (ap (λ (n : ℕ). value_of n old) (eqb-true a account same) ∙ none) in
         omega (arith, nothing)
     room a false same = omega arith
 
--- with one of the same rows and no less room in the place of an account's
+-- with one of the same rows, as many changes and no less room in the place of an account's
 pub extends_replaced :
     (account : ℕ) (register was : Rows) (old new : List (ℕ × Rows)) → IsReplaced account register old new
-    → value_of account old ≡ Some was → register.rows ≡ was.rows → was.spare ≤ register.spare → Extends old new
-extends_replaced account register was old new here there same less = record {
+    → value_of account old ≡ Some was → register.rows ≡ was.rows → register.changes ≡ was.changes
+    → was.spare ≤ register.spare → Extends old new
+extends_replaced account register was old new here there same count less = record {
   rows = λ a. ap rows_in (here.values a) ∙ rows a (a == account) refl;
   kept = λ a is. ap is_some (here.values a) ∙ kept a (a == account) is;
+  changes = λ a. ap changes_in (here.values a) ∙ changes a (a == account) refl;
   room = λ a.
       let found = ap room_in (here.values a) in let more = room a (a == account) refl in omega (arith, found, more);
 }
@@ -80,6 +93,13 @@ extends_replaced account register was old new here there same less = record {
     kept : (a : ℕ) (t : Bool) → is_there a old ≡ true → is_some (if t then Some register else value_of a old) ≡ true
     kept a true is = refl
     kept a false is = is
+
+    changes :
+        (a : ℕ) (t : Bool) → (a == account) ≡ t
+        → changes_in (if t then Some register else value_of a old) ≡ changes_of a old
+    changes a true is =
+        count ∙ sym (ap changes_in (ap (λ (n : ℕ). value_of n old) (eqb-true a account is) ∙ there))
+    changes a false is = refl
 
     room :
         (a : ℕ) (t : Bool) → (a == account) ≡ t

@@ -111,11 +111,11 @@ found_inserted key (row ∷ rows) (suc i) e none =
 
 -- ---- a row taken out
 -- Rows without the first that stands at a key.
-abbrev without : RowKey → List Entry → List Entry
+abbrev pub without : RowKey → List Entry → List Entry
 without key [] = []
 without key (row ∷ rows) = cond (has_key key row) rows (row ∷ without key rows)
 
-without_is : (key : RowKey) (rows : List Entry) → rows_without (position (has_key key) rows) rows ≡ without key rows
+pub without_is : (key : RowKey) (rows : List Entry) → rows_without (position (has_key key) rows) rows ≡ without key rows
 without_is key [] = refl
 without_is key (row ∷ rows) = here (has_key key row) (without_is key rows)
   where

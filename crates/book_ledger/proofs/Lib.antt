@@ -1,5 +1,7 @@
 pub mod ChangeLemmas
 pub mod CountLemmas
+pub mod CountsLemmas
+pub mod DifferenceLemmas
 pub mod EditLemmas
 pub mod ExtendLemmas
 pub mod FoundLemmas

@@ -1,11 +1,13 @@
--- Worked rows: salary and a market on two accounts, and the market moved to an earlier day.
-use Rattle.std.proofs.Common.{◌≡◌, ℕ, List, [], ◌∷◌, ℤ, pos, negsuc, None, map, refl}
+-- Worked rows: salary and a market on two accounts, and the market moved to an earlier day; how many rows differ where
+-- it is put, taken back, noted and moved.
+use Rattle.std.proofs.Common.{◌≡◌, ℕ, ◌-◌, ◌^◌, List, [], ◌∷◌, ℤ, pos, negsuc, None, map, refl}
 use Rattle.book_register.specs.Register.{balance as sum_of}
 use Rattle.book_register.specs.declared.entry.Entry.{Entry}
 use Rattle.book_splits.specs.Balance.{balance}
 use Rattle.book_splits.specs.declared.split.Mark.TheVariants.{New}
 use Rattle.book_splits.specs.declared.split.Split.{Split}
 use Rattle.book_splits.specs.declared.transaction.Txn.{Txn}
+use Rattle.book_ledger.specs.Changes.{RisesBy, differing}
 use Rattle.book_ledger.specs.Ledger.{register_of}
 
 abbrev split : ℕ → ℕ → ℤ → Split
@@ -23,11 +25,15 @@ split id account amount = record {
 abbrev transaction : ℤ → List Split → Txn
 transaction day splits = record { currency = 1; day = day; num = []; description = []; splits = splits }
 
+abbrev salary : ℕ × Txn
+salary = (5, transaction (pos 5) (split 6 3 (pos 250000) ∷ split 7 4 (negsuc 249999) ∷ []))
+
+abbrev market : ℤ → Txn
+market day = transaction day (split 21 6 (pos 5150) ∷ split 22 3 (negsuc 5149) ∷ [])
+
 -- on day 5 a salary of 2,500.00 on account 3 from account 4, and on a day 51.50 from account 3 to account 6
 abbrev book : ℤ → List (ℕ × Txn)
-book day =
-    (5, transaction (pos 5) (split 6 3 (pos 250000) ∷ split 7 4 (negsuc 249999) ∷ []))
-    ∷ (20, transaction day (split 21 6 (pos 5150) ∷ split 22 3 (negsuc 5149) ∷ [])) ∷ []
+book day = salary ∷ (20, market day) ∷ []
 
 -- each row's transaction and place
 abbrev places : ℕ → List (ℕ × Txn) → List (ℕ × ℕ)
@@ -56,3 +62,41 @@ sum_is_balance = refl
 
 balance_is : balance (book (pos 2)) 3 ≡ pos 244850
 balance_is = refl
+
+-- ---- rows that differ
+-- how many rows of an account differ between two lists of transactions
+abbrev differ : ℕ → List (ℕ × Txn) → List (ℕ × Txn) → ℕ
+differ account before after = differing (register_of account before) (register_of account after)
+
+-- the market puts one row on each of its accounts, and none on another,
+posted : (differ 3 (salary ∷ []) (book (pos 9)) ≡ 1) × (differ 6 (salary ∷ []) (book (pos 9)) ≡ 1)
+posted = (refl, refl)
+
+elsewhere : differ 4 (salary ∷ []) (book (pos 9)) ≡ 0
+elsewhere = refl
+
+-- where it is taken back one is taken out, and where it is made again one is put in
+taken_back : (differ 3 (book (pos 9)) (salary ∷ []) ≡ 1) × (differ 6 (book (pos 9)) (salary ∷ []) ≡ 1)
+taken_back = (refl, refl)
+
+made_again : (differ 3 (salary ∷ []) (book (pos 9)) ≡ 1) × (differ 6 (salary ∷ []) (book (pos 9)) ≡ 1)
+made_again = (refl, refl)
+
+-- a note is in no row
+noted : differ 3 (book (pos 9)) (salary ∷ (20, record (market (pos 9)) { description = 65 ∷ [] }) ∷ []) ≡ 0
+noted = refl
+
+-- on another day the row is another
+moved : (differ 3 (book (pos 9)) (book (pos 2)) ≡ 2) × (differ 6 (book (pos 9)) (book (pos 2)) ≡ 2)
+moved = (refl, refl)
+
+-- so after a post, an undo and a redo the changes of an account are one, two and three,
+counted : RisesBy 1 0 1 × RisesBy 1 1 2 × RisesBy 1 2 3
+counted = (refl, refl, refl)
+
+-- a note leaves them, another day adds two, and at the last number they stay
+counted_later : RisesBy 0 3 3 × RisesBy 2 3 5
+counted_later = (refl, refl)
+
+stays : RisesBy 2 (2 ^ 64 - 2) (2 ^ 64 - 1)
+stays = refl

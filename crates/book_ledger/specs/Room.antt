@@ -14,6 +14,7 @@ use Rattle.book_undo.specs.declared.thing.ThingKind.{ThingKind}
 use Rattle.book_undo.specs.declared.thing.ThingKind.TheVariants as kind
 use Rattle.book_undo.proofs.EditLaws.{after_leaf, after_leaves}
 use Rattle.book_ledger.specs.Change.{Holds, is_there}
+use Rattle.book_ledger.specs.Changes.{changes_of}
 use Rattle.book_ledger.specs.Ledger.{HasPlaces, rows_at}
 
 -- The rows of each register stand in order.
@@ -29,10 +30,12 @@ room_in (Some register) = register.spare
 abbrev pub room_of : ℕ → List (ℕ × Rows) → ℕ
 room_of account registers = room_in (value_of account registers)
 
--- Registers have the rows that others have, and room for as many more; those that were kept still are.
+-- Registers have the rows that others have, were changed as often, and have room for as many more; those that were kept
+-- still are.
 pub record Extends (old new : List (ℕ × Rows)) : Type 0 where
   pub rows : (account : ℕ) → rows_at account new ≡ rows_at account old
   pub kept : (account : ℕ) → is_there account old ≡ true → is_there account new ≡ true
+  pub changes : (account : ℕ) → changes_of account new ≡ changes_of account old
   pub room : (account : ℕ) → room_of account old ≤ room_of account new
 
 -- One, where a row is given and is on the account.

@@ -1,7 +1,9 @@
 ghost use Rattle.std.specs.Prelude.{◌≡◌, ℕ, ◌+◌, ◌≤◌, [], ◌∷◌, flat_map};
 ghost use Rattle.book_commodity.specs.Table.{Rises};
 ghost use Rattle.book_ledger.specs.Change.{Holds, is_there};
-ghost use Rattle.book_ledger.specs.Ledger.{HasPlaces, Keeps};
+ghost use Rattle.book_ledger.specs.Changes.{RisesBy, changes_of, differing};
+ghost use Rattle.book_ledger.specs.Counts.{CountsOn};
+ghost use Rattle.book_ledger.specs.Ledger.{HasPlaces, Keeps, register_of};
 ghost use Rattle.book_ledger.specs.Room.{CanFollow, ChangeOnce, IsReady, puts_on, room_of};
 ghost use Rattle.book_undo.proofs.EditLaws.{after_leaves};
 ghost use Rattle.book_undo.specs.Book.{book_of};
@@ -14,17 +16,23 @@ use book_undo::{Edit, Plain, Thing, ThingKind};
 
 impl Registers {
     /// Changes the registers of a book to those of the book that the edit leads to. It can't fail and takes no memory.
-    /// Rows that stay are not touched.
+    /// Rows that stay are not touched: the changes of each register rise by the rows that one of the two books'
+    /// registers has and the other hasn't.
     pub fn apply(&mut self, plain: &Plain, edit: &Edit)
         requires kept { Keeps self.old.entries (book_of plain.now) }
         requires ready { IsReady self.old.entries (leaves edit.now) }
         requires allowed { IsAllowed (book_of plain.now) edit.now }
         requires places { HasPlaces plain.now.transactions.entries }
         requires new_places { HasPlaces (edited edit.now (book_of plain.now)).transactions }
-        ensures { Keeps self.new.entries (edited edit.now (book_of plain.now)) }
+        ensures kept { Keeps self.new.entries (edited edit.now (book_of plain.now)) }
+        ensures changes { (account : ℕ)
+            → RisesBy (differing (register_of account (book_of plain.now).transactions)
+            (register_of account (edited edit.now (book_of plain.now)).transactions))
+            (changes_of account self.old.entries) (changes_of account self.new.entries) }
     {
         let _ = plain.accounts.len();
         let _ = plain.transactions.len();
+        self.in_order();
         self.follow(&plain.transactions, edit);
         self.in_order();
     }
@@ -38,6 +46,7 @@ impl Registers {
         ensures rows { (now : _) → Rises now.transactions → ChangeOnce transactions.now.entries (leaves edit.now) now
             → Holds self.old.entries now.transactions
             → Holds self.new.entries (after_leaves (leaves edit.now) now).transactions }
+        ensures changes { CountsOn transactions.now.entries (leaves edit.now) self.old.entries self.new.entries }
         ensures there { (account : ℕ) → is_there account self.new.entries ≡ is_there account self.old.entries }
         ensures room { (account : ℕ) → room_of account self.old.entries
             ≤ room_of account self.new.entries + puts_on account (leaves edit.now) }
@@ -58,6 +67,8 @@ impl Registers {
             → ChangeOnce transactions.now.entries (flat_map leaves parts.now) now
             → Holds self.old.entries now.transactions
             → Holds self.new.entries (after_leaves (flat_map leaves parts.now) now).transactions }
+        ensures changes { CountsOn transactions.now.entries (flat_map leaves parts.now) self.old.entries
+            self.new.entries }
         ensures there { (account : ℕ) → is_there account self.new.entries ≡ is_there account self.old.entries }
         ensures room { (account : ℕ) → room_of account self.old.entries
             ≤ room_of account self.new.entries + puts_on account (flat_map leaves parts.now) }
@@ -74,6 +85,8 @@ impl Registers {
             → ChangeOnce transactions.now.entries (OfPut number thing.now ∷ []) now
             → Holds self.old.entries now.transactions
             → Holds self.new.entries (after_leaves (OfPut number thing.now ∷ []) now).transactions }
+        ensures changes { CountsOn transactions.now.entries (OfPut number thing.now ∷ []) self.old.entries
+            self.new.entries }
         ensures there { (account : ℕ) → is_there account self.new.entries ≡ is_there account self.old.entries }
         ensures room { (account : ℕ) → room_of account self.old.entries
             ≤ room_of account self.new.entries + puts_on account (OfPut number thing.now ∷ []) }
@@ -90,6 +103,8 @@ impl Registers {
             → ChangeOnce transactions.now.entries (OfGone kind number ∷ []) now
             → Holds self.old.entries now.transactions
             → Holds self.new.entries (after_leaves (OfGone kind number ∷ []) now).transactions }
+        ensures changes { CountsOn transactions.now.entries (OfGone kind number ∷ []) self.old.entries
+            self.new.entries }
         ensures there { (account : ℕ) → is_there account self.new.entries ≡ is_there account self.old.entries }
         ensures room { (account : ℕ) → room_of account self.old.entries ≤ room_of account self.new.entries }
     {

@@ -2,6 +2,8 @@ ghost use Rattle.std.specs.Prelude.{◌≡◌, ℕ, ◌+◌, ◌≤◌, [], Some
 ghost use Rattle.std.specs.Option.{option_copied, option_map};
 ghost use Rattle.book_commodity.specs.Table.{value_of};
 ghost use Rattle.book_ledger.specs.Change.{AllPut, AllTaken, IsBeside, IsChanged, IsPut, IsReplaced, IsTaken, is_there};
+ghost use Rattle.book_ledger.specs.Changes.{AreBounded};
+ghost use Rattle.book_ledger.specs.Counts.{AreFree, CountsFrom, HasRow, HasRowsOf, IsFree, LacksRow};
 ghost use Rattle.book_ledger.specs.Ledger.{Keeps, live_register, rows_at};
 ghost use Rattle.book_ledger.specs.Room.{AreSorted, Extends, FitsPlaces, HasRoomForRow, one_on, room_of, txn_splits_on};
 ghost use Rattle.book_register.specs.Register.{IsSorted, balance as sum_of};
@@ -26,13 +28,14 @@ pub struct Registers {
 impl Model for Registers {
     ghost use Rattle.book_commodity.specs.Table.{Entries};
     ghost use Rattle.book_register.specs.Register.{Rows};
+    ghost use Rattle.book_ledger.specs.Changes.{AreBounded};
     ghost use Rattle.book_ledger.specs.Room.{AreSorted};
 
     ghost Value = { Entries Rows };
 
     ghost view = { λ r. r.registers };
 
-    ghost invariant = { λ r. AreSorted r.registers.entries };
+    ghost invariant = { λ r. AreSorted r.registers.entries × AreBounded r.registers.entries };
 }
 
 impl Registers {
@@ -57,6 +60,13 @@ impl Registers {
         self.registers.find(account)
     }
 
+    /// The register that is kept for an account, if there is one, also where the book has no such account.
+    pub fn kept(&self, account: u64) -> Option<&Register>
+        ensures { option_copied result ≡ value_of account self.now.entries }
+    {
+        self.registers.find(account)
+    }
+
     /// The balance of an account over all days, in smallest units of its commodity.
     pub fn balance(&self, account: u64) -> i128
         ensures { (book : _) → Keeps self.now.entries book → result ≡ balance book.transactions account }
@@ -78,9 +88,10 @@ impl Registers {
         register.balance_after(count - 1, &mut Steps::new())
     }
 
-    /// The rows of each register stand in order.
+    /// The rows of each register stand in order, and its count of changes is a number of 64 bits.
     pub(crate) fn in_order(&self)
-        ensures { AreSorted self.now.entries }
+        ensures sorted { AreSorted self.now.entries }
+        ensures bounded { AreBounded self.now.entries }
     {
         let _ = self.registers.len();
     }
@@ -103,6 +114,7 @@ impl Registers {
         requires sorted { IsSorted register.rows }
         ensures { IsReplaced account register self.old.entries self.new.entries }
     {
+        let _ = register.changes();
         let _ = self.registers.put(account, register);
     }
 
@@ -138,6 +150,8 @@ impl Registers {
     /// Takes a row out of the register of its account, if one is given.
     fn take(&mut self, row: Option<(u64, Entry)>)
         ensures rows { IsTaken row self.old.entries self.new.entries }
+        ensures changes { (first : _) → HasRow row first → HasRow row self.old.entries
+            → CountsFrom first self.old.entries → CountsFrom first self.new.entries }
         ensures there { (account : ℕ) → is_there account self.new.entries ≡ is_there account self.old.entries }
         ensures room { (account : ℕ) → room_of account self.old.entries ≤ room_of account self.new.entries }
     {
@@ -155,6 +169,8 @@ impl Registers {
     pub(crate) fn put(&mut self, row: Option<(u64, Entry)>)
         requires { HasRoomForRow row self.old.entries }
         ensures rows { IsPut row self.old.entries self.new.entries }
+        ensures changes { (first : _) → LacksRow row first → IsFree row self.old.entries
+            → CountsFrom first self.old.entries → CountsFrom first self.new.entries }
         ensures there { (account : ℕ) → is_there account self.new.entries ≡ is_there account self.old.entries }
         ensures room { (account : ℕ)
             → room_of account self.old.entries ≤ room_of account self.new.entries + one_on account row }
@@ -175,6 +191,9 @@ impl Registers {
         requires new { FitsPlaces (option_copied new) }
         ensures rows { AllTaken number (option_copied old.entry) (option_copied new.entry) self.old.entries
             self.new.entries }
+        ensures changes { (first : _) → HasRowsOf number (option_copied old.entry) first
+            → HasRowsOf number (option_copied old.entry) self.old.entries
+            → CountsFrom first self.old.entries → CountsFrom first self.new.entries }
         ensures there { (account : ℕ) → is_there account self.new.entries ≡ is_there account self.old.entries }
         ensures room { (account : ℕ) → room_of account self.old.entries ≤ room_of account self.new.entries }
     {
@@ -193,6 +212,9 @@ impl Registers {
         requires room { (account : ℕ) → txn_splits_on account (option_copied new) ≤ room_of account self.old.entries }
         ensures rows { AllPut number (option_copied new.entry) (option_copied old.entry) self.old.entries
             self.new.entries }
+        ensures changes { (first : _) → HasRowsOf number (option_copied old.entry) first
+            → AreFree number (option_copied new.entry) (option_copied old.entry) self.old.entries
+            → CountsFrom first self.old.entries → CountsFrom first self.new.entries }
         ensures there { (account : ℕ) → is_there account self.new.entries ≡ is_there account self.old.entries }
         ensures room { (account : ℕ) → room_of account self.old.entries
             ≤ room_of account self.new.entries + txn_splits_on account (option_copied new.entry) }
@@ -212,6 +234,9 @@ impl Registers {
         requires room { (account : ℕ) → txn_splits_on account (option_copied new) ≤ room_of account self.old.entries }
         ensures rows { IsChanged number (option_copied old.entry) (option_copied new.entry) self.old.entries
             self.new.entries }
+        ensures changes { (first : _) → HasRowsOf number (option_copied old.entry) first
+            → HasRowsOf number (option_copied old.entry) self.old.entries
+            → CountsFrom first self.old.entries → CountsFrom first self.new.entries }
         ensures there { (account : ℕ) → is_there account self.new.entries ≡ is_there account self.old.entries }
         ensures room { (account : ℕ) → room_of account self.old.entries
             ≤ room_of account self.new.entries + txn_splits_on account (option_copied new.entry) }

@@ -95,7 +95,7 @@ impl Wants {
 }
 
 impl Registers {
-    /// Takes the memory that the registers need to follow an edit. Their rows stay.
+    /// Takes the memory that the registers need to follow an edit. Their rows and their counts of changes stay.
     pub fn reserve_for(&mut self, edit: &Edit) -> Result<(), OutOfMemory>
         ensures ready { OnOk result (IsReady self.new.entries (leaves edit.now)) }
         ensures extends { Extends self.old.entries self.new.entries }

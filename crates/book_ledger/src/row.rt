@@ -1,9 +1,11 @@
-ghost use Rattle.std.specs.Prelude.{◌≡◌, ◌+◌, ◌≤◌, ◌^◌, if◌then◌else◌, find, length, None, Some};
+ghost use Rattle.std.specs.Prelude.{◌≡◌, ◌+◌, ◌-◌, ◌≤◌, ◌^◌, if◌then◌else◌, false, find, is_some, length, min};
+ghost use Rattle.std.specs.Prelude.{None, Some, position};
 ghost use Rattle.std.specs.Option.{option_copied};
 ghost use Rattle.book_ledger.specs.Change.{is_same as is_same_row, left_at, placed as placed_at};
+ghost use Rattle.book_ledger.specs.Changes.{differing, has_row};
 ghost use Rattle.book_ledger.specs.Ledger.{mark_of as kept_mark, row_of as row_at_place};
 ghost use Rattle.book_ledger.specs.Room.{FitsPlaces};
-ghost use Rattle.book_register.specs.Register.{IsSorted, has_key};
+ghost use Rattle.book_register.specs.Register.{IsSorted, has_key, key_of, rows_without};
 
 use book_commodity::Steps;
 use book_register::{Entry, Mark2, Register};
@@ -87,6 +89,13 @@ pub(crate) fn left(
 pub(crate) fn take_row(register: &mut Register, row: &Entry)
     ensures found { (key : _) → find (has_key key) register.new.rows
         ≡ (if has_key key row.now then None else find (has_key key) register.old.rows) }
+    ensures rows { register.new.rows
+        ≡ rows_without (position (has_key (key_of row.now)) register.old.rows) register.old.rows }
+    ensures differing { (first : _) → IsSorted first → find (has_key (key_of row.now)) first ≡ Some row.now
+        → find (has_key (key_of row.now)) register.old.rows ≡ Some row.now
+        → differing first register.new.rows ≡ differing first register.old.rows + 1 }
+    ensures changes { register.new.changes ≡ (if is_some (find (has_key (key_of row.now)) register.old.rows)
+        then min (register.old.changes + 1) (2 ^ 64 - 1) else register.old.changes) }
     ensures sorted { IsSorted register.new.rows }
     ensures spare { register.old.spare ≤ register.new.spare }
 {
@@ -100,6 +109,11 @@ pub(crate) fn put_row(register: &mut Register, row: Entry)
     requires { 1 ≤ register.old.spare }
     ensures found { (key : _) → find (has_key key) register.new.rows
         ≡ (if has_key key row then Some row else find (has_key key) register.old.rows) }
+    ensures differing { (first : _) → has_row row first ≡ false
+        → find (has_key (key_of row)) register.old.rows ≡ None
+        → differing first register.new.rows ≡ differing first register.old.rows + 1 }
+    ensures changes { find (has_key (key_of row)) register.old.rows ≡ None
+        → register.new.changes ≡ min (register.old.changes + 1) (2 ^ 64 - 1) }
     ensures sorted { IsSorted register.new.rows }
     ensures spare { register.old.spare ≤ register.new.spare + 1 }
 {

@@ -10,8 +10,6 @@ mod machine;
 mod piece;
 mod room;
 mod running;
-#[cfg(test)]
-mod tests;
 
 pub use machine::{KEEPER, MEMORY, Machine, Unanswered};
 pub use room::LineRoom;

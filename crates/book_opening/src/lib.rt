@@ -7,14 +7,10 @@
 mod changes;
 mod fault;
 mod item;
-#[cfg(test)]
-mod put_tests;
 mod read;
 mod saved;
 mod step_changes;
 mod steps;
-#[cfg(test)]
-mod tests;
 mod thing_row;
 mod whole;
 

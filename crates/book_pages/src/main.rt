@@ -1,11 +1,14 @@
 //! Checks the pages for people and the examples: runs each command that they show and compares the answers. They are
-//! this program's data; it says how many commands each shows, and ends with 1 at the first whose answers differ.
+//! this program's data; it says how many commands each shows, and ends with 1 at the first whose answers differ. Then it
+//! runs the sample from 7, whose two answers are compared, and wrong words, which are answered nothing.
 #![tactic(auto)]
 
 mod page;
+mod sampled;
 mod session;
 
 use crate::page::{Page, add_line, page_of};
+use crate::sampled::ends_well;
 use crate::session::answers_to;
 use std::process::ExitCode;
 use std::{fs, io};
@@ -87,9 +90,12 @@ fn compare(rt: &HostRuntime) -> io::Result<bool> {
     Ok(
         is_session(rt, "GUIDE.md")?
             && is_of_session(rt, "COMMANDS.md", "household.jsonl")?
+            && is_example(rt, "year.jsonl", "year.answers.jsonl")?
+            && is_example(rt, "names.jsonl", "names.answers.jsonl")?
             && is_example(rt, "month.jsonl", "month.answers.jsonl")?
             && is_example(rt, "salary.jsonl", "salary.answers.jsonl")?
-            && is_readme(rt, "README.md", "salary.jsonl", "month.jsonl")?,
+            && is_readme(rt, "README.md", "salary.jsonl", "month.jsonl")?
+            && ends_well(rt)?,
     )
 }
 

@@ -5,8 +5,6 @@
 
 mod price;
 mod prices;
-#[cfg(test)]
-mod tests;
 mod valuation;
 
 pub use price::Price;

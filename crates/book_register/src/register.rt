@@ -4,9 +4,6 @@ ghost use Rattle.std.specs.Prelude.{if◌then◌else◌, insert, position, slice
 ghost use Rattle.book_register.specs.Register.{IsSorted, balance, balances, has_key as is_at, key_of as entry_key};
 ghost use Rattle.book_register.specs.Register.{key_at as spelled_key, rows_until, rows_without};
 
-#[cfg(test)]
-mod tests;
-
 use crate::key::{count_before, key_at, key_of, key_past, place_of};
 use crate::{Balances, Entry};
 use book_commodity::{Day, OutOfMemory, Steps};

@@ -7,8 +7,6 @@
 mod account;
 mod commodity;
 mod edit;
-#[cfg(test)]
-mod edit_tests;
 mod head;
 mod price;
 mod reconciliation;
@@ -16,8 +14,6 @@ mod record;
 mod rows;
 mod schedule;
 mod statement;
-#[cfg(test)]
-mod tests;
 mod thing;
 mod transaction;
 

@@ -77,6 +77,3 @@ fn first_open(
     }
     Ok(days)
 }
-
-#[cfg(test)]
-mod tests;

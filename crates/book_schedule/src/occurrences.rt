@@ -120,6 +120,3 @@ fn moved(adjust: Adjust, day: Day) -> Option<Day>
         Adjust::Forward => Some(day),
     }
 }
-
-#[cfg(test)]
-mod tests;

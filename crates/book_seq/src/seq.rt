@@ -5,8 +5,6 @@ ghost use Rattle.book_seq.specs.Sums.{listed, sums_of};
 mod memory;
 mod moves;
 mod sum_before;
-#[cfg(test)]
-mod tests;
 
 use crate::Weigh;
 use crate::chunk::Chunk;

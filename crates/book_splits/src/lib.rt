@@ -11,8 +11,6 @@ mod check;
 mod reconciliation;
 mod rule;
 mod split;
-#[cfg(test)]
-mod tests;
 mod transaction;
 mod transactions;
 

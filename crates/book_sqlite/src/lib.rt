@@ -9,8 +9,6 @@ mod schema_test;
 mod selects;
 mod sqlite_keeper;
 mod statements;
-#[cfg(test)]
-mod tests;
 
 pub use file_keeper::FileKeeper;
 pub use sqlite_keeper::SqliteKeeper;

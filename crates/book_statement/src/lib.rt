@@ -23,8 +23,6 @@ mod pieces;
 mod read_error;
 mod statement;
 mod statement_line;
-#[cfg(test)]
-mod tests;
 mod texts;
 
 pub use bad::Bad;

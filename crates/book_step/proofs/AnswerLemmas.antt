@@ -1,11 +1,12 @@
 -- The answer to a command is what a step answers, with the balances of the book that the step leads to.
 use Rattle.std.proofs.Common.{◌≡◌, ℕ, ◌+◌, ◌==◌, ℤ, Bool, true, false, if◌then◌else◌, List, []}
-use Rattle.std.proofs.Common.{◌∷◌, ◌++◌, length, Option, Some, None, refl, sym, ap, subst, ◌∙◌}
+use Rattle.std.proofs.Common.{◌∷◌, ◌++◌, length, map, Option, Some, None, refl, sym, ap, subst, ◌∙◌}
 use Rattle.std.specs.Prelude.{⊤}
 use Rattle.book_commodity.specs.Rules.{first_broken}
 use Rattle.book_commodity.specs.Table.{Rises, value_of, with_entry}
 use Rattle.book_commodity.proofs.DrawnLemmas.{value_here}
 use Rattle.book_accounts.specs.declared.account.Account.{Account}
+use Rattle.book_schedule.specs.declared.recurrence.Recurrence.{Recurrence}
 use Rattle.book_splits.specs.declared.transaction.Txn.{Txn}
 use Rattle.book_prices.specs.declared.price.Price.{Price}
 use Rattle.book_undo.specs.Book.{Book, with_currency, with_thing, without_thing}
@@ -27,6 +28,11 @@ use Rattle.book_step.specs.Editing.{edited_transaction, reconciled}
 use Rattle.book_step.specs.Prices.{has_numbers, price_of_day, price_rules, price_set_at, too_many_prices}
 use Rattle.book_step.specs.Prices.{unknown_price}
 use Rattle.book_step.specs.SameTransaction.{same_transaction}
+use Rattle.book_step.specs.ScheduleRuns as schedule_runs
+use Rattle.book_step.specs.ScheduleRuns.{asked, asked_rules, book_ran, made_by, schedule_run_of, too_many_made}
+use Rattle.book_step.specs.ScheduleRuns.{too_many_splits_made}
+use Rattle.book_step.specs.Schedules as schedules
+use Rattle.book_step.specs.Schedules.{Run, new_schedule, runs_of, schedule_add_from, unknown_schedule}
 use Rattle.book_step.specs.Soundness.{IsSound}
 use Rattle.book_splits.proofs.ReplacedLemmas.{with_there}
 use Rattle.book_step.specs.State.{State}
@@ -37,7 +43,9 @@ use Rattle.book_command.specs.declared.command.GivenAccount.{GivenAccount}
 use Rattle.book_command.specs.declared.command.Update.{Update}
 use Rattle.book_command.specs.declared.command.Update.TheVariants.{BookCurrency, CommodityAdd, AccountAdd}
 use Rattle.book_command.specs.declared.command.Update.TheVariants.{AccountEdit, AccountDrop, Drop, Edit, Post}
-use Rattle.book_command.specs.declared.command.Update.TheVariants.{PriceDrop, PriceSet}
+use Rattle.book_command.specs.declared.command.Update.TheVariants.{PriceDrop, PriceSet, ScheduleAdd, ScheduleDrop}
+use Rattle.book_command.specs.declared.command.Update.TheVariants.{ScheduleRun}
+use Rattle.book_command.specs.declared.command.GivenSchedule.{GivenSchedule}
 use Rattle.book_command.specs.declared.command.GivenTxn.{GivenTxn}
 use Rattle.book_command.specs.declared.rule.Rule.{Rule}
 
@@ -155,6 +163,26 @@ priced_answered state price (Some old) new reply e =
     either_answered (has_numbers old.1 price) state (price_rules state.book price)
     (with_thing old.0 (thing.Price price) state.book) (answer.PriceSet old.0) new reply (λ s. tt) e
 
+scheduled_answered :
+    (state : State) (given : GivenSchedule) (rs : List Recurrence) (new : State) (reply : Answer)
+    → schedule_add_from state given rs ≡ Done new reply → HasBalances state new reply
+scheduled_answered state given [] new reply e = absurd cc
+scheduled_answered state given (first ∷ more) new reply e =
+    let schedule = new_schedule first.start given in
+    changing_answered state (schedules.add_rules state.book schedule)
+    (with_thing state.next (thing.Schedule schedule) state.book) 1 (answer.ScheduleAdd state.next) new reply tt e
+
+ran_answered :
+    (state : State) (rules : List (Option Rule)) (runs : List Run) (new : State) (reply : Answer)
+    → schedule_run_of state rules runs ≡ Done new reply → HasBalances state new reply
+ran_answered state rules [] new reply e = leaving_answered state rules (answer.ScheduleRun []) new reply tt e
+ran_answered state rules (run ∷ more) new reply e =
+    let runs = run ∷ more in
+    changing_answered state
+    (rules ++ too_many_made state.book runs ∷ too_many_splits_made state.book runs ∷ [])
+    (book_ran state.book state.next runs) (schedule_runs.drawn_by runs)
+    (answer.ScheduleRun (map (λ (entry : ℕ × Txn). entry.0) (made_by state.next runs))) new reply tt e
+
 answered : (state : State) (update : Update) (new : State) (reply : Answer) → outcome state update ≡ Done new reply
     → HasBalances state new reply
 answered state (BookCurrency commodity) new reply e =
@@ -187,6 +215,12 @@ answered state (PriceSet price) new reply e =
 answered state (PriceDrop n) new reply e =
     changing_answered state (unknown_price state.book.prices n ∷ []) (without_thing kind.Price n state.book) 0
     answer.PriceDrop new reply tt e
+answered state (ScheduleAdd given) new reply e = scheduled_answered state given given.recurrences new reply e
+answered state (ScheduleDrop n) new reply e =
+    changing_answered state (unknown_schedule state.book.schedules n ∷ [])
+    (without_thing kind.Schedule n state.book) 0 answer.ScheduleDrop new reply tt e
+answered state (ScheduleRun upto only) new reply e =
+    ran_answered state (asked_rules state upto only) (runs_of upto (asked only state.book.schedules)) new reply e
 
 -- ---- answers with and without balances
 filled : (old new : State) (whole : Answer) → HasBalances old new whole → with_balances new.book whole ≡ whole
@@ -201,6 +235,16 @@ filled old new answer.Drop has = refl
 filled old new (answer.PriceSet n) has = refl
 filled old new answer.PriceDrop has = refl
 filled old new (answer.Price rate) has = refl
+filled old new (answer.Register text) has = refl
+filled old new (answer.Trial text) has = refl
+filled old new (answer.Sheet text) has = refl
+filled old new (answer.Income text) has = refl
+filled old new (answer.Lots text) has = refl
+filled old new (answer.Gains gain) has = refl
+filled old new (answer.ScheduleAdd n) has = refl
+filled old new answer.ScheduleDrop has = refl
+filled old new (answer.ScheduleRun ns) has = refl
+filled old new (answer.Due days) has = refl
 filled old new answer.Undo has = refl
 filled old new answer.Redo has = refl
 filled old new (answer.Status accounts later lines past recons splits transactions) has = refl
@@ -217,6 +261,16 @@ filled_again book answer.Drop = refl
 filled_again book (answer.PriceSet n) = refl
 filled_again book answer.PriceDrop = refl
 filled_again book (answer.Price rate) = refl
+filled_again book (answer.Register text) = refl
+filled_again book (answer.Trial text) = refl
+filled_again book (answer.Sheet text) = refl
+filled_again book (answer.Income text) = refl
+filled_again book (answer.Lots text) = refl
+filled_again book (answer.Gains gain) = refl
+filled_again book (answer.ScheduleAdd n) = refl
+filled_again book answer.ScheduleDrop = refl
+filled_again book (answer.ScheduleRun ns) = refl
+filled_again book (answer.Due days) = refl
 filled_again book answer.Undo = refl
 filled_again book answer.Redo = refl
 filled_again book (answer.Status accounts later lines past recons splits transactions) = refl
@@ -264,6 +318,16 @@ puts_whole state new change answer.Drop is book has = tt
 puts_whole state new change (answer.PriceSet n) is book has = tt
 puts_whole state new change answer.PriceDrop is book has = tt
 puts_whole state new change (answer.Price rate) is book has = tt
+puts_whole state new change (answer.Register text) is book has = tt
+puts_whole state new change (answer.Trial text) is book has = tt
+puts_whole state new change (answer.Sheet text) is book has = tt
+puts_whole state new change (answer.Income text) is book has = tt
+puts_whole state new change (answer.Lots text) is book has = tt
+puts_whole state new change (answer.Gains gain) is book has = tt
+puts_whole state new change (answer.ScheduleAdd n) is book has = tt
+puts_whole state new change answer.ScheduleDrop is book has = tt
+puts_whole state new change (answer.ScheduleRun ns) is book has = tt
+puts_whole state new change (answer.Due days) is book has = tt
 puts_whole state new change answer.Undo is book has = tt
 puts_whole state new change answer.Redo is book has = tt
 puts_whole state new change (answer.Status accounts later lines past recons splits transactions) is book has = tt

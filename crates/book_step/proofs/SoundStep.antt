@@ -25,7 +25,8 @@ use Rattle.book_command.specs.declared.answer.Answer.{Answer}
 use Rattle.book_command.specs.declared.command.Update.{Update}
 use Rattle.book_command.specs.declared.command.Update.TheVariants.{BookCurrency, CommodityAdd, AccountAdd, AccountEdit}
 use Rattle.book_command.specs.declared.command.Update.TheVariants.{AccountDrop, Drop, Edit, Post}
-use Rattle.book_command.specs.declared.command.Update.TheVariants.{PriceDrop, PriceSet}
+use Rattle.book_command.specs.declared.command.Update.TheVariants.{PriceDrop, PriceSet, ScheduleAdd, ScheduleDrop}
+use Rattle.book_command.specs.declared.command.Update.TheVariants.{ScheduleRun}
 use Rattle.book_step.specs.Outcome.{Done}
 use Rattle.book_step.specs.Soundness.{IsSound}
 use Rattle.book_step.specs.State.{State, fresh_state, fresh_book, euro, root}
@@ -35,6 +36,8 @@ use Rattle.book_step.proofs.SoundCommodities.{book_currency-sound, commodity_add
 use Rattle.book_step.proofs.SoundEditing.{drop_transaction-sound, edit_transaction-sound}
 use Rattle.book_step.proofs.SoundPosting.{post-sound}
 use Rattle.book_step.proofs.SoundPrices.{price_drop-sound, price_set-sound}
+use Rattle.book_step.proofs.SoundRuns.{schedule_run-sound}
+use Rattle.book_step.proofs.SoundSchedules.{schedule_add-sound, schedule_drop-sound}
 
 -- A change that is done leads from a sound state to a sound one.
 pub outcome-sound :
@@ -54,6 +57,9 @@ outcome-sound state (Drop transaction force) new answered is e =
     drop_transaction-sound state transaction force new answered is e
 outcome-sound state (PriceSet price) new answered is e = price_set-sound state price new answered is e
 outcome-sound state (PriceDrop price) new answered is e = price_drop-sound state price new answered is e
+outcome-sound state (ScheduleAdd given) new answered is e = schedule_add-sound state given new answered is e
+outcome-sound state (ScheduleDrop schedule) new answered is e = schedule_drop-sound state schedule new answered is e
+outcome-sound state (ScheduleRun upto only) new answered is e = schedule_run-sound state upto only new answered is e
 
 -- ---- the fresh state
 

@@ -1,12 +1,15 @@
 pub mod Accounts
 pub mod AnswerBalances
 pub mod Commodities
+pub mod DueDays
 pub mod Editing
 pub mod InUse
 pub mod Outcome
 pub mod Posting
 pub mod Prices
 pub mod SameTransaction
+pub mod ScheduleRuns
+pub mod Schedules
 pub mod Soundness
 pub mod State
 pub mod Step

@@ -8,11 +8,14 @@ use Rattle.book_step.specs.Editing.{drop_transaction, edit_transaction}
 use Rattle.book_step.specs.Outcome.{Outcome}
 use Rattle.book_step.specs.Posting.{post}
 use Rattle.book_step.specs.Prices.{price_drop, price_set}
+use Rattle.book_step.specs.ScheduleRuns.{schedule_run}
+use Rattle.book_step.specs.Schedules.{schedule_add, schedule_drop}
 use Rattle.book_step.specs.State.{State}
 use Rattle.book_command.specs.declared.command.Update.{Update}
 use Rattle.book_command.specs.declared.command.Update.TheVariants.{BookCurrency, CommodityAdd, AccountAdd}
 use Rattle.book_command.specs.declared.command.Update.TheVariants.{AccountEdit, AccountDrop, Post, Edit, Drop}
-use Rattle.book_command.specs.declared.command.Update.TheVariants.{PriceSet, PriceDrop}
+use Rattle.book_command.specs.declared.command.Update.TheVariants.{PriceSet, PriceDrop, ScheduleAdd, ScheduleDrop}
+use Rattle.book_command.specs.declared.command.Update.TheVariants.{ScheduleRun}
 use Rattle.book_command.specs.declared.rule.Rule.{Rule}
 use Rattle.book_command.specs.declared.rule.Rule.TheVariants.{Stale}
 
@@ -33,3 +36,6 @@ outcome state (Edit number force day given) = edit_transaction state number forc
 outcome state (Drop number force) = drop_transaction state number force
 outcome state (PriceSet price) = price_set state price
 outcome state (PriceDrop number) = price_drop state number
+outcome state (ScheduleAdd given) = schedule_add state given
+outcome state (ScheduleDrop number) = schedule_drop state number
+outcome state (ScheduleRun upto schedule) = schedule_run state upto schedule

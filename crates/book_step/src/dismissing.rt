@@ -124,6 +124,3 @@ fn together(edit: Edit, more: Vec<Edit>) -> Result<Edit, OutOfMemory>
     edits.insert(0, edit)?;
     Ok(Edit::All(Many::of(edits)))
 }
-
-#[cfg(test)]
-mod tests;

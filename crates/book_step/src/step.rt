@@ -14,6 +14,8 @@ use crate::editing::{drop, edit};
 use crate::posting::post;
 use crate::present::Present;
 use crate::prices::{price_drop, price_set};
+use crate::schedule_runs::schedule_run;
+use crate::schedules::{schedule_add, schedule_drop};
 use crate::{Answer, Refusal, Rule, Update};
 use book_commodity::Counted;
 use book_undo::{Edit, Plain};
@@ -113,6 +115,9 @@ pub fn step_of(
         Update::Drop { transaction, force } => drop(present, transaction, force),
         Update::PriceSet { price } => price_set(present, price),
         Update::PriceDrop { price } => price_drop(present, price),
+        Update::ScheduleAdd { given } => schedule_add(present, given),
+        Update::ScheduleDrop { schedule } => schedule_drop(present, schedule),
+        Update::ScheduleRun { upto, schedule } => schedule_run(present, upto, schedule),
     }
 }
 
@@ -140,6 +145,3 @@ fn check_numbers(present: &Present, drawn: u64) -> Result<(), Rule>
     }
     Ok(())
 }
-
-#[cfg(test)]
-mod tests;

@@ -1,3 +1,4 @@
+pub mod DayLemmas
 pub mod OwnLineLemmas
 pub mod PlainLemmas
 pub mod Worked

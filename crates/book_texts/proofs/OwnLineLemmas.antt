@@ -8,12 +8,14 @@ use Rattle.book_command.specs.declared.answer.Answer.{Answer}
 use Rattle.book_command.specs.declared.answer.Answer.TheVariants.{AccountAdd, AccountDrop, AccountEdit}
 use Rattle.book_command.specs.declared.answer.Answer.TheVariants.{BookCurrency, CommodityAdd, Post, Edit, Drop}
 use Rattle.book_command.specs.declared.answer.Answer.TheVariants.{PriceSet, PriceDrop, Price, Undo, Redo, Status}
+use Rattle.book_command.specs.declared.answer.Answer.TheVariants.{Register, Trial, Sheet, Income, Lots, Gains}
+use Rattle.book_command.specs.declared.answer.Answer.TheVariants.{ScheduleAdd, ScheduleDrop, ScheduleRun, Due}
 use Rattle.book_command.specs.declared.rule.Rule.{Rule}
 use Rattle.book_command.specs.declared.rule.Rule.TheVariants.{Basis, BasisShape, Cycle, FractionShape, InUse, Limit}
 use Rattle.book_command.specs.declared.rule.Rule.TheVariants.{NameTaken, NotEmpty, ParentKind, Placeholder, Root}
 use Rattle.book_command.specs.declared.rule.Rule.TheVariants.{Reconciled, SplitCount, Stale, Unbalanced, Unknown}
 use Rattle.book_command.specs.declared.rule.Rule.TheVariants.{NothingToRedo, NothingToUndo, ValueNotQuantity}
-use Rattle.book_command.specs.declared.rule.Rule.TheVariants.{PriceShape, WrongCurrency}
+use Rattle.book_command.specs.declared.rule.Rule.TheVariants.{DayRange, PriceShape, RecurrenceShape, WrongCurrency}
 use Rattle.book_command.specs.declared.wire_error.WireError.{WireError}
 use Rattle.book_command.specs.declared.wire_error.WireError.TheVariants.{NotJson, NotCommand, NotBuilt, OutOfMemory}
 use Rattle.book_json.proofs.OneLine.{compact_text-one_line}
@@ -67,6 +69,16 @@ answer-letter Drop version = refl
 answer-letter (PriceSet number) version = refl
 answer-letter PriceDrop version = refl
 answer-letter (Price rate) version = refl
+answer-letter (Register text) version = refl
+answer-letter (Trial text) version = refl
+answer-letter (Sheet text) version = refl
+answer-letter (Income text) version = refl
+answer-letter (Lots text) version = refl
+answer-letter (Gains gain) version = refl
+answer-letter (ScheduleAdd number) version = refl
+answer-letter ScheduleDrop version = refl
+answer-letter (ScheduleRun transactions) version = refl
+answer-letter (Due days) version = refl
 answer-letter Undo version = refl
 answer-letter Redo version = refl
 answer-letter (Status accounts later lines past recons splits transactions) version = refl
@@ -91,6 +103,8 @@ rule-letter (ValueNotQuantity place) version = refl
 rule-letter (Unbalanced sum) version = refl
 rule-letter (Reconciled split) version = refl
 rule-letter PriceShape version = refl
+rule-letter DayRange version = refl
+rule-letter (RecurrenceShape place) version = refl
 rule-letter NothingToUndo version = refl
 rule-letter NothingToRedo version = refl
 rule-letter (Limit which at) version = refl

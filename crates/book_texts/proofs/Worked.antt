@@ -2,7 +2,7 @@
 use Rattle.std.proofs.Common.{◌≡◌, [], ◌∷◌, ◌++◌, Some, None, codes, refl, pos, negsuc}
 use Rattle.std.specs.Fmt.{digits}
 use Rattle.serde_json.proofs.OnLiterals.{serde_json_on_literals}
-use Rattle.book_command.specs.declared.answer.Answer.TheVariants.{Edit, Price, Redo, Status}
+use Rattle.book_command.specs.declared.answer.Answer.TheVariants.{Edit, Price, Redo, Sheet, Status}
 use Rattle.book_command.specs.declared.rule.Rule.TheVariants.{NothingToRedo, Reconciled, Unknown}
 use Rattle.book_command.specs.declared.wire_error.WireError.TheVariants.{NotCommand}
 use Rattle.book_commodity.specs.declared.counted.Counted.TheVariants.{Numbers}
@@ -49,6 +49,11 @@ price_bytes = refl
 no_price_bytes : answer_bytes (Price None) 7 ≡ codes "{\"ok\":\"price\",\"rate\":null,\"version\":7}"
 unfolding digits word_text serde_json_on_literals
 no_price_bytes = refl
+
+-- the end of a line stands as a backslash and the letter n
+sheet_bytes : answer_bytes (Sheet (65 ∷ 10 ∷ [])) 5 ≡ codes "{\"ok\":\"sheet\",\"text\":\"A\\n\",\"version\":5}"
+unfolding digits word_text serde_json_on_literals
+sheet_bytes = refl
 
 redo_bytes : answer_bytes Redo 5 ≡ codes "{\"ok\":\"redo\",\"version\":5}"
 unfolding digits word_text serde_json_on_literals

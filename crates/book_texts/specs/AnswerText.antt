@@ -5,12 +5,17 @@ use Rattle.book_command.specs.declared.answer.Answer.{Answer}
 use Rattle.book_command.specs.declared.answer.Answer.TheVariants.{BookCurrency, CommodityAdd, AccountAdd}
 use Rattle.book_command.specs.declared.answer.Answer.TheVariants.{AccountEdit, AccountDrop, Post, Edit, Drop}
 use Rattle.book_command.specs.declared.answer.Answer.TheVariants.{PriceSet, PriceDrop, Price, Undo, Redo, Status}
+use Rattle.book_command.specs.declared.answer.Answer.TheVariants.{Register, Trial, Sheet, Income, Lots, Gains}
+use Rattle.book_command.specs.declared.word.Word.TheVariants as word
+use Rattle.book_command.specs.declared.answer.Answer.TheVariants.{ScheduleAdd, ScheduleDrop, ScheduleRun, Due}
 use Rattle.book_texts.specs.Accounts.{account_add, account_edit, account_drop}
 use Rattle.book_texts.specs.Commodities.{book_currency, commodity_add}
 use Rattle.book_texts.specs.Fields.{line_of}
 use Rattle.book_texts.specs.History.{undo, redo, status}
 use Rattle.book_texts.specs.Posting.{post, edit, drop}
 use Rattle.book_texts.specs.Prices.{price_set, price_drop, price}
+use Rattle.book_texts.specs.Reports.{gains, report}
+use Rattle.book_texts.specs.Schedules.{schedule_add, schedule_drop, schedule_run, due}
 
 -- The answer of each command, with the version after it.
 abbrev pub answer_members : Answer → ℕ → Members
@@ -25,6 +30,16 @@ answer_members Drop = drop
 answer_members (PriceSet number) = price_set number
 answer_members PriceDrop = price_drop
 answer_members (Price rate) = price rate
+answer_members (Register text) = report word.Register text
+answer_members (Trial text) = report word.Trial text
+answer_members (Sheet text) = report word.Sheet text
+answer_members (Lots text) = report word.Lots text
+answer_members (Gains gain) = gains gain
+answer_members (Income text) = report word.Income text
+answer_members (ScheduleAdd number) = schedule_add number
+answer_members ScheduleDrop = schedule_drop
+answer_members (ScheduleRun transactions) = schedule_run transactions
+answer_members (Due days) = due days
 answer_members Undo = undo
 answer_members Redo = redo
 answer_members (Status accounts later lines past recons splits transactions) =

@@ -6,6 +6,8 @@ pub mod History
 pub mod Posting
 pub mod Prices
 pub mod RefusedText
+pub mod Reports
 pub mod RuleText
+pub mod Schedules
 pub mod Shown
 pub mod Words

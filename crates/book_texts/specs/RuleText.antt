@@ -7,7 +7,8 @@ use Rattle.book_command.specs.declared.rule.Rule.TheVariants.{Stale, Unknown, Na
 use Rattle.book_command.specs.declared.rule.Rule.TheVariants.{Placeholder, NotEmpty, InUse, FractionShape}
 use Rattle.book_command.specs.declared.rule.Rule.TheVariants.{BasisShape, SplitCount, WrongCurrency, Basis}
 use Rattle.book_command.specs.declared.rule.Rule.TheVariants.{ValueNotQuantity, Unbalanced, Reconciled, PriceShape}
-use Rattle.book_command.specs.declared.rule.Rule.TheVariants.{NothingToUndo, NothingToRedo, Limit}
+use Rattle.book_command.specs.declared.rule.Rule.TheVariants.{DayRange, RecurrenceShape, NothingToUndo}
+use Rattle.book_command.specs.declared.rule.Rule.TheVariants.{NothingToRedo, Limit}
 use Rattle.book_texts.specs.Fields.{broken, line_of}
 use Rattle.book_texts.specs.Shown.{number_data, sum_data}
 use Rattle.book_texts.specs.Words.{kind_data, limit_data}
@@ -37,6 +38,8 @@ rule_members (ValueNotQuantity place) = broken (codes "ValueNotQuantity") ((code
 rule_members (Unbalanced sum) = broken (codes "Unbalanced") ((codes "sum", sum_data sum) ∷ [])
 rule_members (Reconciled split) = broken (codes "Reconciled") ((codes "split", number_data split) ∷ [])
 rule_members PriceShape = broken (codes "PriceShape") []
+rule_members DayRange = broken (codes "DayRange") []
+rule_members (RecurrenceShape place) = broken (codes "RecurrenceShape") ((codes "place", number_data place) ∷ [])
 rule_members NothingToUndo = broken (codes "NothingToUndo") []
 rule_members NothingToRedo = broken (codes "NothingToRedo") []
 rule_members (Limit which at) = broken (codes "Limit")

@@ -8,6 +8,8 @@ use crate::fields::Fields;
 use crate::history::status;
 use crate::posting::{edit, post};
 use crate::prices::{price, price_set};
+use crate::reports::{gains, report};
+use crate::schedules::{due, schedule_add, schedule_run};
 use book_command::{Answer, Word};
 use book_commodity::{Bytes, OutOfMemory};
 use std::alloc::{AllocError, Global};
@@ -43,6 +45,16 @@ fn answer_fields(alloc: Global, answer: &Answer, version: u64) -> Result<Fields,
         Answer::PriceSet { price } => price_set(alloc, *price, version),
         Answer::PriceDrop => Fields::answered(alloc, Word::PriceDrop, version),
         Answer::Price { rate } => price(alloc, rate, version),
+        Answer::Register { text } => report(alloc, Word::Register, text, version),
+        Answer::Trial { text } => report(alloc, Word::Trial, text, version),
+        Answer::Sheet { text } => report(alloc, Word::Sheet, text, version),
+        Answer::Lots { text } => report(alloc, Word::Lots, text, version),
+        Answer::Gains { gain } => gains(alloc, *gain, version),
+        Answer::Income { text } => report(alloc, Word::Income, text, version),
+        Answer::ScheduleAdd { schedule } => schedule_add(alloc, *schedule, version),
+        Answer::ScheduleDrop => Fields::answered(alloc, Word::ScheduleDrop, version),
+        Answer::ScheduleRun { transactions } => schedule_run(alloc, transactions, version),
+        Answer::Due { due: days } => due(alloc, days, version),
         Answer::Undo => Fields::answered(alloc, Word::Undo, version),
         Answer::Redo => Fields::answered(alloc, Word::Redo, version),
         Answer::Status {

@@ -11,13 +11,12 @@ mod history;
 mod posting;
 mod prices;
 mod refused;
+mod reports;
 mod rules;
+mod schedules;
 mod shown;
 mod words;
 
 pub use answers::answer_text;
 pub use refused::{too_long_text, wire_text};
 pub use rules::rule_text;
-
-#[cfg(test)]
-mod tests;

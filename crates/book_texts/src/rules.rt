@@ -50,6 +50,8 @@ fn rule_fields(alloc: Global, rule: Rule, version: u64) -> Result<Fields, AllocE
         Rule::Unbalanced { sum } => one(alloc, "Unbalanced", "sum", &sum, version),
         Rule::Reconciled { split } => one(alloc, "Reconciled", "split", &split, version),
         Rule::PriceShape => Fields::broken(alloc, "PriceShape", version),
+        Rule::DayRange => Fields::broken(alloc, "DayRange", version),
+        Rule::RecurrenceShape { place } => one(alloc, "RecurrenceShape", "place", &place, version),
         Rule::NothingToUndo => Fields::broken(alloc, "NothingToUndo", version),
         Rule::NothingToRedo => Fields::broken(alloc, "NothingToRedo", version),
         Rule::Limit { which, at } => limit(alloc, which, at, version),

@@ -15,8 +15,6 @@ mod order;
 mod plain;
 mod rule;
 mod schedule;
-#[cfg(test)]
-mod tests;
 mod thing;
 
 pub use edit::Edit;

@@ -6,3 +6,6 @@ pub mod History
 pub mod Kinds
 pub mod Posting
 pub mod Prices
+pub mod Reports
+pub mod Recurrences
+pub mod Schedules

@@ -8,7 +8,9 @@ use crate::commodities::CommodityCommand::{self, BookCurrency, CommodityAdd};
 use crate::history::HistoryCommand::{self, Redo, Status, Undo};
 use crate::posting::PostingCommand::{self, Drop, Edit, Post};
 use crate::prices::PriceCommand::{self, Price, PriceDrop, PriceSet};
-use Built::{Accounts, Commodities, History, Posting, Prices};
+use crate::reports::ReportCommand::{self, Gains, Income, Lots, Register, Sheet, Trial};
+use crate::schedules::ScheduleCommand::{self, Due, ScheduleAdd, ScheduleDrop, ScheduleRun};
+use Built::{Accounts, Commodities, History, Posting, Prices, Reports, Schedules};
 use book_command::{Command, What, Word, words};
 use book_json::{Fault, Reading};
 
@@ -19,6 +21,8 @@ pub(crate) enum Built {
     Accounts(AccountCommand),
     Posting(PostingCommand),
     Prices(PriceCommand),
+    Reports(ReportCommand),
+    Schedules(ScheduleCommand),
     History(HistoryCommand),
 }
 
@@ -46,6 +50,16 @@ pub(crate) fn built_of(word: Word) -> Option<Built>
         Word::PriceSet => Some(Prices(PriceSet)),
         Word::PriceDrop => Some(Prices(PriceDrop)),
         Word::Price => Some(Prices(Price)),
+        Word::Register => Some(Reports(Register)),
+        Word::Trial => Some(Reports(Trial)),
+        Word::Sheet => Some(Reports(Sheet)),
+        Word::Income => Some(Reports(Income)),
+        Word::Lots => Some(Reports(Lots)),
+        Word::Gains => Some(Reports(Gains)),
+        Word::ScheduleAdd => Some(Schedules(ScheduleAdd)),
+        Word::ScheduleDrop => Some(Schedules(ScheduleDrop)),
+        Word::ScheduleRun => Some(Schedules(ScheduleRun)),
+        Word::Due => Some(Schedules(Due)),
         Word::Undo => Some(History(Undo)),
         Word::Redo => Some(History(Redo)),
         Word::Status => Some(History(Status)),
@@ -71,6 +85,8 @@ fn what_of(built: Built, members: &mut Reading) -> Result<What, Fault>
         Accounts(command) => command.read(members)?,
         Posting(command) => command.read(members)?,
         Prices(command) => return command.read(members),
+        Reports(command) => return Ok(What::Report(command.read(members)?)),
+        Schedules(command) => return command.read(members),
         History(command) => return Ok(command.what()),
     };
     Ok(What::Update(update))

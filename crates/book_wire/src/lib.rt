@@ -11,11 +11,11 @@ mod kinds;
 mod line;
 mod posting;
 mod prices;
+mod recurrences;
+mod reports;
+mod schedules;
 
 pub use book_command::WireError;
 pub use book_lines::{KEEPER, MEMORY};
 pub use book_texts::{answer_text, rule_text, wire_text};
 pub use line::command_of;
-
-#[cfg(test)]
-mod tests;

@@ -67,7 +67,9 @@ fn forced(members: &mut Reading) -> Result<bool, Fault>
 
 /// A transaction, but for its day, with its splits read so.
 #[tactic(auto, unfolding(crate::specs::Posting::transaction))]
-fn transaction_of<S: Object<Value = GivenSplit>>(members: &mut Reading) -> Result<GivenTxn, Fault>
+pub(crate) fn transaction_of<S: Object<Value = GivenSplit>>(
+    members: &mut Reading,
+) -> Result<GivenTxn, Fault>
     ensures { Gives (transaction S.reader (rest members.old)) result (rest members.new) }
 {
     let currency = members.needed("currency")?;
@@ -103,7 +105,7 @@ fn split(members: &mut Reading) -> Result<GivenSplit, Fault>
 }
 
 /// The members of a split of a new transaction.
-struct NewSplit;
+pub(crate) struct NewSplit;
 
 impl Object for NewSplit {
     type Value = GivenSplit;

@@ -21,8 +21,6 @@ mod reader;
 mod slashes;
 mod statements;
 mod tag;
-#[cfg(test)]
-mod tests;
 mod texts;
 
 pub use read::read_mt940;

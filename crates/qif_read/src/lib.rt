@@ -17,8 +17,6 @@ mod said;
 mod section;
 mod split;
 mod splits;
-#[cfg(test)]
-mod tests;
 
 use form::Form;
 pub use order::DateOrder;

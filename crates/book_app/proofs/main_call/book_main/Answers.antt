@@ -1,34 +1,50 @@
-use Rattle.std.proofs.Common.{sym, subst}
-use Rattle.book_engine.specs.Books.{machine_kept}
-use Rattle.book_app.specs.Numbers.{status_unopened}
+use Rattle.std.proofs.Common.{ℕ, Option, None, Some, ◌≡◌, ◌∙◌, sym, subst}
 use Rattle.book_app.specs.StatusClause.{IsBookRun, over}
-use Rattle.book_app.specs.declared.status.Status.{Status}
-use Rattle.book_app.proofs.StatusClauseLemmas.{run_of_lines, run_of_nothing, unopened_clause, untouched}
+use Rattle.book_app.specs.declared.status.Status.TheVariants.{InputFault, KeeperFault, Usage}
+use Rattle.book_app.proofs.StatusClauseLemmas.{no_sample, path_of_sample, run_of_sample}
 use Rattle.book_app.proofs.main_call.book_main.Goals as goal
 
-pub returns-in_default-clause-run : goal.returns-in_default-clause-run
-returns-in_default-clause-run g c =
-    run_of_nothing _ _ _ _ (λ bytes. untouched _ (λ still rows held. held))
+-- the words name a number
+pub returns-in-Some-clause-run : goal.returns-in-Some-clause-run
+returns-in-Some-clause-run g c =
+    run_of_sample _ c.in-Some.number
+    (over g.K.Keeper.sure g.K.Keeper.holds g.K.Keeper.faults c.args.keeper.now c.args.keeper.now) _ _ _
+    c.run_sample.result (λ still rows held. held) c.in-Some.ensures c.run_sample.ensures.shown
 
-pub returns-in_default-room_after-clause-run : goal.returns-in_default-room_after-clause-run
-returns-in_default-room_after-clause-run g c =
-    run_of_nothing _ _ _ _ (λ bytes. untouched _ (λ still rows held. held))
+pub returns-in-Some-clause-path : goal.returns-in-Some-clause-path
+returns-in-Some-clause-path g c =
+    path_of_sample c.args.words.now (g.K.Keeper.path_given c.args.keeper.now) c.in-Some.number c.run_sample.result
+    c.in-Some.ensures
 
-pub returns-in-Ok-open_book-clause-run : goal.returns-in-Ok-open_book-clause-run
-returns-in-Ok-open_book-clause-run g c =
-    let keeping = over g.K.Keeper.sure g.K.Keeper.holds g.K.Keeper.faults c.args.keeper.now c.run_lines.new.keeper in
-    let later = c.run_lines.ensures.keeper in
-    run_of_lines keeping (machine_kept c.in-Ok-open_book.engine) (machine_kept c.run_lines.new.engine)
-    (g.K.Keeper.faults c.open_book.new.keeper) _ _ _ _ _ c.in-Ok-open_book.ensures.cause.done
-    (λ still rows held. (c.in-Ok-open_book.ensures.opened (later.still_sure still) rows held).0)
-    (λ still. let stood = c.run_lines.ensures.stands still in (stood.0, stood.1, stood.2.0))
-    c.run_lines.ensures.run
+pub returns-in-Some-clause-usage : goal.returns-in-Some-clause-usage
+returns-in-Some-clause-usage g c = (
+  λ is. absurd (no_sample c.in-Some.number _ _ c.run_sample.result Usage c.run_sample.ensures.shown
+      (λ text never. never) is),
+  λ none. absurd (let e : Some c.in-Some.number ≡ None = c.in-Some.ensures ∙ none.no_number in cc),
+)
 
-pub returns-clause-run : goal.returns-clause-run
-returns-clause-run g c =
-    let keeping = over g.K.Keeper.sure g.K.Keeper.holds g.K.Keeper.faults c.args.keeper.now c.open_book.new.keeper in
-    let input = g.S.Source.left c.args.input.now in
-    let output = g.O.Sink.written c.args.output.now in
-    subst (λ (s : Status). IsBookRun keeping input input output output s) (sym c.status_unopened.ensures)
-    (run_of_nothing keeping input output (status_unopened c.in-Err.error)
-    (λ bytes. unopened_clause keeping output bytes c.in-Err.error c.open_book.ensures.rows c.in-Err.ensures.opened))
+pub returns-in-Some-clause-keeper_fault : goal.returns-in-Some-clause-keeper_fault
+returns-in-Some-clause-keeper_fault g c =
+    λ is. absurd (no_sample c.in-Some.number _ _ c.run_sample.result KeeperFault c.run_sample.ensures.shown
+    (λ text never. never) is)
+
+pub returns-in-Some-clause-input_fault : goal.returns-in-Some-clause-input_fault
+returns-in-Some-clause-input_fault g c =
+    λ is. absurd (no_sample c.in-Some.number _ _ c.run_sample.result InputFault c.run_sample.ensures.shown
+    (λ text never. never) is)
+
+-- they name none
+pub returns-in-None-clause-run : goal.returns-in-None-clause-run
+returns-in-None-clause-run g c =
+    subst
+    (λ (named : Option ℕ). IsBookRun named
+    (over g.K.Keeper.sure g.K.Keeper.holds g.K.Keeper.faults c.args.keeper.now c.run_book.new.keeper)
+    (g.S.Source.left c.args.input.now) (g.S.Source.left c.run_book.new.input)
+    (g.O.Sink.written c.args.output.now) (g.O.Sink.written c.run_book.new.output) c.run_book.result)
+    c.in-None.ensures c.run_book.ensures.run
+
+pub returns-in-None-clause-usage : goal.returns-in-None-clause-usage
+returns-in-None-clause-usage g c = (
+  λ is. record { no_book = c.run_book.ensures.usage.0 is; no_number = sym c.in-None.ensures },
+  λ none. c.run_book.ensures.usage.1 none.no_book,
+)

@@ -1,12 +1,14 @@
-use Rattle.std.proofs.Common.{Option, sym, ap, ◌∙◌, subst}
+use Rattle.std.proofs.Common.{Option, IfOk, IfErr, sym, ap, ◌∙◌, subst}
 use Rattle.book_command.specs.declared.answer.Answer.{Answer}
 use Rattle.book_command.specs.declared.answer.Answer.TheVariants as answer
+use Rattle.book_command.specs.declared.command.What.{What}
 use Rattle.book_command.specs.declared.rule.Rule.{Rule}
 use Rattle.book_step.specs.Prices.{rate_on}
 use Rattle.book_opening.specs.State.{state_of}
 use Rattle.book_engine.specs.Books.{machine_of}
 use Rattle.book_engine.specs.Machine.{Done, reply, unless_broken}
-use Rattle.book_engine.specs.Planned.{IsPlanTo, Planned}
+use Rattle.book_engine.specs.Planned.{IsPlanTo, IsRefusal, Planned}
+use Rattle.book_engine.proofs.DueLemmas.{due-planned, due-refused}
 use Rattle.book_engine.proofs.PlanLemmas.{is_stay_plan}
 use Rattle.book_engine.proofs.planning.plan_at.Goals as goal
 
@@ -30,3 +32,16 @@ returns-in-Ok-clause-planned c =
     (ap (reply machine) c.in-Price.is
     ∙ ap (λ (found : Option Rule). unless_broken found (Done machine (answer.Price rate))) c.in-Ok.ensures.rules
     ∙ ap (λ (a : Answer). Done machine a) (sym c.in-Ok.ensures.answer)))
+
+pub returns-in-Due-clause-planned : goal.returns-in-Due-clause-planned
+returns-in-Due-clause-planned c =
+    let state = state_of c.args.state.now in
+    subst (λ (w : What). IfOk c.plan_due.result (IsPlanTo state c.args.saved (reply (machine_of state) w)))
+    (sym c.in-Due.is)
+    (due-planned state c.args.saved c.in-Due.upto c.plan_due.result c.requires.whole c.plan_due.ensures)
+
+pub returns-in-Due-clause-refused : goal.returns-in-Due-clause-refused
+returns-in-Due-clause-refused c =
+    let state = state_of c.args.state.now in
+    subst (λ (w : What). IfErr c.plan_due.result (IsRefusal (reply (machine_of state) w))) (sym c.in-Due.is)
+    (due-refused state c.in-Due.upto c.plan_due.result c.plan_due.ensures)

@@ -5,6 +5,7 @@ use Rattle.book_undo.specs.declared.edit.Edit.{Edit}
 use Rattle.book_undo.proofs.EditLaws.{after_leaves}
 use Rattle.book_undo.proofs.PartLaws.{depth_of_all, leaves_of_all}
 use Rattle.book_ledger.specs.Room.{LeavesHavePlaces, puts_on}
+use Rattle.book_ledger.proofs.CountsLemmas.{on_way_counts}
 use Rattle.book_ledger.proofs.EditLemmas.{depth_at, on_way_more, places_parts, puts-append}
 use Rattle.book_ledger.proofs.registers.Registers.+follow.Goals as goal
 
@@ -71,6 +72,11 @@ follow_all-loop-part-preserved t c =
           on_way_more c.args.transactions.now.entries c.loop-part.self.entries c.follow.new.self.entries
           (leaves item) (flat_map leaves next) (flat_map leaves (drop c.loop-part.part-index parts))
           (after_leaves (flat_map leaves parts) now) split (inv.rows now rises once holds) c.follow.ensures.rows;
+      changes = λ first now rises once there here counts.
+          on_way_counts c.args.transactions.now.entries first c.loop-part.self.entries c.follow.new.self.entries
+          (leaves item) (flat_map leaves next) (flat_map leaves (drop c.loop-part.part-index parts))
+          (after_leaves (flat_map leaves parts) now) split (inv.rows now rises once here) c.follow.ensures.changes
+          there (inv.changes first now rises once there here counts);
       there = λ account. c.follow.ensures.there account ∙ inv.there account;
       less = λ account.
           let count = ap (puts_on account) split in

@@ -4,6 +4,7 @@ use Rattle.book_undo.specs.Book.{Book}
 use Rattle.book_undo.specs.Edit.{deepest, depth, leaves}
 use Rattle.book_undo.proofs.EditLaws.{after_leaves}
 use Rattle.book_ledger.specs.Change.{Holds, is_there}
+use Rattle.book_ledger.specs.Counts.{CountsOn}
 use Rattle.book_ledger.specs.Room.{ChangeOnce, HasRoomFor, IsOnWay, LeavesHavePlaces, puts_on, room_of}
 use Rattle.book_ledger.proofs.registers.Registers.+follow.Given as goal
 
@@ -22,6 +23,7 @@ invariant-follow_all-loop-part l = record {
       → Holds l.fn.self.entries now.transactions
       → IsOnWay l.transactions.entries l.self.entries (flat_map leaves (drop l.part-index l.parts))
       (after_leaves (flat_map leaves l.parts) now);
+  changes : CountsOn l.transactions.entries (flat_map leaves l.parts) l.fn.self.entries l.self.entries;
   there : (account : ℕ) → is_there account l.self.entries ≡ is_there account l.fn.self.entries;
   less :
       (account : ℕ)

@@ -1,18 +1,23 @@
-use Rattle.std.proofs.Common.{◌≡◌, ℕ, List, Option, Some, None, Bor, false, is_some, refl, ap, sym, ◌∙◌, subst}
+use Rattle.std.proofs.Common.{◌≡◌, ℕ, List, Option, Some, None, Bor, false, is_some, refl, ap, sym, ◌∙◌, subst, arith}
 use Rattle.std.specs.Option.{option_copied}
 use Rattle.book_commodity.specs.Table.{Entries, value_of, with_entry}
 use Rattle.book_commodity.proofs.DrawnLemmas.{all_with}
 use Rattle.book_register.specs.Register.{IsSorted, Rows}
 use Rattle.book_ledger.specs.Room.{AreSorted}
+use Rattle.book_ledger.proofs.CountsLemmas.{bounded_with}
 use Rattle.book_ledger.proofs.ExtendLemmas.{begun_there, extends_begun}
 use Rattle.book_ledger.proofs.registers.Registers.begin.Goals as goal
 
 pub invariant_of-self-2 : goal.invariant_of-self-2
 invariant_of-self-2 c =
-    subst AreSorted (sym (c.put.ensures.entries
-    ∙ ap (λ (l : List (ℕ × Rows)). with_entry c.args.account c.new.result l) c.reserve.ensures.entries))
-    (all_with (λ (entry : ℕ × Rows). IsSorted entry.1.rows) c.args.account c.new.result
-    c.self.inside.registers.entries (subst IsSorted (sym c.new.ensures.rows) tt) c.self.invariant)
+    let entries = c.put.ensures.entries
+    ∙ ap (λ (l : List (ℕ × Rows)). with_entry c.args.account c.new.result l) c.reserve.ensures.entries in (
+      subst AreSorted (sym entries)
+          (all_with (λ (entry : ℕ × Rows). IsSorted entry.1.rows) c.args.account c.new.result
+          c.self.inside.registers.entries (subst IsSorted (sym c.new.ensures.rows) tt) c.self.invariant.0),
+      bounded_with c.args.account c.new.result c.self.inside.registers.entries c.put.new.self.entries entries
+          (omega (arith, c.new.ensures.changes)) c.self.invariant.1,
+    )
 
 pub returns-clause-there : goal.returns-clause-there
 returns-clause-there c =
@@ -31,4 +36,4 @@ returns-clause-extends c =
     (c.put.ensures.entries
     ∙ ap (λ (l : List (ℕ × Rows)). with_entry c.args.account c.new.result l) c.reserve.ensures.entries
     ∙ ap (λ (v : Entries Rows). with_entry c.args.account c.new.result v.entries) c.self.view_is)
-    none c.new.ensures.rows
+    none c.new.ensures.rows c.new.ensures.changes

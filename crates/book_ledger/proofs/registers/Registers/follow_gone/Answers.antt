@@ -5,6 +5,7 @@ use Rattle.book_undo.specs.declared.thing.ThingKind.{ThingKind}
 use Rattle.book_ledger.specs.Change.{Holds}
 use Rattle.book_ledger.specs.Room.{is_txn_kind}
 use Rattle.book_ledger.proofs.ChangeLemmas.{held_without}
+use Rattle.book_ledger.proofs.CountsLemmas.{rows_held}
 use Rattle.book_ledger.proofs.registers.Registers.follow_gone.Goals as goal
 
 pub returns-in-Txn-clause-rows : goal.returns-in-Txn-clause-rows
@@ -14,3 +15,12 @@ returns-in-Txn-clause-rows c = λ now rises once holds.
     subst (λ (kind : ThingKind). Holds after (without_thing kind number now).transactions) (sym c.in-Txn.is)
     (held_without number (option_copied c.find.result) c.args.self.now.entries after now.transactions rises
     c.change.ensures.rows holds (once.0 (ap is_txn_kind c.in-Txn.is) ∙ sym c.find.ensures))
+
+pub returns-in-Txn-clause-changes : goal.returns-in-Txn-clause-changes
+returns-in-Txn-clause-changes c = λ first now rises once there here.
+    let number = c.args.number in
+    let old = option_copied c.find.result in
+    let found = once.0 (ap is_txn_kind c.in-Txn.is) ∙ sym c.find.ensures in
+    c.change.ensures.changes first
+    (rows_held number old first c.args.transactions.now.entries there (sym c.find.ensures))
+    (rows_held number old c.args.self.now.entries now.transactions here found)

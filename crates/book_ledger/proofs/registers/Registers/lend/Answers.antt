@@ -1,17 +1,21 @@
-use Rattle.std.proofs.Common.{◌≡◌, ℕ, Option, Some, None, Bor, true, is_some, refl, ap, sym, ◌∙◌, subst}
+use Rattle.std.proofs.Common.{◌≡◌, ℕ, Option, Some, None, Bor, true, is_some, refl, ap, sym, ◌∙◌, subst, arith}
 use Rattle.std.specs.Option.{option_copied}
 use Rattle.book_commodity.specs.Table.{Entries, value_of, with_entry}
 use Rattle.book_commodity.proofs.DrawnLemmas.{all_with}
 use Rattle.book_register.specs.Register.{IsSorted, Rows}
 use Rattle.book_ledger.specs.Room.{AreSorted}
+use Rattle.book_ledger.proofs.CountsLemmas.{bounded_with}
 use Rattle.book_ledger.proofs.TableLemmas.{lent_beside}
 use Rattle.book_ledger.proofs.registers.Registers.lend.Goals as goal
 
 pub invariant_of-self : goal.invariant_of-self
-invariant_of-self c =
-    subst AreSorted (sym c.put.ensures.entries)
-    (all_with (λ (entry : ℕ × Rows). IsSorted entry.1.rows) c.args.account c.new.result
-    c.self.inside.registers.entries (subst IsSorted (sym c.new.ensures.rows) tt) c.self.invariant)
+invariant_of-self c = (
+  subst AreSorted (sym c.put.ensures.entries)
+      (all_with (λ (entry : ℕ × Rows). IsSorted entry.1.rows) c.args.account c.new.result
+      c.self.inside.registers.entries (subst IsSorted (sym c.new.ensures.rows) tt) c.self.invariant.0),
+  bounded_with c.args.account c.new.result c.self.inside.registers.entries c.put.new.self.entries
+      c.put.ensures.entries (omega (arith, c.new.ensures.changes)) c.self.invariant.1,
+)
 
 copied_there : (o : Option (Bor Rows)) → is_some (option_copied o) ≡ is_some o
 copied_there None = refl

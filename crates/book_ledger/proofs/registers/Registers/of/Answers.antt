@@ -15,7 +15,7 @@ returns c =
     let new = c.add_all.new.self.entries in
     let names : NamesAll order ts =
     subst (λ (l : List (ℤ × ℕ)). NamesAll l ts) (sym c.as_slice.ensures.value) c.in_ok-order.ensures in
-    kept_of_held new (book_of c.args.plain.now) c.len.ensures.rises c.in_order.ensures
+    kept_of_held new (book_of c.args.plain.now) c.len.ensures.rises c.in_order.ensures.sorted
     (held_added ts order begun new names
     (λ account. c.begin_all.ensures.extends.rows account
     ∙ ap (λ (l : List (ℕ × Rows)). rows_at account l) c.new-registers.ensures) c.in_ok-add_all.ensures.rows)

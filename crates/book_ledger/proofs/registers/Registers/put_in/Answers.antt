@@ -4,6 +4,8 @@ use Rattle.book_splits.specs.declared.transaction.Txn.{Txn}
 use Rattle.book_ledger.specs.Change.{AllPut, ArePut}
 use Rattle.book_ledger.specs.Room.{splits_on, txn_splits_on}
 use Rattle.book_ledger.proofs.ChangeLemmas.{all_put, put_more, put_none}
+use Rattle.book_ledger.specs.Counts.{AreFree, CountsFrom}
+use Rattle.book_ledger.proofs.CountsLemmas.{free_left_before, lacks_left}
 use Rattle.book_ledger.proofs.RoomLemmas.{one_less, room_for_row}
 use Rattle.book_ledger.proofs.registers.Registers.put_in.Goals as goal
 
@@ -17,6 +19,7 @@ put-requires c =
 pub loop-place-init : goal.loop-place-init
 loop-place-init c = record {
   rows = put_none c.args.number (Some c.in-Some.transaction.now) (option_copied c.args.old) c.args.self.now.entries;
+  changes = λ first there free counts. counts;
   there = λ account. refl;
   room = λ account.
       let count = ap (λ (o : Option (Bor Txn)). txn_splits_on account (option_copied o)) c.in-Some.is in
@@ -34,6 +37,14 @@ loop-place-preserved c =
       rows = put_more c.args.number c.loop-place.place (Some t)
           (option_copied c.args.old) c.left.result c.args.self.now.entries c.loop-place.self.entries
           c.put.new.self.entries inv.rows c.left.ensures c.put.ensures.rows;
+      changes = λ first there free counts.
+          let number = c.args.number in
+          let other = option_copied c.args.old in
+          let place = c.loop-place.place in
+          c.put.ensures.changes first
+          (lacks_left number place (Some t) other c.left.result first c.left.ensures there)
+          (free_left_before number place (Some t) other c.left.result c.args.self.now.entries
+          c.loop-place.self.entries c.left.ensures free inv.rows) (inv.changes first there free counts);
       there = λ account. c.put.ensures.there account ∙ inv.there account;
       room = λ account.
           let one = one_less account c.args.number c.loop-place.place t (option_copied c.args.old) c.left.result
@@ -63,3 +74,11 @@ returns-clause-room c = λ account.
     let count : txn_splits_on account (option_copied c.args.new) ≡ splits_on account t.splits =
     ap (λ (o : Option (Bor Txn)). txn_splits_on account (option_copied o)) c.in-Some.is in
     omega (arith, count, c.loop-place.invariant.less account)
+
+pub returns-clause-changes : goal.returns-clause-changes
+returns-clause-changes c = λ first there.
+    let other = option_copied c.args.old in
+    let Counted : Option (Bor Txn) → Type 0 = λ o.
+    AreFree c.args.number (option_copied o) other c.args.self.now.entries → CountsFrom first c.args.self.now.entries
+    → CountsFrom first c.loop-place.self.entries in
+    subst Counted (sym c.in-Some.is) (c.loop-place.invariant.changes first there)

@@ -1,0 +1,27 @@
+-- How far the changes of the registers that an engine keeps rise with a turn.
+use Rattle.std.proofs.Common.{◌≡◌, ℕ, sym, ap, ◌∙◌, subst}
+use Rattle.book_ledger.specs.Changes.{RisesBy, changes_of, differing}
+use Rattle.book_ledger.specs.Ledger.{register_of}
+use Rattle.book_opening.specs.State.{State}
+use Rattle.book_undo.specs.Book.{Book}
+use Rattle.book_undo.specs.Edit.{edited}
+use Rattle.book_engine.specs.Changed.{AreChanged}
+use Rattle.book_engine.specs.Kept.{Kept}
+use Rattle.book_engine.specs.Turned.{turned}
+use Rattle.book_engine.specs.declared.turn.Turn.{Turn}
+
+-- they rise by the rows that differ between the registers of the books before and after the turn
+pub changed_by :
+    (before now : Kept) (turn : Turn) → now.state ≡ turned turn before.state
+    → (turned turn before.state).book ≡ edited turn.edit before.state.book
+    → ((account : ℕ)
+    → RisesBy (differing (register_of account before.state.book.transactions)
+    (register_of account (edited turn.edit before.state.book).transactions)) (changes_of account before.registers)
+    (changes_of account now.registers))
+    → AreChanged before now
+changed_by before now turn state book rises = record {
+  each = λ account.
+      subst (λ (b : Book). RisesBy (differing (register_of account before.state.book.transactions)
+      (register_of account b.transactions)) (changes_of account before.registers) (changes_of account now.registers))
+      (sym (ap (λ (s : State). s.book) state ∙ book)) (rises account);
+}

@@ -1,0 +1,19 @@
+use Rattle.std.proofs.Common.{ℕ, Option, sym, subst}
+use Rattle.book_register.specs.declared.entry.Entry.{Entry}
+use Rattle.book_ledger.specs.Counts.{CountsFrom, IsFree, LacksRow}
+use Rattle.book_ledger.proofs.CountsLemmas.{counts_put}
+use Rattle.book_ledger.proofs.TableLemmas.{replaced_by}
+use Rattle.book_ledger.proofs.registers.Registers.put.Goals as goal
+
+pub returns-clause-changes : goal.returns-clause-changes
+returns-clause-changes c = λ first.
+    let account = c.in-Some.account in
+    let old = c.args.self.now.entries in
+    let new = c.give_back.new.self.entries in
+    let register = c.put_row.new.register in
+    let Counted : Option (ℕ × Entry) → Type 0 = λ row.
+    LacksRow row first → IsFree row old → CountsFrom first old → CountsFrom first new in
+    subst Counted (sym c.in-Some.is)
+    (counts_put account c.in-Some.row register c.in-Some-lend.register first old new
+    (replaced_by account register old c.lend.new.self.entries new c.lend.ensures.beside c.give_back.ensures)
+    (sym c.in-Some-lend.ensures.register) c.put_row.ensures.differing c.put_row.ensures.changes)

@@ -1,0 +1,12 @@
+pub mod BoundLemmas
+pub mod EntryLemmas
+pub mod KnownLemmas
+pub mod LineLemmas
+pub mod LotsLemmas
+pub mod PairLemmas
+pub mod QueueLemmas
+pub mod ReckoningLemmas
+pub mod ShareLemmas
+pub mod SideLemmas
+pub mod SidesLemmas
+pub mod Worked

@@ -1,0 +1,12 @@
+pub mod LineLemmas
+pub mod LotsLemmas
+pub mod LotsWorked
+pub mod MeasureLemmas
+pub mod RowLemmas
+pub mod SheetLaw
+pub mod SplitFacts
+pub mod SumLemmas
+pub mod SumsLemmas
+pub mod TextLemmas
+pub mod TrialLaw
+pub mod Worked

@@ -1,0 +1,7 @@
+use Rattle.std.proofs.Common.{◌≡◌, ◌++◌, string_bytes, take}
+use Rattle.book_reports.specs.Trial.{csv_lines}
+use Rattle.book_reports.proofs.trial_balance.add_csv_lines.Given as goal
+
+-- the lines so far were added
+abbrev pub invariant-loop-line : goal.invariant-loop-line
+invariant-loop-line l = string_bytes l.out ≡ string_bytes l.fn.out ++ csv_lines l.currency (take l.line-index l.lines)

@@ -1,0 +1,12 @@
+use Rattle.std.proofs.Common.{[], ◌∷◌, IsUtf8}
+use Rattle.std.proofs.lemmas.List.Elements.{All-cons, All-nil}
+use Rattle.book_reports.proofs.trial_balance.add_csv_record.Goals as goal
+
+-- each field is a text
+pub add_record-requires : goal.add_record-requires
+add_record-requires c =
+    All-cons IsUtf8 c.as_bytes.result.now (c.as_bytes-2.result.now ∷ c.as_bytes-3.result.now ∷ c.as_bytes-4.result.now ∷ []) c.as_bytes.ensures.utf8
+    (All-cons IsUtf8 c.as_bytes-2.result.now (c.as_bytes-3.result.now ∷ c.as_bytes-4.result.now ∷ []) c.as_bytes-2.ensures.utf8
+    (All-cons IsUtf8 c.as_bytes-3.result.now (c.as_bytes-4.result.now ∷ []) c.as_bytes-3.ensures.utf8
+    (All-cons IsUtf8 c.as_bytes-4.result.now ([]) c.as_bytes-4.ensures.utf8
+    (All-nil IsUtf8))))

@@ -1,0 +1,9 @@
+pub mod Income
+pub mod Layout
+pub mod LotsText
+pub mod Measure
+pub mod RegisterText
+pub mod Sections
+pub mod Sheet
+pub mod Sums
+pub mod Trial

@@ -1,0 +1,4 @@
+pub mod LastLemmas
+pub mod SampleLemmas
+pub mod ShownLemmas
+pub mod Worked

@@ -1,0 +1,3 @@
+pub mod LastLines
+pub mod Sample
+pub mod Shown

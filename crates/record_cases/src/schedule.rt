@@ -1,0 +1,2 @@
+mod due_days;
+mod occurrences;

@@ -1,0 +1,167 @@
+use book_commodity::{Bytes, Many};
+use book_keeper::{Change, KeepError, Keeper, Row, RowKey};
+use book_sqlite::{FileKeeper, SqliteKeeper};
+use sqlite::{Alter, Connection, Error, Unknown};
+use std::alloc::Global;
+use std::fs;
+use std::test::Fail;
+
+// These have no clause, so that the proof of a test does not carry the state of each call.
+fn run<S: Alter>(connection: &mut Connection<S>, sql: &str) -> Result<usize, Error> {
+    connection.execute(sql, &[])
+}
+
+fn put<K: Keeper>(keeper: &mut K, alloc: Global, key: RowKey, body: &[u8]) -> Result<bool, Fail> {
+    let body = Bytes::of(Vec::from_slice(alloc, body)?);
+    let changes = [Change::Put(Row { key, body })];
+    if key.id >= 1_000_000 {
+        return Ok(false);
+    }
+    Ok(keeper.commit(&changes).is_ok())
+}
+
+fn delete<K: Keeper>(keeper: &mut K, key: RowKey) -> bool {
+    if key.id >= 1_000_000 {
+        return false;
+    }
+    keeper.commit(&[Change::Gone(key)]).is_ok()
+}
+
+/// The kinds, numbers and lengths of all rows, each as one number, or none where the keeper fails.
+fn shown<K: Keeper>(keeper: &mut K, alloc: Global) -> Result<Option<Many<u64>>, Fail> {
+    let mut numbers = Many::new(alloc);
+    let mut after = None;
+    for _ in 0..10 {
+        let row = match keeper.next_row(after) {
+            Ok(Some(row)) => row,
+            Ok(None) => return Ok(Some(numbers)),
+            Err(_) => return Ok(None),
+        };
+        after = Some(row.key);
+        numbers.push(u64::from(row.key.kind))?;
+        numbers.push(row.key.id)?;
+        numbers.push(row.body.len() as u64)?;
+    }
+    Ok(Some(numbers))
+}
+
+const HEAD: RowKey = RowKey { kind: 1, id: 0 };
+
+const EURO: RowKey = RowKey { kind: 2, id: 9 };
+
+const LATER: RowKey = RowKey { kind: 2, id: 10 };
+
+const ROOT: RowKey = RowKey { kind: 3, id: 1 };
+
+#[test]
+fn rows_are_kept_in_the_order_of_their_keys(rt: HostRuntime) -> Result<(), Fail> {
+    let alloc = rt.alloc();
+    let connection = Connection::open_in_memory(alloc)?;
+    let mut keeper = SqliteKeeper::over(alloc, connection);
+    assert_eq!(rt; keeper.open("a book"), Ok(()));
+    for (key, body) in [
+        (ROOT, b"root".as_slice()),
+        (LATER, b"usd"),
+        (EURO, b"eur"),
+        (HEAD, b""),
+    ] {
+        assert!(rt; put(&mut keeper, alloc, key, body)?);
+    }
+    assert!(rt; put(&mut keeper, alloc, EURO, b"euro")?);
+    assert!(rt; delete(&mut keeper, LATER));
+    let Some(rows) = shown(&mut keeper, alloc)? else {
+        return Err(Fail::new("a row is missing"));
+    };
+    assert_eq!(rt; rows.as_slice(), [1, 0, 0, 2, 9, 4, 3, 1, 4].as_slice());
+    Ok(())
+}
+
+/// A database in memory after these statements.
+fn database(alloc: Global, statements: &[&str]) -> Result<Connection<sqlite::MemStore>, Fail> {
+    let mut connection = Connection::open_in_memory(alloc)?;
+    for sql in statements {
+        if run(&mut connection, sql).is_err() {
+            return Err(Fail::new("a statement is refused"));
+        }
+    }
+    Ok(connection)
+}
+
+const TABLE: &str =
+    "CREATE TABLE bk_rows(kind INTEGER, id INTEGER, body BLOB, PRIMARY KEY(kind, id)) STRICT";
+
+#[test]
+fn a_file_of_rows_is_taken_and_others_are_faults(rt: HostRuntime) -> Result<(), Fail> {
+    let alloc = rt.alloc();
+    let ours = [TABLE, "INSERT INTO bk_rows VALUES (2, 9, x'00')"];
+    let mut keeper = SqliteKeeper::over(alloc, database(alloc, &ours)?);
+    assert_eq!(rt; keeper.open("a book"), Ok(()));
+    assert!(rt; matches!(keeper.next_row(None), Ok(Some(Row { key: EURO, body: _ }))));
+    for other in [
+        "CREATE TABLE bk_rows(kind INTEGER)",
+        "CREATE TABLE other(kind INTEGER)",
+    ] {
+        let mut keeper = SqliteKeeper::over(alloc, database(alloc, &[other])?);
+        assert_eq!(rt; keeper.open("a book"), Err(KeepError::Failed));
+    }
+    Ok(())
+}
+
+#[test]
+fn a_row_that_is_none_of_a_book_is_a_fault(rt: HostRuntime) -> Result<(), Fail> {
+    let alloc = rt.alloc();
+    for values in [
+        "(256, 0, x'')",
+        "(-1, 0, x'')",
+        "(2, -1, x'')",
+        "(2, 0, NULL)",
+    ] {
+        let mut connection = database(alloc, &[TABLE])?;
+        let mut sql = String::new(alloc);
+        sql.push_str("INSERT INTO bk_rows VALUES ")?;
+        sql.push_str(values)?;
+        run(&mut connection, sql.as_str())?;
+        let mut keeper = SqliteKeeper::over(alloc, connection);
+        assert_eq!(rt; keeper.open("a book"), Ok(()));
+        assert!(rt; matches!(keeper.next_row(None), Err(KeepError::Failed)));
+    }
+    Ok(())
+}
+
+#[test]
+fn rows_stay_in_a_file(rt: HostRuntime) -> Result<(), Fail> {
+    let alloc = rt.alloc();
+    let mut keeper = FileKeeper::at(&rt, Some("rows.book"), Unknown);
+    assert_eq!(rt; keeper.open("rows.book"), Ok(()));
+    assert!(rt; put(&mut keeper, alloc, EURO, b"euro")?);
+    drop(keeper);
+    let mut again = FileKeeper::at(&rt, Some("rows.book"), Unknown);
+    assert_eq!(rt; again.open("rows.book"), Ok(()));
+    assert!(rt; matches!(again.next_row(None), Ok(Some(Row { key: EURO, body: _ }))));
+    Ok(())
+}
+
+/// Makes a file with another table, and closes it.
+fn make_other(rt: &HostRuntime, path: &str) -> Result<(), Error> {
+    let mut connection = Connection::open(rt, path)?;
+    run(&mut connection, "CREATE TABLE other(kind INTEGER)")?;
+    run(&mut connection, "INSERT INTO other VALUES (7)")?;
+    connection.close()
+}
+
+/// Whether a keeper over the file fails to open it.
+fn is_refused(rt: &HostRuntime, path: &str) -> bool {
+    let mut keeper = FileKeeper::at(rt, Some(path), Unknown);
+    matches!(keeper.open(path), Err(KeepError::Failed))
+}
+
+#[test]
+fn a_file_with_another_schema_keeps_its_bytes(rt: HostRuntime) -> Result<(), Fail> {
+    make_other(&rt, "other.db")?;
+    let before = fs::read(&rt, "other.db")?;
+    assert!(rt; is_refused(&rt, "other.db"));
+    let after = fs::read(&rt, "other.db")?;
+    assert!(rt; !before.is_empty());
+    assert_eq!(rt; after.as_slice(), before.as_slice());
+    Ok(())
+}
