@@ -1,7 +1,8 @@
--- How far the changes of the registers that an engine keeps rise with a turn.
+-- How far the changes of the registers that an engine keeps rise with a turn, and which lots are left.
 use Rattle.std.proofs.Common.{◌≡◌, ℕ, sym, ap, ◌∙◌, subst}
 use Rattle.book_ledger.specs.Changes.{RisesBy, changes_of, differing}
 use Rattle.book_ledger.specs.Ledger.{register_of}
+use Rattle.book_ledger.specs.Lots.{AreLeft as AreLotsLeft, reckoned_of, work_of}
 use Rattle.book_opening.specs.State.{State}
 use Rattle.book_undo.specs.Book.{Book}
 use Rattle.book_undo.specs.Edit.{edited}
@@ -18,10 +19,21 @@ pub changed_by :
     → RisesBy (differing (register_of account before.state.book.transactions)
     (register_of account (edited turn.edit before.state.book).transactions)) (changes_of account before.registers)
     (changes_of account now.registers))
+    → ((account : ℕ)
+    → AreLotsLeft (register_of account before.state.book.transactions) (reckoned_of account before.registers)
+    (register_of account (edited turn.edit before.state.book).transactions) (reckoned_of account now.registers))
+    → ((account : ℕ) → work_of account now.registers ≡ work_of account before.registers)
     → AreChanged before now
-changed_by before now turn state book rises = record {
-  each = λ account.
-      subst (λ (b : Book). RisesBy (differing (register_of account before.state.book.transactions)
-      (register_of account b.transactions)) (changes_of account before.registers) (changes_of account now.registers))
-      (sym (ap (λ (s : State). s.book) state ∙ book)) (rises account);
-}
+changed_by before now turn state book rises left work =
+    let same = sym (ap (λ (s : State). s.book) state ∙ book) in
+    record {
+      each = λ account.
+          subst (λ (b : Book). RisesBy (differing (register_of account before.state.book.transactions)
+          (register_of account b.transactions)) (changes_of account before.registers)
+          (changes_of account now.registers)) same (rises account);
+      left = λ account.
+          subst (λ (b : Book). AreLotsLeft (register_of account before.state.book.transactions)
+          (reckoned_of account before.registers) (register_of account b.transactions)
+          (reckoned_of account now.registers)) same (left account);
+      work = work;
+    }

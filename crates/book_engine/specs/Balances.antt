@@ -2,7 +2,7 @@
 use Rattle.std.specs.Prelude.{◌≡◌, ℕ, ◌==◌, if◌then◌else◌, List, [], ◌∷◌, Option, Some, None, ℤ, pos, ◌+ℤ◌}
 use Rattle.book_commodity.specs.Table.{value_of}
 use Rattle.book_ledger.specs.Ledger.{Keeps}
-use Rattle.book_register.specs.Register.{Rows}
+use Rattle.book_ledger.specs.Page.{Page}
 use Rattle.book_sound.specs.Soundness.{IsSoundBook}
 use Rattle.book_splits.specs.Balance.{quantity_on}
 use Rattle.book_splits.specs.Check as transaction
@@ -15,7 +15,7 @@ use Rattle.book_undo.specs.declared.thing.Thing.TheVariants as thing
 
 -- The registers are those of a sound book, an edit may be applied to it and leads to a sound one, and puts what this
 -- says.
-pub record CanSum (registers : List (ℕ × Rows)) (book : Book) (edit : Edit) (Puts : Type 0) : Type 0 where
+pub record CanSum (registers : List (ℕ × Page)) (book : Book) (edit : Edit) (Puts : Type 0) : Type 0 where
   pub kept : Keeps registers book
   pub sound : IsSoundBook book
   pub after : IsSoundBook (edited edit book)
@@ -23,7 +23,7 @@ pub record CanSum (registers : List (ℕ × Rows)) (book : Book) (edit : Edit) (
   pub puts : Puts
 
 -- The registers are those of a sound book, and a transaction has the form of a sound one.
-pub record CanMove (registers : List (ℕ × Rows)) (book : Book) (new : Txn) : Type 0 where
+pub record CanMove (registers : List (ℕ × Page)) (book : Book) (new : Txn) : Type 0 where
   pub kept : Keeps registers book
   pub sound : IsSoundBook book
   pub form : transaction.IsSound new.splits

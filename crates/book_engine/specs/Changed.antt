@@ -1,8 +1,13 @@
--- How often the registers that an engine keeps were changed.
-use Rattle.std.specs.Prelude.{◌≡◌, ℕ, if◌then◌else◌, is_some, Option, Some, None}
+-- How often the registers that an engine keeps were changed, and which of their lots it keeps.
+use Rattle.std.specs.Prelude.{◌≡◌, ℕ, ◌-◌, ◌⊎◌, if◌then◌else◌, Bool, false, is_some, length, take, Option, Some, None}
+use Rattle.std.specs.Option.{option_map_or}
+use Rattle.book_accounts.specs.Group.{is_security}
 use Rattle.book_commodity.specs.Table.{value_of}
 use Rattle.book_ledger.specs.Changes.{RisesBy, changes_of, differing}
 use Rattle.book_ledger.specs.Ledger.{register_of}
+use Rattle.book_ledger.specs.Lots.{AreLeft as AreLotsLeft, reckoned_of, work_of}
+use Rattle.book_lots.specs.Lots.{Reckoned}
+use Rattle.book_undo.specs.Book.{Book}
 use Rattle.book_engine.specs.Kept.{Kept}
 
 -- How often the register of an account of the present book was changed; none where the book has no such account.
@@ -10,15 +15,53 @@ abbrev pub live_changes : Kept → ℕ → Option ℕ
 live_changes kept account =
     if is_some (value_of account kept.state.book.accounts) then Some (changes_of account kept.registers) else None
 
+-- Whether an account is a security account of a book.
+abbrev pub is_live_security : Book → ℕ → Bool
+is_live_security book account =
+    option_map_or (λ found. is_security found.kind) (value_of account book.accounts) false
+
+-- The lots that are kept of a security account of the present book: those of the first rows of its register, as many as
+-- are reckoned; none where the book has no such account.
+abbrev pub live_lots : Kept → ℕ → Option Reckoned
+live_lots kept account =
+    if is_live_security kept.state.book account then Some (record {
+      entries = take (reckoned_of account kept.registers) (register_of account kept.state.book.transactions);
+      work = work_of account kept.registers;
+    }) else None
+
 -- From one state to the next the changes of each account's register rise by the rows that one of the two registers has
--- and the other hasn't; at 2^64 - 1 they stay.
+-- and the other hasn't; at 2^64 - 1 they stay. Of its lots at least those stay that stand before the last checkpoint in
+-- the part that both registers have in common, and none is reckoned.
 pub record AreChanged (before now : Kept) : Type 0 where
   pub each :
       (account : ℕ)
       → RisesBy (differing (register_of account before.state.book.transactions)
       (register_of account now.state.book.transactions)) (changes_of account before.registers)
       (changes_of account now.registers)
+  pub left :
+      (account : ℕ)
+      → AreLotsLeft (register_of account before.state.book.transactions) (reckoned_of account before.registers)
+      (register_of account now.state.book.transactions) (reckoned_of account now.registers)
+  pub work : (account : ℕ) → work_of account now.registers ≡ work_of account before.registers
 
--- Each account's register was changed as often as before.
+-- Each account's register was changed as often as before, and its lots are as they were.
 pub record AreLeft (before now : Kept) : Type 0 where
   pub each : (account : ℕ) → changes_of account now.registers ≡ changes_of account before.registers
+  pub reckoned : (account : ℕ) → reckoned_of account now.registers ≡ reckoned_of account before.registers
+  pub work : (account : ℕ) → work_of account now.registers ≡ work_of account before.registers
+
+-- The lots of an account are as they were.
+pub record HasSameLots (before now : Kept) (account : ℕ) : Type 0 where
+  pub reckoned : reckoned_of account now.registers ≡ reckoned_of account before.registers
+  pub work : work_of account now.registers ≡ work_of account before.registers
+
+-- The lots of an account are brought up to its register: the work rises by the rows that weren't reckoned.
+pub record HasAllLots (before now : Kept) (account : ℕ) : Type 0 where
+  pub reckoned : reckoned_of account now.registers ≡ length (register_of account before.state.book.transactions)
+  pub work : RisesBy (length (register_of account before.state.book.transactions) - reckoned_of account before.registers)
+      (work_of account before.registers) (work_of account now.registers)
+
+-- Each account's register was changed as often as before, and its lots are as they were, or brought up to the register.
+pub record AreKeptUp (before now : Kept) : Type 0 where
+  pub each : (account : ℕ) → changes_of account now.registers ≡ changes_of account before.registers
+  pub lots : (account : ℕ) → HasSameLots before now account ⊎ HasAllLots before now account

@@ -2,7 +2,7 @@
 use Rattle.std.specs.Prelude.{ℕ, ◌≡◌, ◌+◌, ◌^◌, ◌<◌, ◌≤◌, Bool, false, List, []}
 use Rattle.book_history.specs.History.{IsHistory}
 use Rattle.book_ledger.specs.Ledger.{Keeps}
-use Rattle.book_register.specs.Register.{Rows}
+use Rattle.book_ledger.specs.Page.{Page}
 use Rattle.book_undo.specs.Book.{book_of}
 use Rattle.book_undo.specs.declared.plain.Plain.{Plain}
 use Rattle.book_step.specs.Soundness.{IsSound}
@@ -11,12 +11,12 @@ use Rattle.book_opening.specs.State.{State, state_of}
 use Rattle.book_engine.specs.declared.engine.Engine.TheInside.{Inside}
 
 -- The state, with its steps; whether a keeper was given the rows of a state, which until then is the fresh one; the
--- tables that hold the book; the registers of its accounts; and for how many more steps back and forth there is room.
+-- tables that hold the book; the registers of its accounts, with their lots; and for how many more steps back and forth there is room.
 pub record Kept : Type 0 where
   pub state : State
   pub saved : Bool
   pub plain : Plain
-  pub registers : List (ℕ × Rows)
+  pub registers : List (ℕ × Page)
   pub back_room : ℕ
   pub forth_room : ℕ
 

@@ -7,7 +7,7 @@ ghost use Rattle.book_step.specs.Soundness.{IsSound};
 ghost use Rattle.book_opening.specs.Opening.{OpenAs, WasRead};
 ghost use Rattle.book_opening.specs.State.{State};
 ghost use Rattle.book_engine.specs.Acting.{HasActCause, IsUnchanged};
-ghost use Rattle.book_engine.specs.Changed.{AreChanged, AreLeft, live_changes};
+ghost use Rattle.book_engine.specs.Changed.{AreChanged, AreKeptUp, AreLeft, live_changes, live_lots};
 ghost use Rattle.book_engine.specs.Kept.{IsWhole, step_state};
 ghost use Rattle.book_engine.specs.Books.{machine_of};
 ghost use Rattle.book_engine.specs.Machine.{Done, step as step_from};
@@ -17,11 +17,14 @@ ghost use Rattle.book_engine.specs.Standing.{Stands};
 
 use crate::opening::{begin, checked, open_error};
 use crate::planning::plan_of;
+use crate::reports::{is_security, lots_asked};
 use crate::turn::make_turn;
 use crate::{OpenError, Plan};
+use book_command::What;
 use book_commodity::OutOfMemory;
 use book_keeper::{KeepError, Keeper};
 use book_ledger::Registers;
+use book_lots::Lots;
 use book_opening::{Saved, read_rows};
 use book_register::Register;
 use book_step::{Answer, Command, Refusal};
@@ -97,6 +100,19 @@ impl Engine {
         self.registers.kept(account)
     }
 
+    /// The lots that are kept of a security account of the present book, those of the first rows of its register; a
+    /// report on them brings them up to the register. `None` exactly where the book has no such account, or it is no
+    /// security account.
+    pub fn lots(&self, account: u64) -> Option<&Lots>
+        ensures { option_copied result ≡ live_lots self.now account }
+    {
+        if !is_security(&self.state.plain.accounts, account) {
+            return None;
+        }
+        let _ = &self.saved;
+        self.registers.lots(account)
+    }
+
     /// The present book.
     pub fn plain(&self) -> &Plain
         ensures { result.now ≡ self.now.plain }
@@ -105,16 +121,19 @@ impl Engine {
     }
 
     /// Tries all rules of the command, takes all memory that it needs, and makes the edit that leads back, the whole
-    /// answer and the changes of the rows. The state stays as it is. Refused by the first rule that the command breaks,
-    /// or out of memory.
+    /// answer and the changes of the rows. The state stays as it is; where a report on lots is asked, they are brought up
+    /// to their register. Refused by the first rule that the command breaks, or out of memory.
     pub fn prepare(&mut self, command: Command) -> Result<Plan, Refusal>
         ensures planned { IfOk result (IsPlanOf self.old.state self.old.saved command) }
         ensures room { IfOk result (HasRoomFor self.new) }
         ensures refused { IfErr result (IsRefusal (step_from (machine_of self.old.state) command)) }
         ensures unchanged { IsUnchanged self.old self.new }
-        ensures left { AreLeft self.old self.new }
+        ensures kept_up { AreKeptUp self.old self.new }
         ensures sound { IsSound (step_state self.new.state) }
     {
+        if let Err(OutOfMemory) = self.reckon_for(&command.what) {
+            return Err(Refusal::OutOfMemory);
+        }
         let plan = match plan_of(
             self.alloc,
             &self.state,
@@ -128,6 +147,17 @@ impl Engine {
         match self.make_room(&plan) {
             Ok(()) => Ok(plan),
             Err(OutOfMemory) => Err(Refusal::OutOfMemory),
+        }
+    }
+
+    /// Brings the lots of an account up to its register, where a report on them is asked.
+    fn reckon_for(&mut self, what: &What) -> Result<(), OutOfMemory>
+        ensures unchanged { IsUnchanged self.old self.new }
+        ensures kept_up { AreKeptUp self.old self.new }
+    {
+        match lots_asked(&self.state.plain.accounts, what) {
+            Some(account) => self.registers.reckon(account),
+            None => Ok(()),
         }
     }
 

@@ -1,5 +1,8 @@
-ghost use Rattle.std.specs.Prelude.{◌≡◌, [], ◌∷◌, None, IfErr, IfOk};
+ghost use Rattle.std.specs.Prelude.{◌≡◌, [], ◌∷◌, None, IfErr, IfOk, false};
+ghost use Rattle.std.specs.Option.{option_map_or};
+ghost use Rattle.book_accounts.specs.Group.{is_security};
 ghost use Rattle.book_commodity.specs.Rules.{ReportsFirst, first_broken};
+ghost use Rattle.book_commodity.specs.Table.{value_of};
 ghost use Rattle.book_engine.specs.Planned.{IsAskRefusal};
 ghost use Rattle.book_engine.specs.Reports.{basis, day_range, first_day as first_of, form_of, last_day as last_of};
 ghost use Rattle.book_engine.specs.Reports.{report_answer, report_rules};
@@ -9,7 +12,7 @@ ghost use Rattle.book_step.specs.Accounts.{unknown_account};
 ghost use Rattle.book_undo.specs.Book.{book_of};
 
 use book_accounts::Tree;
-use book_command::{Answer, Refusal, Report, Rule};
+use book_command::{Answer, Refusal, Report, Rule, What};
 use book_commodity::{Day, Kind, OutOfMemory};
 use book_ledger::Registers;
 use book_reports::{Form, View, gains, income, lots_text, register_text, sheet, trial};
@@ -130,6 +133,27 @@ fn check_security(accounts: &Tree, number: u64) -> Result<(), Rule>
             id: number,
         }),
     }
+}
+
+/// Whether the account of this number is a security account of the book.
+pub(crate) fn is_security(accounts: &Tree, number: u64) -> bool
+    ensures { result ≡ option_map_or (λ found. is_security found.kind) (value_of number accounts.now.entries) false }
+{
+    match accounts.find(number) {
+        Some(account) => account.kind.is_security(),
+        None => false,
+    }
+}
+
+/// The security account of the book on whose lots a report is asked, if there is one.
+pub(crate) fn lots_asked(accounts: &Tree, what: &What) -> Option<u64> {
+    let What::Report(Report::Lots { account, csv: _ } | Report::Gains { account, from: _, to: _ }) = what else {
+        return None;
+    };
+    if !is_security(accounts, *account) {
+        return None;
+    }
+    Some(*account)
 }
 
 /// The period has a day.

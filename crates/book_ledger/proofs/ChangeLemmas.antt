@@ -10,7 +10,8 @@ use Rattle.std.proofs.lemmas.Int.{ints}
 use Rattle.std.proofs.lemmas.Option.{slice_get_past}
 use Rattle.book_commodity.specs.Table.{Rises, value_of, with_entry, without_entry}
 use Rattle.book_commodity.proofs.TableLemmas.{value_of_with, value_of_without}
-use Rattle.book_register.specs.Register.{Rows, has_key, key_of}
+use Rattle.book_register.specs.Register.{has_key, key_of}
+use Rattle.book_ledger.specs.Page.{Page}
 use Rattle.book_register.specs.declared.entry.Entry.{Entry}
 use Rattle.book_register.specs.declared.entry.Mark2.{Mark2}
 use Rattle.book_register.specs.declared.entry.Mark2.TheVariants.{Plain, Cleared, Reconciled}
@@ -210,7 +211,7 @@ cut_or (Some x) p row = refl
 
 -- none is taken before the first place
 pub taken_none :
-    (number : ℕ) (t other : Option Txn) (registers : List (ℕ × Rows))
+    (number : ℕ) (t other : Option Txn) (registers : List (ℕ × Page))
     → AreTaken number t other 0 registers registers
 taken_none number t other registers = record {
   rows = λ account key.
@@ -220,7 +221,7 @@ taken_none number t other registers = record {
 }
 
 pub put_none :
-    (number : ℕ) (t other : Option Txn) (registers : List (ℕ × Rows))
+    (number : ℕ) (t other : Option Txn) (registers : List (ℕ × Page))
     → ArePut number t other 0 registers registers
 put_none number t other registers = record {
   rows = λ account key.
@@ -230,7 +231,7 @@ put_none number t other registers = record {
 }
 
 pub taken_more :
-    (number place : ℕ) (t other : Option Txn) (row : Option (ℕ × Entry)) (old mid new : List (ℕ × Rows))
+    (number place : ℕ) (t other : Option Txn) (row : Option (ℕ × Entry)) (old mid new : List (ℕ × Page))
     → AreTaken number t other place old mid → row ≡ left_at number t other place → IsTaken row mid new
     → AreTaken number t other (place + 1) old new
 taken_more number place t other row old mid new before is here = record {
@@ -246,7 +247,7 @@ taken_more number place t other row old mid new before is here = record {
 }
 
 pub put_more :
-    (number place : ℕ) (t other : Option Txn) (row : Option (ℕ × Entry)) (old mid new : List (ℕ × Rows))
+    (number place : ℕ) (t other : Option Txn) (row : Option (ℕ × Entry)) (old mid new : List (ℕ × Page))
     → ArePut number t other place old mid → row ≡ left_at number t other place → IsPut row mid new
     → ArePut number t other (place + 1) old new
 put_more number place t other row old mid new before is here = record {
@@ -282,7 +283,7 @@ left_all account key number t other = here (nat_lt key.place (length t.splits)) 
         (placed number other key.place))) none)
 
 pub all_taken :
-    (number : ℕ) (t : Txn) (other : Option Txn) (old new : List (ℕ × Rows))
+    (number : ℕ) (t : Txn) (other : Option Txn) (old new : List (ℕ × Page))
     → AreTaken number (Some t) other (length t.splits) old new → AllTaken number (Some t) other old new
 all_taken number t other old new taken = record {
   rows = λ account key.
@@ -291,7 +292,7 @@ all_taken number t other old new taken = record {
 }
 
 pub all_put :
-    (number : ℕ) (t : Txn) (other : Option Txn) (old new : List (ℕ × Rows))
+    (number : ℕ) (t : Txn) (other : Option Txn) (old new : List (ℕ × Page))
     → ArePut number (Some t) other (length t.splits) old new → AllPut number (Some t) other old new
 all_put number t other old new put = record {
   rows = λ account key.
@@ -345,7 +346,7 @@ changed_row account key (Some x) (Some y) =
         let other = sym one ∙ is ∙ pair_itself y in cc)
 
 pub changed_by :
-    (number : ℕ) (old new : Option Txn) (before mid after : List (ℕ × Rows)) → AllTaken number old new before mid
+    (number : ℕ) (old new : Option Txn) (before mid after : List (ℕ × Page)) → AllTaken number old new before mid
     → AllPut number new old mid after → IsChanged number old new before after
 changed_by number old new before mid after taken put = record {
   own = λ account key same has.
@@ -364,16 +365,16 @@ changed_by number old new before mid after taken put = record {
 
 -- no transaction has no rows
 pub none_taken :
-    (number : ℕ) (other : Option Txn) (registers : List (ℕ × Rows)) → AllTaken number None other registers registers
+    (number : ℕ) (other : Option Txn) (registers : List (ℕ × Page)) → AllTaken number None other registers registers
 none_taken number other registers = record { rows = λ account key. refl }
 
 pub none_put :
-    (number : ℕ) (other : Option Txn) (registers : List (ℕ × Rows)) → AllPut number None other registers registers
+    (number : ℕ) (other : Option Txn) (registers : List (ℕ × Page)) → AllPut number None other registers registers
 none_put number other registers = record { rows = λ account key. refl }
 
 -- ---- the registers of the transactions with one put or taken
 held :
-    (number : ℕ) (old new : Option Txn) (before after : List (ℕ × Rows)) (ts us : List (ℕ × Txn))
+    (number : ℕ) (old new : Option Txn) (before after : List (ℕ × Page)) (ts us : List (ℕ × Txn))
     → IsChanged number old new before after → Holds before ts → value_of number ts ≡ old
     → ((m : ℕ) → value_of m us ≡ (if m == number then new else value_of m ts)) → Holds after us
 held number old new before after ts us change holds there values = record {
@@ -399,7 +400,7 @@ held number old new before after ts us change holds there values = record {
         (values key.txn ∙ ap (λ (b : Bool). if b then new else value_of key.txn ts) is))
 
 pub held_with :
-    (number : ℕ) (old : Option Txn) (t : Txn) (before after : List (ℕ × Rows)) (ts : List (ℕ × Txn))
+    (number : ℕ) (old : Option Txn) (t : Txn) (before after : List (ℕ × Page)) (ts : List (ℕ × Txn))
     → IsChanged number old (Some t) before after → Holds before ts → value_of number ts ≡ old
     → Holds after (with_entry number t ts)
 held_with number old t before after ts change holds there =
@@ -407,7 +408,7 @@ held_with number old t before after ts change holds there =
     (λ m. value_of_with m number t ts)
 
 pub held_without :
-    (number : ℕ) (old : Option Txn) (before after : List (ℕ × Rows)) (ts : List (ℕ × Txn)) → Rises ts
+    (number : ℕ) (old : Option Txn) (before after : List (ℕ × Page)) (ts : List (ℕ × Txn)) → Rises ts
     → IsChanged number old None before after → Holds before ts → value_of number ts ≡ old
     → Holds after (without_entry number ts)
 held_without number old before after ts rises change holds there =

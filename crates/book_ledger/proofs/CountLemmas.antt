@@ -7,7 +7,7 @@ use Rattle.std.proofs.lemmas.Bool.Decides.{nat_tests}
 use Rattle.std.proofs.lemmas.List.Sums.{sum_by_push}
 use Rattle.book_commodity.specs.Table.{value_of, with_entry}
 use Rattle.book_commodity.proofs.TableLemmas.{value_of_with}
-use Rattle.book_register.specs.Register.{Rows}
+use Rattle.book_ledger.specs.Page.{Page}
 use Rattle.book_splits.specs.declared.split.Split.{Split}
 use Rattle.book_undo.specs.Edit.{Leaf, OfCurrency, OfPut, OfGone}
 use Rattle.book_ledger.specs.Change.{is_there}
@@ -110,7 +110,7 @@ leaves_counted xs ys all old mid new is one two = record {
 -- ---- the room that is made
 -- registers with room for what was counted are ready
 pub ready_made :
-    (registers : List (ℕ × Rows)) (counts : List (ℕ × ℕ)) (ls : List Leaf) → IsCounted ls [] counts
+    (registers : List (ℕ × Page)) (counts : List (ℕ × ℕ)) (ls : List Leaf) → IsCounted ls [] counts
     → AreMade registers counts → IsReady registers ls
 ready_made registers counts ls count made = record {
   rows = λ account. here account (value_of account counts) refl (count.rows account);
@@ -129,16 +129,16 @@ ready_made registers counts ls count made = record {
     there_is n (Some k) is some = (made.each n k is).0
 
 -- The entries at the places before one have their room.
-pub record MadeBefore (registers : List (ℕ × Rows)) (counts : List (ℕ × ℕ)) (place : ℕ) : Type 0 where
+pub record MadeBefore (registers : List (ℕ × Page)) (counts : List (ℕ × ℕ)) (place : ℕ) : Type 0 where
   pub each :
       (k : ℕ) (e : ℕ × ℕ) → k < place → slice_get counts k ≡ Some e
       → (is_there e.0 registers ≡ true) × (e.1 ≤ room_of e.0 registers)
 
-pub made_none : (registers : List (ℕ × Rows)) (counts : List (ℕ × ℕ)) → MadeBefore registers counts 0
+pub made_none : (registers : List (ℕ × Page)) (counts : List (ℕ × ℕ)) → MadeBefore registers counts 0
 made_none registers counts = record { each = λ k e less is. absurd (omega (arith, less)) }
 
 pub made_more :
-    (old new : List (ℕ × Rows)) (counts : List (ℕ × ℕ)) (place : ℕ) (entry : ℕ × ℕ) → MadeBefore old counts place
+    (old new : List (ℕ × Page)) (counts : List (ℕ × ℕ)) (place : ℕ) (entry : ℕ × ℕ) → MadeBefore old counts place
     → Extends old new → slice_get counts place ≡ Some entry → is_there entry.0 new ≡ true
     → entry.1 ≤ room_of entry.0 new → MadeBefore new counts (place + 1)
 made_more old new counts place entry before extends is there room = record {
@@ -180,7 +180,7 @@ entry_at n count (e ∷ es) there =
     ] refl there
 
 pub made_all :
-    (registers : List (ℕ × Rows)) (counts : List (ℕ × ℕ)) (place : ℕ) → length counts ≤ place
+    (registers : List (ℕ × Page)) (counts : List (ℕ × ℕ)) (place : ℕ) → length counts ≤ place
     → MadeBefore registers counts place → AreMade registers counts
 made_all registers counts place end made = record {
   each = λ account count is.

@@ -1,5 +1,5 @@
 -- How far the changes of each register rise, where the rows of one transaction come in the place of those of another.
-use Rattle.std.proofs.Common.{◌≡◌, ℕ, ◌+◌, ◌-◌, ◌^◌, ◌<◌, ◌==◌, ◌&&◌, min, nat_lt, Bool, true, false}
+use Rattle.std.proofs.Common.{◌≡◌, ℕ, ◌+◌, ◌-◌, ◌^◌, ◌<◌, ◌≤◌, ◌==◌, ◌&&◌, min, nat_lt, Bool, true, false}
 use Rattle.std.proofs.Common.{if◌then◌else◌, List, ◌++◌, Option, Some, None, is_some, find, option_map, slice_get}
 use Rattle.std.proofs.Common.{refl, sym, ap, ◌∙◌, subst, arith}
 use Rattle.std.specs.Option.{option_or}
@@ -7,7 +7,8 @@ use Rattle.std.proofs.lemmas.Bool.{eqb-true}
 use Rattle.std.proofs.lemmas.Bool.Decides.{nat_tests}
 use Rattle.book_commodity.specs.Table.{value_of, with_entry}
 use Rattle.book_commodity.proofs.TableLemmas.{value_of_with}
-use Rattle.book_register.specs.Register.{IsSorted, RowKey, Rows, has_key, key_of}
+use Rattle.book_register.specs.Register.{IsSorted, RowKey, has_key, key_of}
+use Rattle.book_ledger.specs.Page.{Page}
 use Rattle.book_register.specs.declared.entry.Entry.{Entry}
 use Rattle.book_splits.specs.declared.split.Split.{Split}
 use Rattle.book_splits.specs.declared.transaction.Txn.{Txn}
@@ -18,6 +19,7 @@ use Rattle.book_ledger.specs.Change.{left_of, pick, placed, row_at}
 use Rattle.book_ledger.specs.Changes.{AreBounded, RisesBy, changes_in, changes_of, differing, has_row}
 use Rattle.book_ledger.specs.Counts.{AreFree, CountsFrom, CountsOn, HasRow, HasRowsOf, IsFree, LacksRow}
 use Rattle.book_ledger.specs.Ledger.{Keeps, register_of, row_of, rows_at, rows_in}
+use Rattle.book_ledger.specs.Lots.{AreLeft, checkpoint_before, common, reckoned_in, reckoned_of, work_in, work_of}
 use Rattle.book_ledger.specs.Room.{AreSorted, ChangeOnce, IsOnWay}
 use Rattle.book_ledger.proofs.ChangeLemmas.{cut_itself, pair_is, pair_itself}
 use Rattle.book_ledger.proofs.DifferenceLemmas.{differing_none, found_has}
@@ -36,90 +38,134 @@ no_more count d less none = omega (arith, less, none)
 
 -- nothing differs at first
 pub counts_start :
-    (registers : List (ℕ × Rows)) → AreSorted registers → AreBounded registers → CountsFrom registers registers
+    (registers : List (ℕ × Page)) → AreSorted registers → AreBounded registers → CountsFrom registers registers
 counts_start registers sorted bounded = record {
   sorted = sorted;
   each = λ account.
       no_more (changes_of account registers) (differing (rows_at account registers) (rows_at account registers))
       (bounded.each account) (differing_none (rows_at account registers));
+  left = λ account.
+      let reckoned : ℕ = reckoned_of account registers in
+      let most : ℕ = checkpoint_before (common (rows_at account registers) (rows_at account registers)) in
+      let less : min reckoned most ≤ reckoned = omega arith in less;
+  work = λ account. refl;
 }
+
+-- What holds of the page put in an account's place, and of all others before, holds of all then.
+at_each :
+    (P : ℕ → Option Page → Type 0) (account : ℕ) (page : Page) (old new : List (ℕ × Page))
+    → IsReplaced account page old new → P account (Some page) → ((a : ℕ) → P a (value_of a old))
+    → (a : ℕ) → P a (value_of a new)
+at_each P account page old new here own others a = by_test (a == account) refl (here.values a)
+  where
+    by_test :
+        (t : Bool) → (a == account) ≡ t → value_of a new ≡ (if t then Some page else value_of a old)
+        → P a (value_of a new)
+    by_test true is value =
+        subst (P a) (sym value) (subst (λ (n : ℕ). P n (Some page)) (sym (eqb-true a account is)) own)
+    by_test false is value = subst (P a) (sym value) (others a)
 
 -- The register of an account was changed as often as rows differ from those at first.
-abbrev CountedAt : List (ℕ × Rows) → ℕ → Option Rows → Type 0
-CountedAt first account register =
-    RisesBy (differing (rows_at account first) (rows_in register)) (changes_of account first) (changes_in register)
+abbrev CountedAt : List (ℕ × Page) → ℕ → Option Page → Type 0
+CountedAt first account page =
+    RisesBy (differing (rows_at account first) (rows_in page)) (changes_of account first) (changes_in page)
 
--- a register that differs by one row more in the place of an account's, with one change more
+-- Of the lots of an account those are left that stand before the last checkpoint in the common part.
+abbrev LeftAt : List (ℕ × Page) → ℕ → Option Page → Type 0
+LeftAt first account page =
+    AreLeft (rows_at account first) (reckoned_of account first) (rows_in page) (reckoned_in page)
+
+-- Nothing was reckoned for an account.
+abbrev WorkedAt : List (ℕ × Page) → ℕ → Option Page → Type 0
+WorkedAt first account page = work_in page ≡ work_of account first
+
+-- A page on which one row more differs from those at first, with one change more, in the place of another.
+record IsChangedOnce (first : List Entry) (was page : Page) : Type 0 where
+  rows : differing first page.rows ≡ differing first was.rows + 1
+  changes : page.changes ≡ min (was.changes + 1) (2 ^ 64 - 1)
+  left : (most : ℕ) → AreLeft first most was.rows was.reckoned → AreLeft first most page.rows page.reckoned
+  work : page.work ≡ was.work
+
 counts_once :
-    (account : ℕ) (register was : Rows) (first old new : List (ℕ × Rows)) → IsReplaced account register old new
-    → value_of account old ≡ Some was
-    → differing (rows_at account first) register.rows ≡ differing (rows_at account first) was.rows + 1
-    → register.changes ≡ min (was.changes + 1) (2 ^ 64 - 1) → CountsFrom first old → CountsFrom first new
-counts_once account register was first old new here there rows changes counts = record {
+    (account : ℕ) (page was : Page) (first old new : List (ℕ × Page)) → IsReplaced account page old new
+    → value_of account old ≡ Some was → IsChangedOnce (rows_at account first) was page
+    → CountsFrom first old → CountsFrom first new
+counts_once account page was first old new here there once counts = record {
   sorted = counts.sorted;
-  each = λ a. by_test a (a == account) refl (here.values a);
+  each = at_each (CountedAt first) account page old new here
+      (one_more (changes_of account first) was.changes page.changes
+      (differing (rows_at account first) was.rows) (differing (rows_at account first) page.rows)
+      (subst (CountedAt first account) there (counts.each account)) once.rows once.changes) counts.each;
+  left = at_each (LeftAt first) account page old new here
+      (once.left (reckoned_of account first) (subst (LeftAt first account) there (counts.left account))) counts.left;
+  work = at_each (WorkedAt first) account page old new here
+      (once.work ∙ subst (WorkedAt first account) there (counts.work account)) counts.work;
 }
-  where
-    own : CountedAt first account (Some register)
-    own =
-        let before : CountedAt first account (Some was) =
-        subst (CountedAt first account) there (counts.each account) in
-        one_more (changes_of account first) was.changes register.changes
-        (differing (rows_at account first) was.rows) (differing (rows_at account first) register.rows) before rows
-        changes
-
-    by_test :
-        (a : ℕ) (t : Bool) → (a == account) ≡ t
-        → value_of a new ≡ (if t then Some register else value_of a old) → CountedAt first a (value_of a new)
-    by_test a true is value =
-        subst (CountedAt first a) (sym value)
-        (subst (λ (n : ℕ). CountedAt first n (Some register)) (sym (eqb-true a account is)) own)
-    by_test a false is value = subst (CountedAt first a) (sym value) (counts.each a)
 
 there_found :
-    (account : ℕ) (key : RowKey) (was : Rows) (old : List (ℕ × Rows)) (o : Option Entry)
+    (account : ℕ) (key : RowKey) (was : Page) (old : List (ℕ × Page)) (o : Option Entry)
     → value_of account old ≡ Some was → row_at account key old ≡ o → find (has_key key) was.rows ≡ o
 there_found account key was old o there is =
-    sym (ap (λ (r : Option Rows). find (has_key key) (rows_in r)) there) ∙ is
+    sym (ap (λ (r : Option Page). find (has_key key) (rows_in r)) there) ∙ is
 
 pub counts_taken :
-    (account : ℕ) (row : Entry) (register was : Rows) (first old new : List (ℕ × Rows))
-    → IsReplaced account register old new → value_of account old ≡ Some was
+    (account : ℕ) (row : Entry) (page was : Page) (first old new : List (ℕ × Page))
+    → IsReplaced account page old new → value_of account old ≡ Some was
     → ((rows : List Entry) → IsSorted rows → find (has_key (key_of row)) rows ≡ Some row
     → find (has_key (key_of row)) was.rows ≡ Some row
-    → differing rows register.rows ≡ differing rows was.rows + 1)
-    → register.changes
+    → differing rows page.rows ≡ differing rows was.rows + 1)
+    → page.changes
     ≡ (if is_some (find (has_key (key_of row)) was.rows) then min (was.changes + 1) (2 ^ 64 - 1) else was.changes)
+    → ((rows : List Entry) → IsSorted rows → find (has_key (key_of row)) rows ≡ Some row
+    → find (has_key (key_of row)) was.rows ≡ Some row → (most : ℕ)
+    → AreLeft rows most was.rows was.reckoned → AreLeft rows most page.rows page.reckoned)
+    → page.work ≡ was.work
     → HasRow (Some (account, row)) first → HasRow (Some (account, row)) old → CountsFrom first old
     → CountsFrom first new
-counts_taken account row register was first old new here there differs changes has_first has_old counts =
+counts_taken account row page was first old new here there differs changes left work has_first has_old counts =
     let found = there_found account (key_of row) was old (Some row) there has_old in
-    counts_once account register was first old new here there
-    (differs (rows_at account first) (sorted_at account first counts.sorted) has_first found)
-    (changes ∙ ap (λ (o : Option Entry). if is_some o then min (was.changes + 1) (2 ^ 64 - 1) else was.changes) found)
+    let sorted = sorted_at account first counts.sorted in
+    counts_once account page was first old new here there
+    (record {
+      rows = differs (rows_at account first) sorted has_first found;
+      changes = changes
+          ∙ ap (λ (o : Option Entry). if is_some o then min (was.changes + 1) (2 ^ 64 - 1) else was.changes) found;
+      left = left (rows_at account first) sorted has_first found;
+      work = work;
+    })
     counts
 
 pub counts_put :
-    (account : ℕ) (row : Entry) (register was : Rows) (first old new : List (ℕ × Rows))
-    → IsReplaced account register old new → value_of account old ≡ Some was
+    (account : ℕ) (row : Entry) (page was : Page) (first old new : List (ℕ × Page))
+    → IsReplaced account page old new → value_of account old ≡ Some was
     → ((rows : List Entry) → has_row row rows ≡ false → find (has_key (key_of row)) was.rows ≡ None
-    → differing rows register.rows ≡ differing rows was.rows + 1)
-    → (find (has_key (key_of row)) was.rows ≡ None → register.changes ≡ min (was.changes + 1) (2 ^ 64 - 1))
+    → differing rows page.rows ≡ differing rows was.rows + 1)
+    → (find (has_key (key_of row)) was.rows ≡ None → page.changes ≡ min (was.changes + 1) (2 ^ 64 - 1))
+    → ((rows : List Entry) → has_row row rows ≡ false → find (has_key (key_of row)) was.rows ≡ None
+    → (most : ℕ) → AreLeft rows most was.rows was.reckoned → AreLeft rows most page.rows page.reckoned)
+    → page.work ≡ was.work
     → LacksRow (Some (account, row)) first → IsFree (Some (account, row)) old → CountsFrom first old
     → CountsFrom first new
-counts_put account row register was first old new here there differs changes lacks free counts =
+counts_put account row page was first old new here there differs changes left work lacks free counts =
     let none = there_found account (key_of row) was old None there free in
     let rows : List Entry = rows_at account first in
     let lacks_row = false_of (has_row row rows)
     (λ has. lacks (found_has row rows (sorted_at account first counts.sorted) has)) in
-    counts_once account register was first old new here there (differs rows lacks_row none) (changes none) counts
+    counts_once account page was first old new here there
+    (record {
+      rows = differs rows lacks_row none;
+      changes = changes none;
+      left = left rows lacks_row none;
+      work = work;
+    })
+    counts
 
 -- where no register is kept for the account, the row doesn't stand there
 pub none_there :
-    (account : ℕ) (row : Entry) (registers : List (ℕ × Rows)) → value_of account registers ≡ None
+    (account : ℕ) (row : Entry) (registers : List (ℕ × Page)) → value_of account registers ≡ None
     → HasRow (Some (account, row)) registers → ⊥
 none_there account row registers none has =
-    let nothing = ap (λ (r : Option Rows). find (has_key (key_of row)) (rows_in r)) none in
+    let nothing = ap (λ (r : Option Page). find (has_key (key_of row)) (rows_in r)) none in
     let both = sym nothing ∙ has in cc
 
 -- ---- the rows of one transaction
@@ -184,7 +230,7 @@ pick_is account key (Some at) row is = here (at.0 == account) (has_key key at.1)
 
 -- a row that one of two transactions has and the other hasn't stands in registers with the rows of the first,
 pub has_left :
-    (number place : ℕ) (t other : Option Txn) (row : Option (ℕ × Entry)) (registers : List (ℕ × Rows))
+    (number place : ℕ) (t other : Option Txn) (row : Option (ℕ × Entry)) (registers : List (ℕ × Page))
     → row ≡ left_at number t other place → HasRowsOf number t registers → HasRow row registers
 has_left number place t other None registers is holds = tt
 has_left number place t other (Some at) registers is holds =
@@ -196,7 +242,7 @@ has_left number place t other (Some at) registers is holds =
 
 -- and not in those with the rows of the other
 pub lacks_left :
-    (number place : ℕ) (t other : Option Txn) (row : Option (ℕ × Entry)) (registers : List (ℕ × Rows))
+    (number place : ℕ) (t other : Option Txn) (row : Option (ℕ × Entry)) (registers : List (ℕ × Page))
     → row ≡ left_at number t other place → HasRowsOf number other registers → LacksRow row registers
 lacks_left number place t other None registers is holds = tt
 lacks_left number place t other (Some at) registers is holds = λ there.
@@ -215,7 +261,7 @@ before_none account key number place t other is =
 
 -- it stands there still where those at the places before are taken out,
 pub has_left_before :
-    (number place : ℕ) (t other : Option Txn) (row : Option (ℕ × Entry)) (old now : List (ℕ × Rows))
+    (number place : ℕ) (t other : Option Txn) (row : Option (ℕ × Entry)) (old now : List (ℕ × Page))
     → row ≡ left_at number t other place → HasRowsOf number t old → AreTaken number t other place old now
     → HasRow row now
 has_left_before number place t other None old now is holds taken = tt
@@ -229,7 +275,7 @@ has_left_before number place t other (Some at) old now is holds taken =
 
 -- and its place is free still where those at the places before are put in
 pub free_left_before :
-    (number place : ℕ) (t other : Option Txn) (row : Option (ℕ × Entry)) (old now : List (ℕ × Rows))
+    (number place : ℕ) (t other : Option Txn) (row : Option (ℕ × Entry)) (old now : List (ℕ × Page))
     → row ≡ left_at number t other place → AreFree number t other old → ArePut number t other place old now
     → IsFree row now
 free_left_before number place t other None old now is free put = tt
@@ -263,7 +309,7 @@ freed_row account key (Some x) (Some y) some =
         let other = sym one ∙ same ∙ pair_itself y in cc)
 
 pub freed :
-    (number : ℕ) (old new : Option Txn) (before mid : List (ℕ × Rows)) → HasRowsOf number old before
+    (number : ℕ) (old new : Option Txn) (before mid : List (ℕ × Page)) → HasRowsOf number old before
     → AllTaken number old new before mid → AreFree number new old mid
 freed number old new before mid holds taken = record {
   rows = λ account key same some.
@@ -274,7 +320,7 @@ freed number old new before mid holds taken = record {
 
 -- the registers of some transactions have the rows of each under its number
 pub rows_held :
-    (number : ℕ) (t : Option Txn) (registers : List (ℕ × Rows)) (ts : List (ℕ × Txn)) → Holds registers ts
+    (number : ℕ) (t : Option Txn) (registers : List (ℕ × Page)) (ts : List (ℕ × Txn)) → Holds registers ts
     → value_of number ts ≡ t → HasRowsOf number t registers
 rows_held number t registers ts holds there = record {
   rows = λ account key same.
@@ -286,7 +332,7 @@ rows_held number t registers ts holds there = record {
 -- ---- leaves one after another
 -- registers on the way that follow the leaves of one part more are counted on
 pub on_way_counts :
-    (before : List (ℕ × Txn)) (first old new : List (ℕ × Rows)) (part others all : List Leaf) (last : Book)
+    (before : List (ℕ × Txn)) (first old new : List (ℕ × Page)) (part others all : List Leaf) (last : Book)
     → all ≡ part ++ others → IsOnWay before old all last → CountsOn before part old new → Holds first before
     → CountsFrom first old → CountsFrom first new
 on_way_counts before first old new part others all last is way follows there counts =
@@ -296,7 +342,7 @@ on_way_counts before first old new part others all last is way follows there cou
 
 -- ---- from registers of a book to those of another
 pub counts_kept :
-    (old new : List (ℕ × Rows)) (before after : Book) → Keeps old before → Keeps new after → CountsFrom old new
+    (old new : List (ℕ × Page)) (before after : Book) → Keeps old before → Keeps new after → CountsFrom old new
     → (account : ℕ)
     → RisesBy (differing (register_of account before.transactions) (register_of account after.transactions))
     (changes_of account old) (changes_of account new)
@@ -306,9 +352,20 @@ counts_kept old new before after kept_old kept_new counts account =
     (subst (λ (rows : List Entry). RisesBy (differing (rows_at account old) rows) (changes_of account old)
     (changes_of account new)) (kept_new.rows account) (counts.each account))
 
+pub left_kept :
+    (old new : List (ℕ × Page)) (before after : Book) → Keeps old before → Keeps new after → CountsFrom old new
+    → (account : ℕ)
+    → AreLeft (register_of account before.transactions) (reckoned_of account old)
+    (register_of account after.transactions) (reckoned_of account new)
+left_kept old new before after kept_old kept_new counts account =
+    subst (λ (rows : List Entry). AreLeft rows (reckoned_of account old) (register_of account after.transactions)
+    (reckoned_of account new)) (kept_old.rows account)
+    (subst (λ (rows : List Entry). AreLeft (rows_at account old) (reckoned_of account old) rows
+    (reckoned_of account new)) (kept_new.rows account) (counts.left account))
+
 -- ---- counts of 64 bits
 pub bounded_with :
-    (account : ℕ) (register : Rows) (old new : List (ℕ × Rows)) → new ≡ with_entry account register old
+    (account : ℕ) (register : Page) (old new : List (ℕ × Page)) → new ≡ with_entry account register old
     → register.changes < 2 ^ 64 → AreBounded old → AreBounded new
 bounded_with account register old new is less bounded = record {
   each = λ a.

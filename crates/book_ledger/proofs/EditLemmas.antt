@@ -7,7 +7,8 @@ use Rattle.std.proofs.lemmas.Bool.Decides.{nat_tests}
 use Rattle.book_commodity.specs.Table.{Rises, value_of}
 use Rattle.book_commodity.proofs.DrawnLemmas.{value_here}
 use Rattle.book_commodity.proofs.TableLemmas.{value_of_with, value_of_without, rises_with, rises_without}
-use Rattle.book_register.specs.Register.{Rows, has_key}
+use Rattle.book_register.specs.Register.{has_key}
+use Rattle.book_ledger.specs.Page.{Page}
 use Rattle.book_splits.specs.declared.transaction.Txn.{Txn}
 use Rattle.book_undo.specs.Book.{Book}
 use Rattle.book_undo.specs.Edit.{Key, Leaf, OfCurrency, OfPut, OfGone, deepest, depth, edited, key_at, key_of, leaves}
@@ -207,11 +208,11 @@ accounts_rise (OfGone kind.Binding n) b r = r
 accounts_rise (OfGone kind.Recon n) b r = r
 
 -- Each account has a register.
-abbrev pub AllThere : List (ℕ × Rows) → Book → Type 0
+abbrev pub AllThere : List (ℕ × Page) → Book → Type 0
 AllThere registers b = (a : ℕ) → is_some (value_of a b.accounts) ≡ true → is_there a registers ≡ true
 
 live_all :
-    (registers : List (ℕ × Rows)) (ls : List Leaf) (b : Book) → Rises b.accounts → AllThere registers b
+    (registers : List (ℕ × Page)) (ls : List Leaf) (b : Book) → Rises b.accounts → AllThere registers b
     → HasPut registers ls → AllThere registers (after_leaves ls b)
 live_all registers [] b r all has = all
 live_all registers (OfCurrency c ∷ ls) b r all has = live_all registers ls (after_leaf (OfCurrency c) b) r all has
@@ -259,7 +260,7 @@ live_all registers (OfGone k n ∷ ls) b r all has =
 
 -- ---- from registers that are kept to their rows, and back
 pub held_of_kept :
-    (registers : List (ℕ × Rows)) (b : Book) → Rises b.transactions → Keeps registers b
+    (registers : List (ℕ × Page)) (b : Book) → Rises b.transactions → Keeps registers b
     → Holds registers b.transactions
 held_of_kept registers b r kept = record {
   rows = λ account key.
@@ -267,7 +268,7 @@ held_of_kept registers b r kept = record {
 }
 
 pub kept_of_held :
-    (registers : List (ℕ × Rows)) (b : Book) → Rises b.transactions → AreSorted registers
+    (registers : List (ℕ × Page)) (b : Book) → Rises b.transactions → AreSorted registers
     → Holds registers b.transactions → AllThere registers b → Keeps registers b
 kept_of_held registers b r in_order holds all = record {
   rows = λ account.
@@ -285,7 +286,7 @@ edited_once b e r allowed =
 
 -- what was kept for a book is, once it followed the leaves of an allowed edit, kept for the edited book
 pub kept_edited :
-    (old new : List (ℕ × Rows)) (b : Book) (e : Edit) → Rises b.transactions → Rises b.accounts → IsAllowed b e
+    (old new : List (ℕ × Page)) (b : Book) (e : Edit) → Rises b.transactions → Rises b.accounts → IsAllowed b e
     → Keeps old b → HasPut old (leaves e) → AreSorted new
     → ((a : ℕ) → is_there a new ≡ is_there a old)
     → ((now : Book) → Rises now.transactions → ChangeOnce b.transactions (leaves e) now → Holds old now.transactions
@@ -332,7 +333,7 @@ once_parts before (OfGone k n ∷ xs) ys now once =
 
 -- registers on the way follow the leaves of one part more
 pub on_way_more :
-    (before : List (ℕ × Txn)) (old new : List (ℕ × Rows)) (part others all : List Leaf) (last : Book)
+    (before : List (ℕ × Txn)) (old new : List (ℕ × Page)) (part others all : List Leaf) (last : Book)
     → all ≡ part ++ others → IsOnWay before old all last
     → ((now : Book) → Rises now.transactions → ChangeOnce before part now → Holds old now.transactions
     → Holds new (after_leaves part now).transactions)
@@ -352,7 +353,7 @@ on_way_more before old new part others all last is way follows =
 
 -- and at the end hold the rows of the last book
 pub on_way_end :
-    (before : List (ℕ × Txn)) (registers : List (ℕ × Rows)) (last : Book) → IsOnWay before registers [] last
+    (before : List (ℕ × Txn)) (registers : List (ℕ × Page)) (last : Book) → IsOnWay before registers [] last
     → Holds registers last.transactions
 on_way_end before registers last way =
     subst (λ (b : Book). Holds registers b.transactions) way.leads way.holds

@@ -1,44 +1,52 @@
 -- Registers with the same rows and no less room.
 use Rattle.std.proofs.Common.{◌≡◌, ℕ, suc, ◌+◌, ◌<◌, ◌≤◌, ◌==◌, nat_lt, Bool, true, false, if◌then◌else◌, List, [], ◌∷◌}
-use Rattle.std.proofs.Common.{Some, None, is_some, length, option_map, slice_get}
+use Rattle.std.proofs.Common.{Option, Some, None, is_some, length, option_map, slice_get}
 use Rattle.std.proofs.Common.{refl, sym, ap, ◌∙◌, arith}
 use Rattle.std.proofs.lemmas.Bool.{eqb-true}
 use Rattle.std.proofs.lemmas.Bool.Decides.{nat_tests}
 use Rattle.book_accounts.specs.declared.account.Account.{Account}
 use Rattle.book_commodity.specs.Table.{value_of, with_entry}
 use Rattle.book_commodity.proofs.TableLemmas.{value_of_with}
-use Rattle.book_register.specs.Register.{Rows}
+use Rattle.book_ledger.specs.Page.{Page}
 use Rattle.book_undo.specs.Book.{Book}
 use Rattle.book_ledger.specs.Change.{IsReplaced, is_there}
-use Rattle.book_ledger.specs.Changes.{changes_in, changes_of}
+use Rattle.book_ledger.specs.Changes.{changes_in}
 use Rattle.book_ledger.specs.Ledger.{Keeps, rows_at, rows_in}
+use Rattle.book_ledger.specs.Lots.{reckoned_in, work_in}
 use Rattle.book_ledger.specs.Opening.{HasAll}
 use Rattle.book_ledger.specs.Room.{Extends, room_in, room_of}
 
-pub extends_itself : (registers : List (ℕ × Rows)) → Extends registers registers
+pub extends_itself : (registers : List (ℕ × Page)) → Extends registers registers
 extends_itself registers = record {
   rows = λ account. refl;
   kept = λ account there. there;
   changes = λ account. refl;
+  reckoned = λ account. refl;
+  work = λ account. refl;
   room = λ account. omega arith;
 }
 
-pub extends_by : (old mid new : List (ℕ × Rows)) → Extends old mid → Extends mid new → Extends old new
+pub extends_by : (old mid new : List (ℕ × Page)) → Extends old mid → Extends mid new → Extends old new
 extends_by old mid new one two = record {
   rows = λ account. two.rows account ∙ one.rows account;
   kept = λ account there. two.kept account (one.kept account there);
   changes = λ account. two.changes account ∙ one.changes account;
+  reckoned = λ account. two.reckoned account ∙ one.reckoned account;
+  work = λ account. two.work account ∙ one.work account;
   room = λ account. omega (arith, one.room account, two.room account);
 }
 
 -- with an empty one for an account that had none
 pub extends_begun :
-    (account : ℕ) (empty : Rows) (old new : List (ℕ × Rows)) → new ≡ with_entry account empty old
-    → value_of account old ≡ None → empty.rows ≡ [] → empty.changes ≡ 0 → Extends old new
-extends_begun account empty old new is none no_rows no_changes = record {
+    (account : ℕ) (empty : Page) (old new : List (ℕ × Page)) → new ≡ with_entry account empty old
+    → value_of account old ≡ None → empty.rows ≡ [] → empty.changes ≡ 0 → empty.reckoned ≡ 0 → empty.work ≡ 0
+    → Extends old new
+extends_begun account empty old new is none no_rows no_changes no_reckoned no_work = record {
   rows = λ a. value a ∙ rows a (a == account) refl;
   kept = λ a there. ap is_some (found a) ∙ kept a (a == account) there;
-  changes = λ a. ap changes_in (found a) ∙ changes a (a == account) refl;
+  changes = λ a. ap changes_in (found a) ∙ count changes_in refl no_changes a (a == account) refl;
+  reckoned = λ a. ap reckoned_in (found a) ∙ count reckoned_in refl no_reckoned a (a == account) refl;
+  work = λ a. ap work_in (found a) ∙ count work_in refl no_work a (a == account) refl;
   room = λ a. let here = ap room_in (found a) in let less = room a (a == account) refl in omega (arith, here, less);
 }
   where
@@ -57,12 +65,12 @@ extends_begun account empty old new is none no_rows no_changes = record {
     kept a true there = refl
     kept a false there = there
 
-    changes :
-        (a : ℕ) (t : Bool) → (a == account) ≡ t
-        → changes_in (if t then Some empty else value_of a old) ≡ changes_of a old
-    changes a true same =
-        no_changes ∙ sym (ap changes_in (ap (λ (n : ℕ). value_of n old) (eqb-true a account same) ∙ none))
-    changes a false same = refl
+    count :
+        (count_in : Option Page → ℕ) → count_in None ≡ 0 → count_in (Some empty) ≡ 0 → (a : ℕ) (t : Bool)
+        → (a == account) ≡ t → count_in (if t then Some empty else value_of a old) ≡ count_in (value_of a old)
+    count count_in zero here a true same =
+        here ∙ sym (ap count_in (ap (λ (n : ℕ). value_of n old) (eqb-true a account same) ∙ none) ∙ zero)
+    count count_in zero here a false same = refl
 
     room : (a : ℕ) (t : Bool) → (a == account) ≡ t → room_of a old ≤ room_in (if t then Some empty else value_of a old)
     room a true same =
@@ -72,13 +80,15 @@ extends_begun account empty old new is none no_rows no_changes = record {
 
 -- with one of the same rows, as many changes and no less room in the place of an account's
 pub extends_replaced :
-    (account : ℕ) (register was : Rows) (old new : List (ℕ × Rows)) → IsReplaced account register old new
+    (account : ℕ) (register was : Page) (old new : List (ℕ × Page)) → IsReplaced account register old new
     → value_of account old ≡ Some was → register.rows ≡ was.rows → register.changes ≡ was.changes
-    → was.spare ≤ register.spare → Extends old new
-extends_replaced account register was old new here there same count less = record {
+    → register.reckoned ≡ was.reckoned → register.work ≡ was.work → was.spare ≤ register.spare → Extends old new
+extends_replaced account register was old new here there same changes reckoned work less = record {
   rows = λ a. ap rows_in (here.values a) ∙ rows a (a == account) refl;
   kept = λ a is. ap is_some (here.values a) ∙ kept a (a == account) is;
-  changes = λ a. ap changes_in (here.values a) ∙ changes a (a == account) refl;
+  changes = λ a. ap changes_in (here.values a) ∙ count changes_in changes a (a == account) refl;
+  reckoned = λ a. ap reckoned_in (here.values a) ∙ count reckoned_in reckoned a (a == account) refl;
+  work = λ a. ap work_in (here.values a) ∙ count work_in work a (a == account) refl;
   room = λ a.
       let found = ap room_in (here.values a) in let more = room a (a == account) refl in omega (arith, found, more);
 }
@@ -94,12 +104,12 @@ extends_replaced account register was old new here there same count less = recor
     kept a true is = refl
     kept a false is = is
 
-    changes :
-        (a : ℕ) (t : Bool) → (a == account) ≡ t
-        → changes_in (if t then Some register else value_of a old) ≡ changes_of a old
-    changes a true is =
-        count ∙ sym (ap changes_in (ap (λ (n : ℕ). value_of n old) (eqb-true a account is) ∙ there))
-    changes a false is = refl
+    count :
+        (count_in : Option Page → ℕ) → count_in (Some register) ≡ count_in (Some was) → (a : ℕ) (t : Bool)
+        → (a == account) ≡ t → count_in (if t then Some register else value_of a old) ≡ count_in (value_of a old)
+    count count_in stays a true is =
+        stays ∙ sym (ap count_in (ap (λ (n : ℕ). value_of n old) (eqb-true a account is) ∙ there))
+    count count_in stays a false is = refl
 
     room :
         (a : ℕ) (t : Bool) → (a == account) ≡ t
@@ -110,14 +120,14 @@ extends_replaced account register was old new here there same count less = recor
     room a false is = omega arith
 
 -- what is kept for a book still is
-pub kept_extended : (old new : List (ℕ × Rows)) (b : Book) → Extends old new → Keeps old b → Keeps new b
+pub kept_extended : (old new : List (ℕ × Page)) (b : Book) → Extends old new → Keeps old b → Keeps new b
 kept_extended old new b extends kept = record {
   rows = λ account. extends.rows account ∙ kept.rows account;
   live = λ account there. extends.kept account (kept.live account there);
 }
 
 pub begun_there :
-    (account : ℕ) (empty : Rows) (old new : List (ℕ × Rows)) → new ≡ with_entry account empty old
+    (account : ℕ) (empty : Page) (old new : List (ℕ × Page)) → new ≡ with_entry account empty old
     → is_there account new ≡ true
 begun_there account empty old new is =
     let itself : (account == account) ≡ true = grind (arith, nat_tests) in
@@ -139,16 +149,16 @@ place_of {T} n (e ∷ es) there =
     ] refl there
 
 -- The accounts at the places before one have registers.
-pub record AreBegun (registers : List (ℕ × Rows)) (accounts : List (ℕ × Account)) (place : ℕ) : Type 0 where
+pub record AreBegun (registers : List (ℕ × Page)) (accounts : List (ℕ × Account)) (place : ℕ) : Type 0 where
   pub each :
       (k n : ℕ) → k < place → option_map (λ (e : ℕ × Account). e.0) (slice_get accounts k) ≡ Some n
       → is_there n registers ≡ true
 
-pub begun_none : (registers : List (ℕ × Rows)) (accounts : List (ℕ × Account)) → AreBegun registers accounts 0
+pub begun_none : (registers : List (ℕ × Page)) (accounts : List (ℕ × Account)) → AreBegun registers accounts 0
 begun_none registers accounts = record { each = λ k n less is. absurd (omega (arith, less)) }
 
 pub begun_more :
-    (old new : List (ℕ × Rows)) (accounts : List (ℕ × Account)) (place number : ℕ) → AreBegun old accounts place
+    (old new : List (ℕ × Page)) (accounts : List (ℕ × Account)) (place number : ℕ) → AreBegun old accounts place
     → Extends old new → option_map (λ (e : ℕ × Account). e.0) (slice_get accounts place) ≡ Some number
     → is_there number new ≡ true → AreBegun new accounts (place + 1)
 begun_more old new accounts place number before extends is there = record {
@@ -168,7 +178,7 @@ begun_more old new accounts place number before extends is there = record {
         let number_is : number ≡ n = cc in ap (λ (m : ℕ). is_there m new) (sym number_is) ∙ there
 
 pub begun_all :
-    (registers : List (ℕ × Rows)) (accounts : List (ℕ × Account)) (place : ℕ) → length accounts ≤ place
+    (registers : List (ℕ × Page)) (accounts : List (ℕ × Account)) (place : ℕ) → length accounts ≤ place
     → AreBegun registers accounts place → HasAll registers accounts
 begun_all registers accounts place end begun = record {
   each = λ account there.

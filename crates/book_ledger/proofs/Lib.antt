@@ -1,4 +1,5 @@
 pub mod ChangeLemmas
+pub mod CommonLemmas
 pub mod CountLemmas
 pub mod CountsLemmas
 pub mod DifferenceLemmas

@@ -9,7 +9,8 @@ use Rattle.std.proofs.lemmas.Bool.Decides.{nat_tests}
 use Rattle.std.proofs.lemmas.List.Sums.{sum_by-cons}
 use Rattle.std.proofs.lemmas.List.Sorted.{sum_by-IsPermutation}
 use Rattle.book_commodity.specs.Table.{value_of}
-use Rattle.book_register.specs.Register.{RowKey, Rows, has_key}
+use Rattle.book_register.specs.Register.{RowKey, has_key}
+use Rattle.book_ledger.specs.Page.{Page}
 use Rattle.book_register.specs.declared.entry.Entry.{Entry}
 use Rattle.book_splits.specs.declared.transaction.Txn.{Txn}
 use Rattle.book_ledger.specs.Change.{AllPut, ArePut, Holds, left_of, pick, placed, row_at, row_in}
@@ -21,7 +22,7 @@ use Rattle.book_ledger.proofs.FoundLemmas.{or_none}
 
 -- ---- rows that are put in after room was made
 pub put_extended :
-    (number place : ℕ) (t other : Option Txn) (old mid new : List (ℕ × Rows)) → ArePut number t other place old mid
+    (number place : ℕ) (t other : Option Txn) (old mid new : List (ℕ × Page)) → ArePut number t other place old mid
     → Extends mid new → ArePut number t other place old new
 put_extended number place t other old mid new put extends = record {
   rows = λ account key. ap (find (has_key key)) (extends.rows account) ∙ put.rows account key;
@@ -96,12 +97,12 @@ any_more p (y ∷ ys) x =
       | false ↦ any_more p ys x
     ]
 
-pub added_none : (ts : List (ℕ × Txn)) (registers : List (ℕ × Rows)) → AreAdded ts [] registers registers
+pub added_none : (ts : List (ℕ × Txn)) (registers : List (ℕ × Page)) → AreAdded ts [] registers registers
 added_none ts registers = record { rows = λ account key. refl }
 
 pub added_more :
     (ts : List (ℕ × Txn)) (order : List (ℤ × ℕ)) (entry : ℤ × ℕ) (all : List (ℤ × ℕ))
-    (old mid new : List (ℕ × Rows)) → order ++ entry ∷ [] ≡ all → AreAdded ts order old mid
+    (old mid new : List (ℕ × Page)) → order ++ entry ∷ [] ≡ all → AreAdded ts order old mid
     → AllPut entry.1 (value_of entry.1 ts) None mid new → AreAdded ts all old new
 added_more ts order entry all old mid new is added put = record {
   rows = λ account key.
@@ -143,7 +144,7 @@ added_more ts order entry all old mid new is added put = record {
 
 -- ---- the rows of all
 pub held_added :
-    (ts : List (ℕ × Txn)) (order : List (ℤ × ℕ)) (old new : List (ℕ × Rows)) → NamesAll order ts
+    (ts : List (ℕ × Txn)) (order : List (ℤ × ℕ)) (old new : List (ℕ × Page)) → NamesAll order ts
     → ((account : ℕ) → rows_at account old ≡ []) → AreAdded ts order old new → Holds new ts
 held_added ts order old new names none added = record {
   rows = λ account key.

@@ -10,7 +10,8 @@ use Rattle.std.proofs.lemmas.Bool.{eqb-true}
 use Rattle.std.proofs.lemmas.Bool.Decides.{nat_tests}
 use Rattle.book_commodity.specs.Table.{Rises, value_of}
 use Rattle.book_commodity.proofs.TableLemmas.{above_value}
-use Rattle.book_register.specs.Register.{IsSorted, RowKey, Rows, has_key, key_of}
+use Rattle.book_register.specs.Register.{IsSorted, RowKey, has_key, key_of}
+use Rattle.book_ledger.specs.Page.{Page}
 use Rattle.book_register.specs.Register as rows
 use Rattle.book_register.specs.declared.entry.Entry.{Entry}
 use Rattle.book_splits.specs.Balance.{balance, quantity_on, splits_of, total}
@@ -191,23 +192,23 @@ balance_of_register account ts = balance_sorted (rows_on account ts) ∙ balance
 
 -- so the sum of the rows that are kept for an account of a book is its balance there
 pub kept_balance :
-    (registers : List (ℕ × Rows)) (b : Book) (account : ℕ) → Keeps registers b
+    (registers : List (ℕ × Page)) (b : Book) (account : ℕ) → Keeps registers b
     → rows.balance (rows_at account registers) ≡ balance b.transactions account
 kept_balance registers b account kept =
     ap rows.balance (kept.rows account) ∙ balance_of_register account b.transactions
 
 -- the register that is kept for an account of the book is that account's, and there is one
 pub kept_live :
-    (registers : List (ℕ × Rows)) (b : Book) (account : ℕ) → Keeps registers b
+    (registers : List (ℕ × Page)) (b : Book) (account : ℕ) → Keeps registers b
     → is_some (value_of account b.accounts) ≡ true
-    → option_map (λ (r : Rows). r.rows) (value_of account registers) ≡ live_register b account
+    → option_map (λ (r : Page). r.rows) (value_of account registers) ≡ live_register b account
 kept_live registers b account kept live =
     here (value_of account registers) (kept.live account live) (kept.rows account)
     ∙ sym (ap (λ (t : Bool). if t then Some (register_of account b.transactions) else None) live)
   where
     here :
-        (o : Option Rows) → is_some o ≡ true → rows_in o ≡ register_of account b.transactions
-        → option_map (λ (r : Rows). r.rows) o ≡ Some (register_of account b.transactions)
+        (o : Option Page) → is_some o ≡ true → rows_in o ≡ register_of account b.transactions
+        → option_map (λ (r : Page). r.rows) o ≡ Some (register_of account b.transactions)
     here None there same = absurd cc
     here (Some r) there same = ap (λ (l : List Entry). Some l) same
 

@@ -6,7 +6,7 @@ use Rattle.std.proofs.Common.{subst, arith}
 use Rattle.std.proofs.lemmas.Bool.Decides.{nat_tests}
 use Rattle.std.proofs.lemmas.List.Sums.{sum_by-cons}
 use Rattle.book_commodity.proofs.ListLemmas.{drop_at}
-use Rattle.book_register.specs.Register.{Rows}
+use Rattle.book_ledger.specs.Page.{Page}
 use Rattle.book_register.specs.declared.entry.Entry.{Entry}
 use Rattle.book_splits.specs.declared.split.Split.{Split}
 use Rattle.book_splits.specs.declared.transaction.Txn.{Txn}
@@ -27,7 +27,7 @@ left_one account at (Some other) =
     ]
 
 left_room :
-    (registers : List (ℕ × Rows)) (at : ℕ × Entry) (other : Option (ℕ × Entry)) → 1 ≤ room_of at.0 registers
+    (registers : List (ℕ × Page)) (at : ℕ × Entry) (other : Option (ℕ × Entry)) → 1 ≤ room_of at.0 registers
     → HasRoomForRow (left_of (Some at) other) registers
 left_room registers at None room = room
 left_room registers at (Some other) room =
@@ -70,7 +70,7 @@ one_less account number place t other row is lt =
 
 -- and there is room for it
 pub room_for_row :
-    (number place : ℕ) (t : Txn) (other : Option Txn) (row : Option (ℕ × Entry)) (registers : List (ℕ × Rows))
+    (number place : ℕ) (t : Txn) (other : Option Txn) (row : Option (ℕ × Entry)) (registers : List (ℕ × Page))
     → row ≡ left_at number (Some t) other place → place < length t.splits
     → ((account : ℕ) → splits_on account (drop place t.splits) ≤ room_of account registers)
     → HasRoomForRow row registers

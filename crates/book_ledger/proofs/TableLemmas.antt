@@ -5,7 +5,8 @@ use Rattle.std.specs.Option.{option_or}
 use Rattle.std.proofs.lemmas.Bool.Decides.{nat_tests}
 use Rattle.book_commodity.specs.Table.{value_of, with_entry}
 use Rattle.book_commodity.proofs.TableLemmas.{value_of_with}
-use Rattle.book_register.specs.Register.{Rows, has_key}
+use Rattle.book_register.specs.Register.{has_key}
+use Rattle.book_ledger.specs.Page.{Page}
 use Rattle.book_register.specs.declared.entry.Entry.{Entry}
 use Rattle.book_register.specs.Register.{RowKey}
 use Rattle.book_ledger.specs.Change.{IsBeside, IsPut, IsReplaced, IsTaken, cut, is_there, row_at}
@@ -14,7 +15,7 @@ use Rattle.book_ledger.specs.Room.{one_on, room_in, room_of}
 
 -- a register put in place of an account's
 pub replaced_by :
-    (account : ℕ) (register : Rows) (old mid new : List (ℕ × Rows)) → IsBeside account old mid
+    (account : ℕ) (register : Page) (old mid new : List (ℕ × Page)) → IsBeside account old mid
     → IsReplaced account register mid new → IsReplaced account register old new
 replaced_by account register old mid new beside here = record {
   values = λ other. by_test other (other == account) refl;
@@ -30,7 +31,7 @@ replaced_by account register old mid new beside here = record {
         ∙ beside.values other is
 
 pub with_replaced :
-    (account : ℕ) (register : Rows) (old new : List (ℕ × Rows)) → new ≡ with_entry account register old
+    (account : ℕ) (register : Page) (old new : List (ℕ × Page)) → new ≡ with_entry account register old
     → IsReplaced account register old new
 with_replaced account register old new is = record {
   values = λ other. ap (value_of other) is ∙ value_of_with other account register old;
@@ -38,7 +39,7 @@ with_replaced account register old new is = record {
 
 -- an empty one in the place of an account's, which is kept
 pub lent_beside :
-    (account : ℕ) (empty : Rows) (old new : List (ℕ × Rows)) → new ≡ with_entry account empty old
+    (account : ℕ) (empty : Page) (old new : List (ℕ × Page)) → new ≡ with_entry account empty old
     → is_there account old ≡ true → IsBeside account old new
 lent_beside account empty old new is there = record {
   values = λ other apart.
@@ -55,12 +56,12 @@ swapped_test a b = grind (arith, nat_tests)
 
 -- so the rows of that account are those of the register, and all others stay
 row_replaced :
-    (account : ℕ) (register was : Rows) (old new : List (ℕ × Rows)) (a : ℕ) (key : RowKey)
+    (account : ℕ) (register was : Page) (old new : List (ℕ × Page)) (a : ℕ) (key : RowKey)
     → IsReplaced account register old new → value_of account old ≡ Some was → (found : Bool → Option Entry)
     → find (has_key key) register.rows ≡ found true → find (has_key key) was.rows ≡ found false
     → row_at a key new ≡ (if account == a then found true else row_at a key old)
 row_replaced account register was old new a key here there found one two =
-    ap (λ (o : Option Rows). find (has_key key) (rows_in o)) (here.values a) ∙ by_test (a == account) refl
+    ap (λ (o : Option Page). find (has_key key) (rows_in o)) (here.values a) ∙ by_test (a == account) refl
     ∙ ap (λ (t : Bool). if t then found true else row_at a key old) (swapped_test a account)
   where
     by_test :
@@ -71,17 +72,17 @@ row_replaced account register was old new a key here there found one two =
     by_test false is = refl
 
 row_there :
-    (account a : ℕ) (was : Rows) (old : List (ℕ × Rows)) (key : RowKey) → value_of account old ≡ Some was
+    (account a : ℕ) (was : Page) (old : List (ℕ × Page)) (key : RowKey) → value_of account old ≡ Some was
     → (account == a) ≡ true → row_at a key old ≡ find (has_key key) was.rows
 row_there account a was old key there is =
     ap (λ (n : ℕ). find (has_key key) (rows_in (value_of n old))) (sym same)
-    ∙ ap (λ (o : Option Rows). find (has_key key) (rows_in o)) there
+    ∙ ap (λ (o : Option Page). find (has_key key) (rows_in o)) there
   where
     same : account ≡ a
     same = grind (arith, nat_tests, is)
 
 pub taken_row :
-    (account : ℕ) (row : Entry) (register was : Rows) (old new : List (ℕ × Rows))
+    (account : ℕ) (row : Entry) (register was : Page) (old new : List (ℕ × Page))
     → IsReplaced account register old new → value_of account old ≡ Some was
     → ((key : RowKey) → find (has_key key) register.rows
     ≡ (if has_key key row then None else find (has_key key) was.rows))
@@ -105,7 +106,7 @@ taken_row account row register was old new here there found = record {
     by_tests a key false t one two = refl
 
 pub put_row :
-    (account : ℕ) (row : Entry) (register was : Rows) (old new : List (ℕ × Rows))
+    (account : ℕ) (row : Entry) (register was : Page) (old new : List (ℕ × Page))
     → IsReplaced account register old new → value_of account old ≡ Some was
     → ((key : RowKey) → find (has_key key) register.rows
     ≡ (if has_key key row then Some row else find (has_key key) was.rows))
@@ -130,7 +131,7 @@ put_row account row register was old new here there found = record {
 
 -- where no register is kept for the account, there is no row to take
 pub none_to_take :
-    (account : ℕ) (row : Entry) (registers : List (ℕ × Rows)) → value_of account registers ≡ None
+    (account : ℕ) (row : Entry) (registers : List (ℕ × Page)) → value_of account registers ≡ None
     → IsTaken (Some (account, row)) registers registers
 none_to_take account row registers none = record { rows = λ a key. by_test a key (account == a) (has_key key row) refl }
   where
@@ -138,21 +139,21 @@ none_to_take account row registers none = record { rows = λ a key. by_test a ke
         (a : ℕ) (key : RowKey) (s t : Bool) → (account == a) ≡ s
         → row_at a key registers ≡ cut (if s && t then Some row else None) (row_at a key registers)
     by_test a key true true is =
-        ap (λ (o : Option Rows). find (has_key key) (rows_in o))
+        ap (λ (o : Option Page). find (has_key key) (rows_in o))
         (let same : account ≡ a = grind (arith, nat_tests, is) in
         ap (λ (n : ℕ). value_of n registers) (sym same) ∙ none)
     by_test a key true false is = refl
     by_test a key false t is = refl
 
-pub none_taken_row : (registers : List (ℕ × Rows)) → IsTaken None registers registers
+pub none_taken_row : (registers : List (ℕ × Page)) → IsTaken None registers registers
 none_taken_row registers = record { rows = λ a key. refl }
 
-pub none_put_row : (registers : List (ℕ × Rows)) → IsPut None registers registers
+pub none_put_row : (registers : List (ℕ × Page)) → IsPut None registers registers
 none_put_row registers = record { rows = λ a key. refl }
 
 -- the same registers are kept
 pub there_replaced :
-    (account : ℕ) (register was : Rows) (old new : List (ℕ × Rows)) → IsReplaced account register old new
+    (account : ℕ) (register was : Page) (old new : List (ℕ × Page)) → IsReplaced account register old new
     → value_of account old ≡ Some was → (a : ℕ) → is_there a new ≡ is_there a old
 there_replaced account register was old new here there a =
     ap is_some (here.values a) ∙ by_test (a == account) refl
@@ -166,7 +167,7 @@ there_replaced account register was old new here there a =
 
 -- and their room is what it was, but for that register's
 pub room_replaced :
-    (account : ℕ) (register was : Rows) (old new : List (ℕ × Rows)) (row : Entry)
+    (account : ℕ) (register was : Page) (old new : List (ℕ × Page)) (row : Entry)
     → IsReplaced account register old new → value_of account old ≡ Some was → was.spare ≤ register.spare + 1
     → (a : ℕ) → room_of a old ≤ room_of a new + one_on a (Some (account, row))
 room_replaced account register was old new row here there less a = by_test (a == account) refl
@@ -185,7 +186,7 @@ room_replaced account register was old new row here there less a = by_test (a ==
         omega (arith, after)
 
 pub room_kept :
-    (account : ℕ) (register was : Rows) (old new : List (ℕ × Rows)) → IsReplaced account register old new
+    (account : ℕ) (register was : Page) (old new : List (ℕ × Page)) → IsReplaced account register old new
     → value_of account old ≡ Some was → was.spare ≤ register.spare → (a : ℕ) → room_of a old ≤ room_of a new
 room_kept account register was old new here there less a = by_test (a == account) refl
   where

@@ -4,7 +4,8 @@ use Rattle.std.specs.Prelude.{Option, Some, None, is_some, option_map, find, sli
 use Rattle.std.specs.Option.{option_or}
 use Rattle.std.specs.Ordering.{int_eq}
 use Rattle.book_commodity.specs.Table.{value_of}
-use Rattle.book_register.specs.Register.{Rows, has_key, key_of}
+use Rattle.book_register.specs.Register.{has_key, key_of}
+use Rattle.book_ledger.specs.Page.{Page}
 use Rattle.book_register.specs.declared.entry.Entry.{Entry}
 use Rattle.book_register.specs.declared.entry.Mark2.{Mark2}
 use Rattle.book_register.specs.declared.entry.Mark2.TheVariants.{Plain, Cleared, Reconciled}
@@ -13,7 +14,7 @@ use Rattle.book_splits.specs.declared.transaction.Txn.{Txn}
 use Rattle.book_ledger.specs.Ledger.{rows_at, row_of}
 
 -- The row at a key in the register of an account, if there is one.
-abbrev pub row_at : ℕ → RowKey → List (ℕ × Rows) → Option Entry
+abbrev pub row_at : ℕ → RowKey → List (ℕ × Page) → Option Entry
 row_at account key registers = find (has_key key) (rows_at account registers)
 
 -- Whether something is kept for an account, as its register.
@@ -75,35 +76,35 @@ row_in account key transactions =
     pick account key (placed key.txn (value_of key.txn transactions) key.place)
 
 -- The registers have, at each key, the row of the split there, and no other.
-pub record Holds (registers : List (ℕ × Rows)) (transactions : List (ℕ × Txn)) : Type 0 where
+pub record Holds (registers : List (ℕ × Page)) (transactions : List (ℕ × Txn)) : Type 0 where
   pub rows : (account : ℕ) (key : RowKey) → row_at account key registers ≡ row_in account key transactions
 
 -- A row is taken out of the registers, if one is given.
-pub record IsTaken (row : Option (ℕ × Entry)) (old new : List (ℕ × Rows)) : Type 0 where
+pub record IsTaken (row : Option (ℕ × Entry)) (old new : List (ℕ × Page)) : Type 0 where
   pub rows : (account : ℕ) (key : RowKey) → row_at account key new ≡ cut (pick account key row) (row_at account key old)
 
 -- A row is put into the registers, if one is given, instead of one at its key.
-pub record IsPut (row : Option (ℕ × Entry)) (old new : List (ℕ × Rows)) : Type 0 where
+pub record IsPut (row : Option (ℕ × Entry)) (old new : List (ℕ × Page)) : Type 0 where
   pub rows :
       (account : ℕ) (key : RowKey)
       → row_at account key new ≡ option_or (pick account key row) (row_at account key old)
 
 -- The rows that one of two transactions has and the other hasn't are taken out, those at the places before one.
-pub record AreTaken (number : ℕ) (transaction other : Option Txn) (place : ℕ) (old new : List (ℕ × Rows)) : Type 0 where
+pub record AreTaken (number : ℕ) (transaction other : Option Txn) (place : ℕ) (old new : List (ℕ × Page)) : Type 0 where
   pub rows :
       (account : ℕ) (key : RowKey)
       → row_at account key new
       ≡ cut (left_before account key number transaction other place) (row_at account key old)
 
 -- The rows that one of two transactions has and the other hasn't are put in, those at the places before one.
-pub record ArePut (number : ℕ) (transaction other : Option Txn) (place : ℕ) (old new : List (ℕ × Rows)) : Type 0 where
+pub record ArePut (number : ℕ) (transaction other : Option Txn) (place : ℕ) (old new : List (ℕ × Page)) : Type 0 where
   pub rows :
       (account : ℕ) (key : RowKey)
       → row_at account key new
       ≡ option_or (left_before account key number transaction other place) (row_at account key old)
 
 -- Registers in which a transaction has its rows have those of another in their place, and all others as before.
-pub record IsChanged (number : ℕ) (old new : Option Txn) (before after : List (ℕ × Rows)) : Type 0 where
+pub record IsChanged (number : ℕ) (old new : Option Txn) (before after : List (ℕ × Page)) : Type 0 where
   pub own :
       (account : ℕ) (key : RowKey) → key.txn ≡ number
       → row_at account key before ≡ pick account key (placed number old key.place)
@@ -113,26 +114,26 @@ pub record IsChanged (number : ℕ) (old new : Option Txn) (before after : List 
       → row_at account key after ≡ row_at account key before
 
 -- The rows that one of two transactions has and the other hasn't are all taken out.
-pub record AllTaken (number : ℕ) (transaction other : Option Txn) (old new : List (ℕ × Rows)) : Type 0 where
+pub record AllTaken (number : ℕ) (transaction other : Option Txn) (old new : List (ℕ × Page)) : Type 0 where
   pub rows :
       (account : ℕ) (key : RowKey)
       → row_at account key new
       ≡ cut (pick account key (left_at number transaction other key.place)) (row_at account key old)
 
 -- The rows that one of two transactions has and the other hasn't are all put in.
-pub record AllPut (number : ℕ) (transaction other : Option Txn) (old new : List (ℕ × Rows)) : Type 0 where
+pub record AllPut (number : ℕ) (transaction other : Option Txn) (old new : List (ℕ × Page)) : Type 0 where
   pub rows :
       (account : ℕ) (key : RowKey)
       → row_at account key new
       ≡ option_or (pick account key (left_at number transaction other key.place)) (row_at account key old)
 
 -- A register stands in the place of an account's.
-pub record IsReplaced (account : ℕ) (register : Rows) (old new : List (ℕ × Rows)) : Type 0 where
+pub record IsReplaced (account : ℕ) (register : Page) (old new : List (ℕ × Page)) : Type 0 where
   pub values :
       (other : ℕ)
       → value_of other new ≡ (if other == account then Some register else value_of other old)
 
 -- The same registers are kept, but perhaps that of an account.
-pub record IsBeside (account : ℕ) (old new : List (ℕ × Rows)) : Type 0 where
+pub record IsBeside (account : ℕ) (old new : List (ℕ × Page)) : Type 0 where
   pub values : (other : ℕ) → (other == account) ≡ false → value_of other new ≡ value_of other old
   pub there : is_there account new ≡ is_there account old

@@ -3,7 +3,8 @@
 use Rattle.std.specs.Prelude.{◌≡◌, ℕ, ◌+◌, ◌^◌, ◌≤◌, ◌==◌, true, if◌then◌else◌, length, List, [], ◌∷◌, ◌++◌}
 use Rattle.std.specs.Prelude.{Option, Some, None, is_some}
 use Rattle.book_commodity.specs.Table.{value_of}
-use Rattle.book_register.specs.Register.{Rows, key_of, precedes}
+use Rattle.book_register.specs.Register.{key_of, precedes}
+use Rattle.book_ledger.specs.Page.{Page}
 use Rattle.book_register.specs.declared.entry.Entry.{Entry}
 use Rattle.book_register.specs.declared.entry.Mark2.{Mark2}
 use Rattle.book_register.specs.declared.entry.Mark2.TheVariants as kept
@@ -61,17 +62,17 @@ abbrev pub register_of : ℕ → List (ℕ × Txn) → List Entry
 register_of account transactions = sorted (rows_on account transactions)
 
 -- The rows of a register, or none where there is no register.
-abbrev pub rows_in : Option Rows → List Entry
+abbrev pub rows_in : Option Page → List Entry
 rows_in None = []
 rows_in (Some register) = register.rows
 
 -- The rows that are kept for an account: those of its register, or none where there is no register for it.
-abbrev pub rows_at : ℕ → List (ℕ × Rows) → List Entry
+abbrev pub rows_at : ℕ → List (ℕ × Page) → List Entry
 rows_at account registers = rows_in (value_of account registers)
 
 -- The registers are those of a book: for each account the rows are those of its register, and each account of the book
 -- has a register. An account without a register has no splits.
-pub record Keeps (registers : List (ℕ × Rows)) (book : Book) : Type 0 where
+pub record Keeps (registers : List (ℕ × Page)) (book : Book) : Type 0 where
   pub rows : (account : ℕ) → rows_at account registers ≡ register_of account book.transactions
   pub live : (account : ℕ) → is_some (value_of account book.accounts) ≡ true
       → is_some (value_of account registers) ≡ true

@@ -4,12 +4,13 @@ use Rattle.std.specs.List.{list_any}
 use Rattle.std.specs.Option.{option_or}
 use Rattle.book_accounts.specs.declared.account.Account.{Account}
 use Rattle.book_commodity.specs.Table.{value_of}
-use Rattle.book_register.specs.Register.{RowKey, Rows}
+use Rattle.book_register.specs.Register.{RowKey}
+use Rattle.book_ledger.specs.Page.{Page}
 use Rattle.book_splits.specs.declared.transaction.Txn.{Txn}
 use Rattle.book_ledger.specs.Change.{is_there, row_at, row_in}
 
 -- Each of the accounts has a register.
-pub record HasAll (registers : List (ℕ × Rows)) (accounts : List (ℕ × Account)) : Type 0 where
+pub record HasAll (registers : List (ℕ × Page)) (accounts : List (ℕ × Account)) : Type 0 where
   pub each :
       (account : ℕ) → is_some (value_of account accounts) ≡ true → is_there account registers ≡ true
 
@@ -20,7 +21,7 @@ pub record NamesAll (order : List (ℤ × ℕ)) (transactions : List (ℕ × Txn
       → 1 ≤ count_by (λ (entry : ℤ × ℕ). entry.1 == number) order
 
 -- The rows of the transactions whose numbers stand in a list are put in.
-pub record AreAdded (transactions : List (ℕ × Txn)) (order : List (ℤ × ℕ)) (old new : List (ℕ × Rows)) : Type 0 where
+pub record AreAdded (transactions : List (ℕ × Txn)) (order : List (ℤ × ℕ)) (old new : List (ℕ × Page)) : Type 0 where
   pub rows :
       (account : ℕ) (key : RowKey)
       → row_at account key new

@@ -2,7 +2,8 @@
 use Rattle.std.specs.Prelude.{◌≡◌, ℕ, ◌+◌, ◌^◌, ◌≤◌, ◌==◌, Bool, true, false, if◌then◌else◌, count_by, length, All}
 use Rattle.std.specs.Prelude.{List, [], ◌∷◌, Option, Some, None, ⊤}
 use Rattle.book_commodity.specs.Table.{Rises, value_of}
-use Rattle.book_register.specs.Register.{Rows, IsSorted}
+use Rattle.book_register.specs.Register.{IsSorted}
+use Rattle.book_ledger.specs.Page.{Page}
 use Rattle.book_register.specs.declared.entry.Entry.{Entry}
 use Rattle.book_splits.specs.declared.split.Split.{Split}
 use Rattle.book_splits.specs.declared.transaction.Txn.{Txn}
@@ -16,26 +17,29 @@ use Rattle.book_undo.proofs.EditLaws.{after_leaf, after_leaves}
 use Rattle.book_ledger.specs.Change.{Holds, is_there}
 use Rattle.book_ledger.specs.Changes.{changes_of}
 use Rattle.book_ledger.specs.Ledger.{HasPlaces, rows_at}
+use Rattle.book_ledger.specs.Lots.{reckoned_of, work_of}
 
 -- The rows of each register stand in order.
-abbrev pub AreSorted : List (ℕ × Rows) → Type 0
-AreSorted registers = All (λ (entry : ℕ × Rows). IsSorted entry.1.rows) registers
+abbrev pub AreSorted : List (ℕ × Page) → Type 0
+AreSorted registers = All (λ (entry : ℕ × Page). IsSorted entry.1.rows) registers
 
 -- How many more rows a register has room for; none where there is no register.
-abbrev pub room_in : Option Rows → ℕ
+abbrev pub room_in : Option Page → ℕ
 room_in None = 0
 room_in (Some register) = register.spare
 
 -- How many more rows the register of an account has room for.
-abbrev pub room_of : ℕ → List (ℕ × Rows) → ℕ
+abbrev pub room_of : ℕ → List (ℕ × Page) → ℕ
 room_of account registers = room_in (value_of account registers)
 
--- Registers have the rows that others have, were changed as often, and have room for as many more; those that were kept
--- still are.
-pub record Extends (old new : List (ℕ × Rows)) : Type 0 where
+-- Registers have the rows that others have, were changed as often, have room for as many more, and the same rows of them
+-- are reckoned; those that were kept still are.
+pub record Extends (old new : List (ℕ × Page)) : Type 0 where
   pub rows : (account : ℕ) → rows_at account new ≡ rows_at account old
   pub kept : (account : ℕ) → is_there account old ≡ true → is_there account new ≡ true
   pub changes : (account : ℕ) → changes_of account new ≡ changes_of account old
+  pub reckoned : (account : ℕ) → reckoned_of account new ≡ reckoned_of account old
+  pub work : (account : ℕ) → work_of account new ≡ work_of account old
   pub room : (account : ℕ) → room_of account old ≤ room_of account new
 
 -- One, where a row is given and is on the account.
@@ -58,7 +62,7 @@ FitsPlaces None = ⊤
 FitsPlaces (Some transaction) = length transaction.splits ≤ 2 ^ 32
 
 -- There is room for a row, if one is given.
-abbrev pub HasRoomForRow : Option (ℕ × Entry) → List (ℕ × Rows) → Type 0
+abbrev pub HasRoomForRow : Option (ℕ × Entry) → List (ℕ × Page) → Type 0
 HasRoomForRow None registers = ⊤
 HasRoomForRow (Some at) registers = 1 ≤ room_of at.0 registers
 
@@ -102,12 +106,12 @@ HasPut kept (OfPut number thing ∷ more) =
 HasPut kept (OfGone kind number ∷ more) = HasPut kept more
 
 -- The registers have room for the splits that the leaves put.
-abbrev pub HasRoomFor : List (ℕ × Rows) → List Leaf → Type 0
+abbrev pub HasRoomFor : List (ℕ × Page) → List Leaf → Type 0
 HasRoomFor registers changes = (account : ℕ) → puts_on account changes ≤ room_of account registers
 
 -- The registers are ready for the leaves: they have room for the splits that these put, and each account that they put
 -- has a register.
-pub record IsReady (registers : List (ℕ × Rows)) (changes : List Leaf) : Type 0 where
+pub record IsReady (registers : List (ℕ × Page)) (changes : List Leaf) : Type 0 where
   pub rows : HasRoomFor registers changes
   pub accounts : HasPut registers changes
 
@@ -169,7 +173,7 @@ ChangeOnce before (OfGone kind number ∷ more) now =
     × ChangeOnce before more (after_leaf (OfGone kind number) now)
 
 -- Registers that followed some leaves hold the rows of the book to which these led; the others lead on from there.
-pub record IsOnWay (before : List (ℕ × Txn)) (registers : List (ℕ × Rows)) (others : List Leaf)
+pub record IsOnWay (before : List (ℕ × Txn)) (registers : List (ℕ × Page)) (others : List Leaf)
     (last : Book) : Type 0 where
   pub mid : Book
   pub rises : Rises mid.transactions
@@ -179,7 +183,7 @@ pub record IsOnWay (before : List (ℕ × Txn)) (registers : List (ℕ × Rows))
 
 -- Registers can follow leaves that change some transactions: they have room for the splits that these put, and each
 -- transaction, those put too, has at most 2^32 splits.
-pub record CanFollow (before : List (ℕ × Txn)) (registers : List (ℕ × Rows)) (changes : List Leaf) : Type 0 where
+pub record CanFollow (before : List (ℕ × Txn)) (registers : List (ℕ × Page)) (changes : List Leaf) : Type 0 where
   pub places : HasPlaces before
   pub new_places : LeavesHavePlaces changes
   pub room : HasRoomFor registers changes
@@ -211,7 +215,7 @@ pub record IsCounted (changes : List Leaf) (old new : List (ℕ × ℕ)) : Type 
   pub accounts : HasPut new changes
 
 -- Each of these accounts has a register with room for so many more rows.
-pub record AreMade (registers : List (ℕ × Rows)) (counts : List (ℕ × ℕ)) : Type 0 where
+pub record AreMade (registers : List (ℕ × Page)) (counts : List (ℕ × ℕ)) : Type 0 where
   pub each :
       (account count : ℕ) → value_of account counts ≡ Some count
       → (is_there account registers ≡ true) × (count ≤ room_of account registers)

@@ -4,6 +4,7 @@ ghost use Rattle.book_ledger.specs.Change.{Holds, is_there};
 ghost use Rattle.book_ledger.specs.Changes.{RisesBy, changes_of, differing};
 ghost use Rattle.book_ledger.specs.Counts.{CountsOn};
 ghost use Rattle.book_ledger.specs.Ledger.{HasPlaces, Keeps, register_of};
+ghost use Rattle.book_ledger.specs.Lots.{AreLeft, reckoned_of, work_of};
 ghost use Rattle.book_ledger.specs.Room.{CanFollow, ChangeOnce, IsReady, puts_on, room_of};
 ghost use Rattle.book_undo.proofs.EditLaws.{after_leaves};
 ghost use Rattle.book_undo.specs.Book.{book_of};
@@ -17,7 +18,7 @@ use book_undo::{Edit, Plain, Thing, ThingKind};
 impl Registers {
     /// Changes the registers of a book to those of the book that the edit leads to. It can't fail and takes no memory.
     /// Rows that stay are not touched: the changes of each register rise by the rows that one of the two books'
-    /// registers has and the other hasn't.
+    /// registers has and the other hasn't. Lots stay up to the last checkpoint before the first row that differs.
     pub fn apply(&mut self, plain: &Plain, edit: &Edit)
         requires kept { Keeps self.old.entries (book_of plain.now) }
         requires ready { IsReady self.old.entries (leaves edit.now) }
@@ -29,6 +30,11 @@ impl Registers {
             → RisesBy (differing (register_of account (book_of plain.now).transactions)
             (register_of account (edited edit.now (book_of plain.now)).transactions))
             (changes_of account self.old.entries) (changes_of account self.new.entries) }
+        ensures left { (account : ℕ)
+            → AreLeft (register_of account (book_of plain.now).transactions) (reckoned_of account self.old.entries)
+            (register_of account (edited edit.now (book_of plain.now)).transactions)
+            (reckoned_of account self.new.entries) }
+        ensures work { (account : ℕ) → work_of account self.new.entries ≡ work_of account self.old.entries }
     {
         let _ = plain.accounts.len();
         let _ = plain.transactions.len();

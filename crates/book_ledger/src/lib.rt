@@ -5,6 +5,7 @@
 
 mod apply;
 mod opening;
+mod page;
 mod registers;
 mod room;
 mod row;

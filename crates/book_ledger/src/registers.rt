@@ -1,37 +1,42 @@
-ghost use Rattle.std.specs.Prelude.{◌≡◌, ℕ, ◌+◌, ◌≤◌, [], Some, None, OnOk, true};
+ghost use Rattle.std.specs.Prelude.{◌≡◌, ℕ, ◌+◌, ◌≤◌, [], All, Some, None, OnOk, is_ok, length, true};
 ghost use Rattle.std.specs.Option.{option_copied, option_map};
 ghost use Rattle.book_commodity.specs.Table.{value_of};
 ghost use Rattle.book_ledger.specs.Change.{AllPut, AllTaken, IsBeside, IsChanged, IsPut, IsReplaced, IsTaken, is_there};
 ghost use Rattle.book_ledger.specs.Changes.{AreBounded};
 ghost use Rattle.book_ledger.specs.Counts.{AreFree, CountsFrom, HasRow, HasRowsOf, IsFree, LacksRow};
 ghost use Rattle.book_ledger.specs.Ledger.{Keeps, live_register, rows_at};
+ghost use Rattle.book_ledger.specs.Lots.{IsBroughtUp};
+ghost use Rattle.book_ledger.specs.Page.{lots_on, register_on};
 ghost use Rattle.book_ledger.specs.Room.{AreSorted, Extends, FitsPlaces, HasRoomForRow, one_on, room_of, txn_splits_on};
-ghost use Rattle.book_register.specs.Register.{IsSorted, balance as sum_of};
+ghost use Rattle.book_lots.specs.Lots.{IsSmall};
+ghost use Rattle.book_register.specs.Register.{balance as sum_of};
 ghost use Rattle.book_splits.specs.Balance.{balance};
 
-use crate::row::{left, put_row, take_row};
+use crate::page::Page;
+use crate::row::left;
 use book_accounts::Tree;
 use book_commodity::{OutOfMemory, Steps, Table};
+use book_lots::Lots;
 use book_register::{Entry, Register};
 use book_splits::Txn;
 use std::alloc::Global;
 use std::marker::Model;
 
-/// The registers of the accounts of a book, by the numbers of the accounts. Contracts see the list of its entries, each
-/// an account's number with its register, and how many more registers it has room for.
+/// The registers of the accounts of a book, by the numbers of the accounts, each with the lots that were reckoned from
+/// it. Contracts see the list of its entries, each an account's number with its page, and how many more it has room for.
 #[derive(Drop)]
 pub struct Registers {
-    registers: Table<Register>,
+    registers: Table<Page>,
     pub(crate) alloc: Global,
 }
 
 impl Model for Registers {
     ghost use Rattle.book_commodity.specs.Table.{Entries};
-    ghost use Rattle.book_register.specs.Register.{Rows};
+    ghost use Rattle.book_ledger.specs.Page.{Page};
     ghost use Rattle.book_ledger.specs.Changes.{AreBounded};
     ghost use Rattle.book_ledger.specs.Room.{AreSorted};
 
-    ghost Value = { Entries Rows };
+    ghost Value = { Entries Page };
 
     ghost view = { λ r. r.registers };
 
@@ -57,14 +62,41 @@ impl Registers {
         if accounts.find(account).is_none() {
             return None;
         }
-        self.registers.find(account)
+        self.kept(account)
     }
 
     /// The register that is kept for an account, if there is one, also where the book has no such account.
     pub fn kept(&self, account: u64) -> Option<&Register>
-        ensures { option_copied result ≡ value_of account self.now.entries }
+        ensures { option_copied result ≡ option_map register_on (value_of account self.now.entries) }
     {
-        self.registers.find(account)
+        match self.registers.find(account) {
+            Some(page) => Some(page.register()),
+            None => None,
+        }
+    }
+
+    /// The lots that are reckoned from the register of an account, if one is kept.
+    pub fn lots(&self, account: u64) -> Option<&Lots>
+        ensures { option_copied result ≡ option_map lots_on (value_of account self.now.entries) }
+    {
+        match self.registers.find(account) {
+            Some(page) => Some(page.lots()),
+            None => None,
+        }
+    }
+
+    /// Brings the lots of an account up to its register. Registers stay, and so do lots where it is out of memory.
+    pub fn reckon(&mut self, account: u64) -> Result<(), OutOfMemory>
+        requires few { length (rows_at account self.old.entries) ≤ 1_000_000 }
+        requires small { All IsSmall (rows_at account self.old.entries) }
+        ensures { IsBroughtUp account (is_ok result) self.old.entries self.new.entries }
+    {
+        let Some(mut page) = self.lend(account) else {
+            return Ok(());
+        };
+        let done = page.reckon();
+        self.give_back(account, page);
+        done
     }
 
     /// The balance of an account over all days, in smallest units of its commodity.
@@ -78,7 +110,7 @@ impl Registers {
     fn sum(&self, account: u64) -> i128
         ensures { result ≡ sum_of (rows_at account self.now.entries) }
     {
-        let Some(register) = self.registers.find(account) else {
+        let Some(register) = self.kept(account) else {
             return 0;
         };
         let count = register.len();
@@ -96,26 +128,25 @@ impl Registers {
         let _ = self.registers.len();
     }
 
-    /// Takes the register of an account, if one is kept, and leaves an empty one in its place.
-    fn lend(&mut self, account: u64) -> Option<Register>
-        ensures register { result ≡ value_of account self.old.entries }
+    /// Takes the page of an account, if one is kept, and leaves an empty one in its place.
+    fn lend(&mut self, account: u64) -> Option<Page>
+        ensures page { result ≡ value_of account self.old.entries }
         ensures beside { IsBeside account self.old.entries self.new.entries }
         ensures unchanged { result ≡ None → self.new.entries ≡ self.old.entries }
     {
         if self.registers.find(account).is_none() {
             return None;
         }
-        self.registers.put(account, Register::new(self.alloc))
+        self.registers.put(account, Page::new(self.alloc))
     }
 
-    /// Puts the register of an account back.
-    fn give_back(&mut self, account: u64, register: Register)
+    /// Puts the page of an account back.
+    fn give_back(&mut self, account: u64, page: Page)
         requires there { is_there account self.old.entries ≡ true }
-        requires sorted { IsSorted register.rows }
-        ensures { IsReplaced account register self.old.entries self.new.entries }
+        ensures { IsReplaced account page self.old.entries self.new.entries }
     {
-        let _ = register.changes();
-        let _ = self.registers.put(account, register);
+        page.in_order();
+        let _ = self.registers.put(account, page);
     }
 
     /// Has a register kept for an account, an empty one where there was none.
@@ -127,7 +158,7 @@ impl Registers {
             return Ok(());
         }
         self.registers.reserve(1)?;
-        let _ = self.registers.put(account, Register::new(self.alloc));
+        let _ = self.registers.put(account, Page::new(self.alloc));
         Ok(())
     }
 
@@ -138,12 +169,11 @@ impl Registers {
         ensures extends { Extends self.old.entries self.new.entries }
     {
         self.begin(account)?;
-        let Some(mut register) = self.lend(account) else {
+        let Some(mut page) = self.lend(account) else {
             unreachable!()
         };
-        let made = register.reserve(extra);
-        let _ = register.len();
-        self.give_back(account, register);
+        let made = page.reserve(extra);
+        self.give_back(account, page);
         made
     }
 
@@ -158,11 +188,11 @@ impl Registers {
         let Some((account, row)) = row else {
             return;
         };
-        let Some(mut register) = self.lend(account) else {
+        let Some(mut page) = self.lend(account) else {
             return;
         };
-        take_row(&mut register, &row);
-        self.give_back(account, register);
+        page.take(&row);
+        self.give_back(account, page);
     }
 
     /// Puts a row into the register of its account, if one is given, instead of one at its key.
@@ -178,11 +208,11 @@ impl Registers {
         let Some((account, row)) = row else {
             return;
         };
-        let Some(mut register) = self.lend(account) else {
+        let Some(mut page) = self.lend(account) else {
             unreachable!()
         };
-        put_row(&mut register, row);
-        self.give_back(account, register);
+        page.put(row);
+        self.give_back(account, page);
     }
 
     /// Takes out the rows that a transaction has and the one in its place hasn't.

@@ -1,5 +1,5 @@
 ghost use Rattle.std.specs.Prelude.{◌≡◌, ◌+◌, ◌-◌, ◌≤◌, ◌^◌, if◌then◌else◌, false, find, is_some, length, min};
-ghost use Rattle.std.specs.Prelude.{None, Some, position};
+ghost use Rattle.std.specs.Prelude.{None, Some, insert, position, slice_get};
 ghost use Rattle.std.specs.Option.{option_copied};
 ghost use Rattle.book_ledger.specs.Change.{is_same as is_same_row, left_at, placed as placed_at};
 ghost use Rattle.book_ledger.specs.Changes.{differing, has_row};
@@ -85,12 +85,14 @@ pub(crate) fn left(
     Some((account, row))
 }
 
-/// Takes a row out of a register, where one stands at its key.
-pub(crate) fn take_row(register: &mut Register, row: &Entry)
+/// Takes a row out of a register, where one stands at its key, and tells its place.
+pub(crate) fn take_row(register: &mut Register, row: &Entry) -> Option<usize>
+    ensures place { result ≡ position (has_key (key_of row.now)) register.old.rows }
     ensures found { (key : _) → find (has_key key) register.new.rows
         ≡ (if has_key key row.now then None else find (has_key key) register.old.rows) }
     ensures rows { register.new.rows
         ≡ rows_without (position (has_key (key_of row.now)) register.old.rows) register.old.rows }
+    ensures was_sorted { IsSorted register.old.rows }
     ensures differing { (first : _) → IsSorted first → find (has_key (key_of row.now)) first ≡ Some row.now
         → find (has_key (key_of row.now)) register.old.rows ≡ Some row.now
         → differing first register.new.rows ≡ differing first register.old.rows + 1 }
@@ -100,23 +102,24 @@ pub(crate) fn take_row(register: &mut Register, row: &Entry)
     ensures spare { register.old.spare ≤ register.new.spare }
 {
     let _ = register.len();
-    let _ = register.remove(row.day, row.txn, row.place, &mut Steps::new());
+    let place = register.remove(row.day, row.txn, row.place, &mut Steps::new());
     let _ = register.len();
+    place
 }
 
-/// Puts a row into a register, instead of one at its key.
-pub(crate) fn put_row(register: &mut Register, row: Entry)
-    requires { 1 ≤ register.old.spare }
+/// Puts a row into a register, at whose key none stands, and tells its place.
+pub(crate) fn insert_row(register: &mut Register, row: Entry) -> usize
+    requires room { 1 ≤ register.old.spare }
+    requires absent { find (has_key (key_of row)) register.old.rows ≡ None }
+    ensures rows { register.new.rows ≡ insert register.old.rows result row }
+    ensures place { slice_get register.new.rows result ≡ Some row }
     ensures found { (key : _) → find (has_key key) register.new.rows
         ≡ (if has_key key row then Some row else find (has_key key) register.old.rows) }
     ensures differing { (first : _) → has_row row first ≡ false
-        → find (has_key (key_of row)) register.old.rows ≡ None
         → differing first register.new.rows ≡ differing first register.old.rows + 1 }
-    ensures changes { find (has_key (key_of row)) register.old.rows ≡ None
-        → register.new.changes ≡ min (register.old.changes + 1) (2 ^ 64 - 1) }
+    ensures changes { register.new.changes ≡ min (register.old.changes + 1) (2 ^ 64 - 1) }
     ensures sorted { IsSorted register.new.rows }
     ensures spare { register.old.spare ≤ register.new.spare + 1 }
 {
-    take_row(register, &row);
-    let _ = register.insert(row, &mut Steps::new());
+    register.insert(row, &mut Steps::new())
 }

@@ -63,31 +63,52 @@ impl<'a> View<'a> {
     }
 }
 
-/// The lots of an account of a book, as units first bought are first sold.
-#[tactic(auto, unfolding(crate::specs::LotsText::lots_text, crate::specs::LotsText::rows_text))]
+/// The lots of an account of a book, as units first bought are first sold: those that are kept, where they are brought
+/// up to its register, and else lots that are reckoned for this text.
 pub fn lots_text(alloc: Global, view: &View, account: u64, form: Form) -> Result<Text, OutOfMemory>
     requires { IsSome (value_of account view.now.accounts) }
     ensures { IfOk result (λ text. text ≡ lots_text view.now account form) }
 {
+    if let Some(kept) = view.lots(account) {
+        return text_of(alloc, view, account, form, kept);
+    }
     let reckoned = reckoned_lots(alloc, view, account)?;
+    text_of(alloc, view, account, form, &reckoned)
+}
+
+/// The text of the lots of an account.
+#[tactic(auto, unfolding(crate::specs::LotsText::lots_text, crate::specs::LotsText::rows_text))]
+fn text_of(
+    alloc: Global,
+    view: &View,
+    account: u64,
+    form: Form,
+    lots: &Lots,
+) -> Result<Text, OutOfMemory>
+    requires there { IsSome (value_of account view.now.accounts) }
+    requires entries { lots.now.entries ≡ register_of account view.now.transactions }
+    requires small { All IsSmall lots.now.entries }
+    ensures { IfOk result (λ text. text ≡ lots_text view.now account form) }
+{
     let style = style_of(view, account, form);
     let mut out = String::new(alloc);
     add_heading(alloc, &mut out, view, account, form)?;
-    add_pairs(alloc, &mut out, style, reckoned.pairs())?;
-    add_open_lots(alloc, &mut out, style, reckoned.lots())?;
+    add_pairs(alloc, &mut out, style, lots.pairs())?;
+    add_open_lots(alloc, &mut out, style, lots.lots())?;
     add_sum(
         alloc,
         &mut out,
         style,
         "Adjustments",
-        reckoned.adjustments(),
+        lots.adjustments(),
     )?;
-    add_sum(alloc, &mut out, style, "Gains", all_gains(&reckoned))?;
-    add_sum(alloc, &mut out, style, "Open cost", reckoned.open_cost())?;
+    add_sum(alloc, &mut out, style, "Gains", all_gains(lots))?;
+    add_sum(alloc, &mut out, style, "Open cost", lots.open_cost())?;
     Ok(Text::of(out))
 }
 
-/// The gains of an account of a book on the days from one to another, both included, in smallest units of its basis.
+/// The gains of an account of a book on the days from one to another, both included, in smallest units of its basis: by
+/// the lots that are kept, where they are brought up to its register, and else by lots that are reckoned for this.
 pub fn gains(
     alloc: Global,
     view: &View,
@@ -98,6 +119,9 @@ pub fn gains(
     requires { IsSome (value_of account view.now.accounts) }
     ensures { IfOk result (λ gain. gain ≡ gains view.now account from to) }
 {
+    if let Some(kept) = view.lots(account) {
+        return Ok(kept.gains(from, to));
+    }
     let lots = reckoned_lots(alloc, view, account)?;
     Ok(lots.gains(from, to))
 }

@@ -1,9 +1,10 @@
-ghost use Rattle.std.specs.Prelude.{◌≡◌, ◌≤◌, ◌^◌, All, IfOk, IsSome, length, unsigned_abs};
+ghost use Rattle.std.specs.Prelude.{◌≡◌, ◌≤◌, ◌^◌, All, IfOk, IfSome, IsSome, length, unsigned_abs};
 ghost use Rattle.std.specs.Int.{IsInRange};
 ghost use Rattle.book_accounts.specs.Order.{depth_first};
 ghost use Rattle.book_accounts.specs.Path.{path};
 ghost use Rattle.book_commodity.specs.Table.{value_of};
 ghost use Rattle.book_ledger.specs.Ledger.{Keeps, register_of};
+ghost use Rattle.book_lots.specs.Lots.{IsSmall};
 ghost use Rattle.book_reports.specs.Sections.{amount_in};
 ghost use Rattle.book_reports.specs.Measure.{CanBeSummed, commodity_of, fraction_of, name_of, sum_in, worth};
 ghost use Rattle.book_reports.specs.RegisterText.{description_in, number_in};
@@ -13,6 +14,7 @@ ghost use Rattle.book_undo.specs.Book.{book_of};
 use crate::period::Period;
 use book_commodity::{Day, Many, OutOfMemory, Text};
 use book_ledger::Registers;
+use book_lots::Lots;
 use book_prices::{Valuation, worth};
 use book_register::Register;
 use book_undo::Plain;
@@ -127,6 +129,20 @@ impl<'a> View<'a> {
             unreachable!()
         };
         register
+    }
+
+    /// The lots of an account of the book, where they are kept up to its register.
+    pub(crate) fn lots(&self, account: u64) -> Option<&Lots>
+        requires { IsSome (value_of account self.now.accounts) }
+        ensures entries { IfSome result (λ lots. lots.now.entries ≡ register_of account self.now.transactions) }
+        ensures small { IfSome result (λ lots. All IsSmall lots.now.entries) }
+    {
+        let rows = self.register(account).len();
+        let lots = self.registers.lots(account)?;
+        if lots.reckoned() < rows {
+            return None;
+        }
+        Some(lots)
     }
 
     /// What an account changes by in a period.

@@ -40,4 +40,5 @@ returns-clause-changes c =
       saved = c.if-self.saved;
     }) in
     subst (λ (k : Kept). AreChanged k new) c.self.view_is
-    (changed_by (kept_by c.self.inside) new turn c.make_turn.ensures book c.apply.ensures.changes)
+    (changed_by (kept_by c.self.inside) new turn c.make_turn.ensures book c.apply.ensures.changes
+    c.apply.ensures.left c.apply.ensures.work)

@@ -1,5 +1,5 @@
 use Rattle.std.proofs.Common.{ℕ, ℤ, List, ap, sym, ◌∙◌, subst}
-use Rattle.book_register.specs.Register.{Rows}
+use Rattle.book_ledger.specs.Page.{Page}
 use Rattle.book_undo.specs.Book.{book_of}
 use Rattle.book_ledger.specs.Ledger.{rows_at}
 use Rattle.book_ledger.specs.Opening.{NamesAll}
@@ -18,5 +18,5 @@ returns c =
     kept_of_held new (book_of c.args.plain.now) c.len.ensures.rises c.in_order.ensures.sorted
     (held_added ts order begun new names
     (λ account. c.begin_all.ensures.extends.rows account
-    ∙ ap (λ (l : List (ℕ × Rows)). rows_at account l) c.new-registers.ensures) c.in_ok-add_all.ensures.rows)
+    ∙ ap (λ (l : List (ℕ × Page)). rows_at account l) c.new-registers.ensures) c.in_ok-add_all.ensures.rows)
     (λ account live. c.add_all.ensures.kept account (c.in_ok-begin_all.ensures.there.each account live))

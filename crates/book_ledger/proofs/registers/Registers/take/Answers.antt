@@ -10,10 +10,11 @@ returns-clause-changes c = λ first.
     let account = c.in-Some.account in
     let old = c.args.self.now.entries in
     let new = c.give_back.new.self.entries in
-    let register = c.take_row.new.register in
+    let page = c.take.new.self in
     let Counted : Option (ℕ × Entry) → Type 0 = λ row.
     HasRow row first → HasRow row old → CountsFrom first old → CountsFrom first new in
     subst Counted (sym c.in-Some.is)
-    (counts_taken account c.in-Some.row register c.in-Some-lend.register first old new
-    (replaced_by account register old c.lend.new.self.entries new c.lend.ensures.beside c.give_back.ensures)
-    (sym c.in-Some-lend.ensures.register) c.take_row.ensures.differing c.take_row.ensures.changes)
+    (counts_taken account c.in-Some.row page c.in-Some-lend.page first old new
+    (replaced_by account page old c.lend.new.self.entries new c.lend.ensures.beside c.give_back.ensures)
+    (sym c.in-Some-lend.ensures.page) c.take.ensures.differing c.take.ensures.changes c.take.ensures.left
+    c.take.ensures.work)
