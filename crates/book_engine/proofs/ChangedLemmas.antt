@@ -6,7 +6,7 @@ use Rattle.book_ledger.specs.Lots.{AreLeft as AreLotsLeft, reckoned_of, work_of}
 use Rattle.book_opening.specs.State.{State}
 use Rattle.book_undo.specs.Book.{Book}
 use Rattle.book_undo.specs.Edit.{edited}
-use Rattle.book_engine.specs.Changed.{AreChanged}
+use Rattle.book_engine.specs.Changed.{AreChanged, HaveRisen}
 use Rattle.book_engine.specs.Kept.{Kept}
 use Rattle.book_engine.specs.Turned.{turned}
 use Rattle.book_engine.specs.declared.turn.Turn.{Turn}
@@ -27,13 +27,29 @@ pub changed_by :
 changed_by before now turn state book rises left work =
     let same = sym (ap (λ (s : State). s.book) state ∙ book) in
     record {
-      each = λ account.
-          subst (λ (b : Book). RisesBy (differing (register_of account before.state.book.transactions)
-          (register_of account b.transactions)) (changes_of account before.registers)
-          (changes_of account now.registers)) same (rises account);
+      changes = record {
+        each = λ account.
+            subst (λ (b : Book). RisesBy (differing (register_of account before.state.book.transactions)
+            (register_of account b.transactions)) (changes_of account before.registers)
+            (changes_of account now.registers)) same (rises account);
+      };
       left = λ account.
           subst (λ (b : Book). AreLotsLeft (register_of account before.state.book.transactions)
           (reckoned_of account before.registers) (register_of account b.transactions)
           (reckoned_of account now.registers)) same (left account);
       work = work;
     }
+
+-- they rise as far from before a state that has the same book and as many changes
+pub risen_from :
+    (before mid now : Kept) → mid.state ≡ before.state
+    → ((account : ℕ) → changes_of account mid.registers ≡ changes_of account before.registers)
+    → AreChanged mid now → HaveRisen before now
+risen_from before mid now state same changed = record {
+  each = λ account.
+      subst (λ (n : ℕ). RisesBy (differing (register_of account before.state.book.transactions)
+      (register_of account now.state.book.transactions)) n (changes_of account now.registers)) (same account)
+      (subst (λ (s : State). RisesBy (differing (register_of account s.book.transactions)
+      (register_of account now.state.book.transactions)) (changes_of account mid.registers)
+      (changes_of account now.registers)) state (changed.changes.each account));
+}

@@ -3,6 +3,7 @@ pub mod ChangeFits
 pub mod ChangedLemmas
 pub mod CurrencyLemmas
 pub mod DueLemmas
+pub mod LotsLemmas
 pub mod MoveLemmas
 pub mod OpenLemmas
 pub mod PlanLemmas

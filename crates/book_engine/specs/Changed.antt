@@ -30,14 +30,18 @@ live_lots kept account =
     }) else None
 
 -- From one state to the next the changes of each account's register rise by the rows that one of the two registers has
--- and the other hasn't; at 2^64 - 1 they stay. Of its lots at least those stay that stand before the last checkpoint in
--- the part that both registers have in common, and none is reckoned.
-pub record AreChanged (before now : Kept) : Type 0 where
+-- and the other hasn't; at 2^64 - 1 they stay.
+pub record HaveRisen (before now : Kept) : Type 0 where
   pub each :
       (account : ℕ)
       → RisesBy (differing (register_of account before.state.book.transactions)
       (register_of account now.state.book.transactions)) (changes_of account before.registers)
       (changes_of account now.registers)
+
+-- So the registers are changed. Of an account's lots at least those stay that stand before the last checkpoint in the
+-- part that its two registers have in common, and nothing is reckoned.
+pub record AreChanged (before now : Kept) : Type 0 where
+  pub changes : HaveRisen before now
   pub left :
       (account : ℕ)
       → AreLotsLeft (register_of account before.state.book.transactions) (reckoned_of account before.registers)

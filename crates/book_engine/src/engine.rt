@@ -7,7 +7,8 @@ ghost use Rattle.book_step.specs.Soundness.{IsSound};
 ghost use Rattle.book_opening.specs.Opening.{OpenAs, WasRead};
 ghost use Rattle.book_opening.specs.State.{State};
 ghost use Rattle.book_engine.specs.Acting.{HasActCause, IsUnchanged};
-ghost use Rattle.book_engine.specs.Changed.{AreChanged, AreKeptUp, AreLeft, live_changes, live_lots};
+ghost use Rattle.book_engine.specs.Changed.{AreChanged, AreKeptUp, AreLeft, HaveRisen, live_changes};
+ghost use Rattle.book_engine.specs.Changed.{live_lots};
 ghost use Rattle.book_engine.specs.Kept.{IsWhole, step_state};
 ghost use Rattle.book_engine.specs.Books.{machine_of};
 ghost use Rattle.book_engine.specs.Machine.{Done, step as step_from};
@@ -241,6 +242,7 @@ impl Engine {
     pub fn act<K: Keeper>(&mut self, keeper: &mut K, command: Command) -> Result<Answer, Refusal>
         ensures done { IfOk result (λ answer. step_from (machine_of self.old.state) command
             ≡ Done (machine_of self.new.state) answer) }
+        ensures changes { OnOk result (HaveRisen self.old self.new) }
         ensures unchanged { OnErr result (IsUnchanged self.old self.new) }
         ensures sound { IsSound (step_state self.new.state) }
         ensures path { K.path_given keeper.new ≡ K.path_given keeper.old }

@@ -95,13 +95,7 @@ fn text_of(
     add_heading(alloc, &mut out, view, account, form)?;
     add_pairs(alloc, &mut out, style, lots.pairs())?;
     add_open_lots(alloc, &mut out, style, lots.lots())?;
-    add_sum(
-        alloc,
-        &mut out,
-        style,
-        "Adjustments",
-        lots.adjustments(),
-    )?;
+    add_sum(alloc, &mut out, style, "Adjustments", lots.adjustments())?;
     add_sum(alloc, &mut out, style, "Gains", all_gains(lots))?;
     add_sum(alloc, &mut out, style, "Open cost", lots.open_cost())?;
     Ok(Text::of(out))

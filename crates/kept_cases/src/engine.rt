@@ -1,6 +1,6 @@
-use book_commodity::{Bytes, Commodity, Many, OutOfMemory, Text};
+use book_commodity::{Commodity, Many, OutOfMemory, Text};
 use book_engine::{Answer, Command, Engine, OpenError, Refusal, Update, What};
-use book_keeper::{Change, Keeper, MemKeeper, Row, RowKey};
+use book_keeper::MemKeeper;
 use std::alloc::Global;
 use std::test::Fail;
 
@@ -111,49 +111,5 @@ fn opens_again(rt: HostRuntime) -> Result<(), Fail> {
             ])
     );
     assert_eq!(rt; after, Ok((2, 3, 7)));
-    Ok(())
-}
-
-/// The body of the euro's row, without its fraction.
-const EURO: &[u8] = b"\x01\0\0\0\0\0\0\0\x08CURRENCY\0\0\0\0\0\0\0\x03EUR\0\0\0\0\0\0\0\0";
-
-/// Puts the euro's row with these bytes behind its names.
-fn put_euro(alloc: Global, keeper: &mut MemKeeper, fraction: &[u8]) -> Result<(), OutOfMemory> {
-    let mut body = Vec::from_slice(alloc, EURO)?;
-    body.extend_from_slice(fraction)?;
-    let mut changes = Many::new(alloc);
-    changes.push(Change::Put(Row {
-        key: RowKey { kind: 2, id: 1 },
-        body: Bytes::of(body),
-    }))?;
-    let _ = keeper.commit(changes.as_slice());
-    Ok(())
-}
-
-/// What is seen where the euro's row has these bytes behind its names.
-fn opened_with(alloc: Global, fraction: &[u8]) -> Result<(u64, usize, usize), OpenError> {
-    let Ok(mut keeper) = keeper(alloc, 9) else {
-        return Err(OpenError::OutOfMemory);
-    };
-    let _ = run(alloc, &mut keeper);
-    match put_euro(alloc, &mut keeper, fraction) {
-        Ok(()) => opened(alloc, &mut keeper),
-        Err(OutOfMemory) => Err(OpenError::OutOfMemory),
-    }
-}
-
-// A row that is cut is bad, and one that breaks a rule is unsound.
-#[test]
-fn damaged_rows(rt: HostRuntime) -> Result<(), Fail> {
-    let alloc = rt.alloc();
-    assert_eq!(rt; opened_with(alloc, b"\0\0\0\0\0\0\0\x64"), Ok((3, 4, 9)));
-    assert_eq!(rt;
-        opened_with(alloc, b"\0\0\0\0\0\0\0"),
-        Err(OpenError::BadRows { kind: 2, id: 1 })
-    );
-    assert_eq!(rt;
-        opened_with(alloc, b"\0\0\0\0\0\0\0\0"),
-        Err(OpenError::UnsoundBook { kind: 2, id: 1 })
-    );
     Ok(())
 }

@@ -4,9 +4,13 @@
 #![tactic(auto)]
 
 #[cfg(test)]
+mod asked;
+#[cfg(test)]
 mod engine;
 #[cfg(test)]
 mod history;
+#[cfg(test)]
+mod lots;
 #[cfg(test)]
 mod opening;
 #[cfg(test)]
