@@ -1,7 +1,7 @@
 -- Which lots an engine shows, and that a question for them brings them up to their register.
 use Rattle.std.proofs.Common.{◌≡◌, ℕ, ◌==◌, ◌⊎◌, inl, inr, Bool, true, false, if◌then◌else◌, All, List}
 use Rattle.std.proofs.Common.{length, take, Option, Some, None, is_some, option_map, refl, sym, ap, ◌∙◌}
-use Rattle.std.proofs.Common.{subst, arith}
+use Rattle.std.proofs.Common.{subst, arith, ⊎_elim}
 use Rattle.std.proofs.lemmas.Bool.{eqb-true}
 use Rattle.std.proofs.lemmas.List.Elements.{All-weaker}
 use Rattle.std.specs.Option.{option_map_or}
@@ -16,8 +16,7 @@ use Rattle.book_lots.specs.Lots.{IsSmall, Reckoned}
 use Rattle.book_register.specs.declared.entry.Entry.{Entry}
 use Rattle.book_reports.proofs.RowLemmas.{IsSmallRow}
 use Rattle.book_reports.specs.Measure.{CanBeSummed}
-use Rattle.book_undo.specs.Book.{Book}
-use Rattle.book_engine.specs.Changed.{AreKeptUp, HasAllLots, HasSameLots, is_live_security, live_lots}
+use Rattle.book_engine.specs.Changed.{AreKeptUp, AreLeft, HasAllLots, HasSameLots, is_live_security, live_lots}
 use Rattle.book_engine.specs.Kept.{Kept}
 
 -- a security account is an account
@@ -96,8 +95,9 @@ kept_up before now account done keeps is = record {
     value :
         (a : ℕ) (t : Bool) → (a == account) ≡ t
         → value_of a now.registers ≡ (if t then option_map (up done) (value_of account old) else value_of a old)
-    value a t test = is.values a ∙ ap (λ (b : Bool). if b then option_map (up done) (value_of account old)
-    else value_of a old) test
+    value a t test =
+        is.values a
+        ∙ ap (λ (b : Bool). if b then option_map (up done) (value_of account old) else value_of a old) test
 
     own :
         (d : Bool) (o : Option Page) → value_of account old ≡ o
@@ -139,6 +139,17 @@ pub stay_kept_up :
 stay_kept_up before now same = record {
   each = λ a. ap (changes_of a) same;
   lots = λ a. inl (record { reckoned = ap (reckoned_of a) same; work = ap (work_of a) same });
+}
+
+-- lots that are kept up and then left are kept up
+pub kept_up_left :
+    (before mid now : Kept) → AreKeptUp before mid → AreLeft mid now → AreKeptUp before now
+kept_up_left before mid now up left = record {
+  each = λ a. left.each a ∙ up.each a;
+  lots = λ a.
+      ⊎_elim
+      (λ same. inl (record { reckoned = left.reckoned a ∙ same.reckoned; work = left.work a ∙ same.work }))
+      (λ all. inr (record { reckoned = left.reckoned a ∙ all.reckoned; work = left.work a ∙ all.work })) (up.lots a);
 }
 
 -- ---- rows that can be reckoned

@@ -123,7 +123,7 @@ impl Engine {
 
     /// Tries all rules of the command, takes all memory that it needs, and makes the edit that leads back, the whole
     /// answer and the changes of the rows. The state stays as it is; where a report on lots is asked, they are brought up
-    /// to their register. Refused by the first rule that the command breaks, or out of memory.
+    /// to their register, unless that is out of memory. Refused by the first rule that the command breaks, or out of memory.
     pub fn prepare(&mut self, command: Command) -> Result<Plan, Refusal>
         ensures planned { IfOk result (IsPlanOf self.old.state self.old.saved command) }
         ensures room { IfOk result (HasRoomFor self.new) }
@@ -132,9 +132,7 @@ impl Engine {
         ensures kept_up { AreKeptUp self.old self.new }
         ensures sound { IsSound (step_state self.new.state) }
     {
-        if let Err(OutOfMemory) = self.reckon_for(&command.what) {
-            return Err(Refusal::OutOfMemory);
-        }
+        self.reckon_for(&command.what);
         let plan = match plan_of(
             self.alloc,
             &self.state,
@@ -151,14 +149,14 @@ impl Engine {
         }
     }
 
-    /// Brings the lots of an account up to its register, where a report on them is asked.
-    fn reckon_for(&mut self, what: &What) -> Result<(), OutOfMemory>
+    /// Brings the lots of an account up to its register, where a report on them is asked. Where it is out of memory they
+    /// stay, and the report reckons its own.
+    fn reckon_for(&mut self, what: &What)
         ensures unchanged { IsUnchanged self.old self.new }
         ensures kept_up { AreKeptUp self.old self.new }
     {
-        match lots_asked(&self.state.plain.accounts, what) {
-            Some(account) => self.registers.reckon(account),
-            None => Ok(()),
+        if let Some(account) = lots_asked(&self.state.plain.accounts, what) {
+            let _ = self.registers.reckon(account);
         }
     }
 

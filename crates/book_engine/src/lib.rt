@@ -19,7 +19,8 @@ mod reports;
 mod turn;
 
 pub use book_command::{
-    Answer, Command, GivenAccount, GivenSplit, GivenTxn, Refusal, Report, Rule, Update, What,
+    Answer, Command, DueDay, GivenAccount, GivenSchedule, GivenSplit, GivenTxn, Refusal, Report,
+    Rule, Update, What,
 };
 pub use engine::Engine;
 pub use fault::OpenError;

@@ -147,7 +147,15 @@ pub(crate) fn is_security(accounts: &Tree, number: u64) -> bool
 
 /// The security account of the book on whose lots a report is asked, if there is one.
 pub(crate) fn lots_asked(accounts: &Tree, what: &What) -> Option<u64> {
-    let What::Report(Report::Lots { account, csv: _ } | Report::Gains { account, from: _, to: _ }) = what else {
+    let What::Report(
+        Report::Lots { account, csv: _ }
+        | Report::Gains {
+            account,
+            from: _,
+            to: _,
+        },
+    ) = what
+    else {
         return None;
     };
     if !is_security(accounts, *account) {

@@ -10,6 +10,11 @@ pub struct Page {
 }
 
 impl Page {
+    /// Whether there are as many answers as commands.
+    fn is_paired(&self) -> bool {
+        self.commands.as_str().lines().count() == self.answers.as_str().lines().count()
+    }
+
     /// Whether each command stands in the session with its answer, and each answer of a table stands there too.
     pub(crate) fn is_shown_in(&self, commands: &str, answers: &str) -> bool {
         let mut shown = self
@@ -18,7 +23,8 @@ impl Page {
             .lines()
             .zip(self.answers.as_str().lines());
         let mut in_tables = self.in_tables.as_str().lines();
-        shown.all(|(command, answer)| has_pair(commands, answers, command, answer))
+        self.is_paired()
+            && shown.all(|(command, answer)| has_pair(commands, answers, command, answer))
             && in_tables.all(|answer| answers.lines().any(|line| line == answer))
     }
 }

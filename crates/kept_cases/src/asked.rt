@@ -56,12 +56,7 @@ fn text(alloc: Global, characters: &str) -> Result<Text, OutOfMemory> {
     Ok(Text::of(String::from_str(alloc, characters)?))
 }
 
-fn commodity(
-    alloc: Global,
-    space: &str,
-    name: &str,
-    fraction: u64,
-) -> Result<What, OutOfMemory> {
+fn commodity(alloc: Global, space: &str, name: &str, fraction: u64) -> Result<What, OutOfMemory> {
     let commodity = Commodity {
         space: text(alloc, space)?,
         name: text(alloc, name)?,

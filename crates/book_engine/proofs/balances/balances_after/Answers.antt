@@ -1,4 +1,4 @@
-use Rattle.std.proofs.Common.{◌≡◌, ◌==◌, ◌^◌, ℤ, ◌+ℤ◌, ◌-ℤ◌, ◌++◌, ◌∷◌, [], Bool, FitsSigned, sym, ap, subst, ◌∙◌, rules}
+use Rattle.std.proofs.Common.{◌≡◌, ◌==◌, ◌^◌, ℤ, ◌+ℤ◌, ◌-ℤ◌, ◌++◌, ◌∷◌, [], FitsSigned, sym, ap, subst, ◌∙◌, rules}
 use Rattle.std.specs.Option.{option_copied}
 use mir.Syntax.{w128}
 use Rattle.std.proofs.lemmas.Int.{to_z-of_z}

@@ -1,0 +1,33 @@
+use Rattle.std.proofs.Common.{◌≤◌, All, List, length, is_ok, sym, subst}
+use Rattle.book_lots.specs.Lots.{IsSmall}
+use Rattle.book_opening.specs.State.{state_of}
+use Rattle.book_register.specs.declared.entry.Entry.{Entry}
+use Rattle.book_reports.proofs.RowLemmas.{can_be_summed}
+use Rattle.book_engine.specs.Changed.{AreKeptUp}
+use Rattle.book_engine.specs.Kept.{Kept, kept_by}
+use Rattle.book_engine.proofs.LotsLemmas.{kept_up, small_rows}
+use Rattle.book_engine.proofs.engine.Engine.reckon_for.Goals as goal
+
+pub reckon-requires-clause-few : goal.reckon-requires-clause-few
+reckon-requires-clause-few c =
+    let book = (state_of c.self.inside.state).book in
+    subst (λ (rows : List Entry). length rows ≤ 1000000) (sym (c.self.invariant.registers.rows c.in-Some.account))
+    (can_be_summed book c.in-Some.account c.self.invariant.whole.sound.book).few
+
+pub reckon-requires-clause-small : goal.reckon-requires-clause-small
+reckon-requires-clause-small c =
+    let book = (state_of c.self.inside.state).book in
+    subst (All IsSmall) (sym (c.self.invariant.registers.rows c.in-Some.account))
+    (small_rows _ (can_be_summed book c.in-Some.account c.self.invariant.whole.sound.book))
+
+pub returns-in-Some-clause-kept_up : goal.returns-in-Some-clause-kept_up
+returns-in-Some-clause-kept_up c =
+    let old = kept_by c.self.inside in
+    let new = kept_by (record {
+      alloc = c.self.inside.alloc;
+      state = c.self.inside.state;
+      registers = c.reckon.new.self;
+      saved = c.self.inside.saved;
+    }) in
+    subst (λ (k : Kept). AreKeptUp k new) c.self.view_is
+    (kept_up old new c.in-Some.account (is_ok c.reckon.result) c.self.invariant.registers c.reckon.ensures)
