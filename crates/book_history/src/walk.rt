@@ -5,15 +5,15 @@ ghost use Rattle.book_undo.specs.Edit.{edited};
 ghost use Rattle.book_undo.specs.EditRules.{IsAllowed};
 ghost use Rattle.book_undo.specs.Inverse.{LeadsBack};
 ghost use Rattle.book_history.specs.Steps.{AreSound, IsStepOn, first_fault, is_broken, is_refused, is_unsound};
+ghost use Rattle.book_history.specs.Steps.{leaves_sound};
 
 use book_check::first_unsound;
 use book_commodity::OutOfMemory;
-use book_undo::{Edit, Plain};
+use book_undo::{Edit, Plain, ThingKind};
 use std::alloc::Global;
 
 /// The number of the first step back that is broken, asked from the last one to the first; `None` where all are sound,
 /// and then the book is as it was. Where one is broken, or memory runs out, the book is one on the way.
-#[tactic(auto, using(crate::proofs::WalkLemmas::reversed))]
 pub fn first_fault_back(
     alloc: Global,
     plain: &mut Plain,
@@ -24,14 +24,7 @@ pub fn first_fault_back(
     ensures sound { IfOk result (λ fault. fault ≡ None → AreSound next (reverse steps.now) (book_of plain.old)) }
     ensures same { IfOk result (λ fault. fault ≡ None → book_of plain.new ≡ book_of plain.old) }
 {
-    let Some((step, nearer)) = steps.split_last() else {
-        return Ok(None);
-    };
-    let Some(forth) = step_on(alloc, plain, next, &step.1)? else {
-        return Ok(Some(step.0));
-    };
-    let fault = first_fault_back(alloc, plain, next, nearer)?;
-    step_back(plain, forth, fault)
+    fault_back(alloc, plain, next, steps, false)
 }
 
 /// The number of the first step forth that is broken, asked from the first one to the last; `None` where all are sound,
@@ -46,29 +39,75 @@ pub fn first_fault_forth(
     ensures sound { IfOk result (λ fault. fault ≡ None → AreSound next steps.now (book_of plain.old)) }
     ensures same { IfOk result (λ fault. fault ≡ None → book_of plain.new ≡ book_of plain.old) }
 {
+    fault_forth(alloc, plain, next, steps, false)
+}
+
+/// The same as `first_fault_back`, also from a book that is known to be sound, with its numbers drawn.
+#[tactic(auto, using(crate::proofs::WalkLemmas::reversed))]
+fn fault_back(
+    alloc: Global,
+    plain: &mut Plain,
+    next: u64,
+    steps: &[(u64, Edit)],
+    known: bool,
+) -> Result<Option<u64>, OutOfMemory>
+    requires { IsTrue known → IsSoundBook (book_of plain.old) × AreDrawn (book_of plain.old) next }
+    ensures fault { IfOk result (λ fault. fault ≡ first_fault next (reverse steps.now) (book_of plain.old)) }
+    ensures sound { IfOk result (λ fault. fault ≡ None → AreSound next (reverse steps.now) (book_of plain.old)) }
+    ensures same { IfOk result (λ fault. fault ≡ None → book_of plain.new ≡ book_of plain.old) }
+{
+    let Some((step, nearer)) = steps.split_last() else {
+        return Ok(None);
+    };
+    let Some(forth) = step_on(alloc, plain, next, &step.1, known)? else {
+        return Ok(Some(step.0));
+    };
+    let fault = fault_back(alloc, plain, next, nearer, true)?;
+    step_back(plain, forth, fault)
+}
+
+/// The same as `first_fault_forth`, also from a book that is known to be sound, with its numbers drawn.
+fn fault_forth(
+    alloc: Global,
+    plain: &mut Plain,
+    next: u64,
+    steps: &[(u64, Edit)],
+    known: bool,
+) -> Result<Option<u64>, OutOfMemory>
+    requires { IsTrue known → IsSoundBook (book_of plain.old) × AreDrawn (book_of plain.old) next }
+    ensures fault { IfOk result (λ fault. fault ≡ first_fault next steps.now (book_of plain.old)) }
+    ensures sound { IfOk result (λ fault. fault ≡ None → AreSound next steps.now (book_of plain.old)) }
+    ensures same { IfOk result (λ fault. fault ≡ None → book_of plain.new ≡ book_of plain.old) }
+{
     let Some((step, further)) = steps.split_first() else {
         return Ok(None);
     };
-    let Some(back) = step_on(alloc, plain, next, &step.1)? else {
+    let Some(back) = step_on(alloc, plain, next, &step.1, known)? else {
         return Ok(Some(step.0));
     };
-    let fault = first_fault_forth(alloc, plain, next, further)?;
+    let fault = fault_forth(alloc, plain, next, further, true)?;
     step_back(plain, back, fault)
 }
 
-/// Takes one step, where it is sound, and gives the edit that leads back; `None` where it is broken.
+/// Takes one step, where it is sound, and gives the edit that leads back; `None` where it is broken. The whole book is
+/// checked after it, unless it is known to be sound before it and the edit leaves it so.
 fn step_on(
     alloc: Global,
     plain: &mut Plain,
     next: u64,
     edit: &Edit,
+    known: bool,
 ) -> Result<Option<Edit>, OutOfMemory>
+    requires { IsTrue known → IsSoundBook (book_of plain.old) × AreDrawn (book_of plain.old) next }
     ensures { IfOk result (λ back. MatchOption back
         (is_broken next (book_of plain.old) edit.now ≡ true)
         (λ inverse. IsStepOn next (book_of plain.old) edit.now inverse (book_of plain.new))) }
 {
     if !is_allowed(plain, edit) {
         return Ok(None);
+    }
+    if known && leaves_sound(plain, edit) {
+        return Ok(Some(pass(alloc, plain, edit)?));
     }
     let inverse = pass(alloc, plain, edit)?;
     if is_sound(alloc, plain, next)? {
@@ -127,6 +166,20 @@ fn is_allowed(plain: &Plain, edit: &Edit) -> bool
     ensures allowed { IsTrue result → IsAllowed (book_of plain.now) edit.now }
 {
     plain.check_edit(edit).is_ok()
+}
+
+/// Whether the edit leads from a sound book to a sound one: it only deletes a thing that nothing else needs. The things
+/// of the book are not walked along.
+fn leaves_sound(plain: &Plain, edit: &Edit) -> bool
+    ensures { result ≡ leaves_sound (book_of plain.now) edit.now }
+{
+    match edit {
+        // A line can be matched with a split of the transaction.
+        Edit::Gone(ThingKind::Txn, _) => plain.lines.len() == 0,
+        // Nothing else needs a price or a schedule.
+        Edit::Gone(ThingKind::Price | ThingKind::Schedule, _) => true,
+        _ => false,
+    }
 }
 
 /// Whether the book is sound, and all its numbers are below the next.
