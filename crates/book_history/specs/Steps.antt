@@ -42,7 +42,7 @@ abbrev pub is_broken : ℕ → Book → Edit → Bool
 is_broken next book edit = is_refused book edit || is_unsound next (edited edit book)
 
 -- Whether nothing else in a book needs a thing of a kind, by the rules of the others: nothing needs a price or a
--- schedule, and only lines need a transaction, since they are matched with splits. The other kinds are taken for needed.
+-- schedule, and only lines need a transaction, since they are matched with splits. The other kinds count as needed.
 abbrev pub is_unneeded : ThingKind → Book → Bool
 is_unneeded kind.Txn book = length book.lines == 0
 is_unneeded kind.Price book = true

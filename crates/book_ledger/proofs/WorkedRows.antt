@@ -9,6 +9,7 @@ use Rattle.book_splits.specs.declared.split.Split.{Split}
 use Rattle.book_splits.specs.declared.transaction.Txn.{Txn}
 use Rattle.book_ledger.specs.Changes.{RisesBy, differing}
 use Rattle.book_ledger.specs.Ledger.{register_of}
+use Rattle.book_ledger.specs.Lots.{checkpoint_before, common}
 
 abbrev split : ℕ → ℕ → ℤ → Split
 split id account amount = record {
@@ -100,3 +101,13 @@ counted_later = (refl, refl)
 
 stays : RisesBy 2 (2 ^ 64 - 2) (2 ^ 64 - 1)
 stays = refl
+
+-- ---- lots that are left
+-- a checkpoint comes after each 256 rows
+checkpoints : (checkpoint_before 255 ≡ 0) × (checkpoint_before 300 ≡ 256) × (checkpoint_before 512 ≡ 512)
+checkpoints = (refl, refl, refl)
+
+-- a row behind the salary's leaves that in common, and one in front of it nothing
+in_common : (common (register_of 3 (salary ∷ [])) (register_of 3 (book (pos 9))) ≡ 1)
+    × (common (register_of 3 (book (pos 9))) (register_of 3 (book (pos 2))) ≡ 0)
+in_common = (refl, refl)

@@ -14,7 +14,7 @@ use Rattle.book_ledger.specs.Lots.{AreLeft, reckoned_of, work_of}
 use Rattle.book_ledger.specs.Room.{AreSorted, ChangeOnce}
 
 -- Since the first of two states of the registers the changes of each account's rose by the rows that differ, of its
--- reckoned rows those are left that stand before the last checkpoint in the common part, and nothing was reckoned.
+-- reckoned rows at least those are left that stand before the last checkpoint in the common part, and none was reckoned.
 pub record CountsFrom (first now : List (ℕ × Page)) : Type 0 where
   pub sorted : AreSorted first
   pub each :

@@ -1,6 +1,6 @@
 -- Which of the lots that were reckoned from registers are left where these change.
-use Rattle.std.specs.Prelude.{◌≡◌, ℕ, suc, ◌*◌, ◌/◌, ◌≤◌, ◌==◌, min, Bool, if◌then◌else◌, List, [], ◌∷◌, Option, Some, None}
-use Rattle.std.specs.Prelude.{option_map}
+use Rattle.std.specs.Prelude.{◌≡◌, ℕ, suc, ◌*◌, ◌/◌, ◌≤◌, ◌==◌, min, Bool, if◌then◌else◌, List, [], ◌∷◌}
+use Rattle.std.specs.Prelude.{Option, Some, None, option_map}
 use Rattle.book_commodity.specs.Table.{value_of}
 use Rattle.book_register.specs.declared.entry.Entry.{Entry}
 use Rattle.book_ledger.specs.Change.{is_same}

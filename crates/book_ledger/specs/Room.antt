@@ -32,7 +32,7 @@ room_in (Some register) = register.spare
 abbrev pub room_of : ℕ → List (ℕ × Page) → ℕ
 room_of account registers = room_in (value_of account registers)
 
--- Registers have the rows that others have, were changed as often, have room for as many more, and the same rows of them
+-- Registers have the rows that others have, were changed as often, have room for as many more, and as many rows of them
 -- are reckoned; those that were kept still are.
 pub record Extends (old new : List (ℕ × Page)) : Type 0 where
   pub rows : (account : ℕ) → rows_at account new ≡ rows_at account old

@@ -18,7 +18,8 @@ use book_undo::{Edit, Plain, Thing, ThingKind};
 impl Registers {
     /// Changes the registers of a book to those of the book that the edit leads to. It can't fail and takes no memory.
     /// Rows that stay are not touched: the changes of each register rise by the rows that one of the two books'
-    /// registers has and the other hasn't. Lots stay up to the last checkpoint before the first row that differs.
+    /// registers has and the other hasn't. Lots stay at least up to the last checkpoint before
+    /// the first row that differs.
     pub fn apply(&mut self, plain: &Plain, edit: &Edit)
         requires kept { Keeps self.old.entries (book_of plain.now) }
         requires ready { IsReady self.old.entries (leaves edit.now) }

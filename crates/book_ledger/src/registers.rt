@@ -22,8 +22,9 @@ use book_splits::Txn;
 use std::alloc::Global;
 use std::marker::Model;
 
-/// The registers of the accounts of a book, by the numbers of the accounts, each with the lots that were reckoned from
-/// it. Contracts see the list of its entries, each an account's number with its page, and how many more it has room for.
+/// The registers of the accounts of a book, by the numbers of the accounts, each with the lots that are reckoned from
+/// its first rows. Contracts see the list of its entries, each an account's number with its page, and for how many more
+/// there is room.
 #[derive(Drop)]
 pub struct Registers {
     registers: Table<Page>,
