@@ -1,7 +1,13 @@
 -- How often the registers that an engine keeps were changed, and which of their lots it keeps.
-use Rattle.std.specs.Prelude.{◌≡◌, ℕ, ◌-◌, ◌⊎◌, if◌then◌else◌, Bool, false, is_some, length, take, Option, Some, None}
+use Rattle.std.specs.Prelude.{◌≡◌, ℕ, ◌-◌, ◌⊎◌, if◌then◌else◌, Bool, false, is_some, length, take, List}
+use Rattle.std.specs.Prelude.{Option, Some, None}
 use Rattle.std.specs.Option.{option_map_or}
 use Rattle.book_accounts.specs.Group.{is_security}
+use Rattle.book_accounts.specs.declared.account.Account.{Account}
+use Rattle.book_command.specs.declared.command.Report.{Report}
+use Rattle.book_command.specs.declared.command.Report.TheVariants.{Gains, Lots}
+use Rattle.book_command.specs.declared.command.What.{What}
+use Rattle.book_command.specs.declared.command.What.TheVariants as what
 use Rattle.book_commodity.specs.Table.{value_of}
 use Rattle.book_ledger.specs.Changes.{RisesBy, changes_of, differing}
 use Rattle.book_ledger.specs.Ledger.{register_of}
@@ -15,10 +21,29 @@ abbrev pub live_changes : Kept → ℕ → Option ℕ
 live_changes kept account =
     if is_some (value_of account kept.state.book.accounts) then Some (changes_of account kept.registers) else None
 
+-- Whether one of these accounts with a number is a security account.
+abbrev pub is_security_in : List (ℕ × Account) → ℕ → Bool
+is_security_in accounts number = option_map_or (λ found. is_security found.kind) (value_of number accounts) false
+
 -- Whether an account is a security account of a book.
 abbrev pub is_live_security : Book → ℕ → Bool
-is_live_security book account =
-    option_map_or (λ found. is_security found.kind) (value_of account book.accounts) false
+is_live_security book account = is_security_in book.accounts account
+
+-- The account of whose lots a report is made, if it is a report on lots.
+abbrev pub account_of_lots : Report → Option ℕ
+account_of_lots (Lots account csv) = Some account
+account_of_lots (Gains account from to) = Some account
+account_of_lots _ = None
+
+-- A number, where one of these accounts with it is a security account.
+abbrev pub only_security : List (ℕ × Account) → Option ℕ → Option ℕ
+only_security accounts None = None
+only_security accounts (Some number) = if is_security_in accounts number then Some number else None
+
+-- The security account, among these accounts, on whose lots a report is asked, if there is one.
+abbrev pub lots_asked : List (ℕ × Account) → What → Option ℕ
+lots_asked accounts (what.Report report) = only_security accounts (account_of_lots report)
+lots_asked accounts _ = None
 
 -- The lots that are kept of a security account of the present book: those of the first rows of its register, as many as
 -- are reckoned; none where the book has no such account.
@@ -38,8 +63,8 @@ pub record HaveRisen (before now : Kept) : Type 0 where
       (register_of account now.state.book.transactions)) (changes_of account before.registers)
       (changes_of account now.registers)
 
--- So the registers are changed. Of an account's lots at least those stay that stand before the last checkpoint in the
--- part that its two registers have in common, and nothing is reckoned.
+-- From one state to the next the registers are changed and not made anew. Of an account's lots at least those stay that
+-- stand before the last checkpoint in the part that its two registers have in common, and none is reckoned.
 pub record AreChanged (before now : Kept) : Type 0 where
   pub changes : HaveRisen before now
   pub left :
@@ -62,10 +87,26 @@ pub record HasSameLots (before now : Kept) (account : ℕ) : Type 0 where
 -- The lots of an account are brought up to its register: the work rises by the rows that weren't reckoned.
 pub record HasAllLots (before now : Kept) (account : ℕ) : Type 0 where
   pub reckoned : reckoned_of account now.registers ≡ length (register_of account before.state.book.transactions)
-  pub work : RisesBy (length (register_of account before.state.book.transactions) - reckoned_of account before.registers)
+  pub work :
+      RisesBy (length (register_of account before.state.book.transactions) - reckoned_of account before.registers)
       (work_of account before.registers) (work_of account now.registers)
 
--- Each account's register was changed as often as before, and its lots are as they were, or brought up to the register.
-pub record AreKeptUp (before now : Kept) : Type 0 where
+-- Each account's register was changed as often as before. The lots of the account that is asked for, if there is one, are
+-- as they were, or brought up to its register; those of all others are as they were.
+pub record AreKeptUp (before now : Kept) (asked : Option ℕ) : Type 0 where
   pub each : (account : ℕ) → changes_of account now.registers ≡ changes_of account before.registers
-  pub lots : (account : ℕ) → HasSameLots before now account ⊎ HasAllLots before now account
+  pub others : (account : ℕ) → (asked ≡ Some account → ⊥) → HasSameLots before now account
+  pub one :
+      (account : ℕ) → asked ≡ Some account → HasSameLots before now account ⊎ HasAllLots before now account
+
+-- The lots of the account that is asked for, if there is one, are brought up to its register.
+pub record AreReckoned (before now : Kept) (asked : Option ℕ) : Type 0 where
+  pub one : (account : ℕ) → asked ≡ Some account → HasAllLots before now account
+
+-- What a command does to registers and lots: first those lots are brought up that are asked for, and then the registers
+-- are changed.
+pub record IsActed (before now : Kept) (asked : Option ℕ) : Type 0 where
+  pub mid : Kept
+  pub kept_up : AreKeptUp before mid asked
+  pub reckoned : AreReckoned before mid asked
+  pub changed : AreChanged mid now

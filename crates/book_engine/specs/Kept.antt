@@ -11,7 +11,8 @@ use Rattle.book_opening.specs.State.{State, state_of}
 use Rattle.book_engine.specs.declared.engine.Engine.TheInside.{Inside}
 
 -- The state, with its steps; whether a keeper was given the rows of a state, which until then is the fresh one; the
--- tables that hold the book; the registers of its accounts, with their lots; and for how many more steps back and forth there is room.
+-- tables that hold the book; the registers of its accounts, with their lots; and for how many more steps back and forth
+-- there is room.
 pub record Kept : Type 0 where
   pub state : State
   pub saved : Bool

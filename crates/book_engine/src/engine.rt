@@ -7,8 +7,8 @@ ghost use Rattle.book_step.specs.Soundness.{IsSound};
 ghost use Rattle.book_opening.specs.Opening.{OpenAs, WasRead};
 ghost use Rattle.book_opening.specs.State.{State};
 ghost use Rattle.book_engine.specs.Acting.{HasActCause, IsUnchanged};
-ghost use Rattle.book_engine.specs.Changed.{AreChanged, AreKeptUp, AreLeft, HaveRisen, live_changes};
-ghost use Rattle.book_engine.specs.Changed.{live_lots};
+ghost use Rattle.book_engine.specs.Changed.{AreChanged, AreKeptUp, AreLeft, AreReckoned, HaveRisen, IsActed};
+ghost use Rattle.book_engine.specs.Changed.{live_changes, live_lots, lots_asked};
 ghost use Rattle.book_engine.specs.Kept.{IsWhole, step_state};
 ghost use Rattle.book_engine.specs.Books.{machine_of};
 ghost use Rattle.book_engine.specs.Machine.{Done, step as step_from};
@@ -122,17 +122,21 @@ impl Engine {
     }
 
     /// Tries all rules of the command, takes all memory that it needs, and makes the edit that leads back, the whole
-    /// answer and the changes of the rows. The state stays as it is; where a report on lots is asked, they are brought up
-    /// to their register, unless that is out of memory. Refused by the first rule that the command breaks, or out of memory.
+    /// answer and the changes of the rows. The state stays as it is; where a report on the lots of an account is asked,
+    /// they are brought up to its register. Refused by the first rule that the command breaks, or out of memory.
     pub fn prepare(&mut self, command: Command) -> Result<Plan, Refusal>
         ensures planned { IfOk result (IsPlanOf self.old.state self.old.saved command) }
         ensures room { IfOk result (HasRoomFor self.new) }
         ensures refused { IfErr result (IsRefusal (step_from (machine_of self.old.state) command)) }
         ensures unchanged { IsUnchanged self.old self.new }
-        ensures kept_up { AreKeptUp self.old self.new }
+        ensures kept_up { AreKeptUp self.old self.new (lots_asked self.old.state.book.accounts command.what) }
+        ensures reckoned { OnOk result
+            (AreReckoned self.old self.new (lots_asked self.old.state.book.accounts command.what)) }
         ensures sound { IsSound (step_state self.new.state) }
     {
-        self.reckon_for(&command.what);
+        if let Err(OutOfMemory) = self.reckon_for(&command.what) {
+            return Err(Refusal::OutOfMemory);
+        }
         let plan = match plan_of(
             self.alloc,
             &self.state,
@@ -149,14 +153,17 @@ impl Engine {
         }
     }
 
-    /// Brings the lots of an account up to its register, where a report on them is asked. Where it is out of memory they
-    /// stay, and the report reckons its own.
-    fn reckon_for(&mut self, what: &What)
+    /// Brings the lots of an account up to its register, where a report on them is asked.
+    fn reckon_for(&mut self, what: &What) -> Result<(), OutOfMemory>
         ensures unchanged { IsUnchanged self.old self.new }
-        ensures kept_up { AreKeptUp self.old self.new }
+        ensures kept_up { AreKeptUp self.old self.new (lots_asked self.old.state.book.accounts what.now) }
+        ensures reckoned { OnOk result
+            (AreReckoned self.old self.new (lots_asked self.old.state.book.accounts what.now)) }
+        ensures sound { IsSound (step_state self.new.state) }
     {
-        if let Some(account) = lots_asked(&self.state.plain.accounts, what) {
-            let _ = self.registers.reckon(account);
+        match lots_asked(&self.state.plain.accounts, what) {
+            Some(account) => self.registers.reckon(account),
+            None => Ok(()),
         }
     }
 
@@ -241,6 +248,10 @@ impl Engine {
         ensures done { IfOk result (λ answer. step_from (machine_of self.old.state) command
             ≡ Done (machine_of self.new.state) answer) }
         ensures changes { OnOk result (HaveRisen self.old self.new) }
+        ensures acted { OnOk result
+            (IsActed self.old self.new (lots_asked self.old.state.book.accounts command.what)) }
+        ensures kept_up { OnErr result
+            (AreKeptUp self.old self.new (lots_asked self.old.state.book.accounts command.what)) }
         ensures unchanged { OnErr result (IsUnchanged self.old self.new) }
         ensures sound { IsSound (step_state self.new.state) }
         ensures path { K.path_given keeper.new ≡ K.path_given keeper.old }

@@ -1,8 +1,6 @@
-ghost use Rattle.std.specs.Prelude.{◌≡◌, [], ◌∷◌, None, IfErr, IfOk, false};
-ghost use Rattle.std.specs.Option.{option_map_or};
-ghost use Rattle.book_accounts.specs.Group.{is_security};
+ghost use Rattle.std.specs.Prelude.{◌≡◌, [], ◌∷◌, None, IfErr, IfOk};
 ghost use Rattle.book_commodity.specs.Rules.{ReportsFirst, first_broken};
-ghost use Rattle.book_commodity.specs.Table.{value_of};
+ghost use Rattle.book_engine.specs.Changed.{account_of_lots, is_security_in, lots_asked};
 ghost use Rattle.book_engine.specs.Planned.{IsAskRefusal};
 ghost use Rattle.book_engine.specs.Reports.{basis, day_range, first_day as first_of, form_of, last_day as last_of};
 ghost use Rattle.book_engine.specs.Reports.{report_answer, report_rules};
@@ -137,7 +135,7 @@ fn check_security(accounts: &Tree, number: u64) -> Result<(), Rule>
 
 /// Whether the account of this number is a security account of the book.
 pub(crate) fn is_security(accounts: &Tree, number: u64) -> bool
-    ensures { result ≡ option_map_or (λ found. is_security found.kind) (value_of number accounts.now.entries) false }
+    ensures { result ≡ is_security_in accounts.now.entries number }
 {
     match accounts.find(number) {
         Some(account) => account.kind.is_security(),
@@ -146,22 +144,32 @@ pub(crate) fn is_security(accounts: &Tree, number: u64) -> bool
 }
 
 /// The security account of the book on whose lots a report is asked, if there is one.
-pub(crate) fn lots_asked(accounts: &Tree, what: &What) -> Option<u64> {
-    let What::Report(
-        Report::Lots { account, csv: _ }
-        | Report::Gains {
+pub(crate) fn lots_asked(accounts: &Tree, what: &What) -> Option<u64>
+    ensures { result ≡ lots_asked accounts.now.entries what.now }
+{
+    let What::Report(report) = what else {
+        return None;
+    };
+    let account = account_of_lots(report)?;
+    if !is_security(accounts, account) {
+        return None;
+    }
+    Some(account)
+}
+
+/// The account of whose lots the report is made, if it is one on lots.
+fn account_of_lots(report: &Report) -> Option<u64>
+    ensures { result ≡ account_of_lots report.now }
+{
+    match report {
+        Report::Lots { account, csv: _ } => Some(*account),
+        Report::Gains {
             account,
             from: _,
             to: _,
-        },
-    ) = what
-    else {
-        return None;
-    };
-    if !is_security(accounts, *account) {
-        return None;
+        } => Some(*account),
+        _ => None,
     }
-    Some(*account)
 }
 
 /// The period has a day.

@@ -1,4 +1,6 @@
+use Rattle.book_engine.specs.Changed.{lots_asked}
 use Rattle.book_engine.proofs.ChangedLemmas.{risen_from}
+use Rattle.book_engine.proofs.LotsLemmas.{kept_up_left}
 use Rattle.book_engine.proofs.StandLemmas.{stands_unchanged}
 use Rattle.book_engine.proofs.engine.Engine.act.Goals as goal
 
@@ -24,3 +26,23 @@ pub returns-in-Ok-finish-clause-changes : goal.returns-in-Ok-finish-clause-chang
 returns-in-Ok-finish-clause-changes g c =
     risen_from c.args.self.now c.prepare.new.self c.finish.new.self c.prepare.ensures.unchanged.same_state
     c.prepare.ensures.kept_up.each c.in-Ok-finish.ensures.changes
+
+pub returns-in-Ok-finish-clause-acted : goal.returns-in-Ok-finish-clause-acted
+returns-in-Ok-finish-clause-acted g c = record {
+  mid = c.prepare.new.self;
+  kept_up = c.prepare.ensures.kept_up;
+  reckoned = c.in-Ok.ensures.reckoned;
+  changed = c.in-Ok-finish.ensures.changes;
+}
+
+pub returns-in-Err-Failed-clause-kept_up : goal.returns-in-Err-Failed-clause-kept_up
+returns-in-Err-Failed-clause-kept_up g c =
+    kept_up_left c.args.self.now c.prepare.new.self c.finish.new.self
+    (lots_asked c.args.self.now.state.book.accounts c.args.command.what) c.prepare.ensures.kept_up
+    c.in-Err-Failed.ensures.left
+
+pub returns-in-Err-OutOfMemory-clause-kept_up : goal.returns-in-Err-OutOfMemory-clause-kept_up
+returns-in-Err-OutOfMemory-clause-kept_up g c =
+    kept_up_left c.args.self.now c.prepare.new.self c.finish.new.self
+    (lots_asked c.args.self.now.state.book.accounts c.args.command.what) c.prepare.ensures.kept_up
+    c.in-Err-OutOfMemory.ensures.left

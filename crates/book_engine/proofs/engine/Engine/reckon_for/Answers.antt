@@ -1,11 +1,12 @@
-use Rattle.std.proofs.Common.{◌≤◌, All, List, length, is_ok, sym, subst}
+use Rattle.std.proofs.Common.{◌≡◌, ◌≤◌, All, Bool, List, Some, length, is_ok, sym, subst, ◌∙◌}
+use Rattle.book_ledger.specs.Lots.{IsBroughtUp}
 use Rattle.book_lots.specs.Lots.{IsSmall}
 use Rattle.book_opening.specs.State.{state_of}
 use Rattle.book_register.specs.declared.entry.Entry.{Entry}
 use Rattle.book_reports.proofs.RowLemmas.{can_be_summed}
-use Rattle.book_engine.specs.Changed.{AreKeptUp}
+use Rattle.book_engine.specs.Changed.{AreKeptUp, AreReckoned, lots_asked}
 use Rattle.book_engine.specs.Kept.{Kept, kept_by}
-use Rattle.book_engine.proofs.LotsLemmas.{kept_up, small_rows}
+use Rattle.book_engine.proofs.LotsLemmas.{are_reckoned, kept_up, small_rows, where_done}
 use Rattle.book_engine.proofs.engine.Engine.reckon_for.Goals as goal
 
 pub reckon-requires-clause-few : goal.reckon-requires-clause-few
@@ -29,5 +30,25 @@ returns-in-Some-clause-kept_up c =
       registers = c.reckon.new.self;
       saved = c.self.inside.saved;
     }) in
-    subst (λ (k : Kept). AreKeptUp k new) c.self.view_is
-    (kept_up old new c.in-Some.account (is_ok c.reckon.result) c.self.invariant.registers c.reckon.ensures)
+    let asks : lots_asked old.state.book.accounts c.args.what.now ≡ Some c.in-Some.account =
+    sym c.lots_asked.ensures ∙ c.in-Some.is in
+    subst (λ (k : Kept). AreKeptUp k new (lots_asked k.state.book.accounts c.args.what.now)) c.self.view_is
+    (kept_up old new c.in-Some.account (is_ok c.reckon.result) (lots_asked old.state.book.accounts c.args.what.now)
+    asks c.self.invariant.registers c.reckon.ensures)
+
+pub returns-in-Some-clause-reckoned : goal.returns-in-Some-clause-reckoned
+returns-in-Some-clause-reckoned c =
+    let old = kept_by c.self.inside in
+    let new = kept_by (record {
+      alloc = c.self.inside.alloc;
+      state = c.self.inside.state;
+      registers = c.reckon.new.self;
+      saved = c.self.inside.saved;
+    }) in
+    let asks : lots_asked old.state.book.accounts c.args.what.now ≡ Some c.in-Some.account =
+    sym c.lots_asked.ensures ∙ c.in-Some.is in
+    where_done c.reckon.result (λ done.
+    subst (λ (k : Kept). AreReckoned k new (lots_asked k.state.book.accounts c.args.what.now)) c.self.view_is
+    (are_reckoned old new c.in-Some.account (lots_asked old.state.book.accounts c.args.what.now) asks
+    c.self.invariant.registers
+    (subst (λ (t : Bool). IsBroughtUp c.in-Some.account t old.registers new.registers) done c.reckon.ensures)))
