@@ -12,7 +12,7 @@ pub(crate) enum Asked {
     /// The account of this name and kind below the root, in the commodity and with the basis.
     Account(&'static str, AccountKind, u64, Option<u64>),
     /// On a day so many units and so much value to the first account from the second.
-    Post(i32, u64, u64, i64, i64),
+    Post(i32, u64, u64, i32, i32),
     /// The lots of the account.
     Lots(u64),
     /// What sales gained on the account in 2024.
@@ -104,9 +104,10 @@ fn post(
     day: i32,
     to: u64,
     from: u64,
-    quantity: i64,
-    value: i64,
+    quantity: i32,
+    value: i32,
 ) -> Result<What, OutOfMemory> {
+    let (quantity, value) = (i64::from(quantity), i64::from(value));
     let Some(day) = Day::of_number(day) else {
         return Err(OutOfMemory);
     };
