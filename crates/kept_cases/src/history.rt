@@ -98,20 +98,23 @@ fn alone(alloc: Global, edit: Edit) -> Result<[Option<u64>; 2], OutOfMemory> {
     Ok([back, forth])
 }
 
-// Without steps, and where an account is opened and closed again, there is no fault, and the book is as it was.
+// Without steps, and where an account was opened and closed again, there is no fault back, and the book is as it was.
 #[test]
-fn sound_steps(rt: HostRuntime) -> Result<(), Fail> {
+fn sound_steps_back(rt: HostRuntime) -> Result<(), Fail> {
     let alloc = rt.alloc();
     assert_eq!(rt; back(alloc, &[])?, (None, 1, 2));
+    let both = two_back(alloc, closed(4), opened(alloc, 4)?)?;
+    assert_eq!(rt; both, (None, 1, 2));
+    Ok(())
+}
+
+// The same forth.
+#[test]
+fn sound_steps_forth(rt: HostRuntime) -> Result<(), Fail> {
+    let alloc = rt.alloc();
     assert_eq!(rt; forth(alloc, &[])?, (None, 1, 2));
-    assert_eq!(rt;
-        two_back(alloc, closed(4), opened(alloc, 4)?)?,
-        (None, 1, 2)
-    );
-    assert_eq!(rt;
-        two_forth(alloc, opened(alloc, 4)?, closed(4))?,
-        (None, 1, 2)
-    );
+    let both = two_forth(alloc, opened(alloc, 4)?, closed(4))?;
+    assert_eq!(rt; both, (None, 1, 2));
     Ok(())
 }
 

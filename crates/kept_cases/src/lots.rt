@@ -34,24 +34,41 @@ fn lots_after(
     Some((lots.work(), lots.reckoned()))
 }
 
-/// The same after each of: the trades' lots and their gains, a purchase in front of them and the gains then, an undo of
-/// it and the lots then.
+/// Whether all trades are done.
+fn are_traded(alloc: Global, engine: &mut Engine, keeper: &mut MemKeeper) -> bool {
+    for trade in &TRADES {
+        if !is_done(alloc, engine, keeper, *trade) {
+            return false;
+        }
+    }
+    true
+}
+
+/// The same after each of: the lots and their gains, a purchase in front of them and the gains then, an undo of it and
+/// the lots then.
+fn all_lots(
+    alloc: Global,
+    engine: &mut Engine,
+    keeper: &mut MemKeeper,
+) -> [Option<(u64, usize)>; 6] {
+    [
+        lots_after(alloc, engine, keeper, Asked::Lots(4)),
+        lots_after(alloc, engine, keeper, Asked::Gains(4)),
+        lots_after(alloc, engine, keeper, IN_FRONT),
+        lots_after(alloc, engine, keeper, Asked::Gains(4)),
+        lots_after(alloc, engine, keeper, Asked::Undo),
+        lots_after(alloc, engine, keeper, Asked::Lots(4)),
+    ]
+}
+
+/// The same of the trades; None where one of them is refused.
 fn lots(alloc: Global) -> Option<[Option<(u64, usize)>; 6]> {
     let mut keeper = MemKeeper::new(Many::new(alloc), Many::new(alloc));
     let mut engine = Engine::open(alloc, &mut keeper).ok()?;
-    for trade in TRADES {
-        if !is_done(alloc, &mut engine, &mut keeper, trade) {
-            return None;
-        }
+    if !are_traded(alloc, &mut engine, &mut keeper) {
+        return None;
     }
-    Some([
-        lots_after(alloc, &mut engine, &mut keeper, Asked::Lots(4)),
-        lots_after(alloc, &mut engine, &mut keeper, Asked::Gains(4)),
-        lots_after(alloc, &mut engine, &mut keeper, IN_FRONT),
-        lots_after(alloc, &mut engine, &mut keeper, Asked::Gains(4)),
-        lots_after(alloc, &mut engine, &mut keeper, Asked::Undo),
-        lots_after(alloc, &mut engine, &mut keeper, Asked::Lots(4)),
-    ])
+    Some(all_lots(alloc, &mut engine, &mut keeper))
 }
 
 // The second question reckons nothing; a purchase in front and its undo make the next one reckon all rows again.
