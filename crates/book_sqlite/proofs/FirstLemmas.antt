@@ -1,5 +1,7 @@
 -- The selects of the first row by key, and the delete of a row.
-use Rattle.std.proofs.Common.{◌≡◌, ◌⊎◌, ◌^◌, ℕ, ℤ, ◌<◌, pos, ◌<ℤ◌, ◌≤ℤ◌, Bool, true, false, ◌&&◌, List, [], ◌∷◌, map, None, Ok, inl, inr, refl, sym, ap, subst, ◌∙◌, arith, true≢false, Ordering, Less, Equal, Greater}
+use Rattle.std.proofs.Common.{◌≡◌, ◌⊎◌, ◌^◌, ℕ, ℤ, ◌<◌, pos, ◌<ℤ◌, ◌≤ℤ◌, Bool, true, false, ◌&&◌, zero, suc, ◌+◌, List, [], ◌∷◌, map, take, get_or, None, Ok, inl, inr, refl, sym, ap, subst, ◌∙◌, arith, true≢false, Ordering, Less, Equal, Greater}
+use native.Mathlib.Numerals.{unary_clauses}
+use Rattle.std.specs.Bool.{⊤}
 use Rattle.std.specs.Ordering.{is_eq, is_lt, is_gt, is_ge, int_cmp, ordering_then}
 use Rattle.std.specs.List.Sorted.{IsPermutation}
 use Rattle.std.proofs.lemmas.Bool.{and_parts, and_from}
@@ -15,7 +17,7 @@ use Rattle.sqlite_sql.specs.Term.{Term}
 use Rattle.sqlite_sql.specs.Query.{Query, Output, output, output_cmp, page, matches_as, IsAnswerAs}
 use Rattle.sqlite_sql.specs.Program.{overlay}
 use Rattle.sqlite_rules.specs.Lists.{Has}
-use Rattle.book_sqlite.specs.RowCalls.{HasKey, UpTo, Behind, From, ShowsFirst}
+use Rattle.book_sqlite.specs.RowCalls.{HasKey, UpTo, Behind, From, Later, IsShown, ShowsOn, Shows}
 use Rattle.sqlite_rules.specs.Edit.{id_in}
 use Rattle.sqlite_rules.specs.Calls.{ids_of}
 use Rattle.sqlite_rules.proofs.TableLemmas.{int_is}
@@ -88,44 +90,94 @@ key_is : (kind id : ℤ) (e : Entry) (k i : ℤ) → HasKey e k i
     → passes_all (Int kind ∷ Int id ∷ []) key_terms e ≡ (is_eq (int_cmp k kind) && (is_eq (int_cmp i id) && true))
 key_is kind id e k i has = rw (has.0, has.1, compared Eq k kind, compared Eq i id) refl
 
+-- what is sorted is sorted from its second on
+sorted_rest : {X : Type 0} (lt : X → X → Bool) (x : X) (xs : List X) → Rattle.std.specs.List.Sorted.IsSortedBy lt (x ∷ xs)
+    → Rattle.std.specs.List.Sorted.IsSortedBy lt xs
+sorted_rest lt x xs up k d low high =
+    let step : lt (get_or (x ∷ xs) (suc (suc k)) d) (get_or (x ∷ xs) (suc k) d) ≡ false = simp unary_clauses at (up (k + 1) d (omega arith) (omega (arith, high))) in
+    simp unary_clauses step
+
 -- ---- the first
 module _ (filter : List Term) (P : ℤ → ℤ → Type 0) (db : Trees) (params : Entry) (known : AreEntries (db 0)) (decides : Decides params filter P) where
   abbrev q : Query
   q = first_query filter
 
-  first_by :
-      (ordered : List Output) (rows : List Entry)
-      → IsPermutation (map (output q) (matches_as Null (overlay db []) filter q.from (params ∷ []))) ordered
-      → Rattle.std.specs.List.Sorted.IsSorted (output_cmp q) ordered → rows ≡ page q params (map (λ o. o.1) ordered)
-      → ShowsFirst P (db 0) rows
-  first_by [] rows same up shown =
-      subst (ShowsFirst P (db 0)) (sym shown) (λ e kind id h has passes.
-      shown_has q Null (overlay db []) params refl [] same e h ((decides e kind id has).1 passes))
-  first_by (o ∷ more) rows same up shown =
-      let p = shown_from q Null (overlay db []) params refl (o ∷ more) same o (inl refl) in
-      let k = known.keyed p.entry p.there in
-      let row : o.1 ≡ Int k.kind ∷ Int k.id ∷ column p.entry 3 ∷ [] =
-      ap (λ (x : Output). x.1) p.is ∙ ap (λ v. v ∷ column p.entry 2 ∷ column p.entry 3 ∷ []) k.kind_is
-      ∙ ap (λ v. Int k.kind ∷ v ∷ column p.entry 3 ∷ []) k.id_is in
-      subst (ShowsFirst P (db 0)) (sym shown) (
-        p.entry,
-        k.kind,
-        k.id,
-        p.there,
-        (k.kind_is, k.id_is),
-        (decides p.entry k.kind k.id (k.kind_is, k.id_is)).0 p.passes,
-        row,
-        λ f other further h has passes.
-            let there = shown_has q Null (overlay db []) params refl (o ∷ more) same f h ((decides f other further has).1 passes) in
+  -- what comes first of the outputs that are left is shown next
+  shows_next : (Late : ℤ → ℤ → Type 0) (o : Output) (more : List Output) → Passes q (db 0) params o
+      → Rattle.std.specs.List.Sorted.IsSorted (output_cmp q) (o ∷ more)
+      → ((e : Entry) (kind id : ℤ) → Has (db 0) e → HasKey e kind id → P kind id → Late kind id → Has (o ∷ more) (output q (params ∷ e ∷ [])))
+      → IsShown P Late (db 0) o.1
+  shows_next Late o more p up all =
+      let k = known.keyed p.entry p.there in record {
+        entry = p.entry;
+        kind = k.kind;
+        id = k.id;
+        there = p.there;
+        has = (k.kind_is, k.id_is);
+        passes = (decides p.entry k.kind k.id (k.kind_is, k.id_is)).0 p.passes;
+        is = ap (λ (x : Output). x.1) p.is ∙ ap (λ v. v ∷ column p.entry 2 ∷ column p.entry 3 ∷ []) k.kind_is
+            ∙ ap (λ v. Int k.kind ∷ v ∷ column p.entry 3 ∷ []) k.id_is;
+        least = λ f other further h has passes late.
+            let there = all f other further h has passes late in
             let least = first_least q o more (output q (params ∷ f ∷ [])) up there in
             let keys : is_lt (ordering_then (value_cmp (Int other) (Int k.kind)) (ordering_then (value_cmp (Int further) (Int k.id)) Equal)) ≡ false =
             rw (← has.0, ← has.1, ← k.kind_is, ← k.id_is) (subst (λ (x : Output). is_lt (output_cmp q (output q (params ∷ f ∷ [])) x) ≡ false) p.is least) in
             up_to_by k.kind k.id other further (value_cmp (Int other) (Int k.kind)) (value_cmp (Int further) (Int k.id))
-            (value_cmp-Int other k.kind) (value_cmp-Int further k.id) keys,
+            (value_cmp-Int other k.kind) (value_cmp-Int further k.id) keys;
+      }
+
+  -- no key is behind itself
+  not_later : (kind id : ℤ) → Later kind id kind id → ⊥
+  not_later kind id (inl less) = omega (arith, ints, less)
+  not_later kind id (inr same) = omega (arith, ints, same.1)
+
+  -- one that is behind what is shown is among the outputs after it
+  left_after : (Late : ℤ → ℤ → Type 0) (o : Output) (more : List Output) (p : Passes q (db 0) params o) (kind id : ℤ)
+      → column p.entry 1 ≡ Int kind → column p.entry 2 ≡ Int id
+      → ((e : Entry) (other number : ℤ) → Has (db 0) e → HasKey e other number → P other number → Late other number
+      → Has (o ∷ more) (output q (params ∷ e ∷ [])))
+      → (e : Entry) (other number : ℤ) → Has (db 0) e → HasKey e other number → P other number
+      → Late other number × Later kind id other number → Has more (output q (params ∷ e ∷ []))
+  left_after Late o more p kind id kind_is id_is all e other number h has passes late = elim (all e other number h has passes late.0) [
+    | inl same ↦
+        let row : column e 1 ∷ column e 2 ∷ column e 3 ∷ [] ≡ column p.entry 1 ∷ column p.entry 2 ∷ column p.entry 3 ∷ [] =
+        ap (λ (x : Output). x.1) (same ∙ p.is) in
+        let kinds : Int other ≡ Int kind = sym has.0 ∙ ap (λ (r : Entry). column r 0) row ∙ kind_is in
+        let numbers : Int number ≡ Int id = sym has.1 ∙ ap (λ (r : Entry). column r 1) row ∙ id_is in
+        absurd (not_later kind id (subst (λ n. Later kind id n id) (let k = kinds in cc) (subst (Later kind id other) (let n = numbers in cc) late.1)))
+    | inr later ↦ later
+  ]
+
+  shows_on : (n : ℕ) (Late : ℤ → ℤ → Type 0) (outs : List Output)
+      → ((o : Output) → Has outs o → Passes q (db 0) params o) → Rattle.std.specs.List.Sorted.IsSorted (output_cmp q) outs
+      → ((e : Entry) (kind id : ℤ) → Has (db 0) e → HasKey e kind id → P kind id → Late kind id → Has outs (output q (params ∷ e ∷ [])))
+      → ShowsOn P Late (db 0) (take n (map (λ o. o.1) outs))
+  unfolding shows_next
+  shows_on zero Late outs from up all = tt
+  shows_on (suc n) Late [] from up all = tt
+  shows_on (suc n) Late (o ∷ more) from up all =
+      let p = from o (inl refl) in
+      let first = shows_next Late o more p up all in (
+        first,
+        shows_on n (λ other number. Late other number × Later first.kind first.id other number) more
+            (λ x h. from x (inr h)) (sorted_rest (λ x y. is_lt (output_cmp q x y)) o more up)
+            (left_after Late o more p first.kind first.id first.has.0 first.has.1 all),
       )
 
-  -- an answer shows the first of the entries that pass
-  pub shows_first : (rows : List Entry) → IsAnswerAs Null q (overlay db []) params rows → ShowsFirst P (db 0) rows
+  first_by :
+      (ordered : List Output) (rows : List Entry)
+      → IsPermutation (map (output q) (matches_as Null (overlay db []) filter q.from (params ∷ []))) ordered
+      → Rattle.std.specs.List.Sorted.IsSorted (output_cmp q) ordered → rows ≡ page q params (map (λ o. o.1) ordered)
+      → Shows P (db 0) rows
+  first_by [] rows same up shown =
+      subst (Shows P (db 0)) (sym shown) (λ e kind id h has passes.
+      shown_has q Null (overlay db []) params refl [] same e h ((decides e kind id has).1 passes))
+  first_by (o ∷ more) rows same up shown =
+      subst (Shows P (db 0)) (sym shown) (shows_on 64 (λ _ _. ⊤) (o ∷ more) (shown_from q Null (overlay db []) params refl (o ∷ more) same) up
+      (λ e kind id h has passes late. shown_has q Null (overlay db []) params refl (o ∷ more) same e h ((decides e kind id has).1 passes)))
+
+  -- an answer shows the first entries that pass
+  pub shows_first : (rows : List Entry) → IsAnswerAs Null q (overlay db []) params rows → Shows P (db 0) rows
   shows_first rows a =
       let kept_is = a.distinct ∙ ap (map (output q)) a.grouped in
       first_by a.ordered rows (subst (λ k. IsPermutation k a.ordered) kept_is a.same) a.sorted a.shown

@@ -1,5 +1,5 @@
 -- What the calls on the connection say of the keeper.
-use Rattle.std.proofs.Common.{◌≡◌, ◌⊎◌, true, ◌&&◌, List, Some, inl, inr, refl, sym, ap, subst, ◌∙◌, IsTrue, Option}
+use Rattle.std.proofs.Common.{◌≡◌, ◌⊎◌, true, ◌&&◌, List, ◌∷◌, Some, None, inl, inr, refl, sym, ap, subst, ◌∙◌, IsTrue, Option}
 use Rattle.std.proofs.lemmas.Bool.{and_parts, and_from}
 use Rattle.sqlite_value.specs.Order.{Row as Entry}
 use Rattle.sqlite_trees.specs.Tree.{Trees}
@@ -12,10 +12,12 @@ use Rattle.sqlite.specs.Files.{over_files, file_state}
 use Rattle.sqlite.specs.declared.FileStore.{FileStore}
 use Rattle.sqlite_disk.specs.declared.Disk as disk
 use Rattle.book_keeper.specs.declared.row.Row.{Row}
+use Rattle.book_keeper.specs.declared.row.RowKey.{RowKey}
+use Rattle.book_keeper.specs.Rows.{first_after}
 use Rattle.book_sqlite.specs.Content.{rows_of}
 use Rattle.book_sqlite.specs.RowsDatabase.{IsRowsDatabase, rows_in, ListsRows}
-use Rattle.book_sqlite.specs.RowCalls.{IsSure, IsReady, Committed, StaysCommitted}
-use Rattle.book_sqlite.specs.KeeperInSqlite.{SqliteKept, is_sure, HoldsRows, HasEntries, MayLeave, has_clean_store}
+use Rattle.book_sqlite.specs.RowCalls.{IsSure, IsReady, Committed, StaysCommitted, AreNext, PassesNone}
+use Rattle.book_sqlite.specs.KeeperInSqlite.{SqliteKept, AreAhead, is_sure, HoldsRows, HasEntries, MayLeave, has_clean_store}
 
 module _ {S : Type 0} (g : Ghosts S) where
   abbrev knows : Held S → Type 0
@@ -100,6 +102,38 @@ module _ {S : Type 0} (g : Ghosts S) where
     crash_settles change ready made settled sure rows held holds left =
         let now = sure_from new sure in
         left.2 ∙ ap (λ (t : Trees). rows_of (t 0)) (settled left.0 now.1 left.1) ∙ sym (rows_made change ready made sure held holds)
+
+-- ---- rows that were read ahead
+module _ {S : Type 0} (g : Ghosts S) (new old : SqliteKept S) (after asked : Option RowKey) (row : Row) (ahead rest : List Row)
+    (asked_is : after ≡ asked) (first : ahead ≡ row ∷ rest) where
+  next_by : (entries : List Entry) → AreNext after ahead entries
+      → (Some row ≡ first_after asked (rows_of entries)) × PassesNone asked entries (Some row) × AreNext (Some row.key) rest entries
+  next_by entries next = subst (λ l. AreNext asked l entries) first (subst (λ k. AreNext k ahead entries) asked_is next)
+
+  ahead_found_by : (connection : Option (Held S)) → new.connection ≡ connection → old.connection ≡ connection → AreAhead g connection after ahead
+      → IsTrue (is_sure g new) → (rows : List Row) → HoldsRows g old rows → Some row ≡ first_after asked rows
+  ahead_found_by None new_is old_is next sure rows holds = absurd (rw old_is at holds)
+  ahead_found_by (Some c) new_is old_is next sure rows holds =
+      let known : IsTrue ((state g c).is_clean && (state g c).is_open) = rw new_is at sure in
+      let here : rows ≡ rows_of ((state g c).committed.trees 0) = rw old_is at holds in
+      (next_by ((state g c).committed.trees 0) (next (sure_from g c known))).0 ∙ ap (first_after asked) (sym here)
+
+  ahead_passed_by : (connection : Option (Held S)) → new.connection ≡ connection → old.connection ≡ connection → AreAhead g connection after ahead
+      → IsTrue (is_sure g new) → (entries : List Entry) → HasEntries g old entries → PassesNone asked entries (Some row)
+  ahead_passed_by None new_is old_is next sure entries has = absurd (rw old_is at has)
+  ahead_passed_by (Some c) new_is old_is next sure entries has =
+      let known : IsTrue ((state g c).is_clean && (state g c).is_open) = rw new_is at sure in
+      let here : entries ≡ (state g c).committed.trees 0 = rw old_is at has in
+      subst (λ es. PassesNone asked es (Some row)) (sym here) (next_by ((state g c).committed.trees 0) (next (sure_from g c known))).1
+
+  -- the row that was read ahead is the next of the rows that are held, and passes none over
+  pub ahead_found : new.connection ≡ old.connection → AreAhead g old.connection after ahead
+      → IsTrue (is_sure g new) → (rows : List Row) → HoldsRows g old rows → Some row ≡ first_after asked rows
+  ahead_found same = ahead_found_by old.connection same refl
+
+  pub ahead_passed : new.connection ≡ old.connection → AreAhead g old.connection after ahead
+      → IsTrue (is_sure g new) → (entries : List Entry) → HasEntries g old entries → PassesNone asked entries (Some row)
+  ahead_passed same = ahead_passed_by old.connection same refl
 
 -- a keeper over a file holds what the file held
 pub found_holds :

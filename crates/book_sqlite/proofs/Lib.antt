@@ -7,6 +7,7 @@ pub mod FoundLemmas
 pub mod KeeperLemmas
 pub mod Meanings
 pub mod MemberLemmas
+pub mod NextLemmas
 pub mod OpeningLemmas
 pub mod PassedLemmas
 pub mod PutLemmas

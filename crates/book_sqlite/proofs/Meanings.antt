@@ -30,10 +30,10 @@ abbrev pub take_text : List ℕ
 take_text = codes "DELETE FROM bk_rows WHERE kind = ?1 AND id = ?2"
 
 abbrev pub behind_text : List ℕ
-behind_text = codes "SELECT kind, id, body FROM bk_rows WHERE kind = ?1 AND id > ?2 ORDER BY kind, id LIMIT 1"
+behind_text = codes "SELECT kind, id, body FROM bk_rows WHERE kind = ?1 AND id > ?2 ORDER BY kind, id LIMIT 64"
 
 abbrev pub from_text : List ℕ
-from_text = codes "SELECT kind, id, body FROM bk_rows WHERE kind >= ?1 ORDER BY kind, id LIMIT 1"
+from_text = codes "SELECT kind, id, body FROM bk_rows WHERE kind >= ?1 ORDER BY kind, id LIMIT 64"
 
 -- ---- the table
 pub create_is : (command_of (understood no_schema create_text) ≡ CreateTable)
@@ -94,7 +94,7 @@ pub take_plain : IsPlain (understood rows_schema take_text)
 unfolding understood everything
 take_plain = (refl, refl)
 
--- ---- the first row by key
+-- ---- the first rows by key
 abbrev pub first_query : List Term → Query
 first_query filter = record {
   from = inner 0 end;
@@ -104,7 +104,7 @@ first_query filter = record {
   distinct = false;
   collations = [];
   order = (col 1 1, ascending Binary) ∷ (col 1 2, ascending Binary) ∷ [];
-  limit = lit (Int (pos 1));
+  limit = lit (Int (pos 64));
   offset = lit (Int (pos 0));
 }
 

@@ -1,30 +1,65 @@
 -- A database as it is opened.
 use Rattle.std.proofs.Common.{◌≡◌, ◌⊎◌, ℕ, true, false, List, [], ◌∷◌, Ok, refl, sym, ap, subst, ◌∙◌, IsTrue, if◌then◌else◌}
-use Rattle.std.proofs.Common.{◌≢◌, filter, Bool}
+use Rattle.std.proofs.Common.{◌≢◌, filter, Bool, inl, inr, arith}
+use Rattle.std.proofs.Math.Logic.{∥∥₁_elim}
 use Rattle.std.specs.List.{AllByRecursion, AllZip}
 use Rattle.sqlite_value.specs.Order.{Row as Entry}
-use Rattle.sqlite_trees.specs.Tree.{IsTable, rowid}
-use Rattle.sqlite_trees.specs.View.{View, is_int, IsOrdered, IsShaped}
+use Rattle.sqlite_trees.specs.Tree.{Trees, IsTable, rowid}
+use Rattle.sqlite_trees.specs.declared.store.Shape.{Shape}
+use Rattle.sqlite_trees.specs.View.{is_int, IsOrdered, IsShaped}
+use Rattle.sqlite_trees.specs.Props.{IsOrdered-prop}
+use Rattle.sqlite_wal.specs.Recovery.{Image}
+use Rattle.sqlite_pool.specs.File.{version_in, in_use}
+use Rattle.sqlite_store.specs.Listing.{file_trees, all_shapes, all_reals}
+use Rattle.sqlite_store.specs.Listed.{catalog_rows, is_listed}
+use Rattle.sqlite_store.proofs.ListingLemmas.{all_ordered}
+use Rattle.sqlite.specs.Files.{AreFoundIn}
+use Rattle.sqlite.specs.Start.{FindsIn}
+use Rattle.sqlite.specs.Effect.{Database}
 use Rattle.sqlite_trees.specs.Objects.{catalog_tree, IsListed}
 use Rattle.sqlite_schema.specs.declared.schema.Schema.{Schema}
 use Rattle.sqlite_schema.specs.declared.command.Command.TheVariants.{CreateTable}
 use Rattle.sqlite_catalog.specs.Listing.{IsSound, AreListed, IsTableRow, is_table_row}
 use Rattle.sqlite_catalog.proofs.LayoutLemmas.{laid_out}
 use Rattle.sqlite.specs.Listing.{understood}
-use Rattle.sqlite.specs.State.{State, HasCleanDisk, Executes, Writes}
+use Rattle.sqlite.specs.State.{State, HasCleanDisk, Opens, IsLive, Executes, Writes}
 use Rattle.sqlite.proofs.Callers.{runs_as}
 use Rattle.book_sqlite.specs.RowsSchema.{rows_schema, rows_table, no_schema}
 use Rattle.book_sqlite.specs.RowCalls.{IsSure, IsReady}
 use Rattle.book_sqlite.proofs.Meanings.{create_text, create_is, create_plain}
 use Rattle.book_sqlite.proofs.TakeLemmas.{creates}
 
--- what a store lists as a table is one
+-- what is listed as a table is one
 pub has_rowids :
-    (v : View) (schema : Schema) → IsListed (v.trees catalog_tree) v.shape v.reals → IsOrdered v.shape v.trees → IsSound schema v.trees
-    → schema ≡ rows_schema → IsTable (v.trees 0) × AllByRecursion (λ r. IsTrue (is_int (rowid r))) (v.trees 0)
-has_rowids v schema listed ordered sound is =
-    let laid = laid_out listed (subst (λ s. IsShaped s (v.trees catalog_tree)) listed.itself.0 (ordered catalog_tree)) (subst (λ s. Rattle.sqlite_catalog.specs.Listing.AreListed (v.trees catalog_tree) s) is sound.lists.listed) in
-    subst (λ s. IsShaped s (v.trees 0)) laid.tables.0 (ordered 0)
+    (trees : Trees) (shape : ℕ → Shape) (reals : ℕ → ℕ) (schema : Schema) → IsListed (trees catalog_tree) shape reals → IsOrdered shape trees → IsSound schema trees
+    → schema ≡ rows_schema → IsTable (trees 0) × AllByRecursion (λ r. IsTrue (is_int (rowid r))) (trees 0)
+has_rowids trees shape reals schema listed ordered sound is =
+    let laid = laid_out listed (subst (λ s. IsShaped s (trees catalog_tree)) listed.itself.0 (ordered catalog_tree)) (subst (λ s. Rattle.sqlite_catalog.specs.Listing.AreListed (trees catalog_tree) s) is sound.lists.listed) in
+    subst (λ s. IsShaped s (trees 0)) laid.tables.0 (ordered 0)
+
+-- so are the trees of a file that was just opened, as its pages read, or that has nothing
+pub found_rowids : (image : Image) (db : Trees) (schema : Schema) → AreFoundIn image db → IsSound schema db → schema ≡ rows_schema
+    → IsTable (db 0) × AllByRecursion (λ r. IsTrue (is_int (rowid r))) (db 0)
+found_rowids image db schema (inl found) sound is =
+    let size = found.0 in
+    let pages = found.1 in
+    let wanted = found.2 in
+    let trees = file_trees size wanted pages in
+    let same : db ≡ trees = found.5 in
+    let ordered : IsOrdered (all_shapes wanted) trees =
+    ∥∥₁_elim found.4 (IsOrdered-prop _ _) (λ ours. all_ordered ours.file.db (version_in pages)) in
+    subst (λ (t : Trees). IsTable (t 0) × AllByRecursion (λ r. IsTrue (is_int (rowid r))) (t 0)) (sym same)
+    (has_rowids trees (all_shapes wanted) (all_reals wanted) schema (rw (catalog_rows size wanted (in_use size pages)) (is_listed wanted)) ordered
+    (subst (IsSound schema) same sound) is)
+found_rowids image db schema (inr nothing) sound is =
+    subst (λ t. IsTable t × AllByRecursion (λ r. IsTrue (is_int (rowid r))) t) (sym (nothing.1.0 0 (omega arith))) (tt, tt)
+
+-- a file that was just opened, as its state shows it
+pub found_ready : (image : Image) (s : State) → FindsIn image s → Opens s × IsLive s → IsTrue s.is_open → s.now.schema ≡ rows_schema
+    → IsTable (s.now.trees 0) × AllByRecursion (λ r. IsTrue (is_int (rowid r))) (s.now.trees 0)
+found_ready image s found opened is schema_is =
+    found_rowids image s.now.trees s.now.schema
+    (subst (λ (d : Database). AreFoundIn image d.trees) (sym opened.0.clean) found.reads) (opened.1 is).0 schema_is
 
 -- the table that was made is ready
 pub create_ready :

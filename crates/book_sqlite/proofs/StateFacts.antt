@@ -16,7 +16,7 @@ use Rattle.book_keeper.specs.declared.row.RowKey.{RowKey}
 use Rattle.book_keeper.specs.Rows.{with_row, without_row}
 use Rattle.book_sqlite.specs.RowsSchema.{rows_schema}
 use Rattle.book_sqlite.specs.RowsDatabase.{IsRowsDatabase, rows_in}
-use Rattle.book_sqlite.specs.RowCalls.{IsSure, IsReady, ChangesInside, StaysCommitted, Behind, From, ShowsFirst}
+use Rattle.book_sqlite.specs.RowCalls.{IsSure, IsReady, ChangesInside, StaysCommitted, Behind, From, Shows}
 use Rattle.book_sqlite.proofs.Meanings.{put_text, put_is, put_plain, take_text, take_is, take_plain, behind_text, behind_is, behind_plain, behind_terms, from_text, from_is, from_plain, from_terms, unlisted}
 use Rattle.book_sqlite.proofs.EntryLemmas.{entries}
 use Rattle.book_sqlite.proofs.PutLemmas.{put_params, puts}
@@ -130,7 +130,7 @@ shown_unchanged sql params old new rows has plain h =
 
 pub shown_behind : (old new : State) (kind id : _) (rows : List Entry) → IsRowsDatabase old.now
     → Shown behind_text (Int kind ∷ Int id ∷ []) old new rows
-    → ShowsFirst (Behind kind id) (old.now.trees 0) rows × IsUnchanged old new
+    → Shows (Behind kind id) (old.now.trees 0) rows × IsUnchanged old new
 shown_behind old new kind id rows it h =
     let params = Int kind ∷ Int id ∷ [] in
     let read = reads_as behind_text params old new rows_schema it.schema _ behind_is behind_plain unlisted.0 rows h in (
@@ -140,7 +140,7 @@ shown_behind old new kind id rows it h =
 
 pub shown_from_kind : (old new : State) (kind : _) (rows : List Entry) → IsRowsDatabase old.now
     → Shown from_text (Int kind ∷ []) old new rows
-    → ShowsFirst (From kind) (old.now.trees 0) rows × IsUnchanged old new
+    → Shows (From kind) (old.now.trees 0) rows × IsUnchanged old new
 shown_from_kind old new kind rows it h =
     let params = Int kind ∷ [] in
     let read = reads_as from_text params old new rows_schema it.schema _ from_is from_plain unlisted.1 rows h in (
@@ -196,7 +196,7 @@ module _ {A : Type 0} (items : A → List Entry) (old new : State) (back : HasCl
   pub behind_answer :
       (kind id : ℤ) (params : Entry) (r : Result A Error) → params ≡ Int kind ∷ Int id ∷ []
       → (HasCleanDisk new → IfOk r (λ rows. Shown behind_text params old new (items rows)))
-      → IfOk r (λ rows. HasCleanDisk new → IsTrue new.is_open → ShowsFirst (Behind kind id) (old.now.trees 0) (items rows))
+      → IfOk r (λ rows. HasCleanDisk new → IsTrue new.is_open → Shows (Behind kind id) (old.now.trees 0) (items rows))
   behind_answer kind id params (Ok rows) same ok = λ clean is.
       let h = subst (λ p. Shown behind_text p old new (items rows)) same (ok clean) in
       let it = ready.rows (back clean, shown_open old new behind_text (Int kind ∷ Int id ∷ []) (items rows) h) in
@@ -206,7 +206,7 @@ module _ {A : Type 0} (items : A → List Entry) (old new : State) (back : HasCl
   pub from_answer :
       (kind : ℤ) (params : Entry) (r : Result A Error) → params ≡ Int kind ∷ []
       → (HasCleanDisk new → IfOk r (λ rows. Shown from_text params old new (items rows)))
-      → IfOk r (λ rows. HasCleanDisk new → IsTrue new.is_open → ShowsFirst (From kind) (old.now.trees 0) (items rows))
+      → IfOk r (λ rows. HasCleanDisk new → IsTrue new.is_open → Shows (From kind) (old.now.trees 0) (items rows))
   from_answer kind params (Ok rows) same ok = λ clean is.
       let h = subst (λ p. Shown from_text p old new (items rows)) same (ok clean) in
       let it = ready.rows (back clean, shown_open old new from_text (Int kind ∷ []) (items rows) h) in

@@ -1,14 +1,14 @@
 -- What the calls on a connection make of the rows, where its store is clean.
-use Rattle.std.specs.Prelude.{◌≡◌, ◌⊎◌, ◌≤◌, ◌+◌, ◌-◌, ◌^◌, ℕ, ℤ, pos, negsuc, ◌<ℤ◌, ◌≤ℤ◌, true, false, ⊤}
-use Rattle.std.specs.Prelude.{List, [], ◌∷◌, Option, Some, None, IsTrue}
+use Rattle.std.specs.Prelude.{◌≡◌, ◌⊎◌, ◌≤◌, ◌<◌, ◌+◌, ◌-◌, ◌^◌, ℕ, ℤ, pos, negsuc, ◌<ℤ◌, ◌≤ℤ◌, true, false, ⊤}
+use Rattle.std.specs.Prelude.{List, [], ◌∷◌, Option, Some, None, IsTrue, IfSome}
 use Rattle.sqlite_value.specs.declared.value.Value.TheVariants.{Int}
 use Rattle.sqlite_value.specs.Order.{Row as Entry, column}
 use Rattle.sqlite_rules.specs.Lists.{Has}
 use Rattle.sqlite.specs.State.{State, HasCleanDisk}
 use Rattle.book_keeper.specs.declared.row.Row.{Row}
 use Rattle.book_keeper.specs.declared.row.RowKey.{RowKey}
-use Rattle.book_keeper.specs.Rows.{rank}
-use Rattle.book_sqlite.specs.Content.{row_made}
+use Rattle.book_keeper.specs.Rows.{rank, first_after}
+use Rattle.book_sqlite.specs.Content.{row_made, rows_of}
 use Rattle.book_sqlite.specs.RowsDatabase.{IsRowsDatabase, rows_in}
 
 -- The store is clean, and the connection is open.
@@ -63,21 +63,51 @@ abbrev pub kinds_behind : Option ℕ → ℤ
 kinds_behind None = negsuc (2 ^ 63 - 1)
 kinds_behind (Some kind) = pos (kind + 1)
 
--- A select shows the first entry, by its key, of those whose keys pass, or nothing where none passes.
-abbrev pub ShowsFirst : (ℤ → ℤ → Type 0) → List Entry → List Entry → Type 0
-ShowsFirst Passes es [] = (e : Entry) (kind id : ℤ) → Has es e → HasKey e kind id → Passes kind id → ⊥
-ShowsFirst Passes es (shown ∷ []) =
-    (e : Entry) × (kind : ℤ) × (id : ℤ) × Has es e × HasKey e kind id × Passes kind id
-    × (shown ≡ Int kind ∷ Int id ∷ column e 3 ∷ [])
-    × ((f : Entry) (other more : ℤ) → Has es f → HasKey f other more → Passes other more → UpTo kind id other more)
-ShowsFirst Passes es (shown ∷ next ∷ more) = ⊥
+-- Behind a key, in its kind or in a greater one.
+abbrev pub Later : ℤ → ℤ → ℤ → ℤ → Type 0
+Later kind id other more = (kind <ℤ other) ⊎ ((other ≡ kind) × (id <ℤ more))
 
--- The row that is read from what a select shows: none where it shows none, or else the first, which has to be a row
--- of a book.
-abbrev pub ReadsFrom : List Entry → Option Row → Type 0
-ReadsFrom [] found = found ≡ None
-ReadsFrom (shown ∷ more) found =
-    (row : Row) × (found ≡ Some row) × (row_made (column shown 0) (column shown 1) (column shown 2) ≡ Some row)
+-- What is shown is one of the entries, whose key passes, and no other that passes and is late is before it.
+pub record IsShown (Passes Late : ℤ → ℤ → Type 0) (es : List Entry) (shown : Entry) : Type 0 where
+  pub entry : Entry
+  pub kind : ℤ
+  pub id : ℤ
+  pub there : Has es entry
+  pub has : HasKey entry kind id
+  pub passes : Passes kind id
+  pub is : shown ≡ Int kind ∷ Int id ∷ column entry 3 ∷ []
+  pub least : (e : Entry) (other more : ℤ) → Has es e → HasKey e other more → Passes other more → Late other more
+      → UpTo kind id other more
+
+-- Each that is shown is the first of those that are late and behind all before it.
+abbrev pub ShowsOn : (ℤ → ℤ → Type 0) → (ℤ → ℤ → Type 0) → List Entry → List Entry → Type 0
+ShowsOn Passes Late es [] = ⊤
+ShowsOn Passes Late es (shown ∷ more) =
+    (first : IsShown Passes Late es shown)
+    × ShowsOn Passes (λ other number. Late other number × Later first.kind first.id other number) es more
+
+-- A select shows entries whose keys pass in the order of their keys, from the first on and without a gap, or nothing
+-- where none passes.
+abbrev pub Shows : (ℤ → ℤ → Type 0) → List Entry → List Entry → Type 0
+Shows Passes es [] = (e : Entry) (kind id : ℤ) → Has es e → HasKey e kind id → Passes kind id → ⊥
+Shows Passes es (shown ∷ more) = ShowsOn Passes (λ _ _. ⊤) es (shown ∷ more)
+
+abbrev made_of : Entry → Option Row
+made_of shown = row_made (column shown 0) (column shown 1) (column shown 2)
+
+-- The rows that are read of what is shown behind a key, which rise: all, or those up to some place.
+abbrev pub ReadsOn : RowKey → List Entry → List Row → Type 0
+ReadsOn key shown [] = ⊤
+ReadsOn key [] (row ∷ rows) = ⊥
+ReadsOn key (x ∷ shown) (row ∷ rows) =
+    (made_of x ≡ Some row) × (rank key < rank row.key) × ReadsOn row.key shown rows
+
+-- The rows that are read from what a select shows: none where it shows none, or else the first, which has to be a row
+-- of a book, and rows behind it.
+abbrev pub ReadsFrom : List Entry → List Row → Type 0
+ReadsFrom [] rows = rows ≡ []
+ReadsFrom (x ∷ shown) rows =
+    (row : Row) × (more : List Row) × (rows ≡ row ∷ more) × (made_of x ≡ Some row) × ReadsOn row.key shown more
 
 -- The row is among those, its key passes, and no other key that passes is below it.
 pub record IsLeast (Passes : ℤ → ℤ → Type 0) (rows : List Row) (row : Row) : Type 0 where
@@ -112,3 +142,24 @@ IsBehind (Some key) kind id = Behind (pos key.kind) (pos key.id) kind id ⊎ Fro
 -- No entry behind the key is before the row that is found: what is no row of a book is not passed over.
 abbrev pub PassesNone : Option RowKey → List Entry → Option Row → Type 0
 PassesNone after = NoneBefore (IsBehind after)
+
+-- Each row is the first behind the key before it, and nothing is passed over between them.
+abbrev pub AreNext : Option RowKey → List Row → List Entry → Type 0
+AreNext after [] entries = ⊤
+AreNext after (row ∷ rows) entries =
+    (Some row ≡ first_after after (rows_of entries)) × PassesNone after entries (Some row)
+    × AreNext (Some row.key) rows entries
+
+-- Each row has a key above the one before it.
+abbrev pub AreAbove : Option RowKey → List Row → Type 0
+AreAbove after [] = ⊤
+AreAbove after (row ∷ rows) = IfSome after (λ key. rank key < rank row.key) × AreAbove (Some row.key) rows
+
+-- The same of the rows behind the first.
+abbrev pub AreNextOn : List Row → List Entry → Type 0
+AreNextOn [] entries = ⊤
+AreNextOn (row ∷ rows) entries = AreNext (Some row.key) rows entries
+
+abbrev pub AreAboveOn : List Row → Type 0
+AreAboveOn [] = ⊤
+AreAboveOn (row ∷ rows) = AreAbove (Some row.key) rows

@@ -1,5 +1,5 @@
 ghost use Rattle.std.specs.Prelude.{◌≡◌, ◌≢◌, false, IsTrue, OnOk, IfOk};
-ghost use Rattle.sqlite.specs.State.{HasCleanDisk};
+ghost use Rattle.sqlite.specs.State.{HasCleanDisk, IsLive, Opens};
 ghost use Rattle.sqlite.specs.Held.{state};
 ghost use Rattle.book_sqlite.specs.RowsSchema.{no_schema};
 ghost use Rattle.book_sqlite.specs.RowsDatabase.{HasRowids, ListsRows};
@@ -50,14 +50,33 @@ fn with_table<S: Alter>(conn: &mut Connection<S>) -> Result<(), Error>
 
 /// The connection, over a file of rows: where the database has nothing yet, the table is made. Where it has the table,
 /// the rows are those of its last commit.
-pub fn prepared<S: Alter + Drop>(
-    alloc: Global,
-    connection: Connection<S>,
-) -> Result<Connection<S>, Error>
+pub fn with_rows<S: Alter + Drop>(connection: Connection<S>) -> Result<Connection<S>, Error>
+    requires autocommit { connection.in_transaction ≡ false }
+    requires opened { HasCleanDisk (state S.Store connection)
+        → Opens (state S.Store connection) × IsLive (state S.Store connection) }
+    requires rowids { IsSure (state S.Store connection) → HasRowids (state S.Store connection).now }
     ensures ready { IfOk result (λ c. IsReady (state S.Store c)) }
     ensures clean { IfOk result (λ c. HasCleanDisk (state S.Store c) → HasCleanDisk (state S.Store connection)) }
     ensures rows { IfOk result (λ c. HasCleanDisk (state S.Store c)
         → ListsRows (state S.Store connection).committed.trees
+        → (state S.Store c).committed.trees ≡ (state S.Store connection).committed.trees) }
+{
+    let mut connection = connection;
+    with_table(&mut connection)?;
+    Ok(connection)
+}
+
+/// The connection, whose database is checked once more: no clause says of another one that its rowids rise.
+pub fn checked_again<S: Alter + Drop>(
+    alloc: Global,
+    connection: Connection<S>,
+) -> Result<Connection<S>, Error>
+    ensures autocommit { IfOk result (λ c. c.in_transaction ≡ false) }
+    ensures opened { IfOk result (λ c. HasCleanDisk (state S.Store c)
+        → Opens (state S.Store c) × IsLive (state S.Store c)) }
+    ensures rowids { IfOk result (λ c. IsSure (state S.Store c) → HasRowids (state S.Store c).now) }
+    ensures clean { IfOk result (λ c. HasCleanDisk (state S.Store c) → HasCleanDisk (state S.Store connection)) }
+    ensures trees { IfOk result (λ c. HasCleanDisk (state S.Store c)
         → (state S.Store c).committed.trees ≡ (state S.Store connection).committed.trees) }
 {
     let store = connection.into_store();
@@ -65,10 +84,7 @@ pub fn prepared<S: Alter + Drop>(
         return Err(Error::SqliteFailure(ErrorCode::Closed));
     }
     match Connection::over(alloc, store) {
-        Ok(mut connection) => {
-            with_table(&mut connection)?;
-            Ok(connection)
-        }
+        Ok(connection) => Ok(connection),
         Err((error, _)) => Err(error),
     }
 }

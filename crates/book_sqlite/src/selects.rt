@@ -1,20 +1,23 @@
-ghost use Rattle.std.specs.Prelude.{◌≡◌, ◌<◌, ◌^◌, pos, IsTrue, Some, IfOk, IfSome};
+ghost use Rattle.std.specs.Prelude.{◌≡◌, ◌<◌, ◌^◌, ◌++◌, ◌∷◌, [], pos, IsTrue, List, Some, IfOk, IfSome, OnOk, OnErr};
 ghost use Rattle.sqlite_value.specs.declared.value.Value.TheVariants.{Int};
 ghost use Rattle.sqlite_value.specs.Order.{column};
 ghost use Rattle.sqlite_value.specs.Value.{owned};
 ghost use Rattle.sqlite.specs.State.{HasCleanDisk};
 ghost use Rattle.sqlite.specs.Held.{state};
-ghost use Rattle.book_keeper.specs.Rows.{rank, first_after};
+ghost use Rattle.book_keeper.specs.declared.row.Row.{Row as HeldRow};
+ghost use Rattle.book_keeper.specs.Rows.{rank, first_row, first_after};
 ghost use Rattle.book_sqlite.specs.Content.{row_made};
 ghost use Rattle.book_sqlite.specs.RowsDatabase.{rows_in};
-ghost use Rattle.book_sqlite.specs.RowCalls.{IsReady, StaysCommitted, ShowsFirst, Behind, From, kinds_behind};
-ghost use Rattle.book_sqlite.specs.RowCalls.{ReadsFrom, IsFound, NoneBefore, PassesNone};
+ghost use Rattle.book_sqlite.specs.RowCalls.{IsReady, StaysCommitted, Shows, Behind, From, kinds_behind};
+ghost use Rattle.book_sqlite.specs.RowCalls.{ReadsFrom, ReadsOn, IsFound, NoneBefore, PassesNone};
+ghost use Rattle.book_sqlite.specs.RowCalls.{AreNextOn, AreAbove, AreAboveOn};
 
 use crate::statements::{kind_value, number};
 use book_commodity::Bytes;
 use book_keeper::{Row, RowKey};
 use sqlite::types::ValueRef;
-use sqlite::{Alter, Connection, Error, Row as Shown};
+use sqlite::{Alter, Connection, Error, ErrorCode, Row as Shown};
+use std::alloc::Global;
 
 /// The greatest number that SQL has.
 const GREATEST: u64 = 0x7fff_ffff_ffff_ffff;
@@ -29,8 +32,8 @@ fn kind_behind(kind: Option<u8>) -> ValueRef<'static>
     }
 }
 
-/// The first row of this kind behind the number, if there is one.
-fn first_behind<S: Alter>(conn: &mut Connection<S>, kind: u8, id: u64) -> Result<Vec<Shown>, Error>
+/// The first rows of this kind behind the number.
+fn shown_behind<S: Alter>(conn: &mut Connection<S>, kind: u8, id: u64) -> Result<Vec<Shown>, Error>
     requires ready { IsReady (state S.Store conn.old) }
     requires fits { id < 2 ^ 63 }
     ensures ready { IsReady (state S.Store conn.new) }
@@ -39,16 +42,16 @@ fn first_behind<S: Alter>(conn: &mut Connection<S>, kind: u8, id: u64) -> Result
         → StaysCommitted (state S.Store conn.old) (state S.Store conn.new) }
     ensures shown { IfOk result (λ rows. HasCleanDisk (state S.Store conn.new)
         → IsTrue (state S.Store conn.new).is_open
-        → ShowsFirst (Behind (pos kind) (pos id)) ((state S.Store conn.old).now.trees 0) rows.items) }
+        → Shows (Behind (pos kind) (pos id)) ((state S.Store conn.old).now.trees 0) rows.items) }
 {
     conn.query_all(
-        "SELECT kind, id, body FROM bk_rows WHERE kind = ?1 AND id > ?2 ORDER BY kind, id LIMIT 1",
+        "SELECT kind, id, body FROM bk_rows WHERE kind = ?1 AND id > ?2 ORDER BY kind, id LIMIT 64",
         &[kind_value(kind), number(id)],
     )
 }
 
-/// The first row of the greater kinds, or of all, if there is one.
-fn first_from<S: Alter>(conn: &mut Connection<S>, kind: Option<u8>) -> Result<Vec<Shown>, Error>
+/// The first rows of the greater kinds, or of all.
+fn shown_from<S: Alter>(conn: &mut Connection<S>, kind: Option<u8>) -> Result<Vec<Shown>, Error>
     requires { IsReady (state S.Store conn.old) }
     ensures ready { IsReady (state S.Store conn.new) }
     ensures clean { HasCleanDisk (state S.Store conn.new) → HasCleanDisk (state S.Store conn.old) }
@@ -56,10 +59,10 @@ fn first_from<S: Alter>(conn: &mut Connection<S>, kind: Option<u8>) -> Result<Ve
         → StaysCommitted (state S.Store conn.old) (state S.Store conn.new) }
     ensures shown { IfOk result (λ rows. HasCleanDisk (state S.Store conn.new)
         → IsTrue (state S.Store conn.new).is_open
-        → ShowsFirst (From (kinds_behind kind)) ((state S.Store conn.old).now.trees 0) rows.items) }
+        → Shows (From (kinds_behind kind)) ((state S.Store conn.old).now.trees 0) rows.items) }
 {
     conn.query_all(
-        "SELECT kind, id, body FROM bk_rows WHERE kind >= ?1 ORDER BY kind, id LIMIT 1",
+        "SELECT kind, id, body FROM bk_rows WHERE kind >= ?1 ORDER BY kind, id LIMIT 64",
         &[kind_behind(kind)],
     )
 }
@@ -80,74 +83,6 @@ fn row_of(shown: &Shown) -> Result<Row, Error>
     })
 }
 
-/// The first of the rows that are shown, if there is one.
-fn first_of(shown: &[Shown]) -> Result<Option<Row>, Error>
-    ensures { IfOk result (ReadsFrom shown.now) }
-{
-    match shown.first() {
-        Some(shown) => Ok(Some(row_of(shown)?)),
-        None => Ok(None),
-    }
-}
-
-/// The first row of the book of this kind behind the number.
-fn row_behind<S: Alter>(conn: &mut Connection<S>, kind: u8, id: u64) -> Result<Option<Row>, Error>
-    requires ready { IsReady (state S.Store conn.old) }
-    requires fits { id < 2 ^ 63 }
-    ensures ready { IsReady (state S.Store conn.new) }
-    ensures clean { HasCleanDisk (state S.Store conn.new) → HasCleanDisk (state S.Store conn.old) }
-    ensures stays { HasCleanDisk (state S.Store conn.new)
-        → StaysCommitted (state S.Store conn.old) (state S.Store conn.new) }
-    ensures found { IfOk result (λ found. HasCleanDisk (state S.Store conn.new)
-        → IsTrue (state S.Store conn.new).is_open
-        → IsFound (Behind (pos kind) (pos id)) (rows_in (state S.Store conn.old).now) found) }
-    ensures none_before { IfOk result (λ found. HasCleanDisk (state S.Store conn.new)
-        → IsTrue (state S.Store conn.new).is_open
-        → NoneBefore (Behind (pos kind) (pos id)) ((state S.Store conn.old).now.trees 0) found) }
-{
-    let shown = first_behind(conn, kind, id)?;
-    first_of(shown.as_slice())
-}
-
-/// The first row of the book of the greater kinds, or of all.
-fn row_from<S: Alter>(conn: &mut Connection<S>, kind: Option<u8>) -> Result<Option<Row>, Error>
-    requires { IsReady (state S.Store conn.old) }
-    ensures ready { IsReady (state S.Store conn.new) }
-    ensures clean { HasCleanDisk (state S.Store conn.new) → HasCleanDisk (state S.Store conn.old) }
-    ensures stays { HasCleanDisk (state S.Store conn.new)
-        → StaysCommitted (state S.Store conn.old) (state S.Store conn.new) }
-    ensures found { IfOk result (λ found. HasCleanDisk (state S.Store conn.new)
-        → IsTrue (state S.Store conn.new).is_open
-        → IsFound (From (kinds_behind kind)) (rows_in (state S.Store conn.old).now) found) }
-    ensures none_before { IfOk result (λ found. HasCleanDisk (state S.Store conn.new)
-        → IsTrue (state S.Store conn.new).is_open
-        → NoneBefore (From (kinds_behind kind)) ((state S.Store conn.old).now.trees 0) found) }
-{
-    let shown = first_from(conn, kind)?;
-    first_of(shown.as_slice())
-}
-
-/// The first row of the book behind the key, if it is above the key.
-fn row_next<S: Alter>(conn: &mut Connection<S>, key: RowKey) -> Result<Option<Row>, Error>
-    requires { IsReady (state S.Store conn.old) }
-    ensures ready { IsReady (state S.Store conn.new) }
-    ensures clean { HasCleanDisk (state S.Store conn.new) → HasCleanDisk (state S.Store conn.old) }
-    ensures stays { HasCleanDisk (state S.Store conn.new)
-        → StaysCommitted (state S.Store conn.old) (state S.Store conn.new) }
-    ensures found { IfOk result (λ found. HasCleanDisk (state S.Store conn.new)
-        → IsTrue (state S.Store conn.new).is_open
-        → IfSome found (λ row. rank key < rank row.key)
-        → found ≡ first_after (Some key) (rows_in (state S.Store conn.old).now)) }
-    ensures none_passed { IfOk result (λ found. HasCleanDisk (state S.Store conn.new)
-        → IsTrue (state S.Store conn.new).is_open
-        → PassesNone (Some key) ((state S.Store conn.old).now.trees 0) found) }
-{
-    if let Some(row) = row_behind(conn, key.kind, key.id.min(GREATEST))? {
-        return Ok(Some(row));
-    }
-    row_from(conn, Some(key.kind))
-}
-
 /// Whether the second key is above the first.
 fn is_above(low: RowKey, high: RowKey) -> bool
     ensures { IsTrue result → rank low < rank high }
@@ -155,30 +90,160 @@ fn is_above(low: RowKey, high: RowKey) -> bool
     high.kind > low.kind || high.kind == low.kind && high.id > low.id
 }
 
-/// The first row of the book behind the key, or the first of all.
-pub fn row_after<S: Alter>(
+/// Adds a row.
+fn push(rows: &mut Vec<Row>, row: Row) -> Result<(), Error>
+    ensures added { OnOk result (rows.new.items ≡ rows.old.items ++ row ∷ []) }
+    ensures kept { OnErr result (rows.new.items ≡ rows.old.items) }
+{
+    match rows.push(row) {
+        Ok(()) => Ok(()),
+        Err(_) => Err(Error::SqliteFailure(ErrorCode::OutOfMemory)),
+    }
+}
+
+/// Adds the rows that are shown behind a key, up to the first that is no row of a book or does not rise, or that no
+/// memory is left for.
+fn read_on(rows: &mut Vec<Row>, key: RowKey, shown: &[Shown])
+    ensures { (more : List HeldRow) × (rows.new.items ≡ rows.old.items ++ more) × ReadsOn key shown.now more }
+{
+    let mut last = key;
+    for shown in shown {
+        let Ok(row) = row_of(shown) else {
+            return;
+        };
+        let key = row.key;
+        if !is_above(last, key) {
+            return;
+        }
+        if let Err(_) = push(rows, row) {
+            return;
+        }
+        last = key;
+    }
+}
+
+/// The rows that are shown, where the first is a row of a book: all, or those up to some place.
+fn read_all(alloc: Global, shown: &[Shown]) -> Result<Vec<Row>, Error>
+    ensures { IfOk result (λ rows. ReadsFrom shown.now rows.items) }
+{
+    let mut rows = Vec::new(alloc);
+    if let Some((first, more)) = shown.split_first() {
+        let row = row_of(first)?;
+        let key = row.key;
+        push(&mut rows, row)?;
+        read_on(&mut rows, key, more);
+    }
+    Ok(rows)
+}
+
+/// The first rows of the book of this kind behind the number.
+fn rows_behind<S: Alter>(
+    alloc: Global,
     conn: &mut Connection<S>,
-    after: Option<RowKey>,
-) -> Result<Option<Row>, Error>
+    kind: u8,
+    id: u64,
+) -> Result<Vec<Row>, Error>
+    requires ready { IsReady (state S.Store conn.old) }
+    requires fits { id < 2 ^ 63 }
+    ensures ready { IsReady (state S.Store conn.new) }
+    ensures clean { HasCleanDisk (state S.Store conn.new) → HasCleanDisk (state S.Store conn.old) }
+    ensures stays { HasCleanDisk (state S.Store conn.new)
+        → StaysCommitted (state S.Store conn.old) (state S.Store conn.new) }
+    ensures found { IfOk result (λ rows. HasCleanDisk (state S.Store conn.new)
+        → IsTrue (state S.Store conn.new).is_open
+        → IsFound (Behind (pos kind) (pos id)) (rows_in (state S.Store conn.old).now) (first_row rows.items)) }
+    ensures none_before { IfOk result (λ rows. HasCleanDisk (state S.Store conn.new)
+        → IsTrue (state S.Store conn.new).is_open
+        → NoneBefore (Behind (pos kind) (pos id)) ((state S.Store conn.old).now.trees 0) (first_row rows.items)) }
+    ensures next { IfOk result (λ rows. HasCleanDisk (state S.Store conn.new)
+        → IsTrue (state S.Store conn.new).is_open → AreNextOn rows.items ((state S.Store conn.old).now.trees 0)) }
+    ensures above { IfOk result (λ rows. AreAboveOn rows.items) }
+{
+    let shown = shown_behind(conn, kind, id)?;
+    read_all(alloc, shown.as_slice())
+}
+
+/// The first rows of the book of the greater kinds, or of all.
+fn rows_from<S: Alter>(
+    alloc: Global,
+    conn: &mut Connection<S>,
+    kind: Option<u8>,
+) -> Result<Vec<Row>, Error>
     requires { IsReady (state S.Store conn.old) }
     ensures ready { IsReady (state S.Store conn.new) }
     ensures clean { HasCleanDisk (state S.Store conn.new) → HasCleanDisk (state S.Store conn.old) }
     ensures stays { HasCleanDisk (state S.Store conn.new)
         → StaysCommitted (state S.Store conn.old) (state S.Store conn.new) }
-    ensures found { IfOk result (λ found. HasCleanDisk (state S.Store conn.new)
+    ensures found { IfOk result (λ rows. HasCleanDisk (state S.Store conn.new)
         → IsTrue (state S.Store conn.new).is_open
-        → found ≡ first_after after (rows_in (state S.Store conn.old).now)) }
-    ensures none_passed { IfOk result (λ found. HasCleanDisk (state S.Store conn.new)
+        → IsFound (From (kinds_behind kind)) (rows_in (state S.Store conn.old).now) (first_row rows.items)) }
+    ensures none_before { IfOk result (λ rows. HasCleanDisk (state S.Store conn.new)
         → IsTrue (state S.Store conn.new).is_open
-        → PassesNone after ((state S.Store conn.old).now.trees 0) found) }
-    ensures above { IfOk result (λ found. IfSome found (λ row. IfSome after (λ key. rank key < rank row.key))) }
+        → NoneBefore (From (kinds_behind kind)) ((state S.Store conn.old).now.trees 0) (first_row rows.items)) }
+    ensures next { IfOk result (λ rows. HasCleanDisk (state S.Store conn.new)
+        → IsTrue (state S.Store conn.new).is_open → AreNextOn rows.items ((state S.Store conn.old).now.trees 0)) }
+    ensures above { IfOk result (λ rows. AreAboveOn rows.items) }
+{
+    let shown = shown_from(conn, kind)?;
+    read_all(alloc, shown.as_slice())
+}
+
+/// The first rows of the book behind the key, where the first of them is above the key.
+fn rows_next<S: Alter>(
+    alloc: Global,
+    conn: &mut Connection<S>,
+    key: RowKey,
+) -> Result<Vec<Row>, Error>
+    requires { IsReady (state S.Store conn.old) }
+    ensures ready { IsReady (state S.Store conn.new) }
+    ensures clean { HasCleanDisk (state S.Store conn.new) → HasCleanDisk (state S.Store conn.old) }
+    ensures stays { HasCleanDisk (state S.Store conn.new)
+        → StaysCommitted (state S.Store conn.old) (state S.Store conn.new) }
+    ensures found { IfOk result (λ rows. HasCleanDisk (state S.Store conn.new)
+        → IsTrue (state S.Store conn.new).is_open
+        → IfSome (first_row rows.items) (λ row. rank key < rank row.key)
+        → first_row rows.items ≡ first_after (Some key) (rows_in (state S.Store conn.old).now)) }
+    ensures none_passed { IfOk result (λ rows. HasCleanDisk (state S.Store conn.new)
+        → IsTrue (state S.Store conn.new).is_open
+        → PassesNone (Some key) ((state S.Store conn.old).now.trees 0) (first_row rows.items)) }
+    ensures next { IfOk result (λ rows. HasCleanDisk (state S.Store conn.new)
+        → IsTrue (state S.Store conn.new).is_open → AreNextOn rows.items ((state S.Store conn.old).now.trees 0)) }
+    ensures above { IfOk result (λ rows. AreAboveOn rows.items) }
+{
+    let rows = rows_behind(alloc, conn, key.kind, key.id.min(GREATEST))?;
+    if !rows.is_empty() {
+        return Ok(rows);
+    }
+    rows_from(alloc, conn, Some(key.kind))
+}
+
+/// The first rows of the book behind the key, or the first of all.
+pub fn rows_after<S: Alter>(
+    alloc: Global,
+    conn: &mut Connection<S>,
+    after: Option<RowKey>,
+) -> Result<Vec<Row>, Error>
+    requires { IsReady (state S.Store conn.old) }
+    ensures ready { IsReady (state S.Store conn.new) }
+    ensures clean { HasCleanDisk (state S.Store conn.new) → HasCleanDisk (state S.Store conn.old) }
+    ensures stays { HasCleanDisk (state S.Store conn.new)
+        → StaysCommitted (state S.Store conn.old) (state S.Store conn.new) }
+    ensures found { IfOk result (λ rows. HasCleanDisk (state S.Store conn.new)
+        → IsTrue (state S.Store conn.new).is_open
+        → first_row rows.items ≡ first_after after (rows_in (state S.Store conn.old).now)) }
+    ensures none_passed { IfOk result (λ rows. HasCleanDisk (state S.Store conn.new)
+        → IsTrue (state S.Store conn.new).is_open
+        → PassesNone after ((state S.Store conn.old).now.trees 0) (first_row rows.items)) }
+    ensures next { IfOk result (λ rows. HasCleanDisk (state S.Store conn.new)
+        → IsTrue (state S.Store conn.new).is_open → AreNextOn rows.items ((state S.Store conn.old).now.trees 0)) }
+    ensures above { IfOk result (λ rows. AreAbove after rows.items) }
 {
     let Some(key) = after else {
-        return row_from(conn, None);
+        return rows_from(alloc, conn, None);
     };
-    match row_next(conn, key)? {
-        Some(row) if is_above(key, row.key) => Ok(Some(row)),
-        Some(_) => Err(Error::InvalidQuery),
-        None => Ok(None),
+    let rows = rows_next(alloc, conn, key)?;
+    match rows.first() {
+        Some(first) if !is_above(key, first.key) => Err(Error::InvalidQuery),
+        _ => Ok(rows),
     }
 }

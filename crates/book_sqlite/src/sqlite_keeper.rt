@@ -1,19 +1,20 @@
 ghost use Rattle.std.specs.Prelude.{◌≡◌, ◌↔◌, ◌<◌, ◌≤◌, ◌⊎◌, false, [], List, Some, None, IsTrue};
 ghost use Rattle.std.specs.Prelude.{IfOk, IfErr, IfSome, OnOk, OnErr};
 ghost use Rattle.sqlite_value.specs.Order.{Row as Entry};
-ghost use Rattle.sqlite.specs.State.{HasCleanDisk};
+ghost use Rattle.sqlite.specs.State.{HasCleanDisk, IsLive, Opens};
 ghost use Rattle.sqlite.specs.Held.{state};
 ghost use Rattle.book_keeper.specs.Faults.{Rose};
 ghost use Rattle.book_keeper.specs.Keeping.{HasKeepCause};
 ghost use Rattle.book_keeper.specs.Rows.{AreRising, rank, after_changes, first_after};
 ghost use Rattle.book_sqlite.specs.Content.{rows_of};
-ghost use Rattle.book_sqlite.specs.RowsDatabase.{ListsRows};
-ghost use Rattle.book_sqlite.specs.RowCalls.{PassesNone};
+ghost use Rattle.book_sqlite.specs.RowsDatabase.{HasRowids, ListsRows};
+ghost use Rattle.book_sqlite.specs.RowCalls.{IsSure, PassesNone};
 ghost use Rattle.book_sqlite.specs.KeeperInSqlite.{is_sure, HoldsRows, HasEntries, MayLeave, has_clean_store};
 
+use crate::ahead::Ahead;
 use crate::commit::make_all;
-use crate::opening::prepared;
-use crate::selects::row_after;
+use crate::opening::{checked_again, with_rows};
+use crate::selects::rows_after;
 use book_commodity::Text;
 use book_keeper::{Change, KeepError, Keeper, Row, RowKey};
 use sqlite::{Alter, Connection, Error, ErrorCode};
@@ -25,6 +26,7 @@ use std::marker::Model;
 #[derive(Drop)]
 pub struct SqliteKeeper<S: Alter> {
     connection: Option<Connection<S>>,
+    ahead: Ahead,
     lacked_memory: bool,
     alloc: Global,
     path: Text,
@@ -32,7 +34,8 @@ pub struct SqliteKeeper<S: Alter> {
 }
 
 impl<S: Alter> Model for SqliteKeeper<S> {
-    ghost use Rattle.book_sqlite.specs.KeeperInSqlite.{SqliteKept, kept_code, IsKept};
+    ghost use Rattle.book_sqlite.specs.KeeperInSqlite.{SqliteKept, kept_code, IsKept, AreAhead};
+    ghost use Rattle.book_sqlite.specs.RowCalls.{AreAbove};
 
     ghost Value = { SqliteKept S };
 
@@ -40,12 +43,15 @@ impl<S: Alter> Model for SqliteKeeper<S> {
 
     ghost view = { λ k. record { connection = k.connection; path = k.path; faults = k.faults } };
 
-    ghost invariant = { λ k. IsKept S.Store k.connection };
+    ghost invariant = { λ k. IsKept S.Store k.connection
+        × (AreAbove k.ahead.after k.ahead.rows.items
+        × AreAhead S.Store k.connection k.ahead.after k.ahead.rows.items) };
 }
 
 impl<S: Alter + Drop> SqliteKeeper<S> {
-    /// A keeper over this connection. It makes the table of rows where the database has nothing yet. Where it has the
-    /// table, the keeper holds the rows of the last commit. Another schema is left as it is, and `open` fails.
+    /// A keeper over this connection, whose database is checked once more. It makes the table of rows where the
+    /// database has nothing yet. Where it has the table, the keeper holds the rows of the last commit. Another schema
+    /// is left as it is, and `open` fails.
     pub fn over(alloc: Global, connection: Connection<S>) -> SqliteKeeper<S>
         ensures clean { IsTrue (is_sure S.Store result) → HasCleanDisk (state S.Store connection) }
         ensures rows { IsTrue (is_sure S.Store result) → ListsRows (state S.Store connection).committed.trees
@@ -53,9 +59,28 @@ impl<S: Alter + Drop> SqliteKeeper<S> {
         ensures path { result.path ≡ [] }
         ensures faults { result.faults ≡ 0 }
     {
-        match prepared(alloc, connection) {
+        match checked_again(alloc, connection) {
+            Ok(connection) => SqliteKeeper::opened(alloc, connection),
+            Err(error) => SqliteKeeper::unopened(alloc, is_want_of_memory(error)),
+        }
+    }
+
+    /// The same over a connection that was just opened, which checked the database.
+    pub(crate) fn opened(alloc: Global, connection: Connection<S>) -> SqliteKeeper<S>
+        requires autocommit { connection.in_transaction ≡ false }
+        requires opened { HasCleanDisk (state S.Store connection)
+            → Opens (state S.Store connection) × IsLive (state S.Store connection) }
+        requires rowids { IsSure (state S.Store connection) → HasRowids (state S.Store connection).now }
+        ensures clean { IsTrue (is_sure S.Store result) → HasCleanDisk (state S.Store connection) }
+        ensures rows { IsTrue (is_sure S.Store result) → ListsRows (state S.Store connection).committed.trees
+            → HoldsRows S.Store result (rows_of ((state S.Store connection).committed.trees 0)) }
+        ensures path { result.path ≡ [] }
+        ensures faults { result.faults ≡ 0 }
+    {
+        match with_rows(connection) {
             Ok(connection) => SqliteKeeper {
                 connection: Some(connection),
+                ahead: Ahead::none(alloc),
                 lacked_memory: false,
                 alloc,
                 path: Text::new(alloc),
@@ -73,6 +98,7 @@ impl<S: Alter + Drop> SqliteKeeper<S> {
     {
         SqliteKeeper {
             connection: None,
+            ahead: Ahead::none(alloc),
             lacked_memory,
             alloc,
             path: Text::new(alloc),
@@ -184,6 +210,7 @@ impl<S: Alter + Drop> Keeper for SqliteKeeper<S> {
             → HoldsRows S.Store self.old rows → HoldsRows S.Store self.new rows) }
         ensures cause { HasKeepCause self.old.faults self.new.faults result }
     {
+        self.ahead.forget();
         let Some(connection) = &mut self.connection else {
             return Err(self.fail(false));
         };
@@ -193,8 +220,8 @@ impl<S: Alter + Drop> Keeper for SqliteKeeper<S> {
         }
     }
 
-    /// One select within the kind and, where that shows none, one over the greater kinds. Fails at an entry that is no
-    /// row of a book; it passes none over.
+    /// The row behind the key. It was read ahead, or else one select within the kind and, where that shows none, one
+    /// over the greater kinds reads the next 64 rows. Fails at an entry that is no row of a book; it passes none over.
     fn next_row(&mut self, after: Option<RowKey>) -> Result<Option<Row>, KeepError>
         ensures none_passed { IfOk result (λ found. IsTrue (is_sure S.Store self.new) → (entries : List Entry)
             → HasEntries S.Store self.old entries → PassesNone after entries found) }
@@ -207,11 +234,18 @@ impl<S: Alter + Drop> Keeper for SqliteKeeper<S> {
         ensures above { IfOk result (λ found. IfSome found (λ row. IfSome after (λ key. rank key < rank row.key))) }
         ensures cause { HasKeepCause self.old.faults self.new.faults result }
     {
+        if let Some(row) = self.ahead.take_behind(after) {
+            return Ok(Some(row));
+        }
+        self.ahead = Ahead::none(self.alloc);
         let Some(connection) = &mut self.connection else {
             return Err(self.fail(false));
         };
-        match row_after(connection, after) {
-            Ok(found) => Ok(found),
+        match rows_after(self.alloc, connection, after) {
+            Ok(rows) => {
+                self.ahead = Ahead::behind(after, rows);
+                Ok(self.ahead.take_behind(after))
+            }
             Err(error) => Err(self.fail(is_want_of_memory(error))),
         }
     }

@@ -1,12 +1,12 @@
+use Rattle.std.proofs.Common.{ap, sym, subst}
+use Rattle.sqlite_trees.specs.Tree.{Trees}
 use Rattle.sqlite.specs.Held.{state}
+use Rattle.book_sqlite.specs.Content.{rows_of}
 use Rattle.book_sqlite.specs.RowsDatabase.{ListsRows}
-use Rattle.book_sqlite.proofs.KeeperLemmas.{opened_clean, opened_holds}
+use Rattle.book_sqlite.specs.KeeperInSqlite.{HoldsRows}
 use Rattle.book_sqlite.proofs.sqlite_keeper.SqliteKeeper.over.Goals as goal
 
-pub returns-in-Ok-clause-clean : goal.returns-in-Ok-clause-clean
-returns-in-Ok-clause-clean g c = opened_clean g.S.Store c.in-Ok.connection c.args.connection c.in-Ok.ensures.clean
-
 pub returns-in-Ok-clause-rows : goal.returns-in-Ok-clause-rows
-returns-in-Ok-clause-rows g c =
-    let trees = (state g.S.Store c.args.connection).committed.trees in
-    opened_holds g.S.Store c.in-Ok.connection trees (ListsRows trees) c.in-Ok.ensures.rows
+returns-in-Ok-clause-rows g c = λ sure lists.
+    let trees = c.in-Ok.ensures.trees (c.opened.ensures.clean sure) in
+    subst (λ (t : Trees). HoldsRows g.S.Store c.opened.result (rows_of (t 0))) trees (c.opened.ensures.rows sure (subst ListsRows (sym trees) lists))

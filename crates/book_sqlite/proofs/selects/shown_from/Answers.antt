@@ -5,7 +5,7 @@ use Rattle.sqlite.specs.Values.{bound}
 use Rattle.book_sqlite.specs.RowCalls.{kinds_behind}
 use Rattle.book_sqlite.proofs.StateFacts.{stays_ready, select_left, from_answer}
 use Rattle.book_sqlite.proofs.Meanings.{from_text, from_plain}
-use Rattle.book_sqlite.proofs.selects.first_from.Goals as goal
+use Rattle.book_sqlite.proofs.selects.shown_from.Goals as goal
 
 pub returns-clause-stays : goal.returns-clause-stays
 returns-clause-stays g c =

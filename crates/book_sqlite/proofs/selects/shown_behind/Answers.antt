@@ -5,7 +5,7 @@ use Rattle.sqlite.specs.Values.{bound}
 use Rattle.book_sqlite.specs.RowCalls.{kinds_behind}
 use Rattle.book_sqlite.proofs.StateFacts.{stays_ready, select_left, behind_answer}
 use Rattle.book_sqlite.proofs.Meanings.{behind_text, behind_plain}
-use Rattle.book_sqlite.proofs.selects.first_behind.Goals as goal
+use Rattle.book_sqlite.proofs.selects.shown_behind.Goals as goal
 
 pub returns-clause-stays : goal.returns-clause-stays
 returns-clause-stays g c =
