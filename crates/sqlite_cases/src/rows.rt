@@ -1,4 +1,4 @@
-use book_commodity::{Bytes, Many};
+use book_commodity::Bytes;
 use book_keeper::{Change, KeepError, Keeper, Row, RowKey};
 use book_sqlite::{FileKeeper, SqliteKeeper};
 use sqlite::{Alter, Connection, Error, Unknown};
@@ -20,61 +20,36 @@ fn put<K: Keeper>(keeper: &mut K, alloc: Global, key: RowKey, body: &[u8]) -> Re
     Ok(keeper.commit(&changes).is_ok())
 }
 
-fn delete<K: Keeper>(keeper: &mut K, key: RowKey) -> bool {
-    if key.id >= 1_000_000 {
-        return false;
+/// Puts two hundred rows of two kinds, those with the greatest keys first.
+fn fill<K: Keeper>(keeper: &mut K, alloc: Global) -> Result<bool, Fail> {
+    for place in 0..200 {
+        let kind = if place < 100 { 3 } else { 2 };
+        let id = 199 - place;
+        if !put(keeper, alloc, RowKey { kind, id }, b"row")? {
+            return Ok(false);
+        }
     }
-    keeper.commit(&[Change::Gone(key)]).is_ok()
+    Ok(true)
 }
 
-/// The kinds, numbers and lengths of all rows, each as one number, or none where the keeper fails.
-fn shown<K: Keeper>(keeper: &mut K, alloc: Global) -> Result<Option<Many<u64>>, Fail> {
-    let mut numbers = Many::new(alloc);
+/// How many rows there are, or none where the keeper fails or their keys do not rise.
+fn count_rows<K: Keeper>(keeper: &mut K) -> Option<u64> {
     let mut after = None;
-    for _ in 0..10 {
+    for count in 0..1000 {
         let row = match keeper.next_row(after) {
             Ok(Some(row)) => row,
-            Ok(None) => return Ok(Some(numbers)),
-            Err(_) => return Ok(None),
+            Ok(None) => return Some(count),
+            Err(_) => return None,
         };
+        if after >= Some(row.key) {
+            return None;
+        }
         after = Some(row.key);
-        numbers.push(u64::from(row.key.kind))?;
-        numbers.push(row.key.id)?;
-        numbers.push(row.body.len() as u64)?;
     }
-    Ok(Some(numbers))
+    None
 }
-
-const HEAD: RowKey = RowKey { kind: 1, id: 0 };
 
 const EURO: RowKey = RowKey { kind: 2, id: 9 };
-
-const LATER: RowKey = RowKey { kind: 2, id: 10 };
-
-const ROOT: RowKey = RowKey { kind: 3, id: 1 };
-
-#[test]
-fn rows_are_kept_in_the_order_of_their_keys(rt: HostRuntime) -> Result<(), Fail> {
-    let alloc = rt.alloc();
-    let connection = Connection::open_in_memory(alloc)?;
-    let mut keeper = SqliteKeeper::over(alloc, connection);
-    assert_eq!(rt; keeper.open("a book"), Ok(()));
-    for (key, body) in [
-        (ROOT, b"root".as_slice()),
-        (LATER, b"usd"),
-        (EURO, b"eur"),
-        (HEAD, b""),
-    ] {
-        assert!(rt; put(&mut keeper, alloc, key, body)?);
-    }
-    assert!(rt; put(&mut keeper, alloc, EURO, b"euro")?);
-    assert!(rt; delete(&mut keeper, LATER));
-    let Some(rows) = shown(&mut keeper, alloc)? else {
-        return Err(Fail::new("a row is missing"));
-    };
-    assert_eq!(rt; rows.as_slice(), [1, 0, 0, 2, 9, 4, 3, 1, 4].as_slice());
-    Ok(())
-}
 
 /// A database in memory after these statements.
 fn database(alloc: Global, statements: &[&str]) -> Result<Connection<sqlite::MemStore>, Fail> {
@@ -129,15 +104,15 @@ fn a_row_that_is_none_of_a_book_is_a_fault(rt: HostRuntime) -> Result<(), Fail> 
 }
 
 #[test]
-fn rows_stay_in_a_file(rt: HostRuntime) -> Result<(), Fail> {
+fn two_hundred_rows_stay_in_a_file(rt: HostRuntime) -> Result<(), Fail> {
     let alloc = rt.alloc();
     let mut keeper = FileKeeper::at(&rt, Some("rows.book"), Unknown);
     assert_eq!(rt; keeper.open("rows.book"), Ok(()));
-    assert!(rt; put(&mut keeper, alloc, EURO, b"euro")?);
+    assert!(rt; fill(&mut keeper, alloc)?);
     drop(keeper);
     let mut again = FileKeeper::at(&rt, Some("rows.book"), Unknown);
     assert_eq!(rt; again.open("rows.book"), Ok(()));
-    assert!(rt; matches!(again.next_row(None), Ok(Some(Row { key: EURO, body: _ }))));
+    assert_eq!(rt; count_rows(&mut again), Some(200));
     Ok(())
 }
 
