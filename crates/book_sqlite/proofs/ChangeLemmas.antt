@@ -3,14 +3,11 @@ use Rattle.std.proofs.Common.{◌≡◌, ◌≢◌, ◌⊎◌, ◌^◌, ℕ, ℤ
 use Rattle.std.specs.List.{AllByRecursion}
 use Rattle.std.specs.Ordering.{is_eq}
 use Rattle.std.proofs.lemmas.Bool.{not-true, false_from_ne_true}
-use Rattle.std.proofs.lemmas.Cmp.{tied_back}
-use Rattle.sqlite_value.specs.declared.value.Value.{Value}
 use Rattle.sqlite_value.specs.declared.value.Value.TheVariants.{Int}
 use Rattle.sqlite_value.specs.Order.{Row as Entry, column, value_cmp}
-use Rattle.sqlite_value.proofs.OrderLemmas.{value_cmp_total, value_cmp-Int}
-use Rattle.sqlite_trees.specs.Tree.{IsAscending, IsTable, rowid, has_rowid, put_row, without_rowid}
+use Rattle.sqlite_value.proofs.OrderLemmas.{value_cmp-Int}
+use Rattle.sqlite_trees.specs.Tree.{IsTable, rowid, has_rowid, put_row, without_rowid}
 use Rattle.sqlite_trees.specs.View.{is_int}
-use Rattle.sqlite_trees.proofs.TreeLemmas.{IsTable-put_row}
 use Rattle.sqlite_rules.specs.Lists.{Has}
 use Rattle.sqlite_rules.specs.Edit.{id_in, without_all, are_fresh}
 use Rattle.sqlite_rules.proofs.ListLemmas.{has_filtered, has_kept, all_has, all_from}
@@ -24,7 +21,7 @@ use Rattle.book_sqlite.specs.Content.{row_held, rows_of}
 use Rattle.book_sqlite.specs.KnownRows.{rises_of}
 use Rattle.book_sqlite.specs.RowCalls.{HasKey}
 use Rattle.book_sqlite.proofs.MemberLemmas.{same_members, put_member, member_put, member_kept, left_member, member_left}
-use Rattle.book_sqlite.proofs.ContentLemmas.{Made, made_from, holder, held_in, rank_parts}
+use Rattle.book_sqlite.proofs.ContentLemmas.{made_from, holder, held_in, rank_parts}
 use Rattle.book_sqlite.proofs.EntryLemmas.{AreEntries, holds_once, eq_itself}
 
 abbrev pub HasKeyOf : RowKey → Entry → Type 0

@@ -1,12 +1,10 @@
 -- A transaction of changes, from its beginning to its end.
-use Rattle.std.proofs.Common.{◌≡◌, ◌⊎◌, ◌^◌, ◌<◌, ◌+◌, ℕ, zero, suc, drop, true, false, List, [], ◌∷◌, Result, Ok, Err, OnOk, OnErr, IfErr, inl, inr, refl, sym, ap, subst, ◌∙◌, arith, IsTrue, true≢false}
+use Rattle.std.proofs.Common.{◌≡◌, ◌^◌, ◌<◌, ◌+◌, ℕ, zero, suc, drop, false, List, [], ◌∷◌, Result, Ok, Err, OnOk, OnErr, IfErr, inl, inr, sym, ap, subst, ◌∙◌, IsTrue, true≢false}
 use Rattle.sqlite_trees.specs.Tree.{Trees}
 use Rattle.sqlite.specs.declared.error.Error.{Error}
-use Rattle.sqlite.specs.Effect.{Database}
 use Rattle.sqlite.specs.State.{State, HasCleanDisk, KeepsCounts, KeepsCommit, Shows, IsRolledBack, Survives}
 use Rattle.sqlite.specs.Steps.{FailsToCommit}
 use Rattle.sqlite.proofs.StateLemmas.{survives_then}
-use Rattle.book_keeper.specs.declared.row.Row.{Row}
 use Rattle.book_keeper.specs.declared.row.Change.{Change}
 use Rattle.book_keeper.specs.Rows.{rank, changed_key, AreRisingFrom, after_change, after_changes}
 use Rattle.book_sqlite.specs.Content.{rows_of}

@@ -1,12 +1,12 @@
 -- What the entries of the table hold, member by member.
-use Rattle.std.proofs.Common.{◌≡◌, ◌≢◌, ◌⊎◌, ◌^◌, ◌*◌, ◌+◌, ℕ, ◌<◌, pos, negsuc, nat_lt, ◌==◌, ◌&&◌, Bool, true, false, cond, List, [], ◌∷◌, Option, Some, None, inl, inr, refl, sym, ap, subst, ◌∙◌, arith}
+use Rattle.std.proofs.Common.{◌≡◌, ◌^◌, ◌*◌, ◌+◌, ℕ, ◌<◌, pos, negsuc, nat_lt, ◌==◌, ◌&&◌, Bool, true, false, cond, List, [], ◌∷◌, Option, Some, None, inl, inr, refl, sym, ap, subst, ◌∙◌, arith}
 use Rattle.std.proofs.lemmas.Bool.Decides.{nat_tests}
 use Rattle.sqlite_value.specs.declared.value.Value.{Value}
 use Rattle.sqlite_value.specs.declared.value.Value.TheVariants.{Null, Int, Real, Text, Blob}
-use Rattle.sqlite_value.specs.Order.{Row as Entry, column}
+use Rattle.sqlite_value.specs.Order.{Row as Entry}
 use Rattle.sqlite_rules.specs.Lists.{Has}
 use Rattle.book_keeper.specs.declared.row.Row.{Row}
-use Rattle.book_keeper.specs.Rows.{rank, Rises, with_row}
+use Rattle.book_keeper.specs.Rows.{rank, with_row}
 use Rattle.book_sqlite.specs.Content.{row_made, row_held, with_held, rows_of}
 use Rattle.book_sqlite.specs.KnownRows.{rises_of}
 use Rattle.book_sqlite.proofs.MemberLemmas.{put_member, member_put, member_kept}

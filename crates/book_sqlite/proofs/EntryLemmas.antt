@@ -1,8 +1,7 @@
 -- What the schema says of the entries of the table of rows.
-use Rattle.std.proofs.Common.{◌≡◌, ◌≢◌, ◌⊎◌, ℕ, ℤ, pos, Bool, true, false, not, ◌&&◌, cond, List, [], ◌∷◌, Some, None, inl, inr, refl, sym, ap, subst, ◌∙◌, arith, ◌<ℤ◌, true≢false, Ordering, Less, Equal, Greater, IsTrue}
+use Rattle.std.proofs.Common.{◌≡◌, ℤ, pos, Bool, true, false, not, ◌&&◌, List, [], ◌∷◌, Some, inl, inr, refl, sym, ap, subst, ◌∙◌, arith, ◌<ℤ◌, true≢false, Ordering, Less, Equal, Greater, IsTrue}
 use Rattle.std.specs.Ordering.{is_eq, int_eq, int_cmp}
-use Rattle.std.proofs.lemmas.Bool.{and_parts, and_from, not-true, true_from_ne_false, both_ways, cases_Bool}
-use Rattle.std.proofs.lemmas.Bool.Decides.{nat_tests}
+use Rattle.std.proofs.lemmas.Bool.{and_parts, and_from, not-true, cases_Bool}
 use Rattle.std.proofs.lemmas.Cmp.{int_ranked}
 use Rattle.std.proofs.lemmas.Int.{ints}
 use Rattle.sqlite_value.specs.declared.value.Value.{Value}
@@ -27,12 +26,10 @@ use Rattle.sqlite_rules.proofs.RuleLemmas.{keeps_at}
 use Rattle.sqlite_rules.proofs.TableLemmas.{int_is}
 use Rattle.sqlite_rules.proofs.PlaceLemmas.{tied_same}
 use Rattle.sqlite.specs.Effect.{Database}
-use Rattle.book_keeper.specs.declared.row.Row.{Row}
-use Rattle.book_keeper.specs.Rows.{rank}
 use Rattle.book_sqlite.specs.Content.{row_held}
-use Rattle.book_sqlite.specs.RowsSchema.{rows_schema, rows_table, rows_index}
+use Rattle.book_sqlite.specs.RowsSchema.{rows_schema, rows_table}
 use Rattle.book_sqlite.specs.RowsDatabase.{IsRowsDatabase}
-use Rattle.book_sqlite.proofs.ContentLemmas.{Made, made_from, HoldOnce, rank_parts}
+use Rattle.book_sqlite.proofs.ContentLemmas.{made_from, HoldOnce, rank_parts}
 
 -- ---- values
 truth_of : (t : Bool) → is_true (from_truth (Some t)) ≡ t

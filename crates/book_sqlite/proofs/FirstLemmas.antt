@@ -1,5 +1,5 @@
 -- The selects of the first row by key, and the delete of a row.
-use Rattle.std.proofs.Common.{◌≡◌, ◌⊎◌, ◌^◌, ℕ, ℤ, ◌<◌, pos, ◌<ℤ◌, ◌≤ℤ◌, Bool, true, false, ◌&&◌, zero, suc, ◌+◌, List, [], ◌∷◌, map, take, get_or, None, Ok, inl, inr, refl, sym, ap, subst, ◌∙◌, arith, true≢false, Ordering, Less, Equal, Greater}
+use Rattle.std.proofs.Common.{◌≡◌, ℕ, ℤ, pos, ◌<ℤ◌, ◌≤ℤ◌, Bool, true, false, ◌&&◌, zero, suc, ◌+◌, List, [], ◌∷◌, map, take, get_or, inl, inr, refl, sym, ap, subst, ◌∙◌, arith, true≢false, Ordering, Less, Equal, Greater}
 use native.Mathlib.Numerals.{unary_clauses}
 use Rattle.std.specs.Bool.{⊤}
 use Rattle.std.specs.Ordering.{is_eq, is_lt, is_gt, is_ge, int_cmp, ordering_then}
@@ -7,7 +7,6 @@ use Rattle.std.specs.List.Sorted.{IsPermutation}
 use Rattle.std.proofs.lemmas.Bool.{and_parts, and_from}
 use Rattle.std.proofs.lemmas.Cmp.{int_ranked}
 use Rattle.std.proofs.lemmas.Int.{ints}
-use Rattle.sqlite_value.specs.declared.value.Value.{Value}
 use Rattle.sqlite_value.specs.declared.value.Value.TheVariants.{Null, Int}
 use Rattle.sqlite_value.specs.Order.{Row as Entry, column, value_cmp}
 use Rattle.sqlite_value.proofs.OrderLemmas.{value_cmp-Int}
@@ -24,7 +23,7 @@ use Rattle.sqlite_rules.proofs.TableLemmas.{int_is}
 use Rattle.book_keeper.specs.declared.row.RowKey.{RowKey}
 use Rattle.book_sqlite.proofs.Meanings.{first_query, behind_terms, from_terms, key_terms, take_query}
 use Rattle.book_sqlite.proofs.EntryLemmas.{AreEntries, compared, same_int, eq_itself}
-use Rattle.book_sqlite.proofs.ChangeLemmas.{HasKeyOf, AreRowidsOf}
+use Rattle.book_sqlite.proofs.ChangeLemmas.{AreRowidsOf}
 use Rattle.book_sqlite.proofs.ShownLemmas.{Passes, passes_all, shown_from, shown_has, first_least, mapped_from, mapped_has}
 
 -- ---- tests of integers

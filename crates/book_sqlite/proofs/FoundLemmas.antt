@@ -1,6 +1,6 @@
 -- The row that is read from what the selects show is the first behind a key.
 use Rattle.std.specs.Bool.{⊤}
-use Rattle.std.proofs.Common.{◌≡◌, ◌≢◌, ◌⊎◌, ◌^◌, ◌*◌, ◌+◌, ℕ, ℤ, ◌<◌, ◌≤◌, pos, negsuc, ◌<ℤ◌, ◌≤ℤ◌, List, [], ◌∷◌, Option, Some, None, IfSome, IfOk, Result, Ok, Err, inl, inr, refl, sym, ap, subst, ◌∙◌, arith}
+use Rattle.std.proofs.Common.{◌≡◌, ◌≢◌, ◌⊎◌, ◌^◌, ◌+◌, ℕ, ℤ, ◌<◌, ◌≤◌, pos, negsuc, ◌≤ℤ◌, List, [], ◌∷◌, Option, Some, None, IfSome, IfOk, Result, Ok, Err, inl, inr, refl, sym, ap, subst, ◌∙◌, arith}
 use Rattle.std.proofs.lemmas.Int.{ints}
 use Rattle.sqlite_value.specs.declared.value.Value.TheVariants.{Int}
 use Rattle.sqlite_value.specs.Order.{Row as Entry, column}
@@ -10,7 +10,7 @@ use Rattle.book_keeper.specs.declared.row.RowKey.{RowKey}
 use Rattle.book_keeper.specs.Rows.{rank, first_above, first_row, first_after}
 use Rattle.book_sqlite.specs.Content.{row_made, row_held, rows_of}
 use Rattle.book_sqlite.specs.KnownRows.{rises_of}
-use Rattle.book_sqlite.specs.RowCalls.{HasKey, UpTo, Behind, From, IsShown, Shows, ReadsFrom, IsLeast, NonePasses, IsFound}
+use Rattle.book_sqlite.specs.RowCalls.{HasKey, UpTo, Behind, From, IsShown, Shows, ReadsFrom, NonePasses, IsFound}
 use Rattle.book_sqlite.proofs.MemberLemmas.{none_above, first_is}
 use Rattle.book_sqlite.proofs.ContentLemmas.{Made, made_from, holder, held_in}
 use Rattle.book_sqlite.proofs.EntryLemmas.{AreEntries, holds_once}

@@ -1,5 +1,5 @@
 -- What the calls on the connection say of the keeper.
-use Rattle.std.proofs.Common.{◌≡◌, ◌⊎◌, true, ◌&&◌, List, ◌∷◌, Some, None, inl, inr, refl, sym, ap, subst, ◌∙◌, IsTrue, Option}
+use Rattle.std.proofs.Common.{◌≡◌, ◌⊎◌, ◌&&◌, List, ◌∷◌, Some, None, inl, inr, refl, sym, ap, subst, ◌∙◌, IsTrue, Option}
 use Rattle.std.proofs.lemmas.Bool.{and_parts, and_from}
 use Rattle.sqlite_value.specs.Order.{Row as Entry}
 use Rattle.sqlite_trees.specs.Tree.{Trees}
@@ -17,7 +17,7 @@ use Rattle.book_keeper.specs.Rows.{first_after}
 use Rattle.book_sqlite.specs.Content.{rows_of}
 use Rattle.book_sqlite.specs.RowsDatabase.{IsRowsDatabase, rows_in, ListsRows}
 use Rattle.book_sqlite.specs.RowCalls.{IsSure, IsReady, Committed, StaysCommitted, AreNext, PassesNone}
-use Rattle.book_sqlite.specs.KeeperInSqlite.{SqliteKept, AreAhead, is_sure, HoldsRows, HasEntries, MayLeave, has_clean_store}
+use Rattle.book_sqlite.specs.KeeperInSqlite.{SqliteKept, AreAhead, is_sure, HoldsRows, HasEntries}
 
 module _ {S : Type 0} (g : Ghosts S) where
   abbrev knows : Held S → Type 0

@@ -1,16 +1,15 @@
 -- The rows that are read behind the first are each the first behind the one before it.
 use Rattle.std.specs.Bool.{⊤}
-use Rattle.std.proofs.Common.{◌≡◌, ◌⊎◌, ◌^◌, ◌+◌, ℕ, ℤ, ◌<◌, pos, ◌<ℤ◌, ◌≤ℤ◌, List, [], ◌∷◌, Option, Some, None, IfOk, Result, Ok, Err, inl, inr, sym, ap, subst, ◌∙◌, arith, ◌++◌, drop, slice_get, append-nil, append_assoc}
+use Rattle.std.proofs.Common.{◌≡◌, ◌⊎◌, ◌^◌, ◌+◌, ℕ, ℤ, ◌<◌, pos, ◌<ℤ◌, List, [], ◌∷◌, Some, IfOk, Result, Ok, Err, inl, inr, sym, ap, subst, ◌∙◌, arith, ◌++◌, drop, slice_get, append-nil, append_assoc}
 use Rattle.std.proofs.lemmas.Int.{ints}
 use Rattle.sqlite_value.specs.Order.{Row as Entry, column}
-use Rattle.sqlite_rules.specs.Lists.{Has}
 use Rattle.book_commodity.proofs.ListLemmas.{drop_at}
 use Rattle.book_keeper.specs.declared.row.Row.{Row}
 use Rattle.book_keeper.specs.declared.row.RowKey.{RowKey}
 use Rattle.book_keeper.specs.Rows.{rank, first_after}
 use Rattle.book_sqlite.specs.Content.{row_made, rows_of}
 use Rattle.book_sqlite.specs.KnownRows.{rises_of}
-use Rattle.book_sqlite.specs.RowCalls.{HasKey, UpTo, Later, Behind, From, IsShown, ShowsOn, Shows, ReadsOn, ReadsFrom, IsBehind, IsBefore, PassesNone}
+use Rattle.book_sqlite.specs.RowCalls.{Later, Behind, From, ShowsOn, Shows, ReadsOn, ReadsFrom, IsBehind, PassesNone}
 use Rattle.book_sqlite.specs.RowCalls.{AreNext, AreNextOn, AreAbove, AreAboveOn}
 use Rattle.book_sqlite.proofs.MemberLemmas.{first_is}
 use Rattle.book_sqlite.proofs.EntryLemmas.{AreEntries}

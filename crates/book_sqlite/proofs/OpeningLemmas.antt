@@ -21,11 +21,10 @@ use Rattle.sqlite_schema.specs.declared.schema.Schema.{Schema}
 use Rattle.sqlite_schema.specs.declared.command.Command.TheVariants.{CreateTable}
 use Rattle.sqlite_catalog.specs.Listing.{IsSound, AreListed, IsTableRow, is_table_row}
 use Rattle.sqlite_catalog.proofs.LayoutLemmas.{laid_out}
-use Rattle.sqlite.specs.Listing.{understood}
 use Rattle.sqlite.specs.State.{State, HasCleanDisk, Opens, IsLive, Executes, Writes}
 use Rattle.sqlite.proofs.Callers.{runs_as}
 use Rattle.book_sqlite.specs.RowsSchema.{rows_schema, rows_table, no_schema}
-use Rattle.book_sqlite.specs.RowCalls.{IsSure, IsReady}
+use Rattle.book_sqlite.specs.RowCalls.{IsReady}
 use Rattle.book_sqlite.proofs.Meanings.{create_text, create_is, create_plain}
 use Rattle.book_sqlite.proofs.TakeLemmas.{creates}
 

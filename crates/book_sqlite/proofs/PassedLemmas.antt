@@ -1,8 +1,8 @@
 -- No entry between a key and the row that is found is passed over.
 use Rattle.std.specs.Bool.{⊤}
-use Rattle.std.proofs.Common.{◌≡◌, ◌≢◌, refl, ◌⊎◌, ◌+◌, ℕ, ℤ, pos, ◌<ℤ◌, ◌≤ℤ◌, List, [], ◌∷◌, Option, Some, None, IfOk, Result, Ok, Err, inl, inr, sym, ap, subst, ◌∙◌, arith}
+use Rattle.std.proofs.Common.{◌≡◌, ◌≢◌, refl, ◌⊎◌, ◌+◌, ℤ, pos, ◌<ℤ◌, ◌≤ℤ◌, List, [], ◌∷◌, Some, None, IfOk, Result, Ok, Err, inl, inr, sym, subst, arith}
 use Rattle.std.proofs.lemmas.Int.{ints}
-use Rattle.sqlite_value.specs.Order.{Row as Entry, column}
+use Rattle.sqlite_value.specs.Order.{Row as Entry}
 use Rattle.book_keeper.specs.declared.row.Row.{Row}
 use Rattle.book_keeper.specs.declared.row.RowKey.{RowKey}
 use Rattle.book_sqlite.specs.Content.{rows_of}

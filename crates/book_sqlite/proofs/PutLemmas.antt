@@ -1,11 +1,11 @@
 -- One row put: INSERT OR REPLACE takes out the entry with the key of the new one, and puts that behind the last.
-use Rattle.std.proofs.Common.{◌≡◌, ◌⊎◌, ◌^◌, ℕ, ℤ, ◌<◌, pos, Bool, true, false, cond, ◌&&◌, ◌||◌, List, [], ◌∷◌, Some, None, Ok, Err, Result, inl, inr, refl, sym, ap, subst, ◌∙◌, arith, true≢false, Equal}
+use Rattle.std.proofs.Common.{◌≡◌, ◌⊎◌, ◌^◌, ℕ, ℤ, ◌<◌, pos, Bool, true, false, cond, List, [], ◌∷◌, Some, None, Ok, Err, Result, inl, inr, refl, sym, ap, subst, ◌∙◌, true≢false, Equal}
 use Rattle.std.specs.List.{AllByRecursion}
 use Rattle.std.specs.Ordering.{is_eq, int_eq}
-use Rattle.std.proofs.lemmas.Bool.{and_parts, and_left, or_cases, or_left, or_right}
+use Rattle.std.proofs.lemmas.Bool.{and_parts, or_cases, or_left, or_right}
 use Rattle.sqlite_value.specs.declared.value.Value.{Value}
 use Rattle.sqlite_value.specs.declared.value.Value.TheVariants.{Null, Int, Blob}
-use Rattle.sqlite_value.specs.Order.{Row as Entry, column, value_cmp}
+use Rattle.sqlite_value.specs.Order.{Row as Entry, value_cmp}
 use Rattle.sqlite_value.specs.Keys.{plain, first_key}
 use Rattle.sqlite_value.proofs.OrderLemmas.{value_cmp-Int}
 use Rattle.sqlite_trees.specs.Tree.{Trees, rowid, put_row}
@@ -15,7 +15,6 @@ use Rattle.sqlite_sql.specs.declared.ops.CompareOp.TheVariants.{Eq}
 use Rattle.sqlite_sql.specs.Ops.{unary}
 use Rattle.sqlite_schema.specs.declared.schema.Keys.TheVariants.{Enforced}
 use Rattle.sqlite_schema.specs.declared.schema.Kind.TheVariants.{Integer}
-use Rattle.sqlite_schema.specs.declared.command.Command.{Command}
 use Rattle.sqlite_schema.specs.declared.command.Command.TheVariants.{InsertOr}
 use Rattle.sqlite_schema.specs.declared.command.Conflict.TheVariants.{Replace}
 use Rattle.sqlite_schema.specs.declared.command.Source.TheVariants.{Values}
@@ -35,13 +34,12 @@ use Rattle.sqlite.specs.Rows.{Task, Written, Puts, Clears, Tries}
 use Rattle.sqlite.specs.State.{State, Writes, mode_of}
 use Rattle.sqlite.proofs.Callers.{one_step}
 use Rattle.book_keeper.specs.declared.row.Row.{Row}
-use Rattle.book_keeper.specs.declared.row.RowKey.{RowKey}
 use Rattle.book_keeper.specs.Rows.{with_row}
 use Rattle.book_sqlite.specs.RowsSchema.{rows_schema, rows_table, rows_index}
 use Rattle.book_sqlite.specs.RowsDatabase.{IsRowsDatabase, rows_in}
 use Rattle.book_sqlite.proofs.Meanings.{put_terms}
 use Rattle.book_sqlite.proofs.ContentLemmas.{made_of}
-use Rattle.book_sqlite.proofs.EntryLemmas.{AreEntries, IsKeyed, entries, compared, same_int, eq_itself, agree_keys}
+use Rattle.book_sqlite.proofs.EntryLemmas.{AreEntries, entries, compared, same_int, eq_itself, agree_keys}
 use Rattle.book_sqlite.proofs.ChangeLemmas.{HasKeyOf, AreRowidsOf, left_table, left_all, after_put}
 use Rattle.book_sqlite.proofs.ShownLemmas.{mapped_from, mapped_has}
 

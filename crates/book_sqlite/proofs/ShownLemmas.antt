@@ -6,8 +6,8 @@ use Rattle.std.specs.List.Sorted.{IsPermutation, IsSorted}
 use Rattle.std.proofs.lemmas.List.Sorted.{Contains-permutation, IsPermutation-sym, sorted_far}
 use Rattle.std.proofs.lemmas.List.MinMax.{ranks_by}
 use Rattle.sqlite_value.specs.declared.value.Value.{Value}
-use Rattle.sqlite_value.specs.Order.{Row as Entry, column}
-use Rattle.sqlite_sql.specs.Term.{Term, Env, eval_all, holds}
+use Rattle.sqlite_value.specs.Order.{Row as Entry}
+use Rattle.sqlite_sql.specs.Term.{Term, Env, holds}
 use Rattle.sqlite_sql.specs.Query.{Query, inner, end, Output, output, output_cmp, matches_as}
 use Rattle.sqlite_sql.proofs.QueryLemmas.{output_cmp_total}
 use Rattle.sqlite_trees.specs.Tree.{Trees}

@@ -2,20 +2,15 @@
 use Rattle.std.proofs.Common.{◌≡◌, ◌⊎◌, ◌^◌, ℕ, ℤ, ◌<◌, ◌≤◌, pos, true, false, List, [], ◌∷◌, None, Some, Result, Ok, Err, IfOk, IfErr, OnOk, OnErr, inl, inr, refl, sym, ap, subst, ◌∙◌, arith, IsTrue}
 use Rattle.sqlite_value.specs.declared.value.Value.TheVariants.{Int, Null}
 use Rattle.sqlite_value.specs.Order.{Row as Entry}
-use Rattle.sqlite_trees.specs.Tree.{Trees}
-use Rattle.sqlite_trees.specs.View.{doubt}
-use Rattle.sqlite_schema.specs.declared.schema.Schema.{Schema}
-use Rattle.sqlite_sql.specs.Term.{Term}
 use Rattle.sqlite.specs.declared.error.Error.{Error}
-use Rattle.sqlite.specs.Effect.{Database}
-use Rattle.sqlite.specs.Listing.{understood, reads_listing}
+use Rattle.sqlite.specs.Listing.{understood}
 use Rattle.sqlite.specs.State.{State, HasCleanDisk, IsUnchanged, IsRolledBack, KeepsCommit, Fails, IsNotRun, RunsAlone, RunsCommand, ExecutesIn, Executes, ExecutesInside, FailsToShow, FailsToQuery, Shown, Survives, shows_rows}
 use Rattle.sqlite.proofs.Callers.{IsPlain, runs_as, reads_as}
 use Rattle.book_keeper.specs.declared.row.Row.{Row}
 use Rattle.book_keeper.specs.declared.row.RowKey.{RowKey}
 use Rattle.book_keeper.specs.Rows.{with_row, without_row}
 use Rattle.book_sqlite.specs.RowsSchema.{rows_schema}
-use Rattle.book_sqlite.specs.RowsDatabase.{IsRowsDatabase, rows_in}
+use Rattle.book_sqlite.specs.RowsDatabase.{IsRowsDatabase}
 use Rattle.book_sqlite.specs.RowCalls.{IsSure, IsReady, ChangesInside, StaysCommitted, Behind, From, Shows}
 use Rattle.book_sqlite.proofs.Meanings.{put_text, put_is, put_plain, take_text, take_is, take_plain, behind_text, behind_is, behind_plain, behind_terms, from_text, from_is, from_plain, from_terms, unlisted}
 use Rattle.book_sqlite.proofs.EntryLemmas.{entries}

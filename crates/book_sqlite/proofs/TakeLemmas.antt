@@ -1,5 +1,5 @@
 -- One row deleted, and the table made.
-use Rattle.std.proofs.Common.{◌≡◌, ◌^◌, ℕ, ◌<◌, pos, Bool, true, false, List, [], ◌∷◌, None, Ok, refl, sym, ap, subst, ◌∙◌}
+use Rattle.std.proofs.Common.{◌≡◌, ◌^◌, ℕ, ◌<◌, pos, true, false, List, [], ◌∷◌, None, Ok, refl, sym, ap, subst, ◌∙◌}
 use Rattle.std.specs.List.{AllByRecursion}
 use Rattle.sqlite_value.specs.declared.value.Value.TheVariants.{Null, Int}
 use Rattle.sqlite_value.specs.Order.{Row as Entry}

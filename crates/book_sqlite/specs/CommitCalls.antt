@@ -1,7 +1,6 @@
 -- What stands inside a transaction after some of its changes.
-use Rattle.std.specs.Prelude.{◌≡◌, true, List, IsTrue}
+use Rattle.std.specs.Prelude.{◌≡◌, true, List}
 use Rattle.sqlite.specs.State.{State, KeepsCommit}
-use Rattle.book_keeper.specs.declared.row.Row.{Row}
 use Rattle.book_keeper.specs.declared.row.Change.{Change}
 use Rattle.book_keeper.specs.Rows.{after_changes}
 use Rattle.book_sqlite.specs.RowsDatabase.{IsRowsDatabase, rows_in}

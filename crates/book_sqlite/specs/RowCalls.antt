@@ -63,11 +63,11 @@ abbrev pub kinds_behind : Option ℕ → ℤ
 kinds_behind None = negsuc (2 ^ 63 - 1)
 kinds_behind (Some kind) = pos (kind + 1)
 
--- Behind a key, in its kind or in a greater one.
+-- A key that comes later: one of a greater kind, or of the same kind with a greater number.
 abbrev pub Later : ℤ → ℤ → ℤ → ℤ → Type 0
-Later kind id other more = (kind <ℤ other) ⊎ ((other ≡ kind) × (id <ℤ more))
+Later kind id other number = (kind <ℤ other) ⊎ ((other ≡ kind) × (id <ℤ number))
 
--- What is shown is one of the entries, whose key passes, and no other that passes and is late is before it.
+-- What is shown is one of the entries, whose key passes, and no other whose key passes and is late comes before it.
 pub record IsShown (Passes Late : ℤ → ℤ → Type 0) (es : List Entry) (shown : Entry) : Type 0 where
   pub entry : Entry
   pub kind : ℤ
@@ -76,18 +76,19 @@ pub record IsShown (Passes Late : ℤ → ℤ → Type 0) (es : List Entry) (sho
   pub has : HasKey entry kind id
   pub passes : Passes kind id
   pub is : shown ≡ Int kind ∷ Int id ∷ column entry 3 ∷ []
-  pub least : (e : Entry) (other more : ℤ) → Has es e → HasKey e other more → Passes other more → Late other more
-      → UpTo kind id other more
+  pub least : (e : Entry) (other number : ℤ) → Has es e → HasKey e other number → Passes other number
+      → Late other number → UpTo kind id other number
 
--- Each that is shown is the first of those that are late and behind all before it.
+-- Before each that is shown, no other comes whose key passes, is late and is later than those shown before it. That
+-- the keys rise is looked at as the rows are read.
 abbrev pub ShowsOn : (ℤ → ℤ → Type 0) → (ℤ → ℤ → Type 0) → List Entry → List Entry → Type 0
 ShowsOn Passes Late es [] = ⊤
 ShowsOn Passes Late es (shown ∷ more) =
     (first : IsShown Passes Late es shown)
     × ShowsOn Passes (λ other number. Late other number × Later first.kind first.id other number) es more
 
--- A select shows entries whose keys pass in the order of their keys, from the first on and without a gap, or nothing
--- where none passes.
+-- A select shows entries whose keys pass, none of them before the first, and leaves none out between two whose keys
+-- rise; or nothing, where no key passes.
 abbrev pub Shows : (ℤ → ℤ → Type 0) → List Entry → List Entry → Type 0
 Shows Passes es [] = (e : Entry) (kind id : ℤ) → Has es e → HasKey e kind id → Passes kind id → ⊥
 Shows Passes es (shown ∷ more) = ShowsOn Passes (λ _ _. ⊤) es (shown ∷ more)
@@ -95,7 +96,7 @@ Shows Passes es (shown ∷ more) = ShowsOn Passes (λ _ _. ⊤) es (shown ∷ mo
 abbrev made_of : Entry → Option Row
 made_of shown = row_made (column shown 0) (column shown 1) (column shown 2)
 
--- The rows that are read of what is shown behind a key, which rise: all, or those up to some place.
+-- The rows that are read of what is shown behind a key, which rise: all, or the first ones.
 abbrev pub ReadsOn : RowKey → List Entry → List Row → Type 0
 ReadsOn key shown [] = ⊤
 ReadsOn key [] (row ∷ rows) = ⊥
@@ -155,11 +156,12 @@ abbrev pub AreAbove : Option RowKey → List Row → Type 0
 AreAbove after [] = ⊤
 AreAbove after (row ∷ rows) = IfSome after (λ key. rank key < rank row.key) × AreAbove (Some row.key) rows
 
--- The same of the rows behind the first.
+-- Each of the rows but the first is the next behind the one before it.
 abbrev pub AreNextOn : List Row → List Entry → Type 0
 AreNextOn [] entries = ⊤
 AreNextOn (row ∷ rows) entries = AreNext (Some row.key) rows entries
 
+-- Each of the rows but the first has a key above the one before it.
 abbrev pub AreAboveOn : List Row → Type 0
 AreAboveOn [] = ⊤
 AreAboveOn (row ∷ rows) = AreAbove (Some row.key) rows

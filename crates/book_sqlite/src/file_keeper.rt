@@ -28,7 +28,7 @@ impl<T: Start> SqliteKeeper<FileStore<FileFrom<T>>> {
             return SqliteKeeper::unopened(rt.alloc(), false);
         };
         match Connection::open_from(rt, path, false, start) {
-            Ok(connection) => SqliteKeeper::opened(rt.alloc(), connection),
+            Ok(connection) => SqliteKeeper::over_opened(rt.alloc(), connection),
             Err((error, _)) => SqliteKeeper::unopened(rt.alloc(), is_want_of_memory(error)),
         }
     }

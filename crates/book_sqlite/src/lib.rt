@@ -2,10 +2,10 @@
 //! the kit's `sqlite`; `FileKeeper` is this keeper over a file. A commit is one transaction. Public are these two.
 #![tactic(auto)]
 
-mod ahead;
 mod commit;
 mod file_keeper;
 mod opening;
+mod read_ahead;
 mod schema_test;
 mod selects;
 mod sqlite_keeper;

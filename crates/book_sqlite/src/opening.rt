@@ -50,7 +50,7 @@ fn with_table<S: Alter>(conn: &mut Connection<S>) -> Result<(), Error>
 
 /// The connection, over a file of rows: where the database has nothing yet, the table is made. Where it has the table,
 /// the rows are those of its last commit.
-pub fn with_rows<S: Alter + Drop>(connection: Connection<S>) -> Result<Connection<S>, Error>
+pub fn prepared<S: Alter + Drop>(connection: Connection<S>) -> Result<Connection<S>, Error>
     requires autocommit { connection.in_transaction ≡ false }
     requires opened { HasCleanDisk (state S.Store connection)
         → Opens (state S.Store connection) × IsLive (state S.Store connection) }
@@ -66,7 +66,8 @@ pub fn with_rows<S: Alter + Drop>(connection: Connection<S>) -> Result<Connectio
     Ok(connection)
 }
 
-/// The connection, whose database is checked once more: no clause says of another one that its rowids rise.
+/// The connection, whose database is checked once more: no clause of the kit says of a connection that was used since
+/// it was opened that the rowids of its table rise.
 pub fn checked_again<S: Alter + Drop>(
     alloc: Global,
     connection: Connection<S>,

@@ -1,4 +1,4 @@
-ghost use Rattle.std.specs.Prelude.{◌≡◌, ◌<◌, ◌^◌, ◌++◌, ◌∷◌, [], pos, IsTrue, List, Some, IfOk, IfSome, OnOk, OnErr};
+ghost use Rattle.std.specs.Prelude.{◌≡◌, ◌↔◌, ◌<◌, ◌^◌, ◌++◌, ◌∷◌, [], pos, IsTrue, List, Some, IfOk, IfSome, OnOk, OnErr};
 ghost use Rattle.sqlite_value.specs.declared.value.Value.TheVariants.{Int};
 ghost use Rattle.sqlite_value.specs.Order.{column};
 ghost use Rattle.sqlite_value.specs.Value.{owned};
@@ -85,12 +85,12 @@ fn row_of(shown: &Shown) -> Result<Row, Error>
 
 /// Whether the second key is above the first.
 fn is_above(low: RowKey, high: RowKey) -> bool
-    ensures { IsTrue result → rank low < rank high }
+    ensures { IsTrue result ↔ (rank low < rank high) }
 {
     high.kind > low.kind || high.kind == low.kind && high.id > low.id
 }
 
-/// Adds a row.
+/// Adds a row, or says as SQLite does that the program is out of memory.
 fn push(rows: &mut Vec<Row>, row: Row) -> Result<(), Error>
     ensures added { OnOk result (rows.new.items ≡ rows.old.items ++ row ∷ []) }
     ensures kept { OnErr result (rows.new.items ≡ rows.old.items) }
@@ -101,8 +101,8 @@ fn push(rows: &mut Vec<Row>, row: Row) -> Result<(), Error>
     }
 }
 
-/// Adds the rows that are shown behind a key, up to the first that is no row of a book or does not rise, or that no
-/// memory is left for.
+/// Adds the rows that are shown behind a key, as long as they rise. It ends before an entry that is no row of a book,
+/// and where it is out of memory; the select for what is left out then says why.
 fn read_on(rows: &mut Vec<Row>, key: RowKey, shown: &[Shown])
     ensures { (more : List HeldRow) × (rows.new.items ≡ rows.old.items ++ more) × ReadsOn key shown.now more }
 {
@@ -122,8 +122,9 @@ fn read_on(rows: &mut Vec<Row>, key: RowKey, shown: &[Shown])
     }
 }
 
-/// The rows that are shown, where the first is a row of a book: all, or those up to some place.
-fn read_all(alloc: Global, shown: &[Shown]) -> Result<Vec<Row>, Error>
+/// The rows that are shown: none where nothing is, else the first, which has to be a row of a book, and those that
+/// `read_on` adds.
+fn read_rows(alloc: Global, shown: &[Shown]) -> Result<Vec<Row>, Error>
     ensures { IfOk result (λ rows. ReadsFrom shown.now rows.items) }
 {
     let mut rows = Vec::new(alloc);
@@ -160,7 +161,7 @@ fn rows_behind<S: Alter>(
     ensures above { IfOk result (λ rows. AreAboveOn rows.items) }
 {
     let shown = shown_behind(conn, kind, id)?;
-    read_all(alloc, shown.as_slice())
+    read_rows(alloc, shown.as_slice())
 }
 
 /// The first rows of the book of the greater kinds, or of all.
@@ -185,7 +186,7 @@ fn rows_from<S: Alter>(
     ensures above { IfOk result (λ rows. AreAboveOn rows.items) }
 {
     let shown = shown_from(conn, kind)?;
-    read_all(alloc, shown.as_slice())
+    read_rows(alloc, shown.as_slice())
 }
 
 /// The first rows of the book behind the key, where the first of them is above the key.

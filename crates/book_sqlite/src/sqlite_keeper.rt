@@ -11,9 +11,9 @@ ghost use Rattle.book_sqlite.specs.RowsDatabase.{HasRowids, ListsRows};
 ghost use Rattle.book_sqlite.specs.RowCalls.{IsSure, PassesNone};
 ghost use Rattle.book_sqlite.specs.KeeperInSqlite.{is_sure, HoldsRows, HasEntries, MayLeave, has_clean_store};
 
-use crate::ahead::Ahead;
 use crate::commit::make_all;
-use crate::opening::{checked_again, with_rows};
+use crate::opening::{checked_again, prepared};
+use crate::read_ahead::ReadAhead;
 use crate::selects::rows_after;
 use book_commodity::Text;
 use book_keeper::{Change, KeepError, Keeper, Row, RowKey};
@@ -26,7 +26,7 @@ use std::marker::Model;
 #[derive(Drop)]
 pub struct SqliteKeeper<S: Alter> {
     connection: Option<Connection<S>>,
-    ahead: Ahead,
+    ahead: ReadAhead,
     lacked_memory: bool,
     alloc: Global,
     path: Text,
@@ -60,13 +60,13 @@ impl<S: Alter + Drop> SqliteKeeper<S> {
         ensures faults { result.faults ≡ 0 }
     {
         match checked_again(alloc, connection) {
-            Ok(connection) => SqliteKeeper::opened(alloc, connection),
+            Ok(connection) => SqliteKeeper::over_opened(alloc, connection),
             Err(error) => SqliteKeeper::unopened(alloc, is_want_of_memory(error)),
         }
     }
 
-    /// The same over a connection that was just opened, which checked the database.
-    pub(crate) fn opened(alloc: Global, connection: Connection<S>) -> SqliteKeeper<S>
+    /// A keeper as `over` makes it, over a connection that was just opened, which checked the database.
+    pub(crate) fn over_opened(alloc: Global, connection: Connection<S>) -> SqliteKeeper<S>
         requires autocommit { connection.in_transaction ≡ false }
         requires opened { HasCleanDisk (state S.Store connection)
             → Opens (state S.Store connection) × IsLive (state S.Store connection) }
@@ -77,10 +77,10 @@ impl<S: Alter + Drop> SqliteKeeper<S> {
         ensures path { result.path ≡ [] }
         ensures faults { result.faults ≡ 0 }
     {
-        match with_rows(connection) {
+        match prepared(connection) {
             Ok(connection) => SqliteKeeper {
                 connection: Some(connection),
-                ahead: Ahead::none(alloc),
+                ahead: ReadAhead::none(alloc),
                 lacked_memory: false,
                 alloc,
                 path: Text::new(alloc),
@@ -98,7 +98,7 @@ impl<S: Alter + Drop> SqliteKeeper<S> {
     {
         SqliteKeeper {
             connection: None,
-            ahead: Ahead::none(alloc),
+            ahead: ReadAhead::none(alloc),
             lacked_memory,
             alloc,
             path: Text::new(alloc),
@@ -221,7 +221,7 @@ impl<S: Alter + Drop> Keeper for SqliteKeeper<S> {
     }
 
     /// The row behind the key. It was read ahead, or else one select within the kind and, where that shows none, one
-    /// over the greater kinds reads the next 64 rows. Fails at an entry that is no row of a book; it passes none over.
+    /// over the greater kinds reads at most 64 rows. Fails at an entry that is no row of a book; it passes none over.
     fn next_row(&mut self, after: Option<RowKey>) -> Result<Option<Row>, KeepError>
         ensures none_passed { IfOk result (λ found. IsTrue (is_sure S.Store self.new) → (entries : List Entry)
             → HasEntries S.Store self.old entries → PassesNone after entries found) }
@@ -237,13 +237,13 @@ impl<S: Alter + Drop> Keeper for SqliteKeeper<S> {
         if let Some(row) = self.ahead.take_behind(after) {
             return Ok(Some(row));
         }
-        self.ahead = Ahead::none(self.alloc);
+        self.ahead = ReadAhead::none(self.alloc);
         let Some(connection) = &mut self.connection else {
             return Err(self.fail(false));
         };
         match rows_after(self.alloc, connection, after) {
             Ok(rows) => {
-                self.ahead = Ahead::behind(after, rows);
+                self.ahead = ReadAhead::behind(after, rows);
                 Ok(self.ahead.take_behind(after))
             }
             Err(error) => Err(self.fail(is_want_of_memory(error))),

@@ -20,28 +20,42 @@ fn put<K: Keeper>(keeper: &mut K, alloc: Global, key: RowKey, body: &[u8]) -> Re
     Ok(keeper.commit(&changes).is_ok())
 }
 
-/// Puts two hundred rows of two kinds, those with the greatest keys first.
+fn delete<K: Keeper>(keeper: &mut K, key: RowKey) -> bool {
+    if key.id >= 1_000_000 {
+        return false;
+    }
+    keeper.commit(&[Change::Gone(key)]).is_ok()
+}
+
+/// The key of the row at a place: a hundred rows of kind 2, and then a hundred of kind 3.
+fn key_at(place: u64) -> RowKey {
+    RowKey {
+        kind: if place < 100 { 2 } else { 3 },
+        id: place % 100,
+    }
+}
+
+/// Puts the two hundred rows, the last first, each with its number as its body.
 fn fill<K: Keeper>(keeper: &mut K, alloc: Global) -> Result<bool, Fail> {
     for place in 0..200 {
-        let kind = if place < 100 { 3 } else { 2 };
-        let id = 199 - place;
-        if !put(keeper, alloc, RowKey { kind, id }, b"row")? {
+        let key = key_at(199 - place);
+        if !put(keeper, alloc, key, &[key.id as u8])? {
             return Ok(false);
         }
     }
     Ok(true)
 }
 
-/// How many rows there are, or none where the keeper fails or their keys do not rise.
+/// How many rows there are, or none where the keeper fails, or one of them is not that of its place.
 fn count_rows<K: Keeper>(keeper: &mut K) -> Option<u64> {
     let mut after = None;
-    for count in 0..1000 {
+    for place in 0..1000 {
         let row = match keeper.next_row(after) {
             Ok(Some(row)) => row,
-            Ok(None) => return Some(count),
+            Ok(None) => return Some(place),
             Err(_) => return None,
         };
-        if after >= Some(row.key) {
+        if row.key != key_at(place) || row.body.as_slice() != [row.key.id as u8].as_slice() {
             return None;
         }
         after = Some(row.key);
@@ -49,7 +63,22 @@ fn count_rows<K: Keeper>(keeper: &mut K) -> Option<u64> {
     None
 }
 
+/// How many rows are read before the keeper fails, or none where it does not.
+fn count_to_fault<K: Keeper>(keeper: &mut K) -> Option<u64> {
+    let mut after = None;
+    for place in 0..10 {
+        match keeper.next_row(after) {
+            Ok(Some(row)) => after = Some(row.key),
+            Ok(None) => return None,
+            Err(_) => return Some(place),
+        }
+    }
+    None
+}
+
 const EURO: RowKey = RowKey { kind: 2, id: 9 };
+
+const LAST: RowKey = RowKey { kind: 3, id: 100 };
 
 /// A database in memory after these statements.
 fn database(alloc: Global, statements: &[&str]) -> Result<Connection<sqlite::MemStore>, Fail> {
@@ -85,20 +114,20 @@ fn a_file_of_rows_is_taken_and_others_are_faults(rt: HostRuntime) -> Result<(), 
 #[test]
 fn a_row_that_is_none_of_a_book_is_a_fault(rt: HostRuntime) -> Result<(), Fail> {
     let alloc = rt.alloc();
-    for values in [
-        "(256, 0, x'')",
-        "(-1, 0, x'')",
-        "(2, -1, x'')",
-        "(2, 0, NULL)",
+    for (values, before) in [
+        ("(-1, 0, x'')", 0),
+        ("(2, -1, x'')", 0),
+        ("(2, 10, NULL), (2, 11, x'')", 1),
+        ("(256, 0, x'')", 1),
     ] {
         let mut connection = database(alloc, &[TABLE])?;
         let mut sql = String::new(alloc);
-        sql.push_str("INSERT INTO bk_rows VALUES ")?;
+        sql.push_str("INSERT INTO bk_rows VALUES (2, 9, x''), ")?;
         sql.push_str(values)?;
         run(&mut connection, sql.as_str())?;
         let mut keeper = SqliteKeeper::over(alloc, connection);
         assert_eq!(rt; keeper.open("a book"), Ok(()));
-        assert!(rt; matches!(keeper.next_row(None), Err(KeepError::Failed)));
+        assert_eq!(rt; count_to_fault(&mut keeper), Some(before));
     }
     Ok(())
 }
@@ -109,6 +138,8 @@ fn two_hundred_rows_stay_in_a_file(rt: HostRuntime) -> Result<(), Fail> {
     let mut keeper = FileKeeper::at(&rt, Some("rows.book"), Unknown);
     assert_eq!(rt; keeper.open("rows.book"), Ok(()));
     assert!(rt; fill(&mut keeper, alloc)?);
+    assert!(rt; put(&mut keeper, alloc, LAST, b"")?);
+    assert!(rt; delete(&mut keeper, LAST));
     drop(keeper);
     let mut again = FileKeeper::at(&rt, Some("rows.book"), Unknown);
     assert_eq!(rt; again.open("rows.book"), Ok(()));

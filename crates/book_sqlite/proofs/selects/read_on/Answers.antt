@@ -1,4 +1,4 @@
-use Rattle.std.proofs.Common.{sym, subst, drop, ◌∙◌}
+use Rattle.std.proofs.Common.{sym, subst, drop}
 use Rattle.book_sqlite.proofs.NextLemmas.{ReadSoFar, read_end}
 use Rattle.book_sqlite.proofs.selects.read_on.Goals as goal
 

@@ -1,6 +1,5 @@
 use Rattle.std.proofs.Common.{◌≡◌, ◌≢◌, pos, [], ap, sym, subst, ◌∙◌, arith, rules}
 use Rattle.std.proofs.lemmas.Int.{ints}
-use Rattle.sqlite.specs.State.{HasCleanDisk}
 use Rattle.sqlite.specs.Held.{state}
 use Rattle.sqlite.specs.Effect.{Database}
 use Rattle.book_keeper.specs.Rows.{first_row}

@@ -1,8 +1,6 @@
 use Rattle.std.proofs.Common.{[], ◌∷◌, pos, arith, refl}
-use Rattle.sqlite.specs.State.{HasCleanDisk}
 use Rattle.sqlite.specs.Held.{state}
 use Rattle.sqlite.specs.Values.{bound}
-use Rattle.book_sqlite.specs.RowCalls.{kinds_behind}
 use Rattle.book_sqlite.proofs.StateFacts.{stays_ready, select_left, behind_answer}
 use Rattle.book_sqlite.proofs.Meanings.{behind_text, behind_plain}
 use Rattle.book_sqlite.proofs.selects.shown_behind.Goals as goal

@@ -1,7 +1,6 @@
-use Rattle.std.proofs.Common.{◌≡◌, ◌<◌, ◌^◌, [], ◌∷◌, arith, refl}
+use Rattle.std.proofs.Common.{◌<◌, ◌^◌, [], ◌∷◌, arith, refl}
 use Rattle.sqlite.specs.Held.{state}
 use Rattle.sqlite.specs.Values.{bound}
-use Rattle.book_sqlite.proofs.PutLemmas.{put_params}
 use Rattle.book_sqlite.proofs.StateFacts.{put_answer, kept_answer}
 use Rattle.book_sqlite.proofs.Meanings.{put_text}
 use Rattle.book_sqlite.proofs.statements.put_row.Goals as goal

@@ -4,11 +4,11 @@ use Rattle.book_sqlite.proofs.KeeperLemmas.{found_holds}
 use Rattle.book_sqlite.proofs.OpeningLemmas.{found_ready}
 use Rattle.book_sqlite.proofs.file_keeper.SqliteKeeper+FileStore+FileFrom+T.at.Goals as goal
 
-pub opened-requires-clause-rowids : goal.opened-requires-clause-rowids
-opened-requires-clause-rowids g c = λ sure schema_is.
+pub over_opened-requires-clause-rowids : goal.over_opened-requires-clause-rowids
+over_opened-requires-clause-rowids g c = λ sure schema_is.
     found_ready (image_at g.T.Start) (file_state c.in-Ok.connection) (c.in-Ok.ensures.found sure.0) (c.in-Ok.ensures.opened sure.0) sure.1 schema_is
 
 pub returns-in-Ok-clause-found : goal.returns-in-Ok-clause-found
 returns-in-Ok-clause-found g c = λ sure db held lists.
-    found_holds c.opened.result c.in-Ok.connection db ((c.in-Ok.ensures.found (c.opened.ensures.clean sure)).holds db held)
-    (c.opened.ensures.rows sure) lists
+    found_holds c.over_opened.result c.in-Ok.connection db ((c.in-Ok.ensures.found (c.over_opened.ensures.clean sure)).holds db held)
+    (c.over_opened.ensures.rows sure) lists

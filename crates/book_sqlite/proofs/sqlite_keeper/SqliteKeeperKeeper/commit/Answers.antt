@@ -1,9 +1,7 @@
-use Rattle.std.proofs.Common.{◌≡◌, Some, refl, sym, ap, subst, ◌∙◌, arith, rules}
-use Rattle.sqlite.specs.State.{HasCleanDisk}
+use Rattle.std.proofs.Common.{◌≡◌, Some, arith, rules}
 use Rattle.sqlite.specs.Held.{state}
 use Rattle.book_keeper.specs.Rows.{after_changes}
 use Rattle.book_sqlite.specs.RowCalls.{IsReady}
-use Rattle.book_sqlite.specs.KeeperInSqlite.{SqliteKept, IsKept}
 use Rattle.book_sqlite.proofs.KeeperLemmas.{sure_back, rows_stay, rows_made, crash_leaves, crash_settles}
 use Rattle.book_sqlite.proofs.sqlite_keeper.SqliteKeeperKeeper.commit.Goals as goal
 

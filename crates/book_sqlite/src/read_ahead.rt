@@ -7,34 +7,34 @@ use std::collections::VecDeque;
 
 /// Rows that were read before they were asked for: those that come next behind a key, in their order.
 #[derive(Drop)]
-pub(crate) struct Ahead {
+pub(crate) struct ReadAhead {
     pub(crate) after: Option<RowKey>,
     pub(crate) rows: VecDeque<Row>,
 }
 
-impl Ahead {
+impl ReadAhead {
     /// No rows; it takes no memory.
-    pub(crate) fn none(alloc: Global) -> Ahead
+    pub(crate) fn none(alloc: Global) -> ReadAhead
         ensures { result.rows.items ≡ [] }
     {
-        Ahead {
+        ReadAhead {
             after: None,
             rows: VecDeque::new(alloc),
         }
     }
 
-    /// These rows behind the key.
-    pub(crate) fn behind(after: Option<RowKey>, rows: Vec<Row>) -> Ahead
+    /// The rows that were read behind a key, or from the first on.
+    pub(crate) fn behind(after: Option<RowKey>, rows: Vec<Row>) -> ReadAhead
         ensures after { result.after ≡ after }
         ensures rows { result.rows.items ≡ rows.items }
     {
-        Ahead {
+        ReadAhead {
             after,
             rows: VecDeque::from(rows),
         }
     }
 
-    /// Forgets the rows, where they may no longer be those that come next.
+    /// Forgets the rows; after a change others may come next.
     pub(crate) fn forget(&mut self)
         ensures { self.new.rows.items ≡ [] }
     {

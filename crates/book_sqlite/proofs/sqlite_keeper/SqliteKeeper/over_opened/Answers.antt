@@ -1,7 +1,7 @@
 use Rattle.sqlite.specs.Held.{state}
 use Rattle.book_sqlite.specs.RowsDatabase.{ListsRows}
 use Rattle.book_sqlite.proofs.KeeperLemmas.{opened_clean, opened_holds}
-use Rattle.book_sqlite.proofs.sqlite_keeper.SqliteKeeper.opened.Goals as goal
+use Rattle.book_sqlite.proofs.sqlite_keeper.SqliteKeeper.over_opened.Goals as goal
 
 pub returns-in-Ok-clause-clean : goal.returns-in-Ok-clause-clean
 returns-in-Ok-clause-clean g c = opened_clean g.S.Store c.in-Ok.connection c.args.connection c.in-Ok.ensures.clean

@@ -3,11 +3,10 @@ use Rattle.sqlite_trees.specs.Tree.{Trees}
 use Rattle.sqlite_trees.specs.Objects.{catalog_tree}
 use Rattle.sqlite_catalog.specs.Listing.{AreListed}
 use Rattle.sqlite.specs.Effect.{Database}
-use Rattle.sqlite.specs.State.{HasCleanDisk}
 use Rattle.sqlite.specs.Held.{state}
 use Rattle.book_sqlite.specs.RowsSchema.{rows_schema, no_schema}
 use Rattle.book_sqlite.proofs.OpeningLemmas.{lists_something}
-use Rattle.book_sqlite.proofs.opening.with_rows.Goals as goal
+use Rattle.book_sqlite.proofs.opening.prepared.Goals as goal
 
 pub returns-clause-rows : goal.returns-clause-rows
 returns-clause-rows g c = λ clean lists.
