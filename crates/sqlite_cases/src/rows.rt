@@ -39,7 +39,7 @@ fn key_at(place: u64) -> RowKey {
 fn fill<K: Keeper>(keeper: &mut K, alloc: Global) -> Result<bool, Fail> {
     for place in 0..200 {
         let key = key_at(199 - place);
-        if !put(keeper, alloc, key, &[key.id as u8])? {
+        if !put(keeper, alloc, key, &key.id.to_le_bytes())? {
             return Ok(false);
         }
     }
@@ -55,7 +55,7 @@ fn count_rows<K: Keeper>(keeper: &mut K) -> Option<u64> {
             Ok(None) => return Some(place),
             Err(_) => return None,
         };
-        if row.key != key_at(place) || row.body.as_slice() != [row.key.id as u8].as_slice() {
+        if row.key != key_at(place) || row.body.as_slice() != row.key.id.to_le_bytes().as_slice() {
             return None;
         }
         after = Some(row.key);
