@@ -8,6 +8,7 @@ ghost use Rattle.book_keeper.specs.Keeping.{HasKeepCause};
 ghost use Rattle.book_keeper.specs.Rows.{AreRising, rank, after_changes, first_after};
 ghost use Rattle.book_sqlite.specs.Content.{rows_of};
 ghost use Rattle.book_sqlite.specs.RowsDatabase.{HasRowids, ListsRows};
+ghost use Rattle.book_sqlite.specs.RowsSchema.{no_schema};
 ghost use Rattle.book_sqlite.specs.RowCalls.{IsSure, PassesNone};
 ghost use Rattle.book_sqlite.specs.KeeperInSqlite.{is_sure, HoldsRows, HasEntries, MayLeave, has_clean_store};
 
@@ -74,6 +75,8 @@ impl<S: Alter + Drop> SqliteKeeper<S> {
         ensures clean { IsTrue (is_sure S.Store result) → HasCleanDisk (state S.Store connection) }
         ensures rows { IsTrue (is_sure S.Store result) → ListsRows (state S.Store connection).committed.trees
             → HoldsRows S.Store result (rows_of ((state S.Store connection).committed.trees 0)) }
+        ensures empty { IsTrue (is_sure S.Store result) → (state S.Store connection).now.schema ≡ no_schema
+            → HoldsRows S.Store result [] }
         ensures path { result.path ≡ [] }
         ensures faults { result.faults ≡ 0 }
     {
