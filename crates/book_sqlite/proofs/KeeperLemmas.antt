@@ -1,5 +1,5 @@
 -- What the calls on the connection say of the keeper.
-use Rattle.std.proofs.Common.{◌≡◌, ◌⊎◌, ◌&&◌, List, ◌∷◌, Some, None, inl, inr, refl, sym, ap, subst, ◌∙◌, IsTrue, Option}
+use Rattle.std.proofs.Common.{◌≡◌, ◌⊎◌, ◌&&◌, List, [], ◌∷◌, Some, None, inl, inr, refl, sym, ap, subst, ◌∙◌, IsTrue, Option}
 use Rattle.std.proofs.lemmas.Bool.{and_parts, and_from}
 use Rattle.sqlite_value.specs.Order.{Row as Entry}
 use Rattle.sqlite_trees.specs.Tree.{Trees}
@@ -30,6 +30,13 @@ module _ {S : Type 0} (g : Ghosts S) where
   pub opened_holds : (c : Held S) (trees : Trees) (Lists : Type 0) → (HasCleanDisk (state g c) → Lists → (state g c).committed.trees ≡ trees)
       → knows c → Lists → rows_of (trees 0) ≡ rows_of ((state g c).committed.trees 0)
   opened_holds c trees Lists same sure lists = ap (λ (t : Trees). rows_of (t 0)) (sym (same (sure_from c sure).0 lists))
+
+  -- one over a database that had nothing holds no rows
+  pub empty_holds : (c : Held S) (Nothing : Type 0) → IsReady (state g c) → (HasCleanDisk (state g c) → Nothing → (state g c).now.trees 0 ≡ [])
+      → knows c → Nothing → [] ≡ rows_of ((state g c).committed.trees 0)
+  empty_holds c Nothing ready empty sure nothing =
+      let known = sure_from c sure in
+      sym (ap rows_of (ap (λ (d : Database). d.trees 0) (sym (ready.settled known)) ∙ empty known.0 nothing))
 
   pub opened_clean : (c old : Held S) → (HasCleanDisk (state g c) → HasCleanDisk (state g old)) → knows c → HasCleanDisk (state g old)
   opened_clean c old back sure = back (sure_from c sure).0

@@ -9,7 +9,7 @@ use Rattle.book_keeper.specs.declared.row.RowKey.{RowKey}
 use Rattle.book_keeper.specs.Rows.{rank, first_after}
 use Rattle.book_sqlite.specs.Content.{row_made, rows_of}
 use Rattle.book_sqlite.specs.KnownRows.{rises_of}
-use Rattle.book_sqlite.specs.RowCalls.{Later, Behind, From, ShowsOn, Shows, ReadsOn, ReadsFrom, IsBehind, PassesNone}
+use Rattle.book_sqlite.specs.RowCalls.{Later, Behind, From, ShowsOn, Shows, ReadsOn, ReadsFrom, PassesNone}
 use Rattle.book_sqlite.specs.RowCalls.{AreNext, AreNextOn, AreAbove, AreAboveOn}
 use Rattle.book_sqlite.proofs.MemberLemmas.{first_is}
 use Rattle.book_sqlite.proofs.EntryLemmas.{AreEntries}
@@ -30,11 +30,6 @@ run_behind kind id one first other number more further passes also (inr same) =
 pub run_from : (kind : ℤ) → IsRun (From kind)
 run_from kind one first other number more further passes also (inl greater) = inl (omega (arith, ints, passes, greater))
 run_from kind one first other number more further passes also (inr same) = inl (omega (arith, ints, passes, same.0))
-
--- behind a key, by numbers
-later_of : (key : RowKey) (kind id : ℤ) → IsBehind (Some key) kind id → Later (pos key.kind) (pos key.id) kind id
-later_of key kind id (inl same) = inr same
-later_of key kind id (inr greater) = inl (omega (arith, ints, greater))
 
 -- a row above another is behind it, and what is behind it is behind the other
 later_than : (low high : RowKey) → low.id < 2 ^ 64 → high.id < 2 ^ 64 → rank low < rank high → (kind id : ℤ)
@@ -70,7 +65,7 @@ module _ (P : ℤ → ℤ → Type 0) (run : IsRun P) (es : List Entry) (known :
           | inr greater ↦ rank_up row.key other.key read.fits fits (inl greater)
         ])),
     λ e kind id there has behind before.
-        let later = later_of key kind id behind in
+        let later : Later (pos key.kind) (pos key.id) kind id = behind in
         elim (run (pos key.kind) (pos key.id) (pos row.key.kind) (pos row.key.id) kind id at.1 read.passes later) [
           | inl passes ↦ passed_by P Late es row read e kind id there has passes (late kind id later) before
           | inr greater ↦ elim before [ inl low ↦ omega (arith, ints, greater, low) | inr same ↦ omega (arith, ints, greater, same.0) ]

@@ -1,6 +1,6 @@
 -- No entry between a key and the row that is found is passed over.
 use Rattle.std.specs.Bool.{⊤}
-use Rattle.std.proofs.Common.{◌≡◌, ◌≢◌, refl, ◌⊎◌, ◌+◌, ℤ, pos, ◌<ℤ◌, ◌≤ℤ◌, List, [], ◌∷◌, Some, None, IfOk, Result, Ok, Err, inl, inr, sym, subst, arith}
+use Rattle.std.proofs.Common.{◌≡◌, ◌≢◌, refl, ◌⊎◌, ℤ, pos, ◌<ℤ◌, ◌≤ℤ◌, List, [], ◌∷◌, Some, None, IfOk, Result, Ok, Err, inl, inr, sym, subst, arith}
 use Rattle.std.proofs.lemmas.Int.{ints}
 use Rattle.sqlite_value.specs.Order.{Row as Entry}
 use Rattle.book_keeper.specs.declared.row.Row.{Row}
@@ -57,13 +57,11 @@ behind_passed es key id [] under some found none = absurd (some refl)
 behind_passed es key id (row ∷ rows) under some found none = λ e kind number there has behind before.
     let row_kind : pos row.key.kind ≡ pos key.kind = found.passes.0 in
     elim behind [
-      | inl same ↦ none e kind number there has (same.0, omega (arith, ints, under, same.1)) before
-      | inr greater ↦
-          let up : pos (key.kind + 1) ≤ℤ kind = greater in
-          elim before [
-            | inl low ↦ omega (arith, ints, up, low, row_kind)
-            | inr at ↦ omega (arith, ints, up, at.0, row_kind)
-          ]
+      | inl greater ↦ elim before [
+        | inl low ↦ omega (arith, ints, greater, low, row_kind)
+        | inr at ↦ omega (arith, ints, greater, at.0, row_kind)
+      ]
+      | inr same ↦ none e kind number there has (same.0, omega (arith, ints, under, same.1)) before
     ]
 
 -- of the greater kinds, where none is found behind it
@@ -74,8 +72,9 @@ pub from_passed :
     → IfOk r (λ found. C → O → PassesNone (Some key) es (first_row (rows found)))
 from_passed rows C O es now key id (Ok found) under none same h = λ c o e kind number there has behind before.
     elim behind [
-      | inl at ↦ none c o e kind number there has (at.0, omega (arith, ints, under, at.1)) tt
-      | inr greater ↦
-          subst (λ l. NoneBefore (From (kinds_behind (Some key.kind))) l (first_row (rows found))) (same c o) (h c o) e kind number there has greater before
+      | inl greater ↦
+          let from : From (kinds_behind (Some key.kind)) kind number = omega (arith, ints, greater) in
+          subst (λ l. NoneBefore (From (kinds_behind (Some key.kind))) l (first_row (rows found))) (same c o) (h c o) e kind number there has from before
+      | inr at ↦ none c o e kind number there has (at.0, omega (arith, ints, under, at.1)) tt
     ]
 from_passed rows C O es now key id (Err e) under none same h = tt

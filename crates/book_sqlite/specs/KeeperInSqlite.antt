@@ -1,5 +1,5 @@
 -- A keeper in SQLite, and what it knows of its rows.
-use Rattle.std.specs.Prelude.{◌≡◌, ℕ, Bool, false, ◌&&◌, List, Option, Some, None, IfSome, refl}
+use Rattle.std.specs.Prelude.{◌≡◌, ℕ, Bool, false, ◌&&◌, List, [], Option, Some, None, IfSome, refl}
 use Rattle.std.specs.Coded.{Coded, code_by, coded×, coded_ℕ, coded_list, coded_option}
 use Rattle.sqlite_value.specs.Order.{Row as Entry}
 use Rattle.sqlite_trees.specs.Tree.{Trees}
@@ -29,10 +29,10 @@ module _ {S : Type 0} (g : Ghosts S) where
   IsKept connection = IfSome connection (λ c. IsReady (state g c))
 
   -- while the store is clean and the connection open, the rows that were read ahead are those that come next behind
-  -- this key
+  -- this key; without a connection there are none
   abbrev pub AreAhead : Option (Held S) → Option RowKey → List Row → Type 0
-  AreAhead connection after rows =
-      IfSome connection (λ c. IsSure (state g c) → AreNext after rows ((state g c).committed.trees 0))
+  AreAhead None after rows = rows ≡ []
+  AreAhead (Some c) after rows = IsSure (state g c) → AreNext after rows ((state g c).committed.trees 0)
 
   abbrev known_by : Option (Held S) → Bool
   known_by None = false

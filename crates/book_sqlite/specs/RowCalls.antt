@@ -135,10 +135,10 @@ abbrev pub NoneBefore : (ℤ → ℤ → Type 0) → List Entry → Option Row �
 NoneBefore Passes entries found =
     (e : Entry) (kind id : ℤ) → Has entries e → HasKey e kind id → Passes kind id → IsBefore found kind id → ⊥
 
--- Behind the key, in its kind or in a greater one, or any that SQL has.
+-- Behind the key, or any that SQL has.
 abbrev pub IsBehind : Option RowKey → ℤ → ℤ → Type 0
-IsBehind None kind id = From (kinds_behind None) kind id
-IsBehind (Some key) kind id = Behind (pos key.kind) (pos key.id) kind id ⊎ From (kinds_behind (Some key.kind)) kind id
+IsBehind None = From (kinds_behind None)
+IsBehind (Some key) = Later (pos key.kind) (pos key.id)
 
 -- No entry behind the key is before the row that is found: what is no row of a book is not passed over.
 abbrev pub PassesNone : Option RowKey → List Entry → Option Row → Type 0

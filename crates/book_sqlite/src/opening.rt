@@ -1,4 +1,4 @@
-ghost use Rattle.std.specs.Prelude.{◌≡◌, ◌≢◌, false, IsTrue, OnOk, IfOk};
+ghost use Rattle.std.specs.Prelude.{◌≡◌, ◌≢◌, [], false, IsTrue, OnOk, IfOk};
 ghost use Rattle.sqlite.specs.State.{HasCleanDisk, IsLive, Opens};
 ghost use Rattle.sqlite.specs.Held.{state};
 ghost use Rattle.book_sqlite.specs.RowsSchema.{no_schema};
@@ -14,6 +14,8 @@ fn make_table<S: Alter>(conn: &mut Connection<S>) -> Result<(), Error>
     requires autocommit { conn.old.in_transaction ≡ false }
     requires empty { (state S.Store conn.old).now.schema ≡ no_schema }
     ensures ready { OnOk result (IsReady (state S.Store conn.new)) }
+    ensures empty { OnOk result (HasCleanDisk (state S.Store conn.new)
+        → (state S.Store conn.new).now.trees 0 ≡ []) }
     ensures clean { HasCleanDisk (state S.Store conn.new) → HasCleanDisk (state S.Store conn.old) }
 {
     conn.execute(
@@ -35,6 +37,8 @@ fn with_table<S: Alter>(conn: &mut Connection<S>) -> Result<(), Error>
         → (state S.Store conn.old).now ≡ (state S.Store conn.old).committed }
     requires rowids { IsSure (state S.Store conn.old) → HasRowids (state S.Store conn.old).now }
     ensures ready { OnOk result (IsReady (state S.Store conn.new)) }
+    ensures empty { OnOk result (HasCleanDisk (state S.Store conn.new)
+        → (state S.Store conn.old).now.schema ≡ no_schema → (state S.Store conn.new).now.trees 0 ≡ []) }
     ensures clean { HasCleanDisk (state S.Store conn.new) → HasCleanDisk (state S.Store conn.old) }
     ensures left { (state S.Store conn.old).now.schema ≢ no_schema → conn.new ≡ conn.old }
 {
@@ -56,6 +60,8 @@ pub fn prepared<S: Alter + Drop>(connection: Connection<S>) -> Result<Connection
         → Opens (state S.Store connection) × IsLive (state S.Store connection) }
     requires rowids { IsSure (state S.Store connection) → HasRowids (state S.Store connection).now }
     ensures ready { IfOk result (λ c. IsReady (state S.Store c)) }
+    ensures empty { IfOk result (λ c. HasCleanDisk (state S.Store c)
+        → (state S.Store connection).now.schema ≡ no_schema → (state S.Store c).now.trees 0 ≡ []) }
     ensures clean { IfOk result (λ c. HasCleanDisk (state S.Store c) → HasCleanDisk (state S.Store connection)) }
     ensures rows { IfOk result (λ c. HasCleanDisk (state S.Store c)
         → ListsRows (state S.Store connection).committed.trees

@@ -1,5 +1,5 @@
 ghost use Rattle.std.specs.Prelude.{◌≡◌, ◌↔◌, ◌<◌, ◌≤◌, ◌⊎◌, false, [], List, Some, None, IsTrue};
-ghost use Rattle.std.specs.Prelude.{IfOk, IfErr, IfSome, OnOk, OnErr};
+ghost use Rattle.std.specs.Prelude.{IfOk, IfErr, IfSome, IsSome, OnOk, OnErr};
 ghost use Rattle.sqlite_value.specs.Order.{Row as Entry};
 ghost use Rattle.sqlite.specs.State.{HasCleanDisk, IsLive, Opens};
 ghost use Rattle.sqlite.specs.Held.{state};
@@ -8,6 +8,7 @@ ghost use Rattle.book_keeper.specs.Keeping.{HasKeepCause};
 ghost use Rattle.book_keeper.specs.Rows.{AreRising, rank, after_changes, first_after};
 ghost use Rattle.book_sqlite.specs.Content.{rows_of};
 ghost use Rattle.book_sqlite.specs.RowsDatabase.{HasRowids, ListsRows};
+ghost use Rattle.book_sqlite.specs.RowsSchema.{no_schema};
 ghost use Rattle.book_sqlite.specs.RowCalls.{IsSure, PassesNone};
 ghost use Rattle.book_sqlite.specs.KeeperInSqlite.{is_sure, HoldsRows, HasEntries, MayLeave, has_clean_store};
 
@@ -74,6 +75,8 @@ impl<S: Alter + Drop> SqliteKeeper<S> {
         ensures clean { IsTrue (is_sure S.Store result) → HasCleanDisk (state S.Store connection) }
         ensures rows { IsTrue (is_sure S.Store result) → ListsRows (state S.Store connection).committed.trees
             → HoldsRows S.Store result (rows_of ((state S.Store connection).committed.trees 0)) }
+        ensures empty { IsTrue (is_sure S.Store result) → (state S.Store connection).now.schema ≡ no_schema
+            → HoldsRows S.Store result [] }
         ensures path { result.path ≡ [] }
         ensures faults { result.faults ≡ 0 }
     {
@@ -181,7 +184,16 @@ impl<S: Alter + Drop> Keeper for SqliteKeeper<S> {
     }) keeper rows held };
 
     /// Keeps the path; which store it is was said as the keeper was made. Fails where the keeper has no file of rows.
-    fn open(&mut self, path: &str) -> Result<(), KeepError> {
+    fn open(&mut self, path: &str) -> Result<(), KeepError>
+        ensures there { OnOk result (IsSome self.new.connection) }
+        ensures connection { self.new.connection ≡ self.old.connection }
+        ensures path { OnOk result (self.new.path ≡ path.now) }
+        ensures path_kept { OnErr result (self.new.path ≡ self.old.path) }
+        ensures sure { IsTrue (is_sure S.Store self.new) → IsTrue (is_sure S.Store self.old) }
+        ensures rows { IsTrue (is_sure S.Store self.new) → (rows : List Row)
+            → HoldsRows S.Store self.old rows → HoldsRows S.Store self.new rows }
+        ensures cause { HasKeepCause self.old.faults self.new.faults result }
+    {
         let text = text_of(self.alloc, path)?;
         if self.connection.is_none() {
             let lacked_memory = self.lacked_memory;
@@ -208,6 +220,8 @@ impl<S: Alter + Drop> Keeper for SqliteKeeper<S> {
             → HoldsRows S.Store self.old rows → HoldsRows S.Store self.new (after_changes changes.now rows)) }
         ensures unchanged { OnErr result (IsTrue (is_sure S.Store self.new) → (rows : List Row)
             → HoldsRows S.Store self.old rows → HoldsRows S.Store self.new rows) }
+        ensures there { OnOk result (IsSome self.new.connection) }
+        ensures connection { IsSome self.old.connection → IsSome self.new.connection }
         ensures cause { HasKeepCause self.old.faults self.new.faults result }
     {
         self.ahead.forget();
@@ -232,6 +246,8 @@ impl<S: Alter + Drop> Keeper for SqliteKeeper<S> {
         ensures found { IfOk result (λ found. IsTrue (is_sure S.Store self.new) → (rows : List Row)
             → HoldsRows S.Store self.old rows → found ≡ first_after after rows) }
         ensures above { IfOk result (λ found. IfSome found (λ row. IfSome after (λ key. rank key < rank row.key))) }
+        ensures there { OnOk result (IsSome self.new.connection) }
+        ensures connection { IsSome self.old.connection → IsSome self.new.connection }
         ensures cause { HasKeepCause self.old.faults self.new.faults result }
     {
         if let Some(row) = self.ahead.take_behind(after) {
