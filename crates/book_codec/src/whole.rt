@@ -5,15 +5,12 @@ use crate::{DecodeError, Field};
 use book_commodity::{Bytes, OutOfMemory};
 use std::alloc::Global;
 
-/// Room for a body of the usual length, so that the vector does not grow step by step.
-const USUAL_LEN: usize = 96;
-
 /// The body of a value: the format byte 1 and then its spelling.
 pub fn write_whole<W, T: Field<W>>(alloc: Global, value: &T) -> Result<Bytes, OutOfMemory>
     ensures spelled { IfOk result (λ body. body ≡ 1 ∷ T.spelling value.now) }
     ensures fits { IfOk result (λ body. T.fits value.now) }
 {
-    let mut out = Vec::with_capacity(alloc, USUAL_LEN)?;
+    let mut out = Vec::new(alloc);
     out.push(1)?;
     value.spell(&mut out)?;
     Ok(Bytes::of(out))

@@ -1,5 +1,5 @@
 ghost use Rattle.std.specs.Prelude.{◌≡◌, ◌+◌, ◌-◌, ◌^◌, ◌<◌, ◌≤◌, [], All, OnOk, if◌then◌else◌, is_ok, is_some, false};
-ghost use Rattle.std.specs.Prelude.{None, Some, find, length, min, nat_le, position};
+ghost use Rattle.std.specs.Prelude.{None, Some, find, length, min, position};
 ghost use Rattle.book_ledger.specs.Changes.{differing, has_row};
 ghost use Rattle.book_ledger.specs.Lots.{AreLeft};
 ghost use Rattle.book_ledger.specs.Page.{brought_up, lots_on, register_on};
@@ -72,13 +72,6 @@ impl Page {
         ensures bounded { self.now.changes < 2 ^ 64 }
     {
         let _ = (self.register.len(), self.register.changes());
-    }
-
-    /// Whether so many more rows may be put in before memory is asked for again.
-    pub(crate) fn has_room(&self, extra: usize) -> bool
-        ensures { result ≡ nat_le extra self.now.spare }
-    {
-        self.register.has_room(extra)
     }
 
     /// Makes room for so many more rows; all else stays.

@@ -1,4 +1,4 @@
-ghost use Rattle.std.specs.Prelude.{◌≡◌, ℕ, ◌+◌, ◌≤◌, [], All, IsTrue, Some, None, OnOk, is_ok, length, true};
+ghost use Rattle.std.specs.Prelude.{◌≡◌, ℕ, ◌+◌, ◌≤◌, [], All, Some, None, OnOk, is_ok, length, true};
 ghost use Rattle.std.specs.Option.{option_copied, option_map};
 ghost use Rattle.book_commodity.specs.Table.{value_of};
 ghost use Rattle.book_ledger.specs.Change.{AllPut, AllTaken, IsBeside, IsChanged, IsPut, IsReplaced, IsTaken, is_there};
@@ -163,16 +163,6 @@ impl Registers {
         Ok(())
     }
 
-    /// Whether the register that is kept for an account takes so many more rows before it asks for memory.
-    fn has_room(&self, account: u64, extra: usize) -> bool
-        ensures { IsTrue result → extra ≤ room_of account self.now.entries }
-    {
-        match self.registers.find(account) {
-            Some(page) => page.has_room(extra),
-            None => false,
-        }
-    }
-
     /// Makes room for so many more rows of an account, and has a register kept for it.
     pub(crate) fn make_room(&mut self, account: u64, extra: usize) -> Result<(), OutOfMemory>
         ensures there { OnOk result (is_there account self.new.entries ≡ true) }
@@ -180,9 +170,6 @@ impl Registers {
         ensures extends { Extends self.old.entries self.new.entries }
     {
         self.begin(account)?;
-        if self.has_room(account, extra) {
-            return Ok(());
-        }
         let Some(mut page) = self.lend(account) else {
             unreachable!()
         };

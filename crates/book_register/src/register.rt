@@ -1,5 +1,5 @@
 ghost use Rattle.std.specs.Prelude.{◌≡◌, ◌+◌, ◌-◌, ◌/◌, ◌^◌, ◌<◌, ◌≤◌, [], None, OnOk, OnErr, Some, min, is_some};
-ghost use Rattle.std.specs.Prelude.{length, nat_le};
+ghost use Rattle.std.specs.Prelude.{length};
 ghost use Rattle.std.specs.Prelude.{if◌then◌else◌, insert, position, slice_get, take};
 ghost use Rattle.book_register.specs.Register.{IsSorted, balance, balances, has_key as is_at, key_of as entry_key};
 ghost use Rattle.book_register.specs.Register.{key_at as spelled_key, rows_until, rows_without};
@@ -55,13 +55,6 @@ impl Register {
         ensures { result ≡ self.now.changes }
     {
         self.changes
-    }
-
-    /// Whether so many more rows may be put in before memory is asked for again.
-    pub fn has_room(&self, extra: usize) -> bool
-        ensures { result ≡ nat_le extra self.now.spare }
-    {
-        self.rows.has_room(extra)
     }
 
     /// Makes room for so many more rows. The rows stay, and no room is lost where it is out of memory.

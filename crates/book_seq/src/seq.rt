@@ -1,4 +1,4 @@
-ghost use Rattle.std.specs.Prelude.{◌≡◌, ◌+◌, ◌/◌, ◌<◌, ◌≤◌, [], OnOk, OnErr, Some, length, nat_le, slice_get, take};
+ghost use Rattle.std.specs.Prelude.{◌≡◌, ◌+◌, ◌/◌, ◌<◌, ◌≤◌, [], OnOk, OnErr, Some, length, slice_get, take};
 ghost use Rattle.std.specs.Prelude.{insert, remove};
 ghost use Rattle.book_seq.specs.Sums.{listed, sums_of};
 
@@ -86,13 +86,6 @@ impl<E: Weigh> Seq<E> {
 }
 
 impl<E: Weigh + Drop> Seq<E> {
-    /// Whether so many more entries may be put in before memory is asked for again.
-    pub fn has_room(&self, extra: usize) -> bool
-        ensures { result ≡ nat_le extra self.now.spare }
-    {
-        memory::spare(self.chunks.as_slice(), self.free.len(), self.len) >= extra
-    }
-
     /// Makes room for so many more entries, with all chunks that they can need. The list stays, and no room is lost
     /// where it is out of memory.
     pub fn reserve(&mut self, extra: usize) -> Result<(), OutOfMemory>
