@@ -8,8 +8,8 @@ use Rattle.book_lots.specs.Lots.{pairs_of, sold_in, value_of}
 use Rattle.book_lots.specs.declared.open_lot.OpenLot.{OpenLot}
 use Rattle.book_lots.specs.declared.pair.Pair.{Pair}
 
-abbrev row : ℕ → ℤ → ℤ → ℤ → Entry
-row split day quantity value = record {
+abbrev trade : ℕ → ℤ → ℤ → ℤ → Entry
+trade split day quantity value = record {
   day = day;
   txn = split;
   place = 0;
@@ -30,8 +30,8 @@ lot split units cost = record { split = split; units = units; cost = cost }
 -- 10 bought for 10.00, 5 bought for 7.00, 12 sold for 18.00
 abbrev bought_and_sold : List Entry
 bought_and_sold =
-    row 7 (pos 9) (pos 10) (pos 1000) ∷ row 10 (pos 40) (pos 5) (pos 700)
-    ∷ row 13 (pos 69) (negsuc 11) (negsuc 1799) ∷ []
+    trade 7 (pos 9) (pos 10) (pos 1000) ∷ trade 10 (pos 40) (pos 5) (pos 700)
+    ∷ trade 13 (pos 69) (negsuc 11) (negsuc 1799) ∷ []
 
 first_in_first_out : pairs_of bought_and_sold
     ≡ pair 7 13 (pos 10) (pos 69) (pos 500) ∷ pair 10 13 (pos 2) (pos 69) (pos 20) ∷ []
@@ -58,15 +58,15 @@ values_again = refl
 
 -- 3 bought for 1.00, and each sold for 0.50: the costs are 33, 33 and 34
 by_ones : pairs_of
-    (row 1 (pos 1) (pos 3) (pos 100) ∷ row 2 (pos 2) (negsuc 0) (negsuc 49) ∷ row 3 (pos 3) (negsuc 0) (negsuc 49)
-    ∷ row 4 (pos 4) (negsuc 0) (negsuc 49) ∷ [])
+    (trade 1 (pos 1) (pos 3) (pos 100) ∷ trade 2 (pos 2) (negsuc 0) (negsuc 49) ∷ trade 3 (pos 3) (negsuc 0) (negsuc 49)
+    ∷ trade 4 (pos 4) (negsuc 0) (negsuc 49) ∷ [])
     ≡ pair 1 2 (pos 1) (pos 2) (pos 17) ∷ pair 1 3 (pos 1) (pos 3) (pos 17) ∷ pair 1 4 (pos 1) (pos 4) (pos 16) ∷ []
 unfolding pairs_of bought_in sold_in
 by_ones = refl
 
 -- 4 sold for 4.00 before they are bought for 3.00
 abbrev short : List Entry
-short = row 1 (pos 9) (negsuc 3) (negsuc 399) ∷ row 2 (pos 40) (pos 4) (pos 300) ∷ []
+short = trade 1 (pos 9) (negsuc 3) (negsuc 399) ∷ trade 2 (pos 40) (pos 4) (pos 300) ∷ []
 
 bought_back : pairs_of short ≡ pair 2 1 (pos 4) (pos 40) (pos 100) ∷ []
 unfolding pairs_of bought_in sold_in
@@ -77,13 +77,13 @@ unfolding lots_of bought_in sold_in
 nothing_open = refl
 
 -- before that the lot is open, with units below 0
-short_lot : lots_of (row 1 (pos 9) (negsuc 3) (negsuc 399) ∷ []) ≡ lot 1 (negsuc 3) (negsuc 399) ∷ []
+short_lot : lots_of (trade 1 (pos 9) (negsuc 3) (negsuc 399) ∷ []) ≡ lot 1 (negsuc 3) (negsuc 399) ∷ []
 unfolding lots_of bought_in sold_in
 short_lot = refl
 
 -- 1 bought for 0.90 before all others
 abbrev in_front : List Entry
-in_front = row 15 (pos 1) (pos 1) (pos 90) ∷ bought_and_sold
+in_front = trade 15 (pos 1) (pos 1) (pos 90) ∷ bought_and_sold
 
 other_pairs : pairs_of in_front
     ≡ pair 15 13 (pos 1) (pos 69) (pos 60) ∷ pair 7 13 (pos 10) (pos 69) (pos 500)
@@ -100,7 +100,7 @@ unfolding lots_of bought_in sold_in
 other_rest = refl
 
 -- a split with a value and no units
-adjusted : adjustments_of (row 1 (pos 1) (pos 3) (pos 100) ∷ row 2 (pos 2) (pos 0) (negsuc 6) ∷ []) ≡ negsuc 6
+adjusted : adjustments_of (trade 1 (pos 1) (pos 3) (pos 100) ∷ trade 2 (pos 2) (pos 0) (negsuc 6) ∷ []) ≡ negsuc 6
 adjusted = refl
 
 -- of 600 entries all are left where the 600th and later ones are forgotten, and 256 where the 300th and later ones are
