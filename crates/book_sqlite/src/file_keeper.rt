@@ -1,4 +1,6 @@
-ghost use Rattle.std.specs.Prelude.{◌≡◌, [], IsTrue};
+ghost use Rattle.std.specs.Prelude.{◌≡◌, [], IsTrue, IfErr};
+ghost use Rattle.sqlite_trees.specs.declared.error.StoreError.{StoreError};
+ghost use Rattle.sqlite.specs.State.{store_error};
 ghost use Rattle.sqlite_trees.specs.Tree.{Trees};
 ghost use Rattle.sqlite.specs.WalFiles.{image_at};
 ghost use Rattle.sqlite.specs.Files.{over_files, HoldsDatabase};
@@ -35,7 +37,10 @@ impl<T: Start> SqliteKeeper<FileStore<FileFrom<T>>> {
 
     /// Closes the file, so that it alone holds the rows: the log beside it is copied into it. Where this fails, as on a
     /// full disk, the rows stay in the two files together, and the next keeper finds them there.
-    pub fn close(self) -> Result<(), Error> {
+    /// An error is one of the store's. That the file then alone holds the rows has no clause: the kit says nothing of it.
+    pub fn close(self) -> Result<(), Error>
+        ensures { IfErr result (λ error. (cause : StoreError) × (error ≡ store_error cause)) }
+    {
         match self.into_connection() {
             Some(connection) => connection.close(),
             None => Ok(()),
