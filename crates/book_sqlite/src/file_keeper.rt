@@ -37,7 +37,8 @@ impl<T: Start> SqliteKeeper<FileStore<FileFrom<T>>> {
 
     /// Closes the file, so that it alone holds the rows: the log beside it is copied into it. Where this fails, as on a
     /// full disk, the rows stay in the two files together, and the next keeper finds them there.
-    /// An error is one of the store's. That the file then alone holds the rows has no clause: the kit says nothing of it.
+    /// An error is one of the store's. That the file alone then holds the rows has no clause, since the kit says
+    /// nothing of it.
     pub fn close(self) -> Result<(), Error>
         ensures { IfErr result (λ error. (cause : StoreError) × (error ≡ store_error cause)) }
     {
