@@ -59,11 +59,6 @@ pub splits_last :
     → splits_of (with_entry n new ts) ≡ splits_of ts ++ new.splits
 splits_last n new ts below = ap splits_of (with_last n new ts below) ∙ splits_of-added ts (n, new)
 
-pub splits_beside-append : (n : ℕ) (xs ys : List (ℕ × Txn))
-    → splits_beside n (xs ++ ys) ≡ splits_beside n xs ++ splits_beside n ys
-splits_beside-append n xs ys = ap splits_of (filter-append (λ entry. not (n == entry.0)) xs ys)
-    ∙ splits_of-append (filter (λ entry. not (n == entry.0)) xs) (filter (λ entry. not (n == entry.0)) ys)
-
 -- Where all numbers are above one, none stands under it.
 splits_beside-above : (n : ℕ) (ts : List (ℕ × Txn)) → AllAbove n ts → splits_beside n ts ≡ splits_of ts
 splits_beside-above n [] above = refl
@@ -121,18 +116,3 @@ quantity_on-with account n transaction (e ∷ es) rises =
                 ∙ sym (quantity_on-append account e.1.splits (splits_of (with_entry n transaction es)))
           ] refl
     ] refl
-
--- There are at most as many splits beside a transaction as in all.
-pub length-splits_beside : (n : ℕ) (ts : List (ℕ × Txn)) → length (splits_beside n ts) ≤ length (splits_of ts)
-length-splits_beside n [] = omega arith
-length-splits_beside n (e ∷ es) =
-    let more = length-splits_beside n es in
-    let all = length-append e.1.splits (splits_of es) in
-    let P : Bool → Type 0 = λ t.
-    length (splits_of (if t then e ∷ filter (λ entry. not (n == entry.0)) es else filter
-    (λ entry. not (n == entry.0)) es))
-    ≤ length (e.1.splits ++ splits_of es) in
-    elim (not (n == e.0)) as P [
-      | true ↦ omega (arith, more, all, length-append e.1.splits (splits_beside n es))
-      | false ↦ omega (arith, more, all)
-    ]

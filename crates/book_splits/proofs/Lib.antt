@@ -1,5 +1,4 @@
 pub mod BalanceLemmas
-pub mod BalanceTableLemmas
 pub mod CheckLemmas
 pub mod CountLemmas
 pub mod NamedLemmas

@@ -1,5 +1,4 @@
 pub mod Balance
-pub mod Balances
 pub mod Check
 pub mod Counted
 pub mod Owner

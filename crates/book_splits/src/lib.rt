@@ -1,12 +1,10 @@
 //! Transactions and their splits. A transaction moves value among accounts: each split gives one account
 //! a value, in the transaction's currency, and a quantity, in the account's commodity, and the values of
 //! a transaction sum to zero (GnuCash Concepts Guide, the accounting equation and double entry). `check_txn`
-//! reports the first rule that a transaction breaks, `Txns` is the table of a book's transactions, and
-//! `balances_after` sums the splits of accounts.
+//! reports the first rule that a transaction breaks, and `Txns` is the table of a book's transactions.
 #![tactic(auto)]
 
 mod account_splits;
-mod balances;
 mod check;
 mod reconciliation;
 mod rule;
@@ -15,7 +13,6 @@ mod transaction;
 mod transactions;
 
 pub use account_splits::has_splits;
-pub use balances::balances_after;
 pub use check::check_txn;
 pub use reconciliation::{MarkedSplit, Recon};
 pub use rule::TxnRule;

@@ -64,18 +64,6 @@ impl Step {
             answer,
         })
     }
-
-    /// The version after the step, from the one before it: only a step that changes the book raises it.
-    pub fn version_after(&self, version: u64) -> u64
-        requires { version < 2 ^ 62 }
-        ensures { result ≡ version_after (is_nothing self.now.edit) version }
-    {
-        if self.edit.is_nothing() {
-            version
-        } else {
-            version + 1
-        }
-    }
 }
 
 /// What a change comes to that is asked of a book with this next number and this version, all of which stay as they
