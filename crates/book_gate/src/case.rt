@@ -1,0 +1,119 @@
+use crate::answers::row_of;
+use crate::comparing::{Case, compare};
+use crate::counters::unread;
+use crate::each::check_each;
+use crate::making::{change, made_in_memory, no_rows};
+use crate::report::Report;
+use crate::run::Run;
+use crate::script::{Line, Section, sections_of};
+use book_commodity::Bytes;
+use book_keeper::{Change, MemKeeper, Row};
+use std::alloc::Global;
+use std::{io, mem};
+
+/// A case that is under way: the keeper as the run before left it, the run as its lines have said it so far, and how
+/// many runs were made.
+#[derive(Drop)]
+struct Progress {
+    keeper: MemKeeper,
+    run: Run,
+    runs: u64,
+}
+
+/// Makes the runs of each case of a file, and says how many there are.
+pub(crate) fn check_runs(report: &mut Report<'_>, file: &str) -> io::Result<()> {
+    let text = report.read(file)?;
+    let sections = sections_of(report.alloc(), text.as_str())?;
+    let mut runs: u64 = 0;
+    for section in sections.as_slice() {
+        if section.is_case {
+            runs = runs.saturating_add(check_case(report, file, section)?);
+        }
+    }
+    let line = format!(in report.alloc(); "{file}: {runs} runs")?;
+    report.say(line.as_str())
+}
+
+/// Makes the runs of a case. How many there are. A line that can't be read ends the case as one that fails.
+fn check_case(report: &mut Report<'_>, file: &str, section: &Section<'_>) -> io::Result<u64> {
+    let case = Case {
+        file,
+        name: section.name,
+    };
+    let mut progress = Progress {
+        keeper: no_rows(report.alloc()),
+        run: Run::new(report.alloc(), section.number)?,
+        runs: 0,
+    };
+    for line in section.lines.as_slice() {
+        if take(report, case, &mut progress, *line).is_err() {
+            report.fail(case.at(line.number), "a line of a run", line.text)?;
+            return Ok(progress.runs);
+        }
+    }
+    finish(report, case, &mut progress)?;
+    Ok(progress.runs)
+}
+
+/// Takes in a line of a case.
+fn take(
+    report: &mut Report<'_>,
+    case: Case<'_>,
+    progress: &mut Progress,
+    line: Line<'_>,
+) -> io::Result<()> {
+    let alloc = report.alloc();
+    let (mark, rest) = line.text.split_once(' ').unwrap_or((line.text, ""));
+    match mark {
+        "again" => {
+            finish(report, case, progress)?;
+            progress.run = Run::new(alloc, line.number)?;
+            Ok(())
+        }
+        "put" => put(alloc, &mut progress.keeper, rest),
+        "gone" => take_out(alloc, &mut progress.keeper, rest),
+        _ => take_into(alloc, &mut progress.run, mark, rest, line.number),
+    }
+}
+
+/// Takes in a line of a run.
+fn take_into(alloc: Global, run: &mut Run, mark: &str, rest: &str, line: usize) -> io::Result<()> {
+    if run.take_given(alloc, mark, rest, line)? || run.wanted.take(alloc, mark, rest, line)? {
+        Ok(())
+    } else {
+        Err(unread())
+    }
+}
+
+/// Puts a row.
+fn put(alloc: Global, keeper: &mut MemKeeper, rest: &str) -> io::Result<()> {
+    let (key, body) = row_of(alloc, rest)?;
+    let row = Row {
+        key,
+        body: Bytes::of(body),
+    };
+    change(alloc, keeper, Change::Put(row))
+}
+
+/// Takes a row out.
+fn take_out(alloc: Global, keeper: &mut MemKeeper, rest: &str) -> io::Result<()> {
+    let (key, _) = row_of(alloc, rest)?;
+    change(alloc, keeper, Change::Gone(key))
+}
+
+/// Makes the run, over all calls that are to fail each in turn where it says so, and then as it stands.
+fn finish(report: &mut Report<'_>, case: Case<'_>, progress: &mut Progress) -> io::Result<()> {
+    let alloc = report.alloc();
+    let keeper = mem::replace(&mut progress.keeper, no_rows(alloc));
+    let run = &progress.run;
+    if let Some(each) = run.each {
+        check_each(report, case, run, &keeper, each)?;
+        progress.keeper = keeper;
+    } else {
+        let (outcome, keeper) = made_in_memory(alloc, run, keeper, run.input.as_slice(), None)?;
+        compare(report, case, run, &outcome, Some(keeper.rows()))?;
+        progress.keeper = keeper;
+    }
+    progress.runs = progress.runs.saturating_add(1);
+    Ok(())
+}
