@@ -1,4 +1,5 @@
-use crate::counters::{add_expanded, count, counted, number, unread};
+use crate::counters::{count, counted, expanded};
+use crate::rows::{Spelled, spelled};
 use book_keeper::RowKey;
 use std::alloc::{AllocError, Global};
 use std::io;
@@ -80,7 +81,7 @@ impl Wanted {
     }
 
     /// Adds an answer.
-    fn add_answer(
+    pub(crate) fn add_answer(
         &mut self,
         alloc: Global,
         text: &str,
@@ -121,8 +122,7 @@ impl Wanted {
     ) -> io::Result<()> {
         let (count, text) = counted(rest)?;
         for times in 0..count {
-            let mut answer = String::new(alloc);
-            add_expanded(&mut answer, text, times)?;
+            let answer = expanded(alloc, text, times)?;
             let is_whole = is_whole && !text.is_empty();
             self.add_answer(alloc, answer.as_str(), is_whole, line)?;
         }
@@ -142,20 +142,12 @@ impl Wanted {
 
 /// The row that a line `KIND ID HEX` wants.
 fn wanted_row(alloc: Global, rest: &str, line: usize) -> io::Result<WantedRow> {
-    let (key, body) = row_of(alloc, rest)?;
+    let Spelled {
+        kind,
+        first,
+        body,
+        ..
+    } = spelled(alloc, rest)?;
+    let key = RowKey { kind, id: first };
     Ok(WantedRow { line, key, body })
-}
-
-/// The key and the body of a row that is written as `KIND ID HEX`.
-pub(crate) fn row_of(alloc: Global, text: &str) -> io::Result<(RowKey, Vec<u8>)> {
-    let mut words = text.split(' ');
-    let kind = number(words.next().unwrap_or(""))?;
-    let id = number(words.next().unwrap_or(""))?;
-    let Ok(kind) = u8::try_from(kind) else {
-        return Err(unread());
-    };
-    match hex::decode(alloc, words.next().unwrap_or("")) {
-        Ok(body) => Ok((RowKey { kind, id }, body)),
-        Err(_) => Err(unread()),
-    }
 }

@@ -1,21 +1,18 @@
-use crate::answers::row_of;
-use crate::comparing::{Case, compare};
+use crate::comparing::Case;
 use crate::counters::unread;
-use crate::each::check_each;
-use crate::making::{change, made_in_memory, no_rows};
 use crate::report::Report;
+use crate::rows::no_rows;
 use crate::run::Run;
 use crate::script::{Line, Section, sections_of};
-use book_commodity::Bytes;
-use book_keeper::{Change, MemKeeper, Row};
+use crate::store::Store;
 use std::alloc::Global;
 use std::{io, mem};
 
-/// A case that is under way: the keeper as the run before left it, the run as its lines have said it so far, and how
+/// A case that is under way: the rows as the run before left them, the run as its lines have said it so far, and how
 /// many runs were made.
 #[derive(Drop)]
 struct Progress {
-    keeper: MemKeeper,
+    store: Store,
     run: Run,
     runs: u64,
 }
@@ -41,7 +38,7 @@ fn check_case(report: &mut Report<'_>, file: &str, section: &Section<'_>) -> io:
         name: section.name,
     };
     let mut progress = Progress {
-        keeper: no_rows(report.alloc()),
+        store: Store::Memory(no_rows(report.alloc())),
         run: Run::new(report.alloc(), section.number)?,
         runs: 0,
     };
@@ -64,16 +61,18 @@ fn take(
 ) -> io::Result<()> {
     let alloc = report.alloc();
     let (mark, rest) = line.text.split_once(' ').unwrap_or((line.text, ""));
+    if progress.store.change(report.rt(), mark, rest)? {
+        return Ok(());
+    }
     match mark {
         "again" => {
             finish(report, case, progress)?;
             progress.run = Run::new(alloc, line.number)?;
-            Ok(())
         }
-        "put" => put(alloc, &mut progress.keeper, rest),
-        "gone" => take_out(alloc, &mut progress.keeper, rest),
-        _ => take_into(alloc, &mut progress.run, mark, rest, line.number),
+        "over" => progress.store = Store::named(alloc, rest)?,
+        _ => take_into(alloc, &mut progress.run, mark, rest, line.number)?,
     }
+    Ok(())
 }
 
 /// Takes in a line of a run.
@@ -85,35 +84,10 @@ fn take_into(alloc: Global, run: &mut Run, mark: &str, rest: &str, line: usize) 
     }
 }
 
-/// Puts a row.
-fn put(alloc: Global, keeper: &mut MemKeeper, rest: &str) -> io::Result<()> {
-    let (key, body) = row_of(alloc, rest)?;
-    let row = Row {
-        key,
-        body: Bytes::of(body),
-    };
-    change(alloc, keeper, Change::Put(row))
-}
-
-/// Takes a row out.
-fn take_out(alloc: Global, keeper: &mut MemKeeper, rest: &str) -> io::Result<()> {
-    let (key, _) = row_of(alloc, rest)?;
-    change(alloc, keeper, Change::Gone(key))
-}
-
-/// Makes the run, over all calls that are to fail each in turn where it says so, and then as it stands.
+/// Makes the run.
 fn finish(report: &mut Report<'_>, case: Case<'_>, progress: &mut Progress) -> io::Result<()> {
-    let alloc = report.alloc();
-    let keeper = mem::replace(&mut progress.keeper, no_rows(alloc));
-    let run = &progress.run;
-    if let Some(each) = run.each {
-        check_each(report, case, run, &keeper, each)?;
-        progress.keeper = keeper;
-    } else {
-        let (outcome, keeper) = made_in_memory(alloc, run, keeper, run.input.as_slice(), None)?;
-        compare(report, case, run, &outcome, Some(keeper.rows()))?;
-        progress.keeper = keeper;
-    }
+    let store = mem::replace(&mut progress.store, Store::File);
+    progress.store = store.after(report, case, &progress.run)?;
     progress.runs = progress.runs.saturating_add(1);
     Ok(())
 }

@@ -39,7 +39,8 @@ pub(crate) fn status_text(alloc: Global, status: Status) -> Result<String, Alloc
     }
 }
 
-/// Compares how a run ended, what it answered and left unread, and the rows that are held then, if they are known.
+/// Compares how a run ended, what it answered and left unread, and the rows that are held then; there are none where
+/// they can't be read.
 pub(crate) fn compare(
     report: &mut Report<'_>,
     case: Case<'_>,
@@ -54,11 +55,8 @@ pub(crate) fn compare(
     } else {
         compare_answers(report, case, run, outcome)?;
     }
-    if let Some(rows) = rows {
-        compare_count(report, case, run, rows.len())?;
-        compare_rows(report, case, run, rows)?;
-    }
-    Ok(())
+    compare_count(report, case, run, rows.map_or(0, |rows| rows.len()))?;
+    compare_rows(report, case, run, rows.unwrap_or(&[]))
 }
 
 /// Compares how a run ended.

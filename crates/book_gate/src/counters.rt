@@ -1,3 +1,4 @@
+use std::alloc::Global;
 use std::io;
 use std::io::ErrorKind;
 
@@ -31,17 +32,23 @@ pub(crate) fn counted(text: &str) -> io::Result<(u64, &str)> {
     }
 }
 
-/// Adds a text in which `#FIRST+STEP#` stands for FIRST and so many times STEP.
-pub(crate) fn add_expanded(to: &mut String, text: &str, times: u64) -> io::Result<()> {
+/// A text in which `#FIRST+STEP#` stands for FIRST and so many times STEP.
+pub(crate) fn expanded(alloc: Global, text: &str, times: u64) -> io::Result<String> {
+    let mut all = String::new(alloc);
     for (place, piece) in text.split('#').enumerate() {
         if place % 2 == 0 {
-            to.push_str(piece)?;
+            all.push_str(piece)?;
         } else {
-            let (first, step) = piece.split_once('+').unwrap_or((piece, "0"));
-            let behind = number(step)?.saturating_mul(times);
-            let counter = number(first)?.saturating_add(behind);
-            to.push_str(counter.to_string(*to.allocator())?.as_str())?;
+            let counter = counter_of(piece, times)?;
+            all.push_str(counter.to_string(alloc)?.as_str())?;
         }
     }
-    Ok(())
+    Ok(all)
+}
+
+/// FIRST and so many times STEP, of a text `FIRST+STEP`.
+fn counter_of(text: &str, times: u64) -> io::Result<u64> {
+    let (first, step) = text.split_once('+').unwrap_or((text, "0"));
+    let behind = number(step)?.saturating_mul(times);
+    Ok(number(first)?.saturating_add(behind))
 }

@@ -1,6 +1,7 @@
 use crate::comparing::{Case, compare, compare_beginning, status_text};
-use crate::making::{Outcome, are_same, copy_of, made_in_memory};
+use crate::making::{Outcome, made_in_memory};
 use crate::report::Report;
+use crate::rows::{are_same, copy_of};
 use crate::run::{Each, Fault, Run, Sort};
 use book_keeper::MemKeeper;
 use std::alloc::{AllocError, Global};

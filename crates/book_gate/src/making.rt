@@ -1,17 +1,14 @@
 use crate::failing_keeper::FailingKeeper;
 use crate::run::{Fault, Run, Sort};
 use book_app::{Status, book_main};
-use book_commodity::{Bytes, Many, OutOfMemory};
-use book_keeper::{Change, Keeper, MemKeeper, MemSink, MemSource, Row, Source};
+use book_commodity::Bytes;
+use book_keeper::{Keeper, MemKeeper, MemSink, MemSource, Source};
 use std::alloc::Global;
 use std::io;
 use std::io::ErrorKind;
 
 /// How many bytes the answers of a run may have.
 const ROOM: usize = 1 << 22;
-
-/// The numbers of rows that are given to a keeper are below this one.
-const NUMBERS: u64 = 1 << 62;
 
 /// The most reads that are made to count what is left of an input.
 const MOST_READS: u64 = 1 << 24;
@@ -81,45 +78,4 @@ fn left(source: &mut MemSource) -> usize {
         }
     }
     left
-}
-
-/// A keeper in memory without rows.
-pub(crate) fn no_rows(alloc: Global) -> MemKeeper {
-    MemKeeper::new(Many::new(alloc), Many::new(alloc))
-}
-
-/// A keeper in memory with equal rows.
-pub(crate) fn copy_of(alloc: Global, keeper: &MemKeeper) -> io::Result<MemKeeper> {
-    let mut copy = no_rows(alloc);
-    for row in keeper.rows() {
-        match row.copy() {
-            Ok(row) => change(alloc, &mut copy, Change::Put(row))?,
-            Err(OutOfMemory) => return Err(memory()),
-        }
-    }
-    Ok(copy)
-}
-
-/// Makes a change of a row, unless its number is too great to be given to a keeper.
-pub(crate) fn change(alloc: Global, keeper: &mut MemKeeper, change: Change) -> io::Result<()> {
-    let key = match &change {
-        Change::Put(row) => row.key,
-        Change::Gone(key) => *key,
-    };
-    if key.id >= NUMBERS {
-        return Ok(());
-    }
-    let changes = vec![in alloc; change]?;
-    match keeper.commit(changes.as_slice()) {
-        Ok(()) => Ok(()),
-        Err(_) => Err(memory()),
-    }
-}
-
-/// Whether the rows are the same.
-pub(crate) fn are_same(rows: &[Row], others: &[Row]) -> bool {
-    rows.len() == others.len()
-        && rows.iter().zip(others).all(|(row, other)| {
-            row.key == other.key && row.body.as_slice() == other.body.as_slice()
-        })
 }

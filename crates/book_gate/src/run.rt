@@ -1,5 +1,5 @@
 use crate::answers::Wanted;
-use crate::counters::{add_expanded, count, counted, number, unread};
+use crate::counters::{count, counted, expanded, number, unread};
 use book_commodity::{Many, Text};
 use std::alloc::{AllocError, Global};
 use std::io;
@@ -84,7 +84,8 @@ impl Run {
             "-" => self.add_input(rest, "")?,
             ">*" => self.add_many(alloc, rest, "\n")?,
             "-*" => self.add_many(alloc, rest, "")?,
-            "x" => self.add_bytes(alloc, rest)?,
+            "x" => self.add_bytes(alloc, rest, 1)?,
+            "x*" => self.add_many_bytes(alloc, rest)?,
             "fails" => self.add_faults(rest)?,
             "each" => self.each = Some(each_of(rest, line)?),
             _ => return Ok(false),
@@ -102,20 +103,32 @@ impl Run {
     /// Adds a text so many times as the line's number says.
     fn add_many(&mut self, alloc: Global, rest: &str, behind: &str) -> io::Result<()> {
         let (count, text) = counted(rest)?;
+        let has_counters = text.contains('#');
         for times in 0..count {
-            let mut line = String::new(alloc);
-            add_expanded(&mut line, text, times)?;
-            self.add_input(line.as_str(), behind)?;
+            if has_counters {
+                let line = expanded(alloc, text, times)?;
+                self.add_input(line.as_str(), behind)?;
+            } else {
+                self.add_input(text, behind)?;
+            }
         }
         Ok(())
     }
 
-    /// Adds bytes that are written as hexadecimal digits.
-    fn add_bytes(&mut self, alloc: Global, rest: &str) -> io::Result<()> {
-        let Ok(bytes) = hex::decode(alloc, rest) else {
+    /// Adds bytes, which are written as hexadecimal digits, so many times as the line's number says.
+    fn add_many_bytes(&mut self, alloc: Global, rest: &str) -> io::Result<()> {
+        let (count, digits) = counted(rest)?;
+        self.add_bytes(alloc, digits, count)
+    }
+
+    /// Adds bytes, which are written as hexadecimal digits, so many times.
+    fn add_bytes(&mut self, alloc: Global, digits: &str, count: u64) -> io::Result<()> {
+        let Ok(bytes) = hex::decode(alloc, digits) else {
             return Err(unread());
         };
-        self.input.extend_from_slice(bytes.as_slice())?;
+        for _ in 0..count {
+            self.input.extend_from_slice(bytes.as_slice())?;
+        }
         Ok(())
     }
 
