@@ -1,6 +1,6 @@
 use Rattle.std.proofs.Common.{take, ◌≡◌}
-use Rattle.show_statements.specs.Rows.{count_of_lines}
-use Rattle.show_statements.proofs.rows.count_lines.Given as goal
+use Rattle.statement_texts.specs.Rows.{count_of_lines}
+use Rattle.statement_texts.proofs.rows.count_lines.Given as goal
 
 -- the lines of the statements so far were counted
 abbrev pub invariant-loop-statement : goal.invariant-loop-statement

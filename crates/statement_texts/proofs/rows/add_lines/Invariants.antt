@@ -1,6 +1,6 @@
 use Rattle.std.proofs.Common.{take, ◌≡◌, ◌++◌}
-use Rattle.show_statements.specs.Rows.{line_rows}
-use Rattle.show_statements.proofs.rows.add_lines.Given as goal
+use Rattle.statement_texts.specs.Rows.{line_rows}
+use Rattle.statement_texts.proofs.rows.add_lines.Given as goal
 
 -- the rows of the lines so far were added
 abbrev pub invariant-loop-line : goal.invariant-loop-line

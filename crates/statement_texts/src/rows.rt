@@ -1,18 +1,22 @@
 ghost use Rattle.std.specs.Prelude.{◌≡◌, ◌++◌, OnOk};
-ghost use Rattle.show_statements.specs.Rows.{
+ghost use Rattle.statement_texts.specs.Rows.{
   amount_or_none,
   balances,
+  category_row,
   count_of_lines,
   counts,
+  field,
   line_row,
   line_rows,
-  part,
+  part_row,
+  part_rows,
+  rows_of_line,
   rows_of,
   statement_rows,
   ties_or_none,
 };
 
-use book_statement::{Statement, StatementLine};
+use book_statement::{Part, Statement, StatementLine};
 use std::alloc::{AllocError, Global};
 
 /// Adds the rows of statements, each with those of its lines.
@@ -35,9 +39,9 @@ fn add_statement(alloc: Global, out: &mut Vec<u8>, statement: &Statement) -> Res
     ensures { OnOk result (out.new.items ≡ out.old.items ++ rows_of statement.now) }
 {
     out.extend_from_slice(b"statement")?;
-    add_part(out, statement.account_text.as_str().as_bytes())?;
-    add_part(out, statement.number.as_str().as_bytes())?;
-    add_part(out, statement.currency.as_str().as_bytes())?;
+    add_field(out, statement.account_text.as_str().as_bytes())?;
+    add_field(out, statement.number.as_str().as_bytes())?;
+    add_field(out, statement.currency.as_str().as_bytes())?;
     add_balances(alloc, out, statement)?;
     add_lines(alloc, out, statement.lines.as_slice())
 }
@@ -48,10 +52,10 @@ fn add_balances(alloc: Global, out: &mut Vec<u8>, statement: &Statement) -> Resu
 {
     add_amount(alloc, out, statement.opening)?;
     add_amount(alloc, out, statement.closing)?;
-    add_part(out, &statement.day.text())?;
-    add_part(out, ties(statement.ties))?;
+    add_field(out, &statement.day.text())?;
+    add_field(out, ties(statement.ties))?;
     let count = statement.lines.len();
-    add_part(out, format!(in alloc; "{count}")?.as_bytes())?;
+    add_field(out, format!(in alloc; "{count}")?.as_bytes())?;
     out.push(b'\n')?;
     Ok(())
 }
@@ -66,25 +70,69 @@ fn add_lines(alloc: Global, out: &mut Vec<u8>, lines: &[StatementLine]) -> Resul
     Ok(())
 }
 
-/// Adds the row of a line.
+/// Adds the row of a line, and those of its category and its parts.
 fn add_line(alloc: Global, out: &mut Vec<u8>, line: &StatementLine) -> Result<(), AllocError>
+    ensures { OnOk result (out.new.items ≡ out.old.items ++ rows_of_line line.now) }
+{
+    add_line_row(alloc, out, line)?;
+    add_category(out, line.category.as_str())?;
+    add_parts(alloc, out, line.parts.as_slice())
+}
+
+/// Adds the row of a line.
+fn add_line_row(alloc: Global, out: &mut Vec<u8>, line: &StatementLine) -> Result<(), AllocError>
     ensures { OnOk result (out.new.items ≡ out.old.items ++ line_row line.now) }
 {
     out.extend_from_slice(b"line")?;
-    add_part(out, &line.day.text())?;
-    add_part(out, &line.value_day.text())?;
+    add_field(out, &line.day.text())?;
+    add_field(out, &line.value_day.text())?;
     add_amount(alloc, out, Some(line.amount))?;
-    add_part(out, line.kind.as_str().as_bytes())?;
-    add_part(out, line.ref_own.as_str().as_bytes())?;
-    add_part(out, line.ref_bank.as_str().as_bytes())?;
-    add_part(out, line.text.as_str().as_bytes())?;
+    add_field(out, line.kind.as_str().as_bytes())?;
+    add_field(out, line.ref_own.as_str().as_bytes())?;
+    add_field(out, line.ref_bank.as_str().as_bytes())?;
+    add_field(out, line.text.as_str().as_bytes())?;
     out.push(b'\n')?;
     Ok(())
 }
 
-/// Adds a part behind a bar.
-fn add_part(out: &mut Vec<u8>, text: &[u8]) -> Result<(), AllocError>
-    ensures { OnOk result (out.new.items ≡ out.old.items ++ part text.now) }
+/// Adds the row of a category, where there is one.
+fn add_category(out: &mut Vec<u8>, category: &str) -> Result<(), AllocError>
+    ensures { OnOk result (out.new.items ≡ out.old.items ++ category_row category.now) }
+{
+    if category.is_empty() {
+        return Ok(());
+    }
+    out.extend_from_slice(b"category")?;
+    add_field(out, category.as_bytes())?;
+    out.push(b'\n')?;
+    Ok(())
+}
+
+/// Adds the rows of the parts of a line.
+fn add_parts(alloc: Global, out: &mut Vec<u8>, parts: &[Part]) -> Result<(), AllocError>
+    ensures { OnOk result (out.new.items ≡ out.old.items ++ part_rows parts.now) }
+{
+    for part in parts {
+        add_part(alloc, out, part)?;
+    }
+    Ok(())
+}
+
+/// Adds the row of a part of a line.
+fn add_part(alloc: Global, out: &mut Vec<u8>, part: &Part) -> Result<(), AllocError>
+    ensures { OnOk result (out.new.items ≡ out.old.items ++ part_row part.now) }
+{
+    out.extend_from_slice(b"part")?;
+    add_field(out, part.category.as_str().as_bytes())?;
+    add_field(out, part.memo.as_str().as_bytes())?;
+    add_amount(alloc, out, Some(part.amount))?;
+    out.push(b'\n')?;
+    Ok(())
+}
+
+/// Adds a field behind a bar.
+fn add_field(out: &mut Vec<u8>, text: &[u8]) -> Result<(), AllocError>
+    ensures { OnOk result (out.new.items ≡ out.old.items ++ field text.now) }
 {
     out.extend_from_slice(b" | ")?;
     out.extend_from_slice(text)
@@ -92,11 +140,11 @@ fn add_part(out: &mut Vec<u8>, text: &[u8]) -> Result<(), AllocError>
 
 /// Adds an amount in smallest units behind a bar.
 fn add_amount(alloc: Global, out: &mut Vec<u8>, amount: Option<i64>) -> Result<(), AllocError>
-    ensures { OnOk result (out.new.items ≡ out.old.items ++ part (amount_or_none amount)) }
+    ensures { OnOk result (out.new.items ≡ out.old.items ++ field (amount_or_none amount)) }
 {
     match amount {
-        Some(amount) => add_part(out, format!(in alloc; "{amount}")?.as_bytes()),
-        None => add_part(out, b"-"),
+        Some(amount) => add_field(out, format!(in alloc; "{amount}")?.as_bytes()),
+        None => add_field(out, b"-"),
     }
 }
 

@@ -1,6 +1,6 @@
 ghost use Rattle.std.specs.Fmt.{signed_decimal};
 ghost use Rattle.std.specs.Prelude.{◌≡◌, ◌++◌, OnOk};
-ghost use Rattle.show_statements.specs.Faults.{count_name, details, fault_row, level_name, name_of, sums};
+ghost use Rattle.statement_texts.specs.Faults.{count_name, details, fault_row, level_name, name_of, sums};
 
 use book_statement::{Bad, CountOf, Level, StatementFault};
 use std::alloc::{AllocError, Global};

@@ -1,5 +1,5 @@
 ghost use Rattle.std.specs.Prelude.{◌≡◌, IfSome};
-ghost use Rattle.show_statements.specs.Words.{HasFraction};
+ghost use Rattle.statement_texts.specs.Words.{HasFraction};
 
 use qif_read::DateOrder;
 

@@ -1,6 +1,6 @@
 use Rattle.std.proofs.Common.{take, ◌≡◌, ◌++◌}
-use Rattle.show_statements.specs.Rows.{statement_rows}
-use Rattle.show_statements.proofs.rows.add_statements.Given as goal
+use Rattle.statement_texts.specs.Rows.{statement_rows}
+use Rattle.statement_texts.proofs.rows.add_statements.Given as goal
 
 -- the rows of the statements so far were added
 abbrev pub invariant-loop-statement : goal.invariant-loop-statement
