@@ -20,7 +20,7 @@ currency code fraction = record { space = codes "CURRENCY"; name = code; full_na
 abbrev pub said : Format → List (ℕ × Commodity) → List ℕ → Result (List Statement) StatementFault
 said Mt940 known bytes = mt940.reading known (text_of_bytes bytes)
 said Bai2 known bytes = bai2.reading known (text_of_bytes bytes)
-said (Qif order code fraction) known bytes = qif.reading (currency code fraction) order (text_of_bytes bytes)
+said (Qif order code fraction) known bytes = qif.reading (currency code.now fraction) order (text_of_bytes bytes)
 
 -- the rows of statements, or the row of their counts alone
 abbrev pub rows_or_counts : Bool → List Statement → List ℕ

@@ -30,13 +30,13 @@ balances s =
     ++ field (ties_or_none s.ties) ++ field (decimal (length s.lines)) ++ 10 ∷ []
 
 -- Day, value day, amount, kind, the owner's and the bank's reference, and text.
-abbrev pub line_row : StatementLine → List ℕ
+unfoldable pub line_row : StatementLine → List ℕ
 line_row line =
     codes "line" ++ field (day_text line.day) ++ field (day_text line.value_day) ++ field (signed_decimal line.amount)
     ++ field line.kind ++ field line.ref_own ++ field line.ref_bank ++ field line.text ++ 10 ∷ []
 
 -- The row of a category; none where it is empty.
-abbrev pub category_row : List ℕ → List ℕ
+unfoldable pub category_row : List ℕ → List ℕ
 category_row [] = []
 category_row (b ∷ bs) = codes "category" ++ field (b ∷ bs) ++ 10 ∷ []
 

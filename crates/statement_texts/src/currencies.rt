@@ -25,7 +25,7 @@ pub struct Currencies {
 }
 
 impl Model for Currencies {
-    ghost use Rattle.std.specs.Prelude.{ℕ, List, ◌×◌};
+    ghost use Rattle.std.specs.Prelude.{ℕ, List};
     ghost use Rattle.book_commodity.specs.declared.commodity.Commodity.{Commodity};
     ghost use Rattle.book_statement.specs.Currencies.{HaveFractions};
 

@@ -3,12 +3,12 @@
 //! are those that a file may be in.
 #![tactic(auto)]
 
-mod answer;
+mod answering;
 mod asked;
 mod currencies;
 mod faults;
 mod rows;
 
-pub use answer::answer;
+pub use answering::answer;
 pub use asked::{Asked, Format, read_words};
 pub use currencies::Currencies;

@@ -80,6 +80,7 @@ fn add_line(alloc: Global, out: &mut Vec<u8>, line: &StatementLine) -> Result<()
 }
 
 /// Adds the row of a line.
+#[tactic(auto, unfolding(crate::specs::Rows::line_row))]
 fn add_line_row(alloc: Global, out: &mut Vec<u8>, line: &StatementLine) -> Result<(), AllocError>
     ensures { OnOk result (out.new.items ≡ out.old.items ++ line_row line.now) }
 {
@@ -96,6 +97,7 @@ fn add_line_row(alloc: Global, out: &mut Vec<u8>, line: &StatementLine) -> Resul
 }
 
 /// Adds the row of a category, where there is one.
+#[tactic(auto, unfolding(crate::specs::Rows::category_row))]
 fn add_category(out: &mut Vec<u8>, category: &str) -> Result<(), AllocError>
     ensures { OnOk result (out.new.items ≡ out.old.items ++ category_row category.now) }
 {
