@@ -28,7 +28,7 @@ impl<'a> StatementFile<'a> {
             "repeat" => self.repeated = (self.run.input.len(), number(rest)?),
             "end" => self.repeat(alloc)?,
             ">c" => self.add_with_return(rest)?,
-            ">" | "-" | "x" => {
+            ">" | ">*" | "-" | "-*" | "x" => {
                 self.run.take_given(alloc, mark, rest, line.number)?;
             }
             "<" => {
@@ -65,7 +65,9 @@ impl<'a> StatementFile<'a> {
     /// Adds what was added last, since the line `repeat`, so many times that it stands there as often as this line says.
     fn repeat(&mut self, alloc: Global) -> io::Result<()> {
         let (begin, times) = self.repeated;
-        let piece = self.run.input.as_slice().get(begin..).unwrap_or(&[]);
+        let Some(piece) = self.run.input.as_slice().get(begin..) else {
+            return Err(unread());
+        };
         let piece = piece.to_vec(alloc)?;
         for _ in 1..times {
             self.run.input.extend_from_slice(piece.as_slice())?;
