@@ -8,8 +8,8 @@ use statement_texts::{Currencies, answer, read_words};
 use std::alloc::Global;
 use std::{io, str};
 
-/// A statement file: its bytes and the rows that are wanted of it, its format, the currencies that are known if the case
-/// names some, and where the lines that are repeated begin, with how many times they stand there.
+/// A statement file: its bytes and the rows that are wanted of it, its format, the currencies that are known if the
+/// case names some, and where the lines that are repeated begin, with how many times they stand there.
 #[derive(Drop)]
 struct StatementFile<'a> {
     run: Run,
@@ -19,7 +19,8 @@ struct StatementFile<'a> {
 }
 
 impl<'a> StatementFile<'a> {
-    /// Takes in a line of a case.
+    /// Takes in a line of a case. Lines `> TEXT`, `- TEXT`, `x HEX` and `< ROW` are those of a run; `>c TEXT` is a line
+    /// that ends by a carriage return and a line feed. What stands between `repeat N` and `end` is there N times.
     fn take(&mut self, alloc: Global, line: Line<'a>) -> io::Result<()> {
         let (mark, rest) = line.text.split_once(' ').unwrap_or((line.text, ""));
         match mark {
@@ -62,7 +63,7 @@ impl<'a> StatementFile<'a> {
         Ok(())
     }
 
-    /// Adds what was added last, since the line `repeat`, so many times that it stands there as often as this line says.
+    /// Adds what was added since the line `repeat`, so many times that it stands there as often as that line says.
     fn repeat(&mut self, alloc: Global) -> io::Result<()> {
         let (begin, times) = self.repeated;
         let Some(piece) = self.run.input.as_slice().get(begin..) else {
