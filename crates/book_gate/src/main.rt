@@ -26,6 +26,7 @@ mod stops;
 mod store;
 mod streams;
 mod unsteady;
+mod work;
 
 use crate::case::check_runs;
 use crate::opening::measure;
@@ -33,6 +34,7 @@ use crate::pages::{check_commands, check_example, check_page, check_readme};
 use crate::report::{Place, Report};
 use crate::stops::check_stops;
 use crate::streams::check_streams;
+use crate::work::check_work;
 use std::io::ErrorKind;
 use std::process::ExitCode;
 use std::{env, io};
@@ -50,6 +52,7 @@ fn check(report: &mut Report<'_>, line: &str) -> io::Result<()> {
             check_stops(report, lines, file, ending, [before, after])
         }
         ["streams", lines, answers] => check_streams(report, lines, answers),
+        ["work", file] => check_work(report, file),
         _ => Err(io::Error::from(ErrorKind::InvalidInput)),
     }
 }

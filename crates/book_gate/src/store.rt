@@ -52,13 +52,14 @@ impl Store {
     }
 
     /// Does what a line says that changes the store between two runs: a row is put or taken out, a statement changes the
-    /// database, or a file is copied. Whether it is such a line.
+    /// database, or a file is copied; or that two files have the same bytes. Whether it is such a line.
     pub(crate) fn change(&mut self, rt: &HostRuntime, mark: &str, rest: &str) -> io::Result<bool> {
         match (mark, self) {
             ("put", Store::Memory(keeper)) => put_all(rt.alloc(), keeper, rest)?,
             ("gone", Store::Memory(keeper)) => take_out(rt.alloc(), keeper, rest)?,
             ("sql", Store::Database(connection)) => execute(connection, rest)?,
             ("copy", Store::File) => copy(rt, rest)?,
+            ("same", Store::File) => check_same(rt, rest)?,
             _ => return Ok(false),
         }
         Ok(true)
@@ -77,6 +78,17 @@ fn execute(connection: &mut Connection<MemStore>, statement: &str) -> io::Result
 fn copy(rt: &HostRuntime, words: &str) -> io::Result<()> {
     let (from, to) = words.split_once(' ').unwrap_or((words, ""));
     fs::copy(rt, from, to)?;
+    Ok(())
+}
+
+/// Checks that the files which the two words name have the same bytes.
+fn check_same(rt: &HostRuntime, words: &str) -> io::Result<()> {
+    let (one, other) = words.split_once(' ').unwrap_or((words, ""));
+    let bytes = fs::read(rt, one)?;
+    let others = fs::read(rt, other)?;
+    if bytes.is_empty() || bytes.as_slice() != others.as_slice() {
+        return Err(unread());
+    }
     Ok(())
 }
 
