@@ -6,6 +6,7 @@ ghost use Rattle.sqlite.specs.WalFiles.{image_at};
 ghost use Rattle.sqlite.specs.Files.{over_files, HoldsDatabase};
 ghost use Rattle.book_sqlite.specs.Content.{rows_of};
 ghost use Rattle.book_sqlite.specs.RowsDatabase.{ListsRows};
+ghost use Rattle.book_sqlite.specs.NewFiles.{HoldNothing};
 ghost use Rattle.book_sqlite.specs.KeeperInSqlite.{is_sure, HoldsRows};
 
 use crate::SqliteKeeper;
@@ -23,6 +24,8 @@ impl<T: Start> SqliteKeeper<FileStore<FileFrom<T>>> {
     pub fn at(rt: &HostRuntime, path: Option<&str>, start: T) -> FileKeeper<T>
         ensures found { IsTrue (is_sure over_files result) → (db : Trees) → HoldsDatabase (image_at T.Start) db
             → ListsRows db → HoldsRows over_files result (rows_of (db 0)) }
+        ensures empty { IsTrue (is_sure over_files result) → HoldNothing (image_at T.Start)
+            → HoldsRows over_files result [] }
         ensures path { result.path ≡ [] }
         ensures faults { result.faults ≡ 0 }
     {
