@@ -1,4 +1,4 @@
-ghost use Rattle.std.specs.Prelude.{◌≡◌, ◌↔◌, ◌<◌, ◌≤◌, ◌⊎◌, false, [], List, Some, None, IsTrue};
+ghost use Rattle.std.specs.Prelude.{◌≡◌, ◌≢◌, ◌↔◌, ◌<◌, ◌≤◌, ◌⊎◌, false, [], List, Some, None, IsTrue};
 ghost use Rattle.std.specs.Prelude.{IfOk, IfErr, IfSome, IsSome, OnOk, OnErr};
 ghost use Rattle.sqlite_value.specs.Order.{Row as Entry};
 ghost use Rattle.sqlite.specs.State.{HasCleanDisk, IsLive, Opens};
@@ -206,12 +206,17 @@ impl<S: Alter + Drop> Keeper for SqliteKeeper<S> {
 
     /// Makes all the changes in one transaction or, at an error, none, as far as it still knows its rows. At each exit,
     /// an error's too, a crash leaves the rows before the call or those after all the changes; after Ok, with the
-    /// connection open, those after them alone.
+    /// connection open, those after them alone. Where an earlier error shut the connection, it leaves only what it
+    /// could leave before.
     fn commit(&mut self, changes: &[Change]) -> Result<(), KeepError>
         requires { AreRising changes.now }
         ensures crash { IsTrue (is_sure S.Store self.old) → IsTrue (has_clean_store S.Store self.new)
             → (rows held : List Row) → HoldsRows S.Store self.old held → MayLeave S.Store self.new rows
             → (rows ≡ held) ⊎ (rows ≡ after_changes changes.now held) }
+        ensures crash_shut { changes.now ≢ [] → IsTrue (has_clean_store S.Store self.new)
+            → (rows : List Row) → MayLeave S.Store self.new rows → MayLeave S.Store self.old rows
+            ⊎ (IsTrue (is_sure S.Store self.old) × ((held : List Row) → HoldsRows S.Store self.old held
+            → rows ≡ after_changes changes.now held)) }
         ensures settled { OnOk result (IsTrue (is_sure S.Store self.new)
             → (rows held : List Row) → HoldsRows S.Store self.old held → MayLeave S.Store self.new rows
             → rows ≡ after_changes changes.now held) }
