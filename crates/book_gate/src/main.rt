@@ -12,6 +12,7 @@ mod counters;
 mod disk;
 mod each;
 mod failing_keeper;
+mod files;
 mod host;
 mod making;
 mod opening;
@@ -29,6 +30,7 @@ mod unsteady;
 mod work;
 
 use crate::case::check_runs;
+use crate::files::check_files;
 use crate::opening::measure;
 use crate::pages::{check_commands, check_example, check_page, check_readme};
 use crate::report::{Place, Report};
@@ -52,6 +54,7 @@ fn check(report: &mut Report<'_>, line: &str) -> io::Result<()> {
             check_stops(report, lines, file, ending, [before, after])
         }
         ["streams", lines, answers] => check_streams(report, lines, answers),
+        ["files", file] => check_files(report, file),
         ["work", file] => check_work(report, file),
         _ => Err(io::Error::from(ErrorKind::InvalidInput)),
     }
