@@ -82,15 +82,15 @@ pub(crate) fn check_streams(report: &mut Report<'_>, lines: &str, answers: &str)
 
 /// The words and streams of a host.
 fn check_words(report: &mut Report<'_>, lines: &[u8], answers: &[u8]) -> io::Result<()> {
-    for (place, (words, fails, line, number)) in ROWS.iter().enumerate() {
-        let written = if *number == 0 { answers } else { &[] };
-        let mut host = Host::new(report.alloc(), written, line);
-        host.words = words;
-        host.input = lines;
-        host.fails = *fails;
+    for (place, &(words, fails, line, number)) in ROWS.iter().enumerate() {
+        let written = if number == 0 { answers } else { &[] };
+        let mut host = Host::with_words(report.alloc(), words, lines, written, line);
+        if fails {
+            host.break_output();
+        }
         let mut keeper = no_rows(report.alloc());
         let code = run_program(&host, words_of(&host), &mut keeper).report(&host);
-        let is_right = code == ExitCode::from(*number) && host.is_content();
+        let is_right = code == ExitCode::from(number) && host.is_content();
         check(report, "words and streams", place, is_right)?;
     }
     Ok(())
@@ -98,10 +98,10 @@ fn check_words(report: &mut Report<'_>, lines: &[u8], answers: &[u8]) -> io::Res
 
 /// The line and the number of each status.
 fn check_ends(report: &mut Report<'_>) -> io::Result<()> {
-    for (place, (status, line, number)) in ENDS.iter().enumerate() {
+    for (place, &(status, line, number)) in ENDS.iter().enumerate() {
         let host = Host::new(report.alloc(), &[], line);
         let code = status.report(&host);
-        let is_right = code == ExitCode::from(*number) && host.is_content();
+        let is_right = code == ExitCode::from(number) && host.is_content();
         check(report, "the line of a status", place, is_right)?;
     }
     Ok(())
