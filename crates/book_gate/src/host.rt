@@ -9,7 +9,7 @@ use std::io::{BufRead, Eprint, ErrorKind, Input, Lines, Print};
 /// are said on standard error, and whether these are others than those that are wanted.
 #[derive(Drop)]
 pub(crate) struct Host<'a> {
-    pub(crate) alloc: Global,
+    alloc: Global,
     words: &'static [&'static [u8]],
     input: &'a [u8],
     output: &'a [u8],
