@@ -1,5 +1,5 @@
 use crate::counters::{count, counted, expanded};
-use crate::rows::{Spelled, spelled};
+use crate::rows::{Spelled, rows_of};
 use book_keeper::RowKey;
 use std::alloc::{AllocError, Global};
 use std::io;
@@ -147,7 +147,7 @@ fn wanted_row(alloc: Global, rest: &str, line: usize) -> io::Result<WantedRow> {
         first,
         body,
         ..
-    } = spelled(alloc, rest)?;
+    } = rows_of(alloc, rest)?;
     let key = RowKey { kind, id: first };
     Ok(WantedRow { line, key, body })
 }

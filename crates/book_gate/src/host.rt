@@ -9,12 +9,12 @@ use std::io::{BufRead, Eprint, ErrorKind, Input, Lines, Print};
 /// are said on standard error, and whether these are others than those that are wanted.
 #[derive(Drop)]
 pub(crate) struct Host<'a> {
-    pub(crate) alloc: Global,
-    pub(crate) words: &'a [&'a [u8]],
-    pub(crate) input: &'a [u8],
-    pub(crate) output: &'a [u8],
-    pub(crate) line: &'a str,
-    pub(crate) fails: bool,
+    alloc: Global,
+    words: &'static [&'static [u8]],
+    input: &'a [u8],
+    output: &'a [u8],
+    line: &'static str,
+    fails: bool,
     written: Cell<usize>,
     lines: Cell<usize>,
     differs: Cell<bool>,
@@ -23,11 +23,22 @@ pub(crate) struct Host<'a> {
 impl<'a> Host<'a> {
     /// A host without words and input, that wants these bytes to be written, and this line, if it isn't empty, to be
     /// said on standard error.
-    pub(crate) fn new(alloc: Global, output: &'a [u8], line: &'a str) -> Host<'a> {
+    pub(crate) fn new(alloc: Global, output: &'a [u8], line: &'static str) -> Host<'a> {
+        Host::with_words(alloc, &[], &[], output, line)
+    }
+
+    /// The same with words and an input.
+    pub(crate) fn with_words(
+        alloc: Global,
+        words: &'static [&'static [u8]],
+        input: &'a [u8],
+        output: &'a [u8],
+        line: &'static str,
+    ) -> Host<'a> {
         Host {
             alloc,
-            words: &[],
-            input: &[],
+            words,
+            input,
             output,
             line,
             fails: false,
@@ -35,6 +46,11 @@ impl<'a> Host<'a> {
             lines: Cell::new(0),
             differs: Cell::new(false),
         }
+    }
+
+    /// Has each write to its output fail from now on.
+    pub(crate) fn break_output(&mut self) {
+        self.fails = true;
     }
 
     /// Whether all that is wanted came, and nothing else.

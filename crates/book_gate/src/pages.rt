@@ -201,16 +201,29 @@ fn check_last(
     commands: &[Line<'_>],
     answers: &[Line<'_>],
 ) -> io::Result<()> {
-    let lines = report.read(month)?;
-    let answered = answers_to(report.alloc(), lines.as_str())?;
-    let pair = [lines.as_str(), answered.as_str()].map(|text| text.lines().last().unwrap_or(""));
     let ([command], [answer]) = (commands, answers) else {
         return report.fail(case.at(1), "one command and its answer", "more or less");
     };
-    for (shown, wanted) in [command, answer].iter().zip(pair) {
-        if shown.text != wanted {
-            report.fail(case.at(shown.number), wanted, shown.text)?;
-        }
+    let lines = report.read(month)?;
+    let answered = answers_to(report.alloc(), lines.as_str())?;
+    check_line(report, case, *command, last_line(lines.as_str()))?;
+    check_line(report, case, *answer, last_line(answered.as_str()))
+}
+
+/// Compares a line of a page.
+fn check_line(
+    report: &mut Report<'_>,
+    case: Case<'_>,
+    shown: Line<'_>,
+    wanted: &str,
+) -> io::Result<()> {
+    if shown.text == wanted {
+        return Ok(());
     }
-    Ok(())
+    report.fail(case.at(shown.number), wanted, shown.text)
+}
+
+/// The last line of a text; empty where there is none.
+fn last_line(text: &str) -> &str {
+    text.lines().last().unwrap_or("")
 }

@@ -22,7 +22,7 @@ pub(crate) struct Spelled {
 }
 
 /// The rows that a line spells.
-pub(crate) fn spelled(alloc: Global, text: &str) -> io::Result<Spelled> {
+pub(crate) fn rows_of(alloc: Global, text: &str) -> io::Result<Spelled> {
     let mut words = text.split(' ');
     let Ok(kind) = u8::try_from(number(words.next().unwrap_or(""))?) else {
         return Err(unread());
@@ -64,7 +64,7 @@ pub(crate) fn put_all(alloc: Global, keeper: &mut MemKeeper, text: &str) -> io::
         first,
         last,
         body,
-    } = spelled(alloc, text)?;
+    } = rows_of(alloc, text)?;
     for id in first..=last {
         let row = Row {
             key: RowKey { kind, id },
@@ -89,7 +89,7 @@ fn put(alloc: Global, keeper: &mut MemKeeper, row: Row) -> io::Result<()> {
 
 /// Takes out the row whose key a line spells.
 pub(crate) fn take_out(alloc: Global, keeper: &mut MemKeeper, text: &str) -> io::Result<()> {
-    let Spelled { kind, first, .. } = spelled(alloc, text)?;
+    let Spelled { kind, first, .. } = rows_of(alloc, text)?;
     let key = RowKey { kind, id: first };
     change(alloc, keeper, Change::Gone(key))
 }

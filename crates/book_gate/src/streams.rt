@@ -3,7 +3,7 @@ use crate::host::Host;
 use crate::report::Report;
 use crate::rows::no_rows;
 use crate::unsteady::{Reader, Unforgiving, Writer};
-use book_app::{Status, run_over, run_program, words_of};
+use book_app::{Ended, Status, run_over, run_program, words_of};
 use book_commodity::Text;
 use std::alloc::{AllocError, Global};
 use std::io;
@@ -82,15 +82,15 @@ pub(crate) fn check_streams(report: &mut Report<'_>, lines: &str, answers: &str)
 
 /// The words and streams of a host.
 fn check_words(report: &mut Report<'_>, lines: &[u8], answers: &[u8]) -> io::Result<()> {
-    for (place, (words, fails, line, number)) in ROWS.iter().enumerate() {
-        let written = if *number == 0 { answers } else { &[] };
-        let mut host = Host::new(report.alloc(), written, line);
-        host.words = words;
-        host.input = lines;
-        host.fails = *fails;
+    for (place, &(words, fails, line, number)) in ROWS.iter().enumerate() {
+        let written = if number == 0 { answers } else { &[] };
+        let mut host = Host::with_words(report.alloc(), words, lines, written, line);
+        if fails {
+            host.break_output();
+        }
         let mut keeper = no_rows(report.alloc());
         let code = run_program(&host, words_of(&host), &mut keeper).report(&host);
-        let is_right = code == ExitCode::from(*number) && host.is_content();
+        let is_right = code == ExitCode::from(number) && host.is_content();
         check(report, "words and streams", place, is_right)?;
     }
     Ok(())
@@ -98,10 +98,10 @@ fn check_words(report: &mut Report<'_>, lines: &[u8], answers: &[u8]) -> io::Res
 
 /// The line and the number of each status.
 fn check_ends(report: &mut Report<'_>) -> io::Result<()> {
-    for (place, (status, line, number)) in ENDS.iter().enumerate() {
+    for (place, &(status, line, number)) in ENDS.iter().enumerate() {
         let host = Host::new(report.alloc(), &[], line);
         let code = status.report(&host);
-        let is_right = code == ExitCode::from(*number) && host.is_content();
+        let is_right = code == ExitCode::from(number) && host.is_content();
         check(report, "the line of a status", place, is_right)?;
     }
     Ok(())
@@ -115,37 +115,35 @@ fn words(alloc: Global) -> Result<Vec<Text>, AllocError> {
     Ok(words)
 }
 
-/// The number with which a run over this reader and this writer ends; the host takes what is said.
+/// How a run over this reader and this writer ends.
 fn ended<R: Read + Drop, W: Write + Drop>(
-    host: &Host<'_>,
+    alloc: Global,
     reader: R,
     writer: W,
-) -> io::Result<ExitCode> {
-    let words = words(host.alloc)?;
-    let mut keeper = no_rows(host.alloc);
-    let ran = run_over(host.alloc, words.as_slice(), &mut keeper, reader, writer);
-    Ok(ran.ended.report(host))
+) -> io::Result<Ended> {
+    let words = words(alloc)?;
+    let mut keeper = no_rows(alloc);
+    let ran = run_over(alloc, words.as_slice(), &mut keeper, reader, writer);
+    Ok(ran.ended)
 }
 
 /// A read that fails once ends the run, though a further read would go on: no fault is hidden. The lines come in eight
 /// pieces, and the ninth read finds their end. Where the read behind all lines fails, all are answered.
 fn check_reads(report: &mut Report<'_>, lines: &[u8], answers: &[u8]) -> io::Result<()> {
-    for fails in 1..10u32 {
-        let said = "book: the input failed";
-        let written = if fails == 9 { answers } else { &[] };
-        let host = Host::new(report.alloc(), written, said);
-        let reader = Reader::new(lines, fails);
-        let code = if fails == 9 {
-            ended(&host, reader, io::writer(&host))?
-        } else {
-            ended(&host, reader, Writer::new(answers, 0))?
-        };
-        let is_right = code == ExitCode::from(4) && host.is_content();
+    let alloc = report.alloc();
+    for fails in 1..9u32 {
+        let host = Host::new(alloc, &[], "book: the input failed");
+        let end = ended(alloc, Reader::new(lines, fails), Writer::new(answers, 0))?;
+        let is_right = end.report(&host) == ExitCode::from(4) && host.is_content();
         check(report, "a read that fails", fails as usize, is_right)?;
     }
-    let host = Host::new(report.alloc(), answers, "");
-    let code = ended(&host, Reader::new(lines, 10), io::writer(&host))?;
-    let is_right = code == ExitCode::from(0) && host.is_content();
+    let host = Host::new(alloc, answers, "book: the input failed");
+    let end = ended(alloc, Reader::new(lines, 9), io::writer(&host))?;
+    let is_right = end.report(&host) == ExitCode::from(4) && host.is_content();
+    check(report, "the read behind all lines fails", 9, is_right)?;
+    let host = Host::new(alloc, answers, "");
+    let end = ended(alloc, Reader::new(lines, 10), io::writer(&host))?;
+    let is_right = end.report(&host) == ExitCode::from(0) && host.is_content();
     check(report, "no read fails", 10, is_right)
 }
 
@@ -159,7 +157,7 @@ fn check_writes(report: &mut Report<'_>, lines: &[u8], answers: &[u8]) -> io::Re
             "book: the output failed"
         };
         let host = Host::new(report.alloc(), &[], said);
-        let code = ended(&host, lines, Writer::new(answers, fails))?;
+        let code = ended(report.alloc(), lines, Writer::new(answers, fails))?.report(&host);
         let number = if is_done { 0 } else { 5 };
         let is_right = code == ExitCode::from(number) && host.is_content();
         check(report, "a write that fails", fails as usize, is_right)?;
@@ -184,7 +182,12 @@ fn check_flushes(report: &mut Report<'_>) -> io::Result<()> {
         add_line(&mut lines, count)?;
     }
     let host = Host::new(report.alloc(), &[], "");
-    let code = ended(&host, lines.as_str().as_bytes(), Unforgiving::new())?;
+    let end = ended(
+        report.alloc(),
+        lines.as_str().as_bytes(),
+        Unforgiving::new(),
+    )?;
+    let code = end.report(&host);
     let is_right = code == ExitCode::from(0) && host.is_content();
     check(report, "answers of every length are flushed", 0, is_right)
 }
