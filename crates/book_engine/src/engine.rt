@@ -17,6 +17,7 @@ ghost use Rattle.book_engine.specs.Opening.{HasOpenCause, IsOpenedAs, Opened};
 ghost use Rattle.book_engine.specs.Planned.{after, commits, HasRoomFor, IsPlanFor, IsPlanOf, IsRefusal};
 ghost use Rattle.book_engine.specs.Standing.{Stands};
 
+use crate::dropped::{drop_command, drop_plan, drop_refused_plan};
 use crate::opening::{begin, checked, open_error};
 use crate::planning::plan_of;
 use crate::{OpenError, Plan};
@@ -136,7 +137,7 @@ impl Engine {
         ensures sound { IsSound (step_state self.new.state) }
     {
         if let Err(OutOfMemory) = self.reckon_for(&command.what) {
-            return Err(Refusal::OutOfMemory);
+            return Err(drop_command(command));
         }
         let plan = match plan_of(
             self.alloc,
@@ -150,7 +151,7 @@ impl Engine {
         };
         match self.make_room(&plan) {
             Ok(()) => Ok(plan),
-            Err(OutOfMemory) => Err(Refusal::OutOfMemory),
+            Err(OutOfMemory) => Err(drop_plan(plan)),
         }
     }
 
@@ -208,7 +209,7 @@ impl Engine {
         }
         match keeper.commit(plan.changes()) {
             Ok(()) => Ok(self.apply(plan)),
-            Err(error) => Err(error),
+            Err(error) => Err(drop_refused_plan(plan, error)),
         }
     }
 

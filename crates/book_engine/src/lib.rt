@@ -6,6 +6,7 @@
 //! hold the book.
 #![tactic(auto)]
 
+mod dropped;
 mod engine;
 mod fault;
 mod opening;

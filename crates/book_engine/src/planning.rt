@@ -19,6 +19,7 @@ ghost use Rattle.book_engine.specs.Planned.{IsLimitRefusal, IsPlanOf, IsPlanTo, 
 ghost use Rattle.book_engine.specs.Planned.{stay_plan, turn_plan};
 
 use crate::Plan;
+use crate::dropped::{drop_change, drop_edit, drop_turn};
 use book_balances::answered_step;
 use book_command::{Report, What};
 use book_commodity::{Counted, Day, Many, OutOfMemory};
@@ -208,7 +209,7 @@ fn plan_change(
 {
     let inverse = match state.plain.inverse(alloc, &edit) {
         Ok(inverse) => inverse,
-        Err(error) => return Err(error),
+        Err(error) => return Err(drop_change(edit, answer, error)),
     };
     let turn = Turn {
         way: Way::Change,
@@ -240,7 +241,7 @@ fn plan_turn(
             answer,
             changes,
         }),
-        Err(error) => Err(error),
+        Err(error) => Err(drop_turn(turn, answer, error)),
     }
 }
 
@@ -307,14 +308,15 @@ fn kept_turn(alloc: Global, state: &Saved, way: Way, edit: &Edit) -> Result<Turn
     ensures form { IfOk result (λ turn. outline turn.inverse ≡ outline edit.now) }
 {
     let inverse = state.plain.inverse(alloc, edit)?;
-    let copy = edit.copy(alloc)?;
-    let next = state.next;
-    Ok(Turn {
-        way,
-        edit: copy,
-        inverse,
-        next,
-    })
+    match edit.copy(alloc) {
+        Ok(copy) => Ok(Turn {
+            way,
+            edit: copy,
+            inverse,
+            next: state.next,
+        }),
+        Err(error) => Err(drop_edit(inverse, error)),
+    }
 }
 
 /// A plan, or the refusal that the program is out of memory.

@@ -37,6 +37,8 @@ pub(crate) struct Run {
     pub(crate) piece: usize,
     pub(crate) faults: Vec<Fault>,
     pub(crate) each: Option<Each>,
+    /// Whether the file is left as where the program is killed: it is not closed.
+    pub(crate) is_killed: bool,
     pub(crate) wanted: Wanted,
 }
 
@@ -50,6 +52,7 @@ impl Run {
             piece: 4096,
             faults: Vec::new(alloc),
             each: None,
+            is_killed: false,
             wanted: Wanted::new(alloc)?,
         })
     }
@@ -88,6 +91,7 @@ impl Run {
             "x*" => self.add_many_bytes(alloc, rest)?,
             "fails" => self.add_faults(rest)?,
             "each" => self.each = Some(each_of(rest, line)?),
+            "killed" => self.is_killed = true,
             _ => return Ok(false),
         }
         Ok(true)

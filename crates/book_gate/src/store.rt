@@ -52,14 +52,17 @@ impl Store {
     }
 
     /// Does what a line says that changes the store between two runs: a row is put or taken out, a statement changes the
-    /// database, or a file is copied; or that two files have the same bytes. Whether it is such a line.
+    /// database, a file is copied or emptied; or that two files have the same bytes, or that there is no such file.
+    /// Whether it is such a line.
     pub(crate) fn change(&mut self, rt: &HostRuntime, mark: &str, rest: &str) -> io::Result<bool> {
         match (mark, self) {
             ("put", Store::Memory(keeper)) => put_all(rt.alloc(), keeper, rest)?,
             ("gone", Store::Memory(keeper)) => take_out(rt.alloc(), keeper, rest)?,
             ("sql", Store::Database(connection)) => execute(connection, rest)?,
             ("copy", Store::File) => copy(rt, rest)?,
+            ("empty", Store::File) => fs::write(rt, rest, "")?,
             ("same", Store::File) => check_same(rt, rest)?,
+            ("absent", Store::File) => check_absent(rt, rest)?,
             _ => return Ok(false),
         }
         Ok(true)
@@ -87,6 +90,14 @@ fn check_same(rt: &HostRuntime, words: &str) -> io::Result<()> {
     let bytes = fs::read(rt, one)?;
     let others = fs::read(rt, other)?;
     if bytes.is_empty() || bytes.as_slice() != others.as_slice() {
+        return Err(unread());
+    }
+    Ok(())
+}
+
+/// Checks that there is no file of this name.
+fn check_absent(rt: &HostRuntime, name: &str) -> io::Result<()> {
+    if fs::exists(rt, name)? {
         return Err(unread());
     }
     Ok(())
@@ -128,7 +139,7 @@ fn check_in_database(
 }
 
 /// Makes a run over the file that the words name, as the program does: over whatever the file held before, and then
-/// closes it.
+/// closes it, unless the run is one that is killed.
 fn check_in_file<T: Start>(
     report: &mut Report<'_>,
     case: Case<'_>,
@@ -140,6 +151,9 @@ fn check_in_file<T: Start>(
     let outcome = made(alloc, run, &mut keeper, run.input.as_slice(), None)?;
     let rows = rows_in(alloc, &mut keeper)?;
     compare(report, case, run, &outcome, rows.as_deref())?;
+    if run.is_killed {
+        return Ok(());
+    }
     match keeper.close() {
         Ok(()) => Ok(()),
         Err(_) => report.fail(case.at(run.line), "a file that is closed", "an error"),
