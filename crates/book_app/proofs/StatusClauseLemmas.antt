@@ -2,10 +2,6 @@
 use Rattle.std.proofs.Common.{◌≡◌, ◌≢◌, ℕ, Bool, List, [], Option, Some, None, IsTrue, Result, Ok, Err, IfOk, refl, sym, subst, ◌∙◌, arith}
 use Rattle.book_keeper.proofs.StreamLemmas.{Are-some, Wrote-nil}
 use Rattle.book_keeper.specs.declared.row.Row.{Row}
-use Rattle.book_keeper.specs.OverStd.{left_of, sink_over}
-use Rattle.book_keeper.specs.Written.{may_hold}
-use Rattle.book_keeper.specs.declared.file_source.FileSource.{FileSource}
-use Rattle.book_keeper.specs.declared.stream_sink.StreamSink.{StreamSink}
 use Rattle.book_lines.specs.RunClause.{at, RunClause}
 use Rattle.book_lines.specs.declared.running.RunEnd.{RunEnd}
 use Rattle.book_lines.specs.declared.running.RunEnd.TheVariants as end
@@ -199,23 +195,7 @@ stands_opened sure holds path old new (Ok engine) told read opened = λ still.
     (held.0, read.same_rows still held.0 held.1, opened still held.0 held.1)
 stands_opened sure holds path old new (Err why) told read opened = tt
 
--- a run over a reader and a writer is one over streams of which nothing is said
-pub run_of_streams :
-    {I O : Type 0} (remaining : I → Option (List ℕ)) (contents : O → Option (List ℕ)) (named : Option ℕ)
-    (keeping : Keeping) (status : Status) (reader : I) (input : FileSource I) (writer : O) (output : StreamSink O)
-    → IsBookRun named keeping (remaining reader) (left_of remaining input) (may_hold contents (sink_over writer))
-    (may_hold contents output) status
-    → IsStreamRun named keeping status
-run_of_streams remaining contents named keeping status reader input writer output run = record {
-  input_before = remaining reader;
-  input_after = left_of remaining input;
-  output_before = contents writer;
-  output_after = contents output.writer;
-  is_unknown = output.unflushed;
-  run = run;
-}
-
--- the same, seen with other rows that the keeper held before, if it held these
+-- a run, seen with other rows that the keeper held before, if it held these
 abbrev pub with_held : Keeping → (List Row → Type 0) → Keeping
 with_held keeping held = record {
   sure = keeping.sure;

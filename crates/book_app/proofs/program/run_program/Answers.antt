@@ -1,7 +1,12 @@
-use Rattle.book_app.proofs.StatusClauseLemmas.{run_of_streams}
 use Rattle.book_app.proofs.program.run_program.Goals as goal
 
+-- what the streams report is what this run was over
 pub returns-clause-run : goal.returns-clause-run
-returns-clause-run g c =
-    run_of_streams _ _ _ _ _ c.reader.result c.run_words.result.input c.writer.result c.run_words.result.output
-    c.run_words.ensures.run
+returns-clause-run g c = record {
+  input_before = _;
+  input_after = _;
+  output_before = _;
+  output_after = _;
+  is_unknown = _;
+  run = c.run_words.ensures.run;
+}
