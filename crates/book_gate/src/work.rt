@@ -94,7 +94,15 @@ fn compare_work(
 /// was changed, and how many rows it has.
 fn work_of(engine: &Engine, account: u64, is_lots: bool) -> io::Result<Option<(u64, usize)>> {
     if is_lots {
-        return Ok(engine.lots(account).map(|lots| (lots.work(), lots.reckoned())));
+        return Ok(
+            engine
+                .lots(account)
+                .map(|lots| (lots.work(), lots.reckoned())),
+        );
     }
-    Ok(engine.register(account).map(|register| (register.changes(), register.len())))
+    Ok(
+        engine
+            .register(account)
+            .map(|register| (register.changes(), register.len())),
+    )
 }
