@@ -51,8 +51,8 @@ impl Store {
         }
     }
 
-    /// Does what a line says that changes the store between two runs: a row is put or taken out, a statement changes the
-    /// database, or a file is copied. Whether it is such a line.
+    /// Does what a line says that changes the store between two runs: a row is put or taken out, a statement changes
+    /// the database, or a file is copied. Whether it is such a line.
     pub(crate) fn change(&mut self, rt: &HostRuntime, mark: &str, rest: &str) -> io::Result<bool> {
         match (mark, self) {
             ("put", Store::Memory(keeper)) => put_all(rt.alloc(), keeper, rest)?,
