@@ -286,3 +286,26 @@ module _ (keeping : Keeping) (held : List Row → Type 0)
     is_unknown = it.is_unknown;
     run = book_run_held named it.input_before it.input_after _ _ status it.run;
   }
+
+-- a run, seen with other rows that the keeper held before, if it held these, and with the count of faults that it had
+pub stream_run_seen :
+    (keeping : Keeping) (held : List Row → Type 0) (faults : ℕ) (named : Option ℕ) (status : Status)
+    → keeping.faults_before ≡ faults → (IsTrue keeping.sure → (rows : List Row) → held rows → keeping.held rows)
+    → IsStreamRun named keeping status
+    → IsStreamRun named (record {
+      sure = keeping.sure;
+      held = held;
+      holds = keeping.holds;
+      faults_before = faults;
+      faults_after = keeping.faults_after;
+    }) status
+stream_run_seen keeping held faults named status same holds run =
+    subst
+    (λ (n : ℕ). IsStreamRun named (record {
+      sure = keeping.sure;
+      held = held;
+      holds = keeping.holds;
+      faults_before = n;
+      faults_after = keeping.faults_after;
+    }) status)
+    same (stream_run_held keeping held holds named status run)
