@@ -76,14 +76,14 @@ impl<'a> StatementFile<'a> {
         Ok(())
     }
 
-    /// The rows that answer the file; none where its format can't be read.
+    /// The rows that answer the file.
     fn rows(&self, alloc: Global) -> io::Result<Vec<u8>> {
         let mut words = Vec::new(alloc);
         for word in self.format.split(' ') {
             words.push(String::from_str(alloc, word)?)?;
         }
         let Some(asked) = read_words(words.as_slice()) else {
-            return Ok(Vec::new(alloc));
+            return Err(unread());
         };
         let usual = Currencies::usual(alloc).map_err(|_| memory())?;
         let known = self.known.as_ref().unwrap_or(&usual);
@@ -125,8 +125,14 @@ fn check_case(report: &mut Report<'_>, file: &str, section: &Section<'_>) -> io:
             );
         }
     }
-    let rows = statement_file.rows(report.alloc())?;
-    compare_rows(report, case, &statement_file.run, rows.as_slice())
+    match statement_file.rows(report.alloc()) {
+        Ok(rows) => compare_rows(report, case, &statement_file.run, rows.as_slice()),
+        Err(_) => report.fail(
+            case.at(section.number),
+            "a format that can be read",
+            statement_file.format,
+        ),
+    }
 }
 
 /// Compares the rows one by one. At most one that is wrong is said.

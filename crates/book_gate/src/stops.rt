@@ -16,6 +16,15 @@ struct Counts {
     others: u64,
 }
 
+/// Whether the file whose calls fail is the log, or else the book, by its word.
+fn is_log(word: &str) -> io::Result<bool> {
+    match word {
+        "log" => Ok(true),
+        "book" => Ok(false),
+        _ => Err(io::Error::from(ErrorKind::InvalidInput)),
+    }
+}
+
 /// Stops runs of the lines at each call of the file, until a run is not stopped.
 fn counts_of(
     report: &Report<'_>,
@@ -61,7 +70,7 @@ pub(crate) fn check_stops(
 ) -> io::Result<()> {
     let text = report.read(lines)?;
     let all: Vec<&str> = text.as_str().lines().collect(report.alloc())?;
-    let counts = counts_of(report, all.as_slice(), file == "log", ending_of(ending)?)?;
+    let counts = counts_of(report, all.as_slice(), is_log(file)?, ending_of(ending)?)?;
     let Counts {
         before,
         after,

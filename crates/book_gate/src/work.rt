@@ -78,9 +78,14 @@ fn compare_work(
     line: Line<'_>,
     rest: &str,
 ) -> io::Result<()> {
+    let is_lots = match line.text.split_once(' ') {
+        Some(("lots", _)) => true,
+        Some(("register", _)) => false,
+        _ => return Err(unread()),
+    };
     let (account, wanted) = rest.split_once(' ').unwrap_or((rest, ""));
     let account = number(account)?;
-    let Some((work, rows)) = work_of(engine, account, line.text.starts_with("lots "))? else {
+    let Some((work, rows)) = work_of(engine, account, is_lots)? else {
         return report.fail(case.at(line.number), wanted, "none");
     };
     let came = format!(in report.alloc(); "{work} {rows}")?;
