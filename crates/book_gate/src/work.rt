@@ -33,13 +33,30 @@ fn check_case(report: &mut Report<'_>, file: &str, section: &Section<'_>) -> io:
         report.fail(case.at(section.number), "a book that opens", "none")?;
         return Ok(0);
     };
+    check_lines(
+        report,
+        case,
+        &mut engine,
+        &mut keeper,
+        section.lines.as_slice(),
+    )
+}
+
+/// Has the engine do the lines, and compares the work that is asked for between them. How many rows that were.
+fn check_lines(
+    report: &mut Report<'_>,
+    case: Case<'_>,
+    engine: &mut Engine,
+    keeper: &mut MemKeeper,
+    lines: &[Line<'_>],
+) -> io::Result<u64> {
     let mut rows: u64 = 0;
-    for line in section.lines.as_slice() {
+    for line in lines {
         let (mark, rest) = line.text.split_once(' ').unwrap_or((line.text, ""));
         if mark == ">" {
-            do_line(report, case, &mut engine, &mut keeper, *line)?;
+            do_line(report, case, engine, keeper, *line)?;
         } else {
-            compare_work(report, case, &engine, *line, rest)?;
+            compare_work(report, case, engine, *line, rest)?;
             rows = rows.saturating_add(1);
         }
     }
