@@ -37,19 +37,34 @@ fn check_case(report: &mut Report<'_>, file: &str, section: &Section<'_>) -> io:
         file,
         name: section.name,
     };
+    let run = Run::new(report.alloc(), section.number)?;
     let mut progress = Progress {
         store: Store::Memory(no_rows(report.alloc())),
-        run: Run::new(report.alloc(), section.number)?,
+        run,
         runs: 0,
     };
-    for line in section.lines.as_slice() {
-        if take(report, case, &mut progress, *line).is_err() {
-            report.fail(case.at(line.number), "a line of a run", line.text)?;
-            return Ok(progress.runs);
+    let taken = take_all(report, case, &mut progress, section.lines.as_slice());
+    let runs = progress.runs;
+    drop(progress);
+    match taken {
+        Ok(()) => Ok(runs),
+        Err(error) => Err(error),
+    }
+}
+
+/// Takes in the lines of a case, and makes its last run.
+fn take_all(
+    report: &mut Report<'_>,
+    case: Case<'_>,
+    progress: &mut Progress,
+    lines: &[Line<'_>],
+) -> io::Result<()> {
+    for line in lines {
+        if take(report, case, progress, *line).is_err() {
+            return report.fail(case.at(line.number), "a line of a run", line.text);
         }
     }
-    finish(report, case, &mut progress)?;
-    Ok(progress.runs)
+    finish(report, case, progress)
 }
 
 /// Takes in a line of a case.

@@ -1,6 +1,6 @@
 use crate::comparing::{Case, compare, compare_beginning, status_text};
 use crate::making::{Outcome, made_in_memory};
-use crate::report::Report;
+use crate::report::{Place, Report};
 use crate::rows::{are_same, copy_of};
 use crate::run::{Each, Fault, Run, Sort};
 use book_keeper::MemKeeper;
@@ -118,20 +118,50 @@ fn check_commit(
     line: usize,
     fault: Fault,
 ) -> io::Result<()> {
-    let alloc = report.alloc();
-    let (failed, rows) = made_again(alloc, run, keeper, fault)?;
-    let Some(place) = refused_at(failed.output.written()) else {
-        return report.fail(case.at(line), "one answer that is refused", "none");
+    let failed = made_again(report.alloc(), run, keeper, fault)?;
+    compare_commit(report, case.at(line), run, keeper, &failed)
+}
+
+/// Compares a run whose commit failed with one without the line that was refused.
+fn compare_commit(
+    report: &mut Report<'_>,
+    place: Place<'_>,
+    run: &Run,
+    keeper: &MemKeeper,
+    failed: &(Outcome, MemKeeper),
+) -> io::Result<()> {
+    let Some(refused) = refused_at(failed.0.output.written()) else {
+        return report.fail(place, "one answer that is refused", "none");
     };
+    let other = made_without(report.alloc(), run, keeper, refused)?;
+    compare_without(report, place, failed, &other, refused)
+}
+
+/// The outcome of a run without the line at a place, and the keeper.
+fn made_without(
+    alloc: Global,
+    run: &Run,
+    keeper: &MemKeeper,
+    place: usize,
+) -> io::Result<(Outcome, MemKeeper)> {
     let rest = without_line(alloc, run.input.as_slice(), place)?;
-    let keeper = copy_of(alloc, keeper)?;
-    let (other, others) = made_in_memory(alloc, run, keeper, rest.as_slice(), None)?;
-    let answers = without_line(alloc, failed.output.written(), place)?;
-    if failed.status != other.status || answers.as_slice() != other.output.written() {
-        report.fail(case.at(line), "the answers without the line", "others")?;
+    made_in_memory(alloc, run, copy_of(alloc, keeper)?, rest.as_slice(), None)
+}
+
+/// Compares the answers but for the one at a place, and the rows, with those of the other run.
+fn compare_without(
+    report: &mut Report<'_>,
+    place: Place<'_>,
+    failed: &(Outcome, MemKeeper),
+    other: &(Outcome, MemKeeper),
+    refused: usize,
+) -> io::Result<()> {
+    let answers = without_line(report.alloc(), failed.0.output.written(), refused)?;
+    if failed.0.status != other.0.status || answers.as_slice() != other.0.output.written() {
+        report.fail(place, "the answers without the line", "others")?;
     }
-    if !are_same(rows.rows(), others.rows()) {
-        report.fail(case.at(line), "the rows without the line", "others")?;
+    if !are_same(failed.1.rows(), other.1.rows()) {
+        report.fail(place, "the rows without the line", "others")?;
     }
     Ok(())
 }

@@ -110,14 +110,34 @@ fn check_in_memory(
     run: &Run,
     keeper: MemKeeper,
 ) -> io::Result<Store> {
-    if let Some(each) = run.each {
-        check_each(report, case, run, &keeper, each)?;
-        return Ok(Store::Memory(keeper));
+    match run.each {
+        Some(each) => {
+            let checked = check_each(report, case, run, &keeper, each);
+            kept_after(checked, keeper)
+        }
+        None => check_once(report, case, run, keeper),
     }
+}
+
+/// Makes a run over a keeper in memory once.
+fn check_once(
+    report: &mut Report<'_>,
+    case: Case<'_>,
+    run: &Run,
+    keeper: MemKeeper,
+) -> io::Result<Store> {
     let input = run.input.as_slice();
     let (outcome, keeper) = made_in_memory(report.alloc(), run, keeper, input, None)?;
-    compare(report, case, run, &outcome, Some(keeper.rows()))?;
-    Ok(Store::Memory(keeper))
+    let compared = compare(report, case, run, &outcome, Some(keeper.rows()));
+    kept_after(compared, keeper)
+}
+
+/// The store over this keeper, unless there was an error before.
+fn kept_after(done: io::Result<()>, keeper: MemKeeper) -> io::Result<Store> {
+    match done {
+        Ok(()) => Ok(Store::Memory(keeper)),
+        Err(error) => Err(error),
+    }
 }
 
 /// Makes a run over a database in memory.

@@ -29,17 +29,27 @@ fn check_case(report: &mut Report<'_>, file: &str, section: &Section<'_>) -> io:
     let name = section.name;
     let case = Case { file, name };
     let mut keeper = no_rows(report.alloc());
-    let Ok(mut engine) = Engine::open(report.alloc(), &mut keeper) else {
-        report.fail(case.at(section.number), "a book that opens", "none")?;
-        return Ok(0);
-    };
-    check_lines(
-        report,
-        case,
-        &mut engine,
-        &mut keeper,
-        section.lines.as_slice(),
-    )
+    match Engine::open(report.alloc(), &mut keeper) {
+        Ok(engine) => check_with(report, case, engine, &mut keeper, section.lines.as_slice()),
+        Err(_) => no_book(report, case, section.number),
+    }
+}
+
+/// Says that no book was opened.
+fn no_book(report: &mut Report<'_>, case: Case<'_>, line: usize) -> io::Result<u64> {
+    report.fail(case.at(line), "a book that opens", "none")?;
+    Ok(0)
+}
+
+/// The same for an engine that was opened.
+fn check_with(
+    report: &mut Report<'_>,
+    case: Case<'_>,
+    mut engine: Engine,
+    keeper: &mut MemKeeper,
+    lines: &[Line<'_>],
+) -> io::Result<u64> {
+    check_lines(report, case, &mut engine, keeper, lines)
 }
 
 /// Has the engine do the lines, and compares the work that is asked for between them. How many rows that were.
