@@ -74,11 +74,18 @@ pub(crate) fn measure(rt: &HostRuntime, count: &str) -> io::Result<bool> {
     let mut keeper = keeper_of(rt.alloc(), count)?;
     let start = rt.process_cpu_time()?;
     let engine = Engine::open(rt.alloc(), &mut keeper);
-    let end = rt.process_cpu_time()?;
+    let end = rt.process_cpu_time();
+    is_open(engine)?;
+    println!(rt; "{}", end?.saturating_sub(start).as_nanos())?;
+    Ok(true)
+}
+
+/// Whether the rows opened as an engine.
+fn is_open(engine: Result<Engine, OpenError>) -> io::Result<()> {
     match engine {
-        Ok(_) => {
-            println!(rt; "{}", end.saturating_sub(start).as_nanos())?;
-            Ok(true)
+        Ok(engine) => {
+            drop(engine);
+            Ok(())
         }
         Err(OpenError::OutOfMemory) => Err(memory()),
         Err(_) => Err(io::Error::from(ErrorKind::InvalidData)),
