@@ -3,6 +3,13 @@
 //! program ends with.
 #![tactic(auto)]
 
+ghost use Rattle.sqlite.specs.Files.{over_files};
+ghost use Rattle.sqlite.specs.WalFiles.{image_at};
+ghost use Rattle.book_app.specs.StatusClause.{IsStreamRun};
+ghost use Rattle.book_app.specs.Words.{given_number};
+ghost use Rattle.book_sqlite.specs.KeeperInSqlite.{HoldsRows, is_sure};
+ghost use Rattle.book.specs.FileRun.{over_file};
+
 use book_app::{Ended, named_book, run_program, words_of};
 use book_commodity::Text;
 use book_sqlite::FileKeeper;
@@ -17,17 +24,26 @@ fn book_in(words: &io::Result<Vec<Text>>) -> Option<&str> {
     }
 }
 
-/// The whole run, over the file that the words name. `T` stands for what the file and its log held before. It is proved
-/// for every `T`, so what the clauses of its calls say of rows they say of any file.
-fn run_in<T: Start>(rt: &HostRuntime, words: io::Result<Vec<Text>>, start: T) -> Ended {
+/// The whole run, over the file that the words name, and the keeper over that file as the run left it. `T` stands for
+/// what the file and its log held before. It is proved for every `T`, so it holds of any file.
+fn run_in<T: Start>(
+    rt: &HostRuntime,
+    words: io::Result<Vec<Text>>,
+    start: T,
+) -> (Ended, FileKeeper<T>)
+    ensures run { IsStreamRun (given_number (λ given. given.items) words)
+        (over_file (image_at T.Start) (is_sure over_files) (HoldsRows over_files) (λ keeper. keeper.faults) result.1)
+        result.0.status }
+{
     let mut keeper = FileKeeper::at(rt, book_in(&words), start);
     let ended = run_program(rt, words, &mut keeper);
-    // Where this fails, the log stays beside the file, and the next run takes it.
-    let _ = keeper.close();
-    ended
+    (ended, keeper)
 }
 
 fn main(rt: HostRuntime) -> Ended {
     let words = words_of(&rt);
-    run_in(&rt, words, Unknown)
+    let (ended, keeper) = run_in(&rt, words, Unknown);
+    // Where this fails, the log stays beside the file, and the next run takes it.
+    let _ = keeper.close();
+    ended
 }

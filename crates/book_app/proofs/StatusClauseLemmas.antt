@@ -9,14 +9,15 @@ use Rattle.book_opening.specs.Opening.{WasRead}
 use Rattle.book_engine.specs.Kept.{Kept}
 use Rattle.book_engine.specs.Machine.{Machine}
 use Rattle.book_engine.specs.Opening.{Opened}
-use Rattle.book_engine.specs.Opens.{Opens}
+use Rattle.book_engine.specs.Opening.{row_key}
+use Rattle.book_engine.specs.Opens.{Bad, Opening, Opens, Unsound}
 use Rattle.book_engine.specs.Standing.{Stands}
 use Rattle.book_engine.specs.declared.fault.OpenError.{OpenError}
 use Rattle.book_engine.specs.declared.fault.OpenError.TheVariants as error
 use Rattle.book_app.specs.Machine.{answers}
 use Rattle.book_app.specs.Numbers.{status_of, status_shown, status_unopened}
 use Rattle.book_app.specs.StatusClause.{IsBookRun, IsLineRun, IsSession, IsUntouched, Keeping, NowOpensTo, OpenedTo}
-use Rattle.book_app.specs.StatusClause.{HasBookPath, IsShownAs, SampleClause, StatusClause}
+use Rattle.book_app.specs.StatusClause.{HasBookPath, IsShownAs, IsStreamRun, SampleClause, StatusClause, WordsClause}
 use Rattle.book_app.specs.Words.{named_number}
 use Rattle.book_app.specs.declared.status.Status.{Status}
 use Rattle.book_app.specs.declared.status.Status.TheVariants.{Done, Usage, Memory, InputFault}
@@ -193,3 +194,118 @@ stands_opened sure holds path old new (Ok engine) told read opened = λ still.
     let held = told (read.still_sure still) in
     (held.0, read.same_rows still held.0 held.1, opened still held.0 held.1)
 stands_opened sure holds path old new (Err why) told read opened = tt
+
+-- a run, seen with other rows that the keeper held before, if it held these
+abbrev pub with_held : Keeping → (List Row → Type 0) → Keeping
+with_held keeping held = record {
+  sure = keeping.sure;
+  held = held;
+  holds = keeping.holds;
+  faults_before = keeping.faults_before;
+  faults_after = keeping.faults_after;
+}
+
+module _ (keeping : Keeping) (held : List Row → Type 0)
+    (holds : IsTrue keeping.sure → (rows : List Row) → held rows → keeping.held rows) where
+  opened_held : (opening : Opening) → OpenedTo keeping opening → OpenedTo (with_held keeping held) opening
+  opened_held opening opened still rows h = opened still rows (holds still rows h)
+
+  untouched_held : (read text : List ℕ) → IsUntouched keeping read text → IsUntouched (with_held keeping held) read text
+  untouched_held read text it = record {
+    input = it.input;
+    output = it.output;
+    rows = λ still rows h. it.rows still rows (holds still rows h);
+  }
+
+  session_held :
+      (before after : List ℕ → Type 0) (bytes read left text : List ℕ) (ended : RunEnd)
+      → IsSession keeping before after bytes read left text ended
+      → IsSession (with_held keeping held) before after bytes read left text ended
+  session_held before after bytes read left text ended it = record {
+    first = it.first;
+    last = it.last;
+    opened = opened_held (Opens it.first) it.opened;
+    run = it.run;
+    kept = it.kept;
+  }
+
+  status_held :
+      (before after : List ℕ → Type 0) (bytes read left text : List ℕ) (status : Status)
+      → StatusClause keeping before after bytes read left text status
+      → StatusClause (with_held keeping held) before after bytes read left text status
+  status_held before after bytes read left text Done h = session_held before after bytes read left text end.Done h
+  status_held before after bytes read left text InputLimit h =
+      session_held before after bytes read left text end.InputLimit h
+  status_held before after bytes read left text InputFault h =
+      session_held before after bytes read left text end.InputFault h
+  status_held before after bytes read left text OutputFault h =
+      session_held before after bytes read left text end.OutputFault h
+  status_held before after bytes read left text Usage h = untouched_held read text h
+  status_held before after bytes read left text Memory h = untouched_held read text h
+  status_held before after bytes read left text KeeperFault h = untouched_held read text h
+  status_held before after bytes read left text (BadRows kind id) h =
+      (untouched_held read text h.0, opened_held (Bad (row_key kind id)) h.1)
+  status_held before after bytes read left text (UnsoundBook kind id) h =
+      (untouched_held read text h.0, opened_held (Unsound (row_key kind id)) h.1)
+
+  words_held :
+      (named : Option ℕ) (before after : List ℕ → Type 0) (bytes read left text : List ℕ) (status : Status)
+      → WordsClause named keeping before after bytes read left text status
+      → WordsClause named (with_held keeping held) before after bytes read left text status
+  words_held None before after bytes read left text status h = status_held before after bytes read left text status h
+  words_held (Some number) before after bytes read left text status h = (
+    record { input = h.0.input; rows = λ still rows it. h.0.rows still rows (holds still rows it) },
+    h.1,
+  )
+
+  book_run_held :
+      (named : Option ℕ) (input_before input_after : Option (List ℕ)) (before after : List ℕ → Type 0) (status : Status)
+      → IsBookRun named keeping input_before input_after before after status
+      → IsBookRun named (with_held keeping held) input_before input_after before after status
+  book_run_held named input_before input_after before after status it = record {
+    bytes = it.bytes;
+    read = it.read;
+    left = it.left;
+    text = it.text;
+    bytes_are = it.bytes_are;
+    left_are = it.left_are;
+    parts = it.parts;
+    few = it.few;
+    wrote = it.wrote;
+    clause = words_held named before after it.bytes it.read it.left it.text status it.clause;
+  }
+
+  pub stream_run_held :
+      (named : Option ℕ) (status : Status) → IsStreamRun named keeping status
+      → IsStreamRun named (with_held keeping held) status
+  stream_run_held named status it = record {
+    input_before = it.input_before;
+    input_after = it.input_after;
+    output_before = it.output_before;
+    output_after = it.output_after;
+    is_unknown = it.is_unknown;
+    run = book_run_held named it.input_before it.input_after _ _ status it.run;
+  }
+
+-- a run, seen with other rows that the keeper held before, if it held these, and with the count of faults that it had
+pub stream_run_seen :
+    (keeping : Keeping) (held : List Row → Type 0) (faults : ℕ) (named : Option ℕ) (status : Status)
+    → keeping.faults_before ≡ faults → (IsTrue keeping.sure → (rows : List Row) → held rows → keeping.held rows)
+    → IsStreamRun named keeping status
+    → IsStreamRun named (record {
+      sure = keeping.sure;
+      held = held;
+      holds = keeping.holds;
+      faults_before = faults;
+      faults_after = keeping.faults_after;
+    }) status
+stream_run_seen keeping held faults named status same holds run =
+    subst
+    (λ (n : ℕ). IsStreamRun named (record {
+      sure = keeping.sure;
+      held = held;
+      holds = keeping.holds;
+      faults_before = n;
+      faults_after = keeping.faults_after;
+    }) status)
+    same (stream_run_held keeping held holds named status run)

@@ -1,5 +1,5 @@
 -- What holds when the program's work has ended, by its status.
-use Rattle.std.specs.Prelude.{◌≡◌, ℕ, ◌+◌, ◌^◌, ◌<◌, ◌≤◌, ⊤, Bool, IsTrue, List, [], ◌++◌, Option, Some, None, Result, Ok, Err}
+use Rattle.std.specs.Prelude.{◌≡◌, ℕ, ◌+◌, ◌^◌, ◌<◌, ◌≤◌, ⊤, Bool, false, IsTrue, List, [], ◌++◌, Option, Some, None, Result, Ok, Err}
 use Rattle.std.specs.Prelude.{length}
 use Rattle.book_keeper.specs.Stream.{Are, Wrote}
 use Rattle.book_keeper.specs.declared.row.Row.{Row}
@@ -132,6 +132,21 @@ pub record IsBookRun
   pub few : length read ≤ 2 ^ 33 + 1
   pub wrote : Wrote output_before output_after text
   pub clause : WordsClause named keeping output_before output_after bytes read left text status
+
+-- A writer may hold these bytes: it is known to hold exactly these, or nothing is known of it.
+abbrev pub may_be : Bool → Option (List ℕ) → List ℕ → Type 0
+may_be unknown known bytes = unknown ≡ false → known ≡ Some bytes
+
+-- A run of the program over streams of which nothing is said: there is something that the input had left before and
+-- has left now, and something that the output held and holds.
+pub record IsStreamRun (named : Option ℕ) (keeping : Keeping) (status : Status) : Type 0 where
+  pub input_before : Option (List ℕ)
+  pub input_after : Option (List ℕ)
+  pub output_before : Option (List ℕ)
+  pub output_after : Option (List ℕ)
+  pub is_unknown : Bool
+  pub run : IsBookRun named keeping input_before input_after (may_be false output_before) (may_be is_unknown output_after)
+      status
 
 -- A run of lines from a machine to a machine: the same, and it ends neither by Usage nor before the first line.
 pub record IsLineRun

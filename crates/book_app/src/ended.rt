@@ -1,4 +1,4 @@
-ghost use Rattle.std.specs.Prelude.{◌≡◌, ◌≢◌, ◌↔◌, IfOk, OnErr, MatchResult};
+ghost use Rattle.std.specs.Prelude.{◌≡◌, ◌≢◌, ◌↔◌, IfOk, IsTrue, OnErr, MatchResult};
 ghost use Rattle.std.specs.IoError.{error_kind};
 ghost use Rattle.std.specs.Process.{exit_status};
 ghost use Rattle.book_keeper.specs.Faults.{Rose};
@@ -46,6 +46,7 @@ pub fn run_over<K: Keeper, I: Read, O: Write>(
         (I.remaining reader) (left_of I.remaining result.input)
         (may_hold O.contents (sink_over writer)) (may_hold O.contents result.output) result.ended.status }
     ensures path { HasBookPath words.now (K.path_given keeper.new) result.ended.status }
+    ensures sure { IsTrue (K.sure keeper.new) → IsTrue (K.sure keeper.old) }
     ensures usage { (result.ended.status ≡ Status.Usage) ↔ AreNoWords words.now }
     ensures keeper_fault { result.ended.status ≡ Status.KeeperFault
         → Rose (K.faults keeper.old) (K.faults keeper.new) }
@@ -79,6 +80,7 @@ pub(crate) fn run_words<K: Keeper, I: Read, O: Write>(
     ensures usage { (result.ended.status ≡ Status.Usage) ↔ MatchResult words
         (λ given. AreNoWords given.items) (λ error. error_kind error ≡ ErrorKind.InvalidData) }
     ensures path { IfOk words (λ given. HasBookPath given.items (K.path_given keeper.new) result.ended.status) }
+    ensures sure { IsTrue (K.sure keeper.new) → IsTrue (K.sure keeper.old) }
     ensures memory { OnErr words (result.ended.status ≢ Status.Usage → result.ended.status ≡ Status.Memory) }
     ensures keeper_fault { result.ended.status ≡ Status.KeeperFault
         → Rose (K.faults keeper.old) (K.faults keeper.new) }

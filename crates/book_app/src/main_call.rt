@@ -48,6 +48,7 @@ pub fn run_lines<K: Keeper, S: Source, O: Sink>(
 /// The engine with the book that the keeper has at this path.
 /// Keeper: the keeper failed, and its count of faults rose. The others are those of `Engine::open`.
 fn open_book<K: Keeper>(alloc: Global, keeper: &mut K, book: &str) -> Result<Engine, OpenError>
+    ensures sure { IsTrue (K.sure keeper.new) → IsTrue (K.sure keeper.old) }
     ensures rows { IsTrue (K.sure keeper.new) → (rows : List Row) → K.holds keeper.old rows → K.holds keeper.new rows }
     ensures opened { IsTrue (K.sure keeper.new) → (rows : List Row) → K.holds keeper.old rows → Opened rows result }
     ensures stands { IfOk result (λ engine. Stands K.sure K.holds keeper.new engine) }
@@ -79,6 +80,7 @@ fn run_book<K: Keeper, S: Source, O: Sink>(
     ensures run { IsBookRun None (over K.sure K.holds K.faults keeper.old keeper.new) (S.left input.old)
         (S.left input.new) (O.written output.old) (O.written output.new) result }
     ensures path { HasBookPath words.now (K.path_given keeper.new) result }
+    ensures sure { IsTrue (K.sure keeper.new) → IsTrue (K.sure keeper.old) }
     ensures usage { (result ≡ Status.Usage) ↔ (named_book words.now ≡ None) }
     ensures keeper_fault { result ≡ Status.KeeperFault → Rose (K.faults keeper.old) (K.faults keeper.new) }
     ensures input_fault { result ≡ Status.InputFault → Rose (S.faults input.old) (S.faults input.new) }
@@ -127,6 +129,7 @@ pub fn book_main<K: Keeper, S: Source, O: Sink>(
     ensures run { IsBookRun (named_number words.now) (over K.sure K.holds K.faults keeper.old keeper.new)
         (S.left input.old) (S.left input.new) (O.written output.old) (O.written output.new) result }
     ensures path { HasBookPath words.now (K.path_given keeper.new) result }
+    ensures sure { IsTrue (K.sure keeper.new) → IsTrue (K.sure keeper.old) }
     ensures usage { (result ≡ Status.Usage) ↔ AreNoWords words.now }
     ensures keeper_fault { result ≡ Status.KeeperFault → Rose (K.faults keeper.old) (K.faults keeper.new) }
     ensures input_fault { result ≡ Status.InputFault → Rose (S.faults input.old) (S.faults input.new) }

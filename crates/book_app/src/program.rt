@@ -1,17 +1,35 @@
+ghost use Rattle.std.specs.Prelude.{◌≡◌, ◌≢◌, ◌↔◌, IfOk, IsTrue, MatchResult, OnErr};
+ghost use Rattle.std.specs.IoError.{error_kind};
+ghost use Rattle.book_keeper.specs.Faults.{Rose};
+ghost use Rattle.book_app.specs.StatusClause.{HasBookPath, IsStreamRun, over};
+ghost use Rattle.book_app.specs.Words.{AreNoWords, given_number};
+
 use crate::ended::{Ended, run_words};
+use crate::status::Status;
 use book_commodity::Text;
 use book_keeper::Keeper;
 use std::env::Env;
-use std::io::{Input, Print};
+use std::io::{ErrorKind, Input, Print};
 use std::{env, io};
 
-/// Does what the program's words ask, over this keeper and the program's standard streams: `run_words` with the host's
-/// reader and writer, which has all clauses. This call has none, since std says nothing of what a host's streams hold.
+/// Does what the program's words ask, over this keeper and the program's standard streams. Std says nothing of what a
+/// host's streams hold, so the lines that were read and the text that was written are some lines and some text; of
+/// them and of the keeper's rows holds what `book_main` promises. Where the words could not be read it ends by Usage
+/// if one of them is not UTF-8, else by Memory.
 pub fn run_program<R: Input + Print + AllocGlobal, K: Keeper>(
     rt: &R,
     words: io::Result<Vec<Text>>,
     keeper: &mut K,
-) -> Ended {
+) -> Ended
+    ensures run { IsStreamRun (given_number (λ given. given.items) words)
+        (over K.sure K.holds K.faults keeper.old keeper.new) result.status }
+    ensures usage { (result.status ≡ Status.Usage) ↔ MatchResult words
+        (λ given. AreNoWords given.items) (λ error. error_kind error ≡ ErrorKind.InvalidData) }
+    ensures path { IfOk words (λ given. HasBookPath given.items (K.path_given keeper.new) result.status) }
+    ensures sure { IsTrue (K.sure keeper.new) → IsTrue (K.sure keeper.old) }
+    ensures memory { OnErr words (result.status ≢ Status.Usage → result.status ≡ Status.Memory) }
+    ensures keeper_fault { result.status ≡ Status.KeeperFault → Rose (K.faults keeper.old) (K.faults keeper.new) }
+{
     run_words(rt.alloc(), words, keeper, rt.reader(), io::writer(rt)).ended
 }
 

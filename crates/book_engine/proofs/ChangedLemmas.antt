@@ -8,8 +8,8 @@ use Rattle.book_undo.specs.Book.{Book}
 use Rattle.book_undo.specs.Edit.{edited}
 use Rattle.book_engine.specs.Changed.{AreChanged, HaveRisen}
 use Rattle.book_engine.specs.Kept.{Kept}
-use Rattle.book_engine.specs.Turned.{turned}
-use Rattle.book_engine.specs.declared.turn.Turn.{Turn}
+use Rattle.book_turns.specs.Turned.{turned}
+use Rattle.book_turns.specs.declared.turn.Turn.{Turn}
 
 -- they rise by the rows that differ between the registers of the books before and after the turn
 pub changed_by :

@@ -8,7 +8,7 @@ use Rattle.book_command.specs.declared.rule.Rule.{Rule}
 use Rattle.book_opening.specs.State.{State}
 use Rattle.book_step.specs.Schedules.{Finds, day_rules, due_of}
 use Rattle.book_engine.specs.Books.{machine_of}
-use Rattle.book_engine.specs.Kept.{IsWhole}
+use Rattle.book_turns.specs.Whole.{IsWhole}
 use Rattle.book_engine.specs.Machine.{Done, reply, unless_broken}
 use Rattle.book_engine.specs.Planned.{IsPlanTo, IsRefusal, Planned, stay_plan}
 use Rattle.book_engine.proofs.PlanLemmas.{is_stay_plan}

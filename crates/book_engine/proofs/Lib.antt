@@ -1,14 +1,7 @@
-pub mod BalanceLemmas
-pub mod ChangeFits
 pub mod ChangedLemmas
-pub mod CurrencyLemmas
 pub mod DueLemmas
 pub mod LotsLemmas
-pub mod MoveLemmas
-pub mod OpenLemmas
+pub mod MachineLemmas
 pub mod PlanLemmas
-pub mod RowTurns
-pub mod SmallLemmas
 pub mod StandLemmas
-pub mod StepLemmas
-pub mod TurnLemmas
+pub mod WholeLemmas

@@ -28,19 +28,21 @@ use Rattle.book_step.specs.Step.{outcome}
 use Rattle.book_step.specs.declared.step.Step.{Step}
 use Rattle.book_step.proofs.SoundStep.{outcome-sound}
 use Rattle.book_opening.specs.State.{State}
-use Rattle.book_engine.specs.Kept.{IsWhole, step_state}
+use Rattle.book_balances.specs.Answered.{IsWholeStep}
+use Rattle.book_balances.proofs.StepLemmas.{outcome_moves}
+use Rattle.book_report_answers.specs.Reports.{IsAskRefusal}
+use Rattle.book_turns.specs.Turned.{HaveSpellings, IsChangeTo, IsKeptStep, IsTurnFor, changes_to, is_moving, turned}
+use Rattle.book_turns.specs.Turned.{turned_by}
+use Rattle.book_turns.specs.Whole.{IsWhole, step_state}
+use Rattle.book_turns.specs.declared.turn.Turn.{Turn}
+use Rattle.book_turns.specs.declared.turn.Way.{Way}
+use Rattle.book_turns.specs.declared.turn.Way.TheVariants.{Stay, Change as ToNew, Undo, Redo}
+use Rattle.book_turns.proofs.RowTurns.{turn_rises, turn_stands}
+use Rattle.book_turns.proofs.TurnLemmas.{changed_whole, kept_can, kept_saved, kept_whole, turn_of}
 use Rattle.book_engine.specs.Books.{machine_of}
 use Rattle.book_engine.specs.Machine.{Done, Machine, Reply, asked, changed, reply, unless_broken, updated}
-use Rattle.book_engine.specs.Planned.{IsChangeTo, IsExactTurn, IsPlanTo, IsTurnPlan, IsWholeStep, Planned, stay_plan}
-use Rattle.book_engine.specs.Planned.{IsAskRefusal, IsRefusal, turn_plan}
-use Rattle.book_engine.specs.Turned.{HaveSpellings, IsKeptStep, IsTurnFor, changes_to, is_moving, turned, turned_by}
-use Rattle.book_engine.specs.declared.turn.Turn.{Turn}
-use Rattle.book_engine.specs.declared.turn.Way.{Way}
-use Rattle.book_engine.specs.declared.turn.Way.TheVariants.{Stay, Change as ToNew, Undo, Redo}
-use Rattle.book_engine.proofs.RowTurns.{turn_rises, turn_stands}
-use Rattle.book_engine.proofs.StepLemmas.{outcome_moves}
-use Rattle.book_engine.proofs.TurnLemmas.{changed_machine, changed_whole, kept_can, kept_saved, kept_whole}
-use Rattle.book_engine.proofs.TurnLemmas.{redone_machine, turn_of, undone_machine}
+use Rattle.book_engine.specs.Planned.{IsExactTurn, IsPlanTo, IsRefusal, IsTurnPlan, Planned, stay_plan, turn_plan}
+use Rattle.book_engine.proofs.MachineLemmas.{changed_machine, redone_machine, undone_machine}
 
 -- Each turn that moves raises the version by one.
 pub version_turned :

@@ -1,27 +1,22 @@
 -- Rows that stood for what an engine kept stand for what it keeps.
-use Rattle.std.proofs.Common.{◌≡◌, ℕ, nat_lt, not, Bool, true, false, ◌||◌, IsTrue, List, [], ◌∷◌, Option, Some, None}
-use Rattle.std.proofs.Common.{inr, refl, sym, ap, ◌∙◌, subst, arith, reverse}
-use Rattle.std.proofs.lemmas.Bool.Decides.{nat_tests}
-use Rattle.book_commodity.specs.Rules.{broken_where, first_broken}
+use Rattle.std.proofs.Common.{◌≡◌, Bool, true, false, ◌||◌, IsTrue, List, inr, refl, sym, ◌∙◌, subst}
 use Rattle.book_keeper.specs.Rows.{after_changes}
 use Rattle.book_keeper.specs.declared.row.Row.{Row}
-use Rattle.book_keeper.specs.declared.row.RowKey.{RowKey}
-use Rattle.book_check.specs.FirstUnsound.{key_in}
-use Rattle.book_check.proofs.Unsound.{none_where_sound}
-use Rattle.book_history.proofs.FaultLaws.{sound_faultless}
-use Rattle.book_opening.specs.Opening.{OpenAs, head_key}
-use Rattle.book_opening.specs.State.{State, head_of}
-use Rattle.book_opening.specs.Steps.{counts_fit}
+use Rattle.book_opening.specs.Opening.{OpenAs}
+use Rattle.book_opening.specs.State.{State}
+use Rattle.book_turns.specs.Standing.{StandFor}
+use Rattle.book_turns.specs.Turned.{is_moving, turned_by}
+use Rattle.book_turns.specs.Whole.{IsWhole}
+use Rattle.book_turns.specs.declared.turn.Turn.{Turn}
+use Rattle.book_turns.specs.declared.turn.Way.{Way}
+use Rattle.book_turns.specs.declared.turn.Way.TheVariants.{Stay, Change as ToNew, Undo, Redo}
 use Rattle.book_engine.specs.Acting.{IsUnchanged}
-use Rattle.book_engine.specs.Kept.{IsWhole, Kept}
+use Rattle.book_engine.specs.Kept.{Kept}
 use Rattle.book_engine.specs.Books.{machine_of}
 use Rattle.book_engine.specs.Planned.{Planned, IsPlanFor, after, commits}
-use Rattle.book_engine.specs.Opens.{Opens, OpensTo, unsound_at, unsound_step}
-use Rattle.book_engine.specs.Standing.{StandFor, StandForKept, Stands}
-use Rattle.book_engine.specs.Turned.{is_moving, turned_by}
-use Rattle.book_engine.specs.declared.turn.Turn.{Turn}
-use Rattle.book_engine.specs.declared.turn.Way.{Way}
-use Rattle.book_engine.specs.declared.turn.Way.TheVariants.{Stay, Change as ToNew, Undo, Redo}
+use Rattle.book_engine.specs.Opens.{Opens, OpensTo}
+use Rattle.book_engine.specs.Standing.{StandForKept, Stands}
+use Rattle.book_engine.proofs.WholeLemmas.{whole_sound}
 
 pub stand_same :
     (saved now_saved : Bool) (old new : State) (rows : List Row) → saved ≡ now_saved → old ≡ new
@@ -37,35 +32,6 @@ stand_kept before now rows same stand =
       subst (λ (s : State). OpensTo rows (Opens (machine_of s))) state stand.0,
       stand_same before.saved now.saved before.state now.state rows (sym same.same_saved) state stand.1,
     )
-
--- None of some keys is there.
-first_none : (keys : List (Option RowKey)) (key : Option RowKey) → key ≡ None → first_broken keys ≡ None
-    → first_broken (key ∷ keys) ≡ None
-first_none keys None e none = none
-first_none keys (Some key) e none = absurd cc
-
-none_in : (kind : ℕ) (number : Option ℕ) → number ≡ None → key_in kind number ≡ None
-none_in kind number e = ap (key_in kind) e
-
-head_kept : (state : State) (saved : Bool) → IsWhole state saved
-    → broken_where (nat_lt state.version state.position || not (counts_fit (head_of state))) head_key ≡ None
-head_kept state saved whole =
-    let low = whole.reached in
-    let past = whole.history.reached in
-    let most = whole.history.most in
-    let keeps : (nat_lt state.version state.position || not (counts_fit (head_of state))) ≡ false =
-    grind (arith, nat_tests, low, past, most) in
-    ap (λ (b : Bool). broken_where b head_key) keeps
-
--- No key of a state that an engine keeps breaks its rule.
-pub whole_sound : (state : State) (saved : Bool) → IsWhole state saved → unsound_at state ≡ None
-whole_sound state saved whole =
-    let back = none_in 11 _ (sound_faultless state.next (reverse state.back) state.book whole.history.back_sound) in
-    let forth = none_in 12 _ (sound_faultless state.next state.forth state.book whole.history.forth_sound) in
-    let steps : unsound_step state ≡ None = first_none _ _ back (first_none [] _ forth refl) in
-    first_none _ _ (head_kept state saved whole)
-    (first_none _ _ (none_where_sound state.book state.next whole.sound.book whole.sound.drawn)
-    (first_none [] _ steps refl))
 
 -- They do where it keeps what it kept.
 pub stands_unchanged :

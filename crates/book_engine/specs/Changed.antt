@@ -1,18 +1,11 @@
 -- How often the registers that an engine keeps were changed, and which of their lots it keeps.
-use Rattle.std.specs.Prelude.{◌≡◌, ℕ, ◌-◌, ◌⊎◌, if◌then◌else◌, Bool, false, is_some, length, take, List}
-use Rattle.std.specs.Prelude.{Option, Some, None}
-use Rattle.std.specs.Option.{option_map_or}
-use Rattle.book_accounts.specs.Group.{is_security}
-use Rattle.book_accounts.specs.declared.account.Account.{Account}
-use Rattle.book_command.specs.declared.command.Report.{Report}
-use Rattle.book_command.specs.declared.command.Report.TheVariants.{Gains, Lots}
-use Rattle.book_command.specs.declared.command.What.{What}
-use Rattle.book_command.specs.declared.command.What.TheVariants as what
+use Rattle.std.specs.Prelude.{◌≡◌, ℕ, ◌-◌, ◌⊎◌, if◌then◌else◌, Bool, is_some, length, take, Option, Some, None}
 use Rattle.book_commodity.specs.Table.{value_of}
 use Rattle.book_ledger.specs.Changes.{RisesBy, changes_of, differing}
 use Rattle.book_ledger.specs.Ledger.{register_of}
 use Rattle.book_ledger.specs.Lots.{AreLeft as AreLotsLeft, reckoned_of, work_of}
 use Rattle.book_lots.specs.Lots.{Reckoned}
+use Rattle.book_report_answers.specs.LotsAsked.{is_security_in}
 use Rattle.book_undo.specs.Book.{Book}
 use Rattle.book_engine.specs.Kept.{Kept}
 
@@ -21,29 +14,9 @@ abbrev pub live_changes : Kept → ℕ → Option ℕ
 live_changes kept account =
     if is_some (value_of account kept.state.book.accounts) then Some (changes_of account kept.registers) else None
 
--- Whether one of these accounts with a number is a security account.
-abbrev pub is_security_in : List (ℕ × Account) → ℕ → Bool
-is_security_in accounts number = option_map_or (λ found. is_security found.kind) (value_of number accounts) false
-
 -- Whether an account is a security account of a book.
 abbrev pub is_live_security : Book → ℕ → Bool
 is_live_security book account = is_security_in book.accounts account
-
--- The account of whose lots a report is made, if it is a report on lots.
-abbrev pub account_of_lots : Report → Option ℕ
-account_of_lots (Lots account csv) = Some account
-account_of_lots (Gains account from to) = Some account
-account_of_lots _ = None
-
--- A number, where one of these accounts with it is a security account.
-abbrev pub only_security : List (ℕ × Account) → Option ℕ → Option ℕ
-only_security accounts None = None
-only_security accounts (Some number) = if is_security_in accounts number then Some number else None
-
--- The security account, among these accounts, on whose lots a report is asked, if there is one.
-abbrev pub lots_asked : List (ℕ × Account) → What → Option ℕ
-lots_asked accounts (what.Report report) = only_security accounts (account_of_lots report)
-lots_asked accounts _ = None
 
 -- The lots that are kept of a security account of the present book: those of the first rows of its register, as many as
 -- are reckoned; none where the book has no such account.

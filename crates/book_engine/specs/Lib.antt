@@ -1,13 +1,9 @@
 pub mod Acting
-pub mod Balances
 pub mod Books
 pub mod Changed
-pub mod Changes
 pub mod Kept
 pub mod Machine
 pub mod Opening
 pub mod Opens
 pub mod Planned
-pub mod Reports
 pub mod Standing
-pub mod Turned

@@ -16,7 +16,7 @@ use Rattle.book_step.specs.Prices.{rate_on, rate_rules}
 use Rattle.book_step.specs.Schedules.{day_rules, due_of}
 use Rattle.book_step.specs.State.{State, fresh_book}
 use Rattle.book_step.specs.Step.{outcome as outcome_of, stale}
-use Rattle.book_engine.specs.Reports.{report_answer, report_rules}
+use Rattle.book_report_answers.specs.Reports.{report_answer, report_rules}
 
 -- The past books, the nearest first; the present book; the later ones, the nearest first; the number that the next
 -- thing gets; the count of the changes so far; and how many steps lead from the fresh book to the present one.

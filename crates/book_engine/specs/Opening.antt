@@ -6,8 +6,10 @@ use Rattle.book_keeper.specs.declared.row.RowKey.{RowKey}
 use Rattle.book_opening.specs.State.{State}
 use Rattle.book_opening.specs.declared.fault.OpenFault.{OpenFault}
 use Rattle.book_opening.specs.declared.fault.OpenFault.TheVariants as fault
-use Rattle.book_engine.specs.Kept.{Kept, fresh_state}
-use Rattle.book_engine.specs.Opens.{Bad, OpensTo, Unsound, unsound_at}
+use Rattle.book_state_check.specs.SoundState.{unsound_at}
+use Rattle.book_turns.specs.Whole.{fresh_state}
+use Rattle.book_engine.specs.Kept.{Kept}
+use Rattle.book_engine.specs.Opens.{Bad, OpensTo, Unsound}
 use Rattle.book_engine.specs.Standing.{StandForKept}
 use Rattle.book_engine.specs.declared.fault.OpenError.{OpenError}
 use Rattle.book_engine.specs.declared.fault.OpenError.TheVariants as error

@@ -1,11 +1,9 @@
 -- A plan: what finishing it makes of the state and of the rows, and the answer.
 use Rattle.std.specs.Prelude.{◌≡◌, ◌≢◌, ◌↔◌, ℕ, ◌≤◌, ⊤, ◌||◌, if◌then◌else◌, Bool, IsTrue, List, []}
-use Rattle.std.specs.Prelude.{◌+◌, Option, Some}
-use Rattle.book_commodity.specs.Rules.{first_broken}
+use Rattle.std.specs.Prelude.{Some}
 use Rattle.book_keeper.specs.Rows.{AreRising, after_changes}
 use Rattle.book_keeper.specs.declared.row.Change.{Change}
 use Rattle.book_keeper.specs.declared.row.Row.{Row}
-use Rattle.book_undo.specs.Book.{Book}
 use Rattle.book_ledger.specs.Room.{IsReady}
 use Rattle.book_undo.specs.Edit.{depth, edited, leaves, outline}
 use Rattle.book_undo.specs.EditRules.{IsAllowed}
@@ -13,29 +11,23 @@ use Rattle.book_undo.specs.Inverse.{LeadsBack}
 use Rattle.book_undo.specs.Exact.{IsExact}
 use Rattle.book_undo.specs.Room.{HasRoom}
 use Rattle.book_undo.specs.declared.edit.Edit.{Edit, All}
-use Rattle.book_step.specs.AnswerBalances.{with_balances}
-use Rattle.book_step.specs.Outcome.{Outcome, Broken as StepBroken, Done as Stepped, after as after_step, numbers}
-use Rattle.book_step.specs.Soundness.{IsSound}
-use Rattle.book_step.specs.Step.{outcome}
-use Rattle.book_step.specs.State.{State as StepState}
-use Rattle.book_step.specs.declared.step.Step.{Step}
+use Rattle.book_step.specs.Outcome.{numbers}
 use Rattle.book_command.specs.declared.answer.Answer.{Answer}
 use Rattle.book_command.specs.declared.command.Command.{Command}
-use Rattle.book_command.specs.declared.command.Update.{Update}
 use Rattle.book_command.specs.declared.refusal.Refusal.{Refusal}
 use Rattle.book_command.specs.declared.refusal.Refusal.TheVariants as refusal
-use Rattle.book_command.specs.declared.rule.Rule.{Rule}
 use Rattle.book_opening.specs.Opening.{OpenAs}
 use Rattle.book_opening.specs.State.{State}
-use Rattle.book_engine.specs.Kept.{IsWhole, Kept, step_state}
+use Rattle.book_turns.specs.Standing.{StandFor}
+use Rattle.book_turns.specs.Turned.{CanTurn, HaveSpellings, changes_to, is_moving, turned}
+use Rattle.book_turns.specs.Whole.{IsWhole, step_state}
+use Rattle.book_turns.specs.declared.turn.Turn.{Turn}
+use Rattle.book_turns.specs.declared.turn.Way.{Way}
+use Rattle.book_turns.specs.declared.turn.Way.TheVariants.{Change as ToNew, Stay}
+use Rattle.book_engine.specs.Kept.{Kept}
 use Rattle.book_engine.specs.Books.{machine_of}
 use Rattle.book_engine.specs.Machine.{Broken, Done, Reply, step}
-use Rattle.book_engine.specs.Standing.{StandFor}
-use Rattle.book_engine.specs.Turned.{CanTurn, HaveSpellings, changes_to, is_moving, turned}
 use Rattle.book_engine.specs.declared.plan.Plan.TheInside.{Inside}
-use Rattle.book_engine.specs.declared.turn.Turn.{Turn}
-use Rattle.book_engine.specs.declared.turn.Way.{Way}
-use Rattle.book_engine.specs.declared.turn.Way.TheVariants.{Change as ToNew, Stay}
 
 -- What becomes of the state; the version after it; the answer; and the changes of the rows.
 pub record Planned : Type 0 where
@@ -117,12 +109,6 @@ pub record HasRoomFor (kept : Kept) (plan : Planned) : Type 0 where
   pub back : 1 ≤ kept.back_room
   pub forth : 1 ≤ kept.forth_room
 
--- A change of the book by an edit, after which this is the next number, leads to a sound state.
-pub record IsChangeTo (state : State) (edit : Edit) (next : ℕ) : Type 0 where
-  pub allowed : IsAllowed state.book edit
-  pub later : state.next ≤ next
-  pub sound : IsSound (record { book = edited edit state.book; next = next; version = state.version + 1 })
-
 -- The plan of a turn on this way by an edit: the turn has the edit that leads back, and what the changes write has
 -- spellings.
 pub record IsTurnPlan (state : State) (saved : Bool) (way : Way) (edit : Edit) (next : ℕ) (answer : Answer)
@@ -134,28 +120,6 @@ pub record IsTurnPlan (state : State) (saved : Bool) (way : Way) (edit : Edit) (
       plan
       ≡ turn_plan saved state (record { way = way; edit = edit; inverse = inverse; next = next }) answer
   pub fits : HaveSpellings saved state (record { way = way; edit = edit; inverse = inverse; next = next })
-
--- The step with the balances in its answer, which are those of the book that it leads to.
-abbrev pub whole_step : Book → Step → Step
-whole_step book step = record step { answer = with_balances (edited step.edit book) step.answer }
-
--- A step is that of a change from this state, with its whole answer, and its edit is exact for the book.
-pub record IsWholeStep (state : StepState) (update : Update) (taken : Step) : Type 0 where
-  pub done : outcome state update ≡ Stepped (after_step state taken) taken.answer
-  pub exact : IsExact state.book taken.edit
-
--- A refusal of a change comes where its outcome is that broken rule, or out of memory. No keeper is asked.
-abbrev pub IsStepRefusal : Outcome → Refusal → Type 0
-IsStepRefusal outcome (refusal.Broken rule) = outcome ≡ StepBroken rule
-IsStepRefusal outcome refusal.Keeper = ⊥
-IsStepRefusal outcome refusal.OutOfMemory = ⊤
-
--- A refusal of a question comes where the first of its rules that is broken is that one, or out of memory. No keeper is
--- asked.
-abbrev pub IsAskRefusal : List (Option Rule) → Refusal → Type 0
-IsAskRefusal rules (refusal.Broken rule) = first_broken rules ≡ Some rule
-IsAskRefusal rules refusal.Keeper = ⊥
-IsAskRefusal rules refusal.OutOfMemory = ⊤
 
 -- A refusal of a turn comes where one more version goes past the limit, or out of memory.
 abbrev pub IsLimitRefusal : State → Refusal → Type 0

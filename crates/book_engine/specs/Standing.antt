@@ -1,16 +1,10 @@
 -- When the rows of a keeper stand for the state of an engine.
-use Rattle.std.specs.Prelude.{◌≡◌, Bool, true, false, IsTrue, List, []}
+use Rattle.std.specs.Prelude.{Bool, IsTrue, List}
 use Rattle.book_keeper.specs.declared.row.Row.{Row}
-use Rattle.book_opening.specs.Opening.{OpenAs}
-use Rattle.book_opening.specs.State.{State}
+use Rattle.book_turns.specs.Standing.{StandFor}
 use Rattle.book_engine.specs.Kept.{Kept}
 use Rattle.book_engine.specs.Books.{machine_of}
 use Rattle.book_engine.specs.Opens.{Opens, OpensTo}
-
--- Rows stand for a state: they are its rows. Where no rows were given to the keeper yet, there are none.
-abbrev pub StandFor : Bool → State → List Row → Type 0
-StandFor true state rows = OpenAs rows state
-StandFor false state rows = rows ≡ []
 
 -- Rows stand for what an engine keeps: its machine is what they open as.
 abbrev pub StandForKept : Kept → List Row → Type 0

@@ -6,20 +6,20 @@ ghost use Rattle.book_ledger.specs.Ledger.{Keeps, live_register};
 ghost use Rattle.book_step.specs.Soundness.{IsSound};
 ghost use Rattle.book_opening.specs.Opening.{OpenAs, WasRead};
 ghost use Rattle.book_opening.specs.State.{State};
+ghost use Rattle.book_report_answers.specs.LotsAsked.{lots_asked};
+ghost use Rattle.book_turns.specs.Whole.{IsWhole, step_state};
 ghost use Rattle.book_engine.specs.Acting.{HasActCause, IsUnchanged};
 ghost use Rattle.book_engine.specs.Changed.{AreChanged, AreKeptUp, AreLeft, AreReckoned, HaveRisen, IsActed};
-ghost use Rattle.book_engine.specs.Changed.{live_changes, live_lots, lots_asked};
-ghost use Rattle.book_engine.specs.Kept.{IsWhole, step_state};
+ghost use Rattle.book_engine.specs.Changed.{live_changes, live_lots};
 ghost use Rattle.book_engine.specs.Books.{machine_of};
 ghost use Rattle.book_engine.specs.Machine.{Done, step as step_from};
 ghost use Rattle.book_engine.specs.Opening.{HasOpenCause, IsOpenedAs, Opened};
 ghost use Rattle.book_engine.specs.Planned.{after, commits, HasRoomFor, IsPlanFor, IsPlanOf, IsRefusal};
 ghost use Rattle.book_engine.specs.Standing.{Stands};
 
+use crate::dropped::{drop_command, drop_plan, drop_refused_plan};
 use crate::opening::{begin, checked, open_error};
 use crate::planning::plan_of;
-use crate::reports::{is_security, lots_asked};
-use crate::turn::make_turn;
 use crate::{OpenError, Plan};
 use book_command::What;
 use book_commodity::OutOfMemory;
@@ -28,7 +28,9 @@ use book_ledger::Registers;
 use book_lots::Lots;
 use book_opening::{Saved, read_rows};
 use book_register::Register;
+use book_report_answers::{is_security, lots_asked};
 use book_step::{Answer, Command, Refusal};
+use book_turns::make_turn;
 use book_undo::Plain;
 use std::alloc::Global;
 use std::marker::Model;
@@ -135,7 +137,7 @@ impl Engine {
         ensures sound { IsSound (step_state self.new.state) }
     {
         if let Err(OutOfMemory) = self.reckon_for(&command.what) {
-            return Err(Refusal::OutOfMemory);
+            return Err(drop_command(command));
         }
         let plan = match plan_of(
             self.alloc,
@@ -149,7 +151,7 @@ impl Engine {
         };
         match self.make_room(&plan) {
             Ok(()) => Ok(plan),
-            Err(OutOfMemory) => Err(Refusal::OutOfMemory),
+            Err(OutOfMemory) => Err(drop_plan(plan)),
         }
     }
 
@@ -207,7 +209,7 @@ impl Engine {
         }
         match keeper.commit(plan.changes()) {
             Ok(()) => Ok(self.apply(plan)),
-            Err(error) => Err(error),
+            Err(error) => Err(drop_refused_plan(plan, error)),
         }
     }
 

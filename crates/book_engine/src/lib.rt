@@ -6,17 +6,12 @@
 //! hold the book.
 #![tactic(auto)]
 
-mod balances;
-mod changes;
+mod dropped;
 mod engine;
 mod fault;
-mod fresh;
-mod moves;
 mod opening;
 mod plan;
 mod planning;
-mod reports;
-mod turn;
 
 pub use book_command::{
     Answer, Command, DueDay, GivenAccount, GivenSchedule, GivenSplit, GivenTxn, Refusal, Report,

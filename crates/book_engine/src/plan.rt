@@ -1,10 +1,10 @@
 ghost use Rattle.std.specs.Prelude.{◌≡◌};
 ghost use Rattle.book_engine.specs.Planned.{commits};
 
-use crate::turn::Turn;
 use book_commodity::Many;
 use book_keeper::Change;
 use book_step::Answer;
+use book_turns::Turn;
 use book_undo::Edit;
 use std::marker::Model;
 

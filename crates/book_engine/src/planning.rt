@@ -1,36 +1,35 @@
-ghost use Rattle.std.specs.Prelude.{◌≡◌, ◌≤◌, true, Ok, None, Some, IfOk, IfErr};
+ghost use Rattle.std.specs.Prelude.{◌≡◌, true, Ok, None, Some, IfOk, IfErr};
 ghost use Rattle.book_ledger.specs.Ledger.{Keeps};
 ghost use Rattle.book_undo.specs.Edit.{outline};
 ghost use Rattle.book_undo.specs.EditRules.{IsAllowed};
 ghost use Rattle.book_undo.specs.Inverse.{LeadsBack};
 ghost use Rattle.book_step.specs.Outcome.{numbers};
-ghost use Rattle.book_step.specs.Soundness.{IsSound};
 ghost use Rattle.book_step.specs.Step.{outcome};
 ghost use Rattle.book_step.specs.Schedules.{Finds, day_rules, due_of};
 ghost use Rattle.book_command.specs.declared.answer.Answer.TheVariants.{Due as DueAnswer};
 ghost use Rattle.book_command.specs.declared.command.What.TheVariants.{Redo as AskRedo, Undo as AskUndo};
 ghost use Rattle.book_opening.specs.State.{state_of};
-ghost use Rattle.book_engine.specs.Kept.{IsWhole, step_state};
+ghost use Rattle.book_report_answers.specs.Reports.{report_answer as report_answer_of, report_rules};
+ghost use Rattle.book_turns.specs.Turned.{HaveSpellings, IsChangeTo, IsKeptStep, IsTurnFor, turned};
+ghost use Rattle.book_turns.specs.Whole.{IsWhole, step_state};
+ghost use Rattle.book_turns.specs.declared.turn.Way.TheVariants.{Change as ToNew};
 ghost use Rattle.book_engine.specs.Books.{machine_of};
 ghost use Rattle.book_engine.specs.Machine.{asked, reply, status, step as step_from, updated};
-ghost use Rattle.book_engine.specs.Planned.{IsChangeTo, IsLimitRefusal, IsPlanOf, IsPlanTo, IsRefusal, IsStepRefusal};
-ghost use Rattle.book_engine.specs.Planned.{IsTurnPlan, IsWholeStep, stay_plan, turn_plan};
-ghost use Rattle.book_engine.specs.Reports.{report_answer as report_answer_of, report_rules};
-ghost use Rattle.book_engine.specs.Turned.{HaveSpellings, IsKeptStep, IsTurnFor, turned};
-ghost use Rattle.book_engine.specs.declared.turn.Way.TheVariants.{Change as ToNew};
+ghost use Rattle.book_engine.specs.Planned.{IsLimitRefusal, IsPlanOf, IsPlanTo, IsRefusal, IsTurnPlan};
+ghost use Rattle.book_engine.specs.Planned.{stay_plan, turn_plan};
 
 use crate::Plan;
-use crate::balances::with_balances;
-use crate::changes::row_changes;
-use crate::reports::report_answer;
-use crate::turn::{Turn, Way};
+use crate::dropped::{drop_change, drop_edit, drop_turn};
+use book_balances::answered_step;
 use book_command::{Report, What};
 use book_commodity::{Counted, Day, Many, OutOfMemory};
 use book_ledger::Registers;
 use book_opening::Saved;
+use book_report_answers::report_answer;
 use book_step::{
-    Answer, Command, Refusal, Rule, Step, Update, check_version, due_answer, rate_answer, step_of,
+    Answer, Command, Refusal, Rule, Step, Update, check_version, due_answer, rate_answer,
 };
+use book_turns::{Turn, Way, row_changes};
 use book_undo::Edit;
 use std::alloc::Global;
 
@@ -173,7 +172,14 @@ fn plan_update(
     ensures refused { IfErr result (IsRefusal
         (updated (machine_of (state_of state.now)) (outcome (step_state (state_of state.now)) update))) }
 {
-    let step = match answered_step(alloc, state, registers, update) {
+    let step = match answered_step(
+        alloc,
+        &state.plain,
+        state.next,
+        state.version,
+        registers,
+        update,
+    ) {
         Ok(step) => step,
         Err(refusal) => return Err(refusal),
     };
@@ -184,28 +190,6 @@ fn plan_update(
     }
     match plan_change(alloc, state, saved, edit, next, answer) {
         Ok(plan) => Ok(plan),
-        Err(OutOfMemory) => Err(Refusal::OutOfMemory),
-    }
-}
-
-/// The step of a change from a state, with its whole answer.
-fn answered_step(
-    alloc: Global,
-    state: &Saved,
-    registers: &Registers,
-    update: Update,
-) -> Result<Step, Refusal>
-    requires sound { IsSound (step_state (state_of state.now)) }
-    requires registers { Keeps registers.now.entries (state_of state.now).book }
-    ensures done { IfOk result (IsWholeStep (step_state (state_of state.now)) update) }
-    ensures refused { IfErr result (IsStepRefusal (outcome (step_state (state_of state.now)) update)) }
-{
-    let step = match step_of(alloc, &state.plain, state.next, state.version, update) {
-        Ok(step) => step,
-        Err(refusal) => return Err(refusal),
-    };
-    match with_balances(alloc, &state.plain, registers, step) {
-        Ok(step) => Ok(step),
         Err(OutOfMemory) => Err(Refusal::OutOfMemory),
     }
 }
@@ -225,7 +209,7 @@ fn plan_change(
 {
     let inverse = match state.plain.inverse(alloc, &edit) {
         Ok(inverse) => inverse,
-        Err(error) => return Err(error),
+        Err(error) => return Err(drop_change(edit, answer, error)),
     };
     let turn = Turn {
         way: Way::Change,
@@ -257,7 +241,7 @@ fn plan_turn(
             answer,
             changes,
         }),
-        Err(error) => Err(error),
+        Err(error) => Err(drop_turn(turn, answer, error)),
     }
 }
 
@@ -324,14 +308,15 @@ fn kept_turn(alloc: Global, state: &Saved, way: Way, edit: &Edit) -> Result<Turn
     ensures form { IfOk result (λ turn. outline turn.inverse ≡ outline edit.now) }
 {
     let inverse = state.plain.inverse(alloc, edit)?;
-    let copy = edit.copy(alloc)?;
-    let next = state.next;
-    Ok(Turn {
-        way,
-        edit: copy,
-        inverse,
-        next,
-    })
+    match edit.copy(alloc) {
+        Ok(copy) => Ok(Turn {
+            way,
+            edit: copy,
+            inverse,
+            next: state.next,
+        }),
+        Err(error) => Err(drop_edit(inverse, error)),
+    }
 }
 
 /// A plan, or the refusal that the program is out of memory.

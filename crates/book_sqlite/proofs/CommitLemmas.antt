@@ -1,5 +1,5 @@
 -- A transaction of changes, from its beginning to its end.
-use Rattle.std.proofs.Common.{◌≡◌, ◌^◌, ◌<◌, ◌+◌, ℕ, zero, suc, drop, false, List, [], ◌∷◌, Result, Ok, Err, OnOk, OnErr, IfErr, inl, inr, sym, ap, subst, ◌∙◌, IsTrue, true≢false}
+use Rattle.std.proofs.Common.{◌≡◌, ◌≢◌, ◌⊎◌, ◌^◌, ◌<◌, ◌+◌, ℕ, zero, suc, drop, false, List, [], ◌∷◌, Result, Ok, Err, OnOk, OnErr, IfErr, inl, inr, sym, ap, subst, ◌∙◌, IsTrue, true≢false}
 use Rattle.sqlite_trees.specs.Tree.{Trees}
 use Rattle.sqlite.specs.declared.error.Error.{Error}
 use Rattle.sqlite.specs.State.{State, HasCleanDisk, KeepsCounts, KeepsCommit, Shows, IsRolledBack, Survives}
@@ -29,6 +29,7 @@ making_step old mid new change rest all m step = record {
     committed = λ is. step.committed ∙ m.kept.committed step.was_open;
   };
   mode = step.mode;
+  began = inr (m.kept.was_open step.was_open);
   rows = λ it.
       let r = m.rows it in
       let s = step.rows r.0 in (s.0, ap (after_changes rest) s.1 ∙ r.1);
@@ -76,8 +77,15 @@ module _ (old last end : State) (all : List Change) (back : HasCleanDisk end →
   commit_undone (Ok a) err = tt
   commit_undone (Err e) err = λ clean. failed e (err clean) clean
 
+  was_open_for : ([] ≡ all) ⊎ IsTrue old.is_open → all ≢ [] → IsTrue old.is_open
+  was_open_for (inl none) some = absurd (some (sym none))
+  was_open_for (inr is) some = is
+
   pub commit_survives : Survives old last (λ _. ⊥) → Survives last end (λ db. db ≡ last.now.trees)
-      → Survives old end (λ db. IsRowsDatabase old.now → rows_of (db 0) ≡ after_changes all (rows_in old.now))
+      → Survives old end (λ db. (all ≢ [] → IsTrue old.is_open)
+      × (IsRowsDatabase old.now → rows_of (db 0) ≡ after_changes all (rows_in old.now)))
   commit_survives one two =
       survives_then old last end _ _ _ (λ _ db none. absurd none)
-      (λ clean db is it. ap (λ (t : Trees). rows_of (t 0)) is ∙ ((making (back clean)).rows it).1) one two
+      (λ clean db is.
+      let m = making (back clean) in
+      (was_open_for m.began, λ it. ap (λ (t : Trees). rows_of (t 0)) is ∙ (m.rows it).1)) one two

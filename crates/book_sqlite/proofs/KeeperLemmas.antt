@@ -17,7 +17,7 @@ use Rattle.book_keeper.specs.Rows.{first_after}
 use Rattle.book_sqlite.specs.Content.{rows_of}
 use Rattle.book_sqlite.specs.RowsDatabase.{IsRowsDatabase, rows_in, ListsRows}
 use Rattle.book_sqlite.specs.RowCalls.{IsSure, IsReady, Committed, StaysCommitted, AreNext, PassesNone}
-use Rattle.book_sqlite.specs.KeeperInSqlite.{SqliteKept, AreAhead, is_sure, HoldsRows, HasEntries}
+use Rattle.book_sqlite.specs.KeeperInSqlite.{SqliteKept, AreAhead, is_sure, HoldsRows, HasEntries, MayLeave}
 
 module _ {S : Type 0} (g : Ghosts S) where
   abbrev knows : Held S → Type 0
@@ -86,19 +86,44 @@ module _ {S : Type 0} (g : Ghosts S) where
         subst P (ap (λ (d : Database). d.trees 0) (ready.settled was) ∙ sym has) (passed now.0 now.1)
 
     -- an open store leaves its last commit alone, so what a crash could leave before is what the keeper held
-    pub crash_leaves : (change : List Row → List Row) → IsReady (state g c)
-        → Survives (state g c) (state g new) (λ db. IsRowsDatabase (state g c).now → rows_of (db 0) ≡ change (rows_in (state g c).now))
+    pub crash_leaves : (change : List Row → List Row) (Changes : Type 0) → IsReady (state g c)
+        → Survives (state g c) (state g new) (λ db. (Changes → IsTrue (state g c).is_open)
+        × (IsRowsDatabase (state g c).now → rows_of (db 0) ≡ change (rows_in (state g c).now)))
         → ((db : Trees) → IsTrue (state g c).is_open → (state g c).may_leave db → db ≡ (state g c).committed.trees)
         → IsTrue (is_sure g k) → IsTrue (state g new).is_clean → (rows held : List Row) → HoldsRows g k held
         → (db : Trees) × (state g new).may_leave db × (rows ≡ rows_of (db 0)) → (rows ≡ held) ⊎ (rows ≡ change held)
-    crash_leaves change ready survives settled sure clean rows held holds left =
+    crash_leaves change Changes ready survives settled sure clean rows held holds left =
         let known : knows c = rw is at sure in
         let was = sure_from c known in
         let before : held ≡ rows_in (state g c).now = held_is held holds ∙ ap rows_in (sym (ready.settled was)) in
         elim (survives.crash (no_doubt _ clean) left.0 left.1) [
           | inl earlier ↦
               inl (left.2 ∙ ap (λ (t : Trees). rows_of (t 0)) (settled left.0 was.1 earlier) ∙ sym (held_is held holds))
-          | inr made ↦ inr (left.2 ∙ made (ready.rows was) ∙ ap change (sym before))
+          | inr made ↦ inr (left.2 ∙ made.1 (ready.rows was) ∙ ap change (sym before))
+        ]
+
+    -- a commit of some changes over a connection that was shut adds nothing to what a crash may leave
+    pub crash_adds : (change : List Row → List Row) (Changes : Type 0) → IsReady (state g c)
+        → Survives (state g c) (state g new) (λ db. (Changes → IsTrue (state g c).is_open)
+        × (IsRowsDatabase (state g c).now → rows_of (db 0) ≡ change (rows_in (state g c).now)))
+        → Changes → IsTrue (state g new).is_clean → (rows : List Row)
+        → (db : Trees) × (state g new).may_leave db × (rows ≡ rows_of (db 0))
+        → MayLeave g k rows ⊎ (IsTrue (is_sure g k) × ((held : List Row) → HoldsRows g k held → rows ≡ change held))
+    crash_adds change Changes ready survives some clean rows left =
+        elim (survives.crash (no_doubt _ clean) left.0 left.1) [
+          | inl earlier ↦
+              let may : (db : Trees) × (state g c).may_leave db × (rows ≡ rows_of (db 0)) = (left.0, earlier, left.2) in
+              inl (rw is may)
+          | inr made ↦
+              let was : IsSure (state g c) = (back (no_doubt _ clean), made.0 some) in
+              let known : knows c = and_from _ _ (clean_of _ was.0) was.1 in
+              let sure : IsTrue (is_sure g k) = rw is known in
+              inr (
+                sure,
+                λ held holds.
+                    let before : held ≡ rows_in (state g c).now = held_is held holds ∙ ap rows_in (sym (ready.settled was)) in
+                    left.2 ∙ made.1 (ready.rows was) ∙ ap change (sym before),
+              )
         ]
 
     -- of a commit that is made, and whose connection is open, a crash leaves the rows after it alone

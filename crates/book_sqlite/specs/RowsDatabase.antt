@@ -1,5 +1,5 @@
 -- A database that is a file of rows.
-use Rattle.std.specs.Prelude.{◌≡◌, List, IsTrue}
+use Rattle.std.specs.Prelude.{◌≡◌, List, [], IsTrue}
 use Rattle.std.specs.List.{AllByRecursion}
 use Rattle.sqlite_trees.specs.Tree.{Trees, IsTable, rowid}
 use Rattle.sqlite_trees.specs.Objects.{catalog_tree}
@@ -29,3 +29,7 @@ HasRowids db =
 -- The trees list the table of rows with its index, and nothing else.
 abbrev pub ListsRows : Trees → Type 0
 ListsRows db = AreListed (db catalog_tree) rows_schema
+
+-- The trees list nothing: no table, no index and no view.
+abbrev pub ListsNothing : Trees → Type 0
+ListsNothing db = db catalog_tree ≡ []

@@ -1,4 +1,4 @@
-ghost use Rattle.std.specs.Prelude.{◌≡◌, false, OnOk, OnErr};
+ghost use Rattle.std.specs.Prelude.{◌≡◌, ◌≢◌, [], false, IsTrue, OnOk, OnErr};
 ghost use Rattle.sqlite.specs.State.{HasCleanDisk, Survives};
 ghost use Rattle.sqlite.specs.Held.{state};
 ghost use Rattle.book_keeper.specs.Rows.{AreRising, after_changes};
@@ -20,8 +20,9 @@ pub fn make_all<S: Alter>(conn: &mut Connection<S>, changes: &[Change]) -> Resul
     ensures unchanged { OnErr result (HasCleanDisk (state S.Store conn.new)
         → StaysCommitted (state S.Store conn.old) (state S.Store conn.new)) }
     ensures survives { Survives (state S.Store conn.old) (state S.Store conn.new)
-        (λ db. IsRowsDatabase (state S.Store conn.old).now
-        → rows_of (db 0) ≡ after_changes changes.now (rows_in (state S.Store conn.old).now)) }
+        (λ db. (changes.now ≢ [] → IsTrue (state S.Store conn.old).is_open)
+        × (IsRowsDatabase (state S.Store conn.old).now
+        → rows_of (db 0) ≡ after_changes changes.now (rows_in (state S.Store conn.old).now))) }
 {
     let mut tx = conn.transaction();
     for change in changes {

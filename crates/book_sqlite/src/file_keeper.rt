@@ -6,11 +6,14 @@ ghost use Rattle.sqlite.specs.WalFiles.{image_at};
 ghost use Rattle.sqlite.specs.Files.{over_files, HoldsDatabase};
 ghost use Rattle.book_sqlite.specs.Content.{rows_of};
 ghost use Rattle.book_sqlite.specs.RowsDatabase.{ListsRows};
+ghost use Rattle.book_sqlite.specs.NewFiles.{HoldNothing};
 ghost use Rattle.book_sqlite.specs.KeeperInSqlite.{is_sure, HoldsRows};
 
 use crate::SqliteKeeper;
+use crate::orphan::is_log_alone;
 use crate::sqlite_keeper::is_want_of_memory;
 use sqlite::{Connection, Error, FileFrom, FileStore, Start};
+use std::io::ErrorKind;
 use std::rt::HostRuntime;
 
 /// A keeper of rows in a SQLite file. `T` stands for what the file and its log held before: what is proved over every
@@ -19,16 +22,26 @@ pub type FileKeeper<T> = SqliteKeeper<FileStore<FileFrom<T>>>;
 
 impl<T: Start> SqliteKeeper<FileStore<FileFrom<T>>> {
     /// A keeper over the file at the path, which is made where there is none. Without a path, and where the file can't
-    /// be opened or has another schema, `open` fails.
+    /// be opened or has another schema, `open` fails. So it does where a log that may hold commits stands beside a file
+    /// that is missing or empty: the two are left as they are.
     pub fn at(rt: &HostRuntime, path: Option<&str>, start: T) -> FileKeeper<T>
         ensures found { IsTrue (is_sure over_files result) → (db : Trees) → HoldsDatabase (image_at T.Start) db
             → ListsRows db → HoldsRows over_files result (rows_of (db 0)) }
+        ensures empty { IsTrue (is_sure over_files result) → HoldNothing (image_at T.Start)
+            → HoldsRows over_files result [] }
         ensures path { result.path ≡ [] }
         ensures faults { result.faults ≡ 0 }
     {
         let Some(path) = path else {
             return SqliteKeeper::unopened(rt.alloc(), false);
         };
+        match is_log_alone(rt, path) {
+            Ok(false) => {}
+            Ok(true) => return SqliteKeeper::unopened(rt.alloc(), false),
+            Err(error) => {
+                return SqliteKeeper::unopened(rt.alloc(), error.kind() == ErrorKind::OutOfMemory);
+            }
+        }
         match Connection::open_from(rt, path, false, start) {
             Ok(connection) => SqliteKeeper::over_opened(rt.alloc(), connection),
             Err((error, _)) => SqliteKeeper::unopened(rt.alloc(), is_want_of_memory(error)),

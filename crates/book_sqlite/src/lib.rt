@@ -5,6 +5,7 @@
 mod commit;
 mod file_keeper;
 mod opening;
+mod orphan;
 mod read_ahead;
 mod schema_test;
 mod selects;

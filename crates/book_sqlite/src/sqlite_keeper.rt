@@ -1,4 +1,4 @@
-ghost use Rattle.std.specs.Prelude.{◌≡◌, ◌↔◌, ◌<◌, ◌≤◌, ◌⊎◌, false, [], List, Some, None, IsTrue};
+ghost use Rattle.std.specs.Prelude.{◌≡◌, ◌≢◌, ◌↔◌, ◌<◌, ◌≤◌, ◌⊎◌, false, [], List, Some, None, IsTrue};
 ghost use Rattle.std.specs.Prelude.{IfOk, IfErr, IfSome, IsSome, OnOk, OnErr};
 ghost use Rattle.sqlite_value.specs.Order.{Row as Entry};
 ghost use Rattle.sqlite.specs.State.{HasCleanDisk, IsLive, Opens};
@@ -7,8 +7,7 @@ ghost use Rattle.book_keeper.specs.Faults.{Rose};
 ghost use Rattle.book_keeper.specs.Keeping.{HasKeepCause};
 ghost use Rattle.book_keeper.specs.Rows.{AreRising, rank, after_changes, first_after};
 ghost use Rattle.book_sqlite.specs.Content.{rows_of};
-ghost use Rattle.book_sqlite.specs.RowsDatabase.{HasRowids, ListsRows};
-ghost use Rattle.book_sqlite.specs.RowsSchema.{no_schema};
+ghost use Rattle.book_sqlite.specs.RowsDatabase.{HasRowids, ListsNothing, ListsRows};
 ghost use Rattle.book_sqlite.specs.RowCalls.{IsSure, PassesNone};
 ghost use Rattle.book_sqlite.specs.KeeperInSqlite.{is_sure, HoldsRows, HasEntries, MayLeave, has_clean_store};
 
@@ -50,13 +49,15 @@ impl<S: Alter> Model for SqliteKeeper<S> {
 }
 
 impl<S: Alter + Drop> SqliteKeeper<S> {
-    /// A keeper over this connection, whose database is checked once more. It makes the table of rows where the
-    /// database has nothing yet. Where it has the table, the keeper holds the rows of the last commit. Another schema
-    /// is left as it is, and `open` fails.
+    /// A keeper over this connection, whose database is checked once more. Where the database has nothing yet, it makes
+    /// the table of rows, and the keeper holds none. Where it has the table, the keeper holds the rows of the last
+    /// commit. Another schema is left as it is, and `open` fails.
     pub fn over(alloc: Global, connection: Connection<S>) -> SqliteKeeper<S>
         ensures clean { IsTrue (is_sure S.Store result) → HasCleanDisk (state S.Store connection) }
         ensures rows { IsTrue (is_sure S.Store result) → ListsRows (state S.Store connection).committed.trees
             → HoldsRows S.Store result (rows_of ((state S.Store connection).committed.trees 0)) }
+        ensures empty { IsTrue (is_sure S.Store result) → ListsNothing (state S.Store connection).committed.trees
+            → HoldsRows S.Store result [] }
         ensures path { result.path ≡ [] }
         ensures faults { result.faults ≡ 0 }
     {
@@ -75,7 +76,7 @@ impl<S: Alter + Drop> SqliteKeeper<S> {
         ensures clean { IsTrue (is_sure S.Store result) → HasCleanDisk (state S.Store connection) }
         ensures rows { IsTrue (is_sure S.Store result) → ListsRows (state S.Store connection).committed.trees
             → HoldsRows S.Store result (rows_of ((state S.Store connection).committed.trees 0)) }
-        ensures empty { IsTrue (is_sure S.Store result) → (state S.Store connection).now.schema ≡ no_schema
+        ensures empty { IsTrue (is_sure S.Store result) → ListsNothing (state S.Store connection).committed.trees
             → HoldsRows S.Store result [] }
         ensures path { result.path ≡ [] }
         ensures faults { result.faults ≡ 0 }
@@ -205,12 +206,17 @@ impl<S: Alter + Drop> Keeper for SqliteKeeper<S> {
 
     /// Makes all the changes in one transaction or, at an error, none, as far as it still knows its rows. At each exit,
     /// an error's too, a crash leaves the rows before the call or those after all the changes; after Ok, with the
-    /// connection open, those after them alone.
+    /// connection open, those after them alone. Where an earlier error shut the connection, it leaves only what it
+    /// could leave before.
     fn commit(&mut self, changes: &[Change]) -> Result<(), KeepError>
         requires { AreRising changes.now }
         ensures crash { IsTrue (is_sure S.Store self.old) → IsTrue (has_clean_store S.Store self.new)
             → (rows held : List Row) → HoldsRows S.Store self.old held → MayLeave S.Store self.new rows
             → (rows ≡ held) ⊎ (rows ≡ after_changes changes.now held) }
+        ensures crash_shut { changes.now ≢ [] → IsTrue (has_clean_store S.Store self.new)
+            → (rows : List Row) → MayLeave S.Store self.new rows → MayLeave S.Store self.old rows
+            ⊎ (IsTrue (is_sure S.Store self.old) × ((held : List Row) → HoldsRows S.Store self.old held
+            → rows ≡ after_changes changes.now held)) }
         ensures settled { OnOk result (IsTrue (is_sure S.Store self.new)
             → (rows held : List Row) → HoldsRows S.Store self.old held → MayLeave S.Store self.new rows
             → rows ≡ after_changes changes.now held) }

@@ -12,43 +12,20 @@ fn is_parted(alloc: Global, words: &[&str]) -> Result<bool, OutOfMemory> {
     Ok(part(alloc, texts.as_slice()).is_ok())
 }
 
+// Words that are none of the program's. The program asks its own grammar first, so that they never come here.
 #[test]
-fn books_of_any_name_are_parted(rt: HostRuntime) -> Result<(), Fail> {
-    for book in [
-        "household.book",
-        "a book",
-        "run",
-        "sample",
-        "help",
-        "=",
-        "a=b",
-        "a,b",
-        ".-",
-        "books/a.book",
-        "caf\u{e9}.book",
-    ] {
-        assert!(rt; is_parted(rt.alloc(), &["run", book])?, "{book}");
+fn other_words_are_not_parted(rt: HostRuntime) -> Result<(), Fail> {
+    let rows: [&[&str]; 7] = [
+        &[],
+        &["run"],
+        &["sample"],
+        &["walk", "a.book"],
+        &["run", "-a.book"],
+        &["sample", "-7"],
+        &["run", "a.book", "b.book"],
+    ];
+    for words in rows {
+        assert!(rt; !is_parted(rt.alloc(), words)?);
     }
-    Ok(())
-}
-
-#[test]
-fn numbers_are_parted(rt: HostRuntime) -> Result<(), Fail> {
-    for number in ["0", "7", "4611686018427387903"] {
-        assert!(rt; is_parted(rt.alloc(), &["sample", number])?, "{number}");
-    }
-    Ok(())
-}
-
-#[test]
-fn other_words_are_not(rt: HostRuntime) -> Result<(), Fail> {
-    let alloc = rt.alloc();
-    assert!(rt; !is_parted(alloc, &[])?);
-    assert!(rt; !is_parted(alloc, &["run"])?);
-    assert!(rt; !is_parted(alloc, &["sample"])?);
-    assert!(rt; !is_parted(alloc, &["walk", "a.book"])?);
-    assert!(rt; !is_parted(alloc, &["run", "-a.book"])?);
-    assert!(rt; !is_parted(alloc, &["sample", "-7"])?);
-    assert!(rt; !is_parted(alloc, &["run", "a.book", "b.book"])?);
     Ok(())
 }

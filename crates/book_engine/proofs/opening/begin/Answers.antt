@@ -5,8 +5,8 @@ use Rattle.book_step.specs.Soundness.{IsSound}
 use Rattle.book_step.specs.State.{State as StepState, fresh_book}
 use Rattle.book_step.proofs.SoundStep.{fresh-sound}
 use Rattle.book_opening.specs.State.{State}
-use Rattle.book_engine.specs.Kept.{IsWhole}
-use Rattle.book_engine.proofs.OpenLemmas.{fresh_whole}
+use Rattle.book_turns.specs.Whole.{IsWhole}
+use Rattle.book_engine.proofs.WholeLemmas.{fresh_whole}
 use Rattle.book_engine.proofs.opening.begin.Goals as goal
 
 pub invariant_of-result : goal.invariant_of-result

@@ -1,5 +1,5 @@
 use Rattle.book_opening.specs.State.{state_of}
-use Rattle.book_engine.proofs.TurnLemmas.{changed_whole}
+use Rattle.book_turns.proofs.TurnLemmas.{changed_whole}
 use Rattle.book_engine.proofs.planning.plan_change.Goals as goal
 
 pub plan_turn-requires-clause-after : goal.plan_turn-requires-clause-after

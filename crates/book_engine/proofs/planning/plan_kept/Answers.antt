@@ -1,11 +1,11 @@
 use Rattle.std.proofs.Common.{true, sym, subst, arith}
 use Rattle.std.proofs.lemmas.Bool.Decides.{nat_tests}
 use Rattle.book_opening.specs.State.{state_of}
-use Rattle.book_engine.specs.Kept.{IsWhole}
-use Rattle.book_engine.specs.Turned.{IsTurnFor, turned}
-use Rattle.book_engine.specs.declared.turn.Turn.{Turn}
+use Rattle.book_turns.specs.Whole.{IsWhole}
+use Rattle.book_turns.specs.Turned.{IsTurnFor, turned}
+use Rattle.book_turns.specs.declared.turn.Turn.{Turn}
 use Rattle.book_engine.proofs.PlanLemmas.{kept_turn_for}
-use Rattle.book_engine.proofs.TurnLemmas.{kept_can, kept_whole, numbers_within, turn_is}
+use Rattle.book_turns.proofs.TurnLemmas.{kept_can, kept_whole, numbers_within, turn_is}
 use Rattle.book_engine.proofs.planning.plan_kept.Goals as goal
 
 pub kept_turn-requires : goal.kept_turn-requires

@@ -3,7 +3,7 @@ use Rattle.std.specs.Option.{option_copied}
 use Rattle.std.proofs.lemmas.Result.{IfErr-weaker}
 use Rattle.book_opening.specs.State.{state_of}
 use Rattle.book_engine.proofs.PlanLemmas.{ok_with, planned_redo}
-use Rattle.book_engine.proofs.TurnLemmas.{redo_nothing, redo_refused}
+use Rattle.book_engine.proofs.MachineLemmas.{redo_nothing, redo_refused}
 use Rattle.book_engine.proofs.planning.plan_redo.Goals as goal
 
 pub returns-in-Some-clause-planned : goal.returns-in-Some-clause-planned

@@ -2,10 +2,10 @@ use Rattle.std.proofs.Common.{Option, sym, ap, ◌∙◌, subst}
 use Rattle.book_command.specs.declared.answer.Answer.{Answer}
 use Rattle.book_command.specs.declared.rule.Rule.{Rule}
 use Rattle.book_opening.specs.State.{state_of}
+use Rattle.book_report_answers.specs.Reports.{report_answer, report_rules}
 use Rattle.book_engine.specs.Books.{machine_of}
 use Rattle.book_engine.specs.Machine.{Done, asked, unless_broken}
 use Rattle.book_engine.specs.Planned.{IsPlanTo, Planned}
-use Rattle.book_engine.specs.Reports.{report_answer, report_rules}
 use Rattle.book_engine.proofs.PlanLemmas.{is_stay_plan}
 use Rattle.book_engine.proofs.planning.plan_report.Goals as goal
 

@@ -1,7 +1,7 @@
 use Rattle.std.proofs.Common.{sym, subst}
 use Rattle.book_opening.specs.State.{state_of}
 use Rattle.book_step.specs.Step.{outcome}
-use Rattle.book_engine.specs.Kept.{step_state}
+use Rattle.book_turns.specs.Whole.{step_state}
 use Rattle.book_engine.specs.Books.{machine_of}
 use Rattle.book_engine.specs.Machine.{updated}
 use Rattle.book_engine.specs.Planned.{IsPlanTo, Planned}

@@ -1,10 +1,12 @@
-use Rattle.std.proofs.Common.{◌≡◌, refl, sym, subst, ◌∙◌, arith, rules, drop}
+use Rattle.std.proofs.Common.{◌≡◌, ◌≢◌, [], IsTrue, refl, sym, subst, ◌∙◌, arith, rules, drop}
 use Rattle.std.proofs.lemmas.List.{drop_all}
 use Rattle.sqlite.specs.State.{HasCleanDisk, Survives}
 use Rattle.sqlite.specs.Held.{state}
 use Rattle.sqlite.proofs.StateLemmas.{survives_then}
 use Rattle.book_commodity.proofs.ListLemmas.{from-item}
 use Rattle.book_keeper.specs.Rows.{after_changes}
+use Rattle.book_sqlite.specs.Content.{rows_of}
+use Rattle.book_sqlite.specs.RowsDatabase.{IsRowsDatabase, rows_in}
 use Rattle.book_sqlite.specs.RowCalls.{Committed, StaysCommitted}
 use Rattle.book_sqlite.specs.CommitCalls.{IsMaking}
 use Rattle.book_sqlite.proofs.CommitLemmas.{fits_at, making_step, undone_stays, kept_then, at_error, commit_made, commit_undone, commit_survives}
@@ -76,6 +78,6 @@ returns-clause-survives g c =
     let all = c.args.changes.now in
     let same : end ≡ c.conn-2-1.given.0 = search rules in
     let none = drop_all c.loop-change.change-index all (omega (arith, c.loop-change-test.false)) in
-    subst (λ h. Survives old (state g.S.Store h) (λ db. Rattle.book_sqlite.specs.RowsDatabase.IsRowsDatabase old.now → Rattle.book_sqlite.specs.Content.rows_of (db 0) ≡ after_changes all (Rattle.book_sqlite.specs.RowsDatabase.rows_in old.now))) same
+    subst (λ h. Survives old (state g.S.Store h) (λ db. (all ≢ [] → IsTrue old.is_open) × (IsRowsDatabase old.now → rows_of (db 0) ≡ after_changes all (rows_in old.now)))) same
     (commit_survives old last (state g.S.Store end) all (λ clean. omega (arith, clean, c.commit.ensures.survives.clean))
     (λ clean. subst (λ l. IsMaking old last l all) none (c.loop-change.invariant.making clean)) c.loop-change.invariant.survives c.commit.ensures.survives)

@@ -1,4 +1,4 @@
-use Rattle.book_engine.specs.Changed.{lots_asked}
+use Rattle.book_report_answers.specs.LotsAsked.{lots_asked}
 use Rattle.book_engine.proofs.ChangedLemmas.{risen_from}
 use Rattle.book_engine.proofs.LotsLemmas.{kept_up_left}
 use Rattle.book_engine.proofs.StandLemmas.{stands_unchanged}

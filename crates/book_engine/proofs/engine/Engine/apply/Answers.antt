@@ -6,10 +6,10 @@ use Rattle.book_undo.specs.Edit.{edited}
 use Rattle.book_engine.specs.Changed.{AreChanged}
 use Rattle.book_engine.specs.Kept.{Kept, kept_by}
 use Rattle.book_engine.specs.Planned.{Planned}
-use Rattle.book_engine.specs.Turned.{turned}
-use Rattle.book_engine.specs.declared.turn.Turn.{Turn}
+use Rattle.book_turns.specs.Turned.{turned}
+use Rattle.book_turns.specs.declared.turn.Turn.{Turn}
 use Rattle.book_engine.proofs.ChangedLemmas.{changed_by}
-use Rattle.book_engine.proofs.MoveLemmas.{has_places}
+use Rattle.book_balances.proofs.MoveLemmas.{has_places}
 use Rattle.book_engine.proofs.engine.Engine.apply.Goals as goal
 
 pub apply-requires-clause-places : goal.apply-requires-clause-places

@@ -1,4 +1,4 @@
-use Rattle.book_engine.specs.Changed.{lots_asked}
+use Rattle.book_report_answers.specs.LotsAsked.{lots_asked}
 use Rattle.book_engine.proofs.LotsLemmas.{kept_up_left, reckoned_left}
 use Rattle.book_engine.proofs.engine.Engine.prepare.Goals as goal
 

@@ -4,7 +4,8 @@ use Rattle.book_lots.specs.Lots.{IsSmall}
 use Rattle.book_opening.specs.State.{state_of}
 use Rattle.book_register.specs.declared.entry.Entry.{Entry}
 use Rattle.book_reports.proofs.RowLemmas.{can_be_summed}
-use Rattle.book_engine.specs.Changed.{AreKeptUp, AreReckoned, lots_asked}
+use Rattle.book_report_answers.specs.LotsAsked.{lots_asked}
+use Rattle.book_engine.specs.Changed.{AreKeptUp, AreReckoned}
 use Rattle.book_engine.specs.Kept.{Kept, kept_by}
 use Rattle.book_engine.proofs.LotsLemmas.{are_reckoned, kept_up, small_rows, where_done}
 use Rattle.book_engine.proofs.engine.Engine.reckon_for.Goals as goal

@@ -1,8 +1,7 @@
 use Rattle.sqlite.specs.Held.{state}
-use Rattle.std.proofs.Common.{◌≡◌}
-use Rattle.book_sqlite.specs.RowsDatabase.{ListsRows}
-use Rattle.book_sqlite.specs.RowsSchema.{no_schema}
+use Rattle.book_sqlite.specs.RowsDatabase.{ListsNothing, ListsRows}
 use Rattle.book_sqlite.proofs.KeeperLemmas.{opened_clean, opened_holds, empty_holds}
+use Rattle.book_sqlite.proofs.OpeningLemmas.{opened_bare}
 use Rattle.book_sqlite.proofs.sqlite_keeper.SqliteKeeper.over_opened.Goals as goal
 
 pub returns-in-Ok-clause-clean : goal.returns-in-Ok-clause-clean
@@ -15,4 +14,6 @@ returns-in-Ok-clause-rows g c =
 
 pub returns-in-Ok-clause-empty : goal.returns-in-Ok-clause-empty
 returns-in-Ok-clause-empty g c =
-    empty_holds g.S.Store c.in-Ok.connection (c.args.connection.schema ≡ no_schema) c.in-Ok.ensures.ready c.in-Ok.ensures.empty
+    let trees = (state g.S.Store c.args.connection).committed.trees in
+    empty_holds g.S.Store c.in-Ok.connection (ListsNothing trees) c.in-Ok.ensures.ready
+    (λ clean nothing. c.in-Ok.ensures.empty clean (opened_bare (state g.S.Store c.args.connection) (c.requires.opened (c.in-Ok.ensures.clean clean)) nothing))

@@ -1,8 +1,8 @@
-use Rattle.std.proofs.Common.{◌≡◌, Some, arith, rules}
+use Rattle.std.proofs.Common.{◌≡◌, ◌≢◌, [], Some, arith, rules}
 use Rattle.sqlite.specs.Held.{state}
 use Rattle.book_keeper.specs.Rows.{after_changes}
 use Rattle.book_sqlite.specs.RowCalls.{IsReady}
-use Rattle.book_sqlite.proofs.KeeperLemmas.{sure_back, rows_stay, rows_made, crash_leaves, crash_settles}
+use Rattle.book_sqlite.proofs.KeeperLemmas.{sure_back, rows_stay, rows_made, crash_leaves, crash_adds, crash_settles}
 use Rattle.book_sqlite.proofs.sqlite_keeper.SqliteKeeperKeeper.commit.Goals as goal
 
 pub returns-in-Ok-clause-sure : goal.returns-in-Ok-clause-sure
@@ -37,7 +37,7 @@ returns-in-Ok-clause-crash g c =
     let is : c.args.self.now.connection ≡ Some c.in-Some.connection = search rules in
     let ready : IsReady (state g.S.Store c.in-Some.connection) = search rules in
     crash_leaves g.S.Store c.args.self.now c.in-Some.connection c.make_all.new.conn is
-    (λ clean. omega (arith, clean, c.make_all.ensures.survives.clean)) (after_changes c.args.changes.now) ready c.make_all.ensures.survives
+    (λ clean. omega (arith, clean, c.make_all.ensures.survives.clean)) (after_changes c.args.changes.now) (c.args.changes.now ≢ []) ready c.make_all.ensures.survives
     (g.met.S.Store.settled c.in-Some.connection.store)
 
 pub returns-in-Err-clause-crash : goal.returns-in-Err-clause-crash
@@ -46,7 +46,7 @@ returns-in-Err-clause-crash g c =
     let new_is : c.fail-in-Err.new.self.connection ≡ Some c.make_all.new.conn = search rules in
     let ready : IsReady (state g.S.Store c.in-Some.connection) = search rules in
     rw new_is (crash_leaves g.S.Store c.args.self.now c.in-Some.connection c.make_all.new.conn is
-    (λ clean. omega (arith, clean, c.make_all.ensures.survives.clean)) (after_changes c.args.changes.now) ready c.make_all.ensures.survives
+    (λ clean. omega (arith, clean, c.make_all.ensures.survives.clean)) (after_changes c.args.changes.now) (c.args.changes.now ≢ []) ready c.make_all.ensures.survives
     (g.met.S.Store.settled c.in-Some.connection.store))
 
 pub returns-in-Ok-clause-settled : goal.returns-in-Ok-clause-settled
@@ -56,3 +56,20 @@ returns-in-Ok-clause-settled g c =
     crash_settles g.S.Store c.args.self.now c.in-Some.connection c.make_all.new.conn is
     (λ clean. omega (arith, clean, c.make_all.ensures.survives.clean)) (after_changes c.args.changes.now) ready c.in-Ok.ensures.made
     (g.met.S.Store.settled c.make_all.new.conn.store)
+
+pub returns-in-Ok-clause-crash_shut : goal.returns-in-Ok-clause-crash_shut
+returns-in-Ok-clause-crash_shut g c =
+    let is : c.args.self.now.connection ≡ Some c.in-Some.connection = search rules in
+    let ready : IsReady (state g.S.Store c.in-Some.connection) = search rules in
+    crash_adds g.S.Store c.args.self.now c.in-Some.connection c.make_all.new.conn is
+    (λ clean. omega (arith, clean, c.make_all.ensures.survives.clean)) (after_changes c.args.changes.now) (c.args.changes.now ≢ []) ready
+    c.make_all.ensures.survives
+
+pub returns-in-Err-clause-crash_shut : goal.returns-in-Err-clause-crash_shut
+returns-in-Err-clause-crash_shut g c =
+    let is : c.args.self.now.connection ≡ Some c.in-Some.connection = search rules in
+    let new_is : c.fail-in-Err.new.self.connection ≡ Some c.make_all.new.conn = search rules in
+    let ready : IsReady (state g.S.Store c.in-Some.connection) = search rules in
+    rw new_is (crash_adds g.S.Store c.args.self.now c.in-Some.connection c.make_all.new.conn is
+    (λ clean. omega (arith, clean, c.make_all.ensures.survives.clean)) (after_changes c.args.changes.now) (c.args.changes.now ≢ []) ready
+    c.make_all.ensures.survives)

@@ -1,0 +1,15 @@
+use Rattle.book_app.proofs.StatusClauseLemmas.{stream_run_seen}
+use Rattle.book.specs.FileRun.{BeginsWith}
+use Rattle.book.proofs.FileLemmas.{of_rows}
+use Rattle.book.proofs.run_in.Goals as goal
+
+-- the keeper held the rows of the file as the run began, and had counted no fault
+pub returns : goal.returns
+returns g c = record {
+  run =
+      stream_run_seen _ (BeginsWith _) 0 _ _ c.at-keeper.ensures.faults
+      (λ still.
+      of_rows _ _ (c.at-keeper.ensures.found (c.run_program-ended.ensures.sure still))
+      (c.at-keeper.ensures.empty (c.run_program-ended.ensures.sure still)))
+      c.run_program-ended.ensures.run;
+}

@@ -1,0 +1,61 @@
+ghost use Rattle.std.specs.Prelude.{◌≡◌, ℕ, ◌≤◌, ◌^◌, All, IfOk, OnOk, length, pos};
+ghost use Rattle.book_balances.specs.Balances.{IsMoved, moved};
+ghost use Rattle.book_sound.proofs.SoundFacts.{IsAtMost};
+ghost use Rattle.book_splits.specs.Balance.{quantity_on};
+ghost use Rattle.book_splits.specs.Check.{HasAmounts};
+
+use book_commodity::{OutOfMemory, Table};
+use book_splits::Split;
+use std::alloc::Global;
+
+/// What splits give to accounts: the sums of their quantities, by the numbers of the accounts.
+#[derive(Drop)]
+pub(crate) struct Moves {
+    sums: Table<i128>,
+}
+
+impl Moves {
+    /// Nothing is given to any account; it takes no memory.
+    pub(crate) fn none(alloc: Global) -> Moves
+        ensures { (account : ℕ) → moved account result.sums.entries ≡ pos 0 }
+    {
+        Moves {
+            sums: Table::new(alloc),
+        }
+    }
+
+    /// What the splits give.
+    pub(crate) fn of(alloc: Global, splits: &[Split]) -> Result<Moves, OutOfMemory>
+        requires small { All HasAmounts splits.now }
+        requires few { length splits.now ≤ 500 }
+        ensures { IfOk result (λ moves. (account : ℕ)
+            → moved account moves.sums.entries ≡ quantity_on account splits.now) }
+    {
+        let mut moves = Moves::none(alloc);
+        for split in splits {
+            moves.add(split.account, split.quantity)?;
+        }
+        Ok(moves)
+    }
+
+    /// What is given to an account.
+    pub(crate) fn to(&self, account: u64) -> i128
+        ensures { result ≡ moved account self.now.sums.entries }
+    {
+        match self.sums.find(account) {
+            Some(sum) => *sum,
+            None => 0,
+        }
+    }
+
+    /// Gives an account so much more.
+    fn add(&mut self, account: u64, quantity: i64) -> Result<(), OutOfMemory>
+        requires { IsAtMost (10 ^ 15) (moved account self.old.sums.entries) }
+        ensures { OnOk result (IsMoved account quantity self.old.sums.entries self.new.sums.entries) }
+    {
+        let sum = self.to(account) + i128::from(quantity);
+        self.sums.reserve(1)?;
+        let _ = self.sums.put(account, sum);
+        Ok(())
+    }
+}

@@ -1,0 +1,153 @@
+use crate::counters::{count, counted, expanded};
+use crate::rows::{Spelled, rows_of};
+use book_keeper::RowKey;
+use std::alloc::{AllocError, Global};
+use std::io;
+
+/// An answer that is wanted: how it begins and ends, and whether it is its beginning alone.
+#[derive(Drop)]
+pub(crate) struct Answer {
+    pub(crate) line: usize,
+    pub(crate) begins: String,
+    pub(crate) ends: String,
+    pub(crate) is_whole: bool,
+}
+
+impl Answer {
+    /// Whether a line is this answer.
+    pub(crate) fn is(&self, line: &str) -> bool {
+        if self.is_whole {
+            return line == self.begins.as_str();
+        }
+        line.starts_with(self.begins.as_str()) && line.ends_with(self.ends.as_str())
+    }
+}
+
+/// A row that the keeper holds at the end.
+#[derive(Drop)]
+pub(crate) struct WantedRow {
+    pub(crate) line: usize,
+    pub(crate) key: RowKey,
+    pub(crate) body: Vec<u8>,
+}
+
+/// What a run wants: its answers, and whether it is enough that they begin so; how it ends; how many bytes of the input
+/// are not read; how many rows the keeper holds, and which.
+#[derive(Drop)]
+pub(crate) struct Wanted {
+    pub(crate) answers: Vec<Answer>,
+    pub(crate) is_cut: bool,
+    pub(crate) status: String,
+    pub(crate) unread: Option<usize>,
+    pub(crate) count: Option<usize>,
+    pub(crate) rows: Vec<WantedRow>,
+}
+
+impl Wanted {
+    /// No answers, and that all is done.
+    pub(crate) fn new(alloc: Global) -> Result<Wanted, AllocError> {
+        Ok(Wanted {
+            answers: Vec::new(alloc),
+            is_cut: false,
+            status: String::from_str(alloc, "done")?,
+            unread: None,
+            count: None,
+            rows: Vec::new(alloc),
+        })
+    }
+
+    /// Takes in a line that says what is wanted. Whether it is such a line.
+    pub(crate) fn take(
+        &mut self,
+        alloc: Global,
+        mark: &str,
+        rest: &str,
+        line: usize,
+    ) -> io::Result<bool> {
+        match mark {
+            "<" => self.add_answer(alloc, rest, true, line)?,
+            "<^" => self.add_answer(alloc, rest, false, line)?,
+            "<$" => self.add_end(alloc, rest, line)?,
+            "<*" => self.add_answers(alloc, rest, true, line)?,
+            "<*^" => self.add_answers(alloc, rest, false, line)?,
+            "cut" => self.is_cut = true,
+            "ends" => self.status = String::from_str(alloc, rest)?,
+            "unread" => self.unread = Some(count(rest)?),
+            "rows" => self.count = Some(count(rest)?),
+            "row" => self.rows.push(wanted_row(alloc, rest, line)?)?,
+            _ => return Ok(false),
+        }
+        Ok(true)
+    }
+
+    /// Adds an answer.
+    pub(crate) fn add_answer(
+        &mut self,
+        alloc: Global,
+        text: &str,
+        is_whole: bool,
+        line: usize,
+    ) -> io::Result<()> {
+        self.answers.push(Answer {
+            line,
+            begins: String::from_str(alloc, text)?,
+            ends: String::new(alloc),
+            is_whole,
+        })?;
+        Ok(())
+    }
+
+    /// Says how the answer that was added last ends, where only its beginning was said, or else how one more ends.
+    fn add_end(&mut self, alloc: Global, text: &str, line: usize) -> io::Result<()> {
+        let needs_one = match self.answers.last() {
+            Some(answer) => answer.is_whole || !answer.ends.is_empty(),
+            None => true,
+        };
+        if needs_one {
+            self.add_answer(alloc, "", false, line)?;
+        }
+        if let Some(answer) = self.answers.last_mut() {
+            answer.ends.push_str(text)?;
+        }
+        Ok(())
+    }
+
+    /// Adds as many answers as the line's number says. Where it has no text, these are any answers.
+    fn add_answers(
+        &mut self,
+        alloc: Global,
+        rest: &str,
+        is_whole: bool,
+        line: usize,
+    ) -> io::Result<()> {
+        let (count, text) = counted(rest)?;
+        for times in 0..count {
+            let answer = expanded(alloc, text, times)?;
+            let is_whole = is_whole && !text.is_empty();
+            self.add_answer(alloc, answer.as_str(), is_whole, line)?;
+        }
+        Ok(())
+    }
+
+    /// The answers in one text.
+    pub(crate) fn text(&self, alloc: Global) -> Result<String, AllocError> {
+        let mut text = String::new(alloc);
+        for answer in self.answers.as_slice() {
+            text.push_str(answer.begins.as_str())?;
+            text.push('\n')?;
+        }
+        Ok(text)
+    }
+}
+
+/// The row that a line `KIND ID HEX` wants.
+fn wanted_row(alloc: Global, rest: &str, line: usize) -> io::Result<WantedRow> {
+    let Spelled {
+        kind,
+        first,
+        body,
+        ..
+    } = rows_of(alloc, rest)?;
+    let key = RowKey { kind, id: first };
+    Ok(WantedRow { line, key, body })
+}

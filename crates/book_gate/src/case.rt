@@ -1,0 +1,108 @@
+use crate::comparing::Case;
+use crate::counters::unread;
+use crate::report::Report;
+use crate::rows::no_rows;
+use crate::run::Run;
+use crate::script::{Line, Section, sections_of};
+use crate::store::Store;
+use std::alloc::Global;
+use std::{io, mem};
+
+/// A case that is under way: the rows as the run before left them, the run as its lines have said it so far, and how
+/// many runs were made.
+#[derive(Drop)]
+struct Progress {
+    store: Store,
+    run: Run,
+    runs: u64,
+}
+
+/// Makes the runs of each case of a file, and says how many there are.
+pub(crate) fn check_runs(report: &mut Report<'_>, file: &str) -> io::Result<()> {
+    let text = report.read(file)?;
+    let sections = sections_of(report.alloc(), text.as_str())?;
+    let mut runs: u64 = 0;
+    for section in sections.as_slice() {
+        if section.is_case {
+            runs = runs.saturating_add(check_case(report, file, section)?);
+        }
+    }
+    let line = format!(in report.alloc(); "{file}: {runs} runs")?;
+    report.say(line.as_str())
+}
+
+/// Makes the runs of a case. How many there are. A line that can't be read ends the case as one that fails.
+fn check_case(report: &mut Report<'_>, file: &str, section: &Section<'_>) -> io::Result<u64> {
+    let case = Case {
+        file,
+        name: section.name,
+    };
+    let run = Run::new(report.alloc(), section.number)?;
+    let mut progress = Progress {
+        store: Store::Memory(no_rows(report.alloc())),
+        run,
+        runs: 0,
+    };
+    let taken = take_all(report, case, &mut progress, section.lines.as_slice());
+    let runs = progress.runs;
+    drop(progress);
+    match taken {
+        Ok(()) => Ok(runs),
+        Err(error) => Err(error),
+    }
+}
+
+/// Takes in the lines of a case, and makes its last run.
+fn take_all(
+    report: &mut Report<'_>,
+    case: Case<'_>,
+    progress: &mut Progress,
+    lines: &[Line<'_>],
+) -> io::Result<()> {
+    for line in lines {
+        if take(report, case, progress, *line).is_err() {
+            return report.fail(case.at(line.number), "a line of a run", line.text);
+        }
+    }
+    finish(report, case, progress)
+}
+
+/// Takes in a line of a case.
+fn take(
+    report: &mut Report<'_>,
+    case: Case<'_>,
+    progress: &mut Progress,
+    line: Line<'_>,
+) -> io::Result<()> {
+    let alloc = report.alloc();
+    let (mark, rest) = line.text.split_once(' ').unwrap_or((line.text, ""));
+    if progress.store.change(report.rt(), mark, rest)? {
+        return Ok(());
+    }
+    match mark {
+        "again" => {
+            finish(report, case, progress)?;
+            progress.run = Run::new(alloc, line.number)?;
+        }
+        "over" => progress.store = Store::named(alloc, rest)?,
+        _ => take_into(alloc, &mut progress.run, mark, rest, line.number)?,
+    }
+    Ok(())
+}
+
+/// Takes in a line of a run.
+fn take_into(alloc: Global, run: &mut Run, mark: &str, rest: &str, line: usize) -> io::Result<()> {
+    if run.take_given(alloc, mark, rest, line)? || run.wanted.take(alloc, mark, rest, line)? {
+        Ok(())
+    } else {
+        Err(unread())
+    }
+}
+
+/// Makes the run.
+fn finish(report: &mut Report<'_>, case: Case<'_>, progress: &mut Progress) -> io::Result<()> {
+    let store = mem::replace(&mut progress.store, Store::File);
+    progress.store = store.after(report, case, &progress.run)?;
+    progress.runs = progress.runs.saturating_add(1);
+    Ok(())
+}

@@ -1,0 +1,54 @@
+use std::alloc::Global;
+use std::io;
+use std::io::ErrorKind;
+
+/// The error of a line that can't be read.
+pub(crate) fn unread() -> io::Error {
+    io::Error::from(ErrorKind::InvalidData)
+}
+
+/// The number that a word is.
+pub(crate) fn number(word: &str) -> io::Result<u64> {
+    match word.parse() {
+        Ok(number) => Ok(number),
+        Err(_) => Err(unread()),
+    }
+}
+
+/// The number that a word is.
+pub(crate) fn count(word: &str) -> io::Result<usize> {
+    match word.parse() {
+        Ok(number) => Ok(number),
+        Err(_) => Err(unread()),
+    }
+}
+
+/// The number that a text begins with, and what stands behind the blank after it.
+pub(crate) fn counted(text: &str) -> io::Result<(u64, &str)> {
+    let (word, rest) = text.split_once(' ').unwrap_or((text, ""));
+    match word.parse() {
+        Ok(number) => Ok((number, rest)),
+        Err(_) => Err(unread()),
+    }
+}
+
+/// A text in which `#FIRST+STEP#` stands for FIRST and so many times STEP.
+pub(crate) fn expanded(alloc: Global, text: &str, times: u64) -> io::Result<String> {
+    let mut all = String::new(alloc);
+    for (place, piece) in text.split('#').enumerate() {
+        if place % 2 == 0 {
+            all.push_str(piece)?;
+        } else {
+            let counter = counter_of(piece, times)?;
+            all.push_str(counter.to_string(alloc)?.as_str())?;
+        }
+    }
+    Ok(all)
+}
+
+/// FIRST and so many times STEP, of a text `FIRST+STEP`.
+fn counter_of(text: &str, times: u64) -> io::Result<u64> {
+    let (first, step) = text.split_once('+').unwrap_or((text, "0"));
+    let behind = number(step)?.saturating_mul(times);
+    Ok(number(first)?.saturating_add(behind))
+}

@@ -1,0 +1,102 @@
+//! The rows of the gate: runs of the program, pages, books that are opened again, stops of a disk. Each row stands in a
+//! file beside the program, and `gate.txt` lists the files. The program makes what each row says, compares what comes
+//! with what the row wants, and says for each file how many rows it has. A row that fails is said on standard output
+//! and on standard error; then the program goes on, and ends with 1. With the words `opening COUNT` it measures instead
+//! how long a book of so many transactions takes to open.
+#![tactic(auto)]
+
+mod answers;
+mod case;
+mod comparing;
+mod counters;
+mod disk;
+mod each;
+mod failing_keeper;
+mod files;
+mod host;
+mod making;
+mod opening;
+mod page;
+mod pages;
+mod report;
+mod rows;
+mod run;
+mod script;
+mod stop;
+mod stops;
+mod store;
+mod streams;
+mod unsteady;
+mod work;
+
+use crate::case::check_runs;
+use crate::files::check_files;
+use crate::opening::measure;
+use crate::pages::{check_commands, check_example, check_page, check_readme};
+use crate::report::{Place, Report};
+use crate::stops::check_stops;
+use crate::streams::check_streams;
+use crate::work::check_work;
+use std::io::ErrorKind;
+use std::process::ExitCode;
+use std::{env, io};
+
+/// Does what one line of the list asks.
+fn check(report: &mut Report<'_>, line: &str) -> io::Result<()> {
+    let words: Vec<&str> = line.split(' ').collect(report.alloc())?;
+    match words.as_slice() {
+        ["page", file] => check_page(report, file),
+        ["commands", file, session] => check_commands(report, file, session),
+        ["example", file, answers] => check_example(report, file, answers),
+        ["readme", file, salary, month] => check_readme(report, file, salary, month),
+        ["runs", file] => check_runs(report, file),
+        ["stops", lines, file, ending, before, after] => {
+            check_stops(report, lines, file, ending, [before, after])
+        }
+        ["streams", lines, answers] => check_streams(report, lines, answers),
+        ["files", file] => check_files(report, file),
+        ["work", file] => check_work(report, file),
+        _ => Err(io::Error::from(ErrorKind::InvalidInput)),
+    }
+}
+
+/// Does what each line of the list asks. A line that can't be done is a row that fails.
+fn check_all(report: &mut Report<'_>, list: &str) -> io::Result<()> {
+    for (place, line) in list.lines().enumerate() {
+        if let Err(error) = check(report, line) {
+            let place = Place {
+                file: "gate.txt",
+                line: place.saturating_add(1),
+                name: line,
+            };
+            let came = format!(in report.alloc(); "{:?}", error.kind())?;
+            report.fail(place, "rows that can be read", came.as_str())?;
+        }
+    }
+    Ok(())
+}
+
+/// Compares all rows. Whether none failed.
+fn compare_all(rt: &HostRuntime) -> io::Result<bool> {
+    let mut report = Report::new(rt);
+    let list = report.read("gate.txt")?;
+    check_all(&mut report, list.as_str())?;
+    Ok(report.has_no_failure())
+}
+
+/// Does what the words ask.
+fn do_words(rt: &HostRuntime) -> io::Result<bool> {
+    let words: Vec<String> = env::args(rt)?.skip(1).collect(rt.alloc())?;
+    match words.as_slice() {
+        [] => compare_all(rt),
+        [word, count] if word.as_str() == "opening" => measure(rt, count.as_str()),
+        _ => Ok(false),
+    }
+}
+
+fn main(rt: HostRuntime) -> ExitCode {
+    match do_words(&rt) {
+        Ok(true) => ExitCode::SUCCESS,
+        _ => ExitCode::from(1),
+    }
+}

@@ -1,0 +1,76 @@
+use std::alloc::{AllocError, Global};
+use std::{fs, io};
+
+/// How many characters of a text are shown.
+const SHOWN: usize = 400;
+
+/// Where a row stands: its file, the number of its line, and the name of its case.
+#[derive(Clone, Copy)]
+pub(crate) struct Place<'a> {
+    pub(crate) file: &'a str,
+    pub(crate) line: usize,
+    pub(crate) name: &'a str,
+}
+
+/// Says what was compared, and counts the rows that failed.
+#[derive(Drop)]
+pub(crate) struct Report<'a> {
+    rt: &'a HostRuntime,
+    failed: u64,
+}
+
+impl<'a> Report<'a> {
+    /// A report in which no row failed.
+    pub(crate) fn new(rt: &'a HostRuntime) -> Report<'a> {
+        Report { rt, failed: 0 }
+    }
+
+    /// The host.
+    pub(crate) fn rt(&self) -> &'a HostRuntime {
+        self.rt
+    }
+
+    /// The allocator.
+    pub(crate) fn alloc(&self) -> Global {
+        self.rt.alloc()
+    }
+
+    /// Whether no row failed.
+    pub(crate) fn has_no_failure(&self) -> bool {
+        self.failed == 0
+    }
+
+    /// The text of a file.
+    pub(crate) fn read(&self, file: &str) -> io::Result<String> {
+        fs::read_to_string(self.rt, file)
+    }
+
+    /// Says a line on standard output.
+    pub(crate) fn say(&self, line: &str) -> io::Result<()> {
+        let rt = self.rt;
+        println!(rt; "{line}")
+    }
+
+    /// Says that a row failed, on standard output and on standard error.
+    pub(crate) fn fail(&mut self, place: Place<'_>, wanted: &str, came: &str) -> io::Result<()> {
+        self.failed = self.failed.saturating_add(1);
+        let rt = self.rt;
+        let wanted = beginning(rt.alloc(), wanted)?;
+        let came = beginning(rt.alloc(), came)?;
+        let Place { file, line, name } = place;
+        let line = format!(in rt.alloc();
+            "{file}:{line}: {name}: wanted {wanted}; there came {came}"
+        )?;
+        println!(rt; "{line}")?;
+        eprintln!(rt; "{line}")
+    }
+}
+
+/// The beginning of a text.
+fn beginning(alloc: Global, text: &str) -> Result<String, AllocError> {
+    let mut shown: String = text.chars().take(SHOWN).collect(alloc)?;
+    if shown.len() < text.len() {
+        shown.push_str("..")?;
+    }
+    Ok(shown)
+}

@@ -1,0 +1,136 @@
+use crate::counters::{number, unread};
+use crate::making::memory;
+use book_commodity::{Bytes, Many, OutOfMemory};
+use book_keeper::{Change, Keeper, MemKeeper, Row, RowKey};
+use std::alloc::Global;
+use std::io;
+
+/// The numbers of rows that are given to a keeper are below this one.
+const NUMBERS: u64 = 1 << 62;
+
+/// A bound on the rows that are read from a keeper.
+const MOST_ROWS: u64 = 1 << 20;
+
+/// Rows of a kind and of the numbers from a first to a last one, as a line spells them: `KIND ID HEX`, or
+/// `KIND FIRST-LAST HEX`. The body may be empty.
+#[derive(Drop)]
+pub(crate) struct Spelled {
+    pub(crate) kind: u8,
+    pub(crate) first: u64,
+    pub(crate) last: u64,
+    pub(crate) body: Vec<u8>,
+}
+
+/// The rows that a line spells.
+pub(crate) fn rows_of(alloc: Global, text: &str) -> io::Result<Spelled> {
+    let mut words = text.split(' ');
+    let Ok(kind) = u8::try_from(number(words.next().unwrap_or(""))?) else {
+        return Err(unread());
+    };
+    let ids = words.next().unwrap_or("");
+    let (first, last) = ids.split_once('-').unwrap_or((ids, ids));
+    let Ok(body) = hex::decode(alloc, words.next().unwrap_or("")) else {
+        return Err(unread());
+    };
+    Ok(Spelled {
+        kind,
+        first: number(first)?,
+        last: number(last)?,
+        body,
+    })
+}
+
+/// A keeper in memory without rows.
+pub(crate) fn no_rows(alloc: Global) -> MemKeeper {
+    MemKeeper::new(Many::new(alloc), Many::new(alloc))
+}
+
+/// A keeper in memory with equal rows.
+pub(crate) fn copy_of(alloc: Global, keeper: &MemKeeper) -> io::Result<MemKeeper> {
+    let mut copy = no_rows(alloc);
+    for row in keeper.rows() {
+        match row.copy() {
+            Ok(row) => change(alloc, &mut copy, Change::Put(row))?,
+            Err(OutOfMemory) => return Err(memory()),
+        }
+    }
+    Ok(copy)
+}
+
+/// Puts the rows that a line spells. One whose number is too great to be given to a keeper can only be its first.
+pub(crate) fn put_all(alloc: Global, keeper: &mut MemKeeper, text: &str) -> io::Result<()> {
+    let Spelled {
+        kind,
+        first,
+        last,
+        body,
+    } = rows_of(alloc, text)?;
+    for id in first..=last {
+        let row = Row {
+            key: RowKey { kind, id },
+            body: Bytes::of(body.as_slice().to_vec(alloc)?),
+        };
+        put(alloc, keeper, row)?;
+    }
+    Ok(())
+}
+
+/// Puts a row.
+fn put(alloc: Global, keeper: &mut MemKeeper, row: Row) -> io::Result<()> {
+    if row.key.id < NUMBERS {
+        return change(alloc, keeper, Change::Put(row));
+    }
+    if !keeper.rows().is_empty() {
+        return Err(unread());
+    }
+    *keeper = MemKeeper::new(Many::of(vec![in alloc; row]?), Many::new(alloc));
+    Ok(())
+}
+
+/// Takes out the row whose key a line spells.
+pub(crate) fn take_out(alloc: Global, keeper: &mut MemKeeper, text: &str) -> io::Result<()> {
+    let Spelled { kind, first, .. } = rows_of(alloc, text)?;
+    let key = RowKey { kind, id: first };
+    change(alloc, keeper, Change::Gone(key))
+}
+
+/// Makes a change of a row, whose number is not too great to be given to a keeper.
+fn change(alloc: Global, keeper: &mut MemKeeper, change: Change) -> io::Result<()> {
+    let id = match &change {
+        Change::Put(row) => row.key.id,
+        Change::Gone(key) => key.id,
+    };
+    if id >= NUMBERS {
+        return Err(unread());
+    }
+    let changes = vec![in alloc; change]?;
+    match keeper.commit(changes.as_slice()) {
+        Ok(()) => Ok(()),
+        Err(_) => Err(memory()),
+    }
+}
+
+/// Whether the rows are the same.
+pub(crate) fn are_same(rows: &[Row], others: &[Row]) -> bool {
+    rows.len() == others.len()
+        && rows.iter().zip(others).all(|(row, other)| {
+            row.key == other.key && row.body.as_slice() == other.body.as_slice()
+        })
+}
+
+/// The rows that a keeper gives one after another. None where it fails.
+pub(crate) fn rows_in<K: Keeper>(alloc: Global, keeper: &mut K) -> io::Result<Option<Vec<Row>>> {
+    let mut rows = Vec::new(alloc);
+    let mut after = None;
+    for _ in 0..MOST_ROWS {
+        match keeper.next_row(after) {
+            Ok(Some(row)) => {
+                after = Some(row.key);
+                rows.push(row)?;
+            }
+            Ok(None) => return Ok(Some(rows)),
+            Err(_) => return Ok(None),
+        }
+    }
+    Ok(None)
+}

@@ -1,0 +1,103 @@
+use std::io;
+use std::io::{ErrorKind, Read, Write};
+
+/// A reader that gives at most forty bytes at a time and fails at one of its calls; later calls give what is left. Each
+/// call is interrupted once before.
+#[derive(Drop)]
+pub(crate) struct Reader<'a> {
+    left: &'a [u8],
+    calls: u32,
+    fails: u32,
+}
+
+impl<'a> Reader<'a> {
+    /// A reader of the bytes that fails at this call.
+    pub(crate) fn new(left: &'a [u8], fails: u32) -> Reader<'a> {
+        Reader {
+            left,
+            calls: 0,
+            fails,
+        }
+    }
+}
+
+impl<'a> Read for Reader<'a> {
+    fn read(&mut self, buffer: &mut [u8]) -> io::Result<usize> {
+        self.calls = self.calls.saturating_add(1);
+        if self.calls % 2 == 1 {
+            return Err(io::Error::from(ErrorKind::Interrupted));
+        }
+        if self.calls / 2 == self.fails {
+            return Err(io::Error::other("broken"));
+        }
+        let count = buffer.len().min(40);
+        self.left.read(&mut buffer[..count])
+    }
+}
+
+/// A writer that takes at most forty bytes at a time and fails at one of its calls; later calls take what they are
+/// given. It fails too where a byte is not the next of those that are wanted.
+#[derive(Drop)]
+pub(crate) struct Writer<'a> {
+    wanted: &'a [u8],
+    calls: u32,
+    fails: u32,
+}
+
+impl<'a> Writer<'a> {
+    /// A writer that wants these bytes, and fails at this call.
+    pub(crate) fn new(wanted: &'a [u8], fails: u32) -> Writer<'a> {
+        Writer {
+            wanted,
+            calls: 0,
+            fails,
+        }
+    }
+}
+
+impl<'a> Write for Writer<'a> {
+    fn write(&mut self, bytes: &[u8]) -> io::Result<usize> {
+        self.calls = self.calls.saturating_add(1);
+        if self.calls == self.fails {
+            return Err(io::Error::other("broken"));
+        }
+        let count = bytes.len().min(40);
+        let Some(rest) = self.wanted.strip_prefix(&bytes[..count]) else {
+            return Err(io::Error::other("other bytes"));
+        };
+        self.wanted = rest;
+        Ok(count)
+    }
+
+    fn flush(&mut self) -> io::Result<()> {
+        Ok(())
+    }
+}
+
+/// A writer that takes what it is given, and fails where what it took before is not flushed.
+#[derive(Drop)]
+pub(crate) struct Unforgiving {
+    unflushed: usize,
+}
+
+impl Unforgiving {
+    /// A writer that took nothing yet.
+    pub(crate) fn new() -> Unforgiving {
+        Unforgiving { unflushed: 0 }
+    }
+}
+
+impl Write for Unforgiving {
+    fn write(&mut self, bytes: &[u8]) -> io::Result<usize> {
+        if self.unflushed > 0 {
+            return Err(io::Error::other("not flushed"));
+        }
+        self.unflushed = bytes.len();
+        Ok(bytes.len())
+    }
+
+    fn flush(&mut self) -> io::Result<()> {
+        self.unflushed = 0;
+        Ok(())
+    }
+}

@@ -1,0 +1,140 @@
+use crate::comparing::Case;
+use crate::counters::{number, unread};
+use crate::report::Report;
+use crate::rows::no_rows;
+use crate::script::{Line, Section, sections_of};
+use book_engine::Engine;
+use book_keeper::MemKeeper;
+use book_wire::command_of;
+use std::alloc::Global;
+use std::io;
+
+/// Compares how much work the registers and lots of an engine took, and says how many rows there are.
+pub(crate) fn check_work(report: &mut Report<'_>, file: &str) -> io::Result<()> {
+    let text = report.read(file)?;
+    let sections = sections_of(report.alloc(), text.as_str())?;
+    let mut rows: u64 = 0;
+    for section in sections.as_slice() {
+        if section.is_case {
+            rows = rows.saturating_add(check_case(report, file, section)?);
+        }
+    }
+    let line = format!(in report.alloc(); "{file}: {rows} rows")?;
+    report.say(line.as_str())
+}
+
+/// Has an engine over a keeper without rows do the lines of a case, and compares the work that is asked for between
+/// them. How many rows that were.
+fn check_case(report: &mut Report<'_>, file: &str, section: &Section<'_>) -> io::Result<u64> {
+    let name = section.name;
+    let case = Case { file, name };
+    let mut keeper = no_rows(report.alloc());
+    match Engine::open(report.alloc(), &mut keeper) {
+        Ok(engine) => check_with(report, case, engine, &mut keeper, section.lines.as_slice()),
+        Err(_) => no_book(report, case, section.number),
+    }
+}
+
+/// Says that no book was opened.
+fn no_book(report: &mut Report<'_>, case: Case<'_>, line: usize) -> io::Result<u64> {
+    report.fail(case.at(line), "a book that opens", "none")?;
+    Ok(0)
+}
+
+/// The same for an engine that was opened.
+fn check_with(
+    report: &mut Report<'_>,
+    case: Case<'_>,
+    mut engine: Engine,
+    keeper: &mut MemKeeper,
+    lines: &[Line<'_>],
+) -> io::Result<u64> {
+    check_lines(report, case, &mut engine, keeper, lines)
+}
+
+/// Has the engine do the lines, and compares the work that is asked for between them. How many rows that were.
+fn check_lines(
+    report: &mut Report<'_>,
+    case: Case<'_>,
+    engine: &mut Engine,
+    keeper: &mut MemKeeper,
+    lines: &[Line<'_>],
+) -> io::Result<u64> {
+    let mut rows: u64 = 0;
+    for line in lines {
+        let (mark, rest) = line.text.split_once(' ').unwrap_or((line.text, ""));
+        if mark == ">" {
+            do_line(report, case, engine, keeper, *line)?;
+        } else {
+            compare_work(report, case, engine, *line, rest)?;
+            rows = rows.saturating_add(1);
+        }
+    }
+    Ok(rows)
+}
+
+/// Has the engine do a line.
+fn do_line(
+    report: &mut Report<'_>,
+    case: Case<'_>,
+    engine: &mut Engine,
+    keeper: &mut MemKeeper,
+    line: Line<'_>,
+) -> io::Result<()> {
+    let text = line.text.strip_prefix("> ").unwrap_or("");
+    if is_done(report.alloc(), engine, keeper, text) {
+        return Ok(());
+    }
+    report.fail(case.at(line.number), "a line that is done", "a refusal")
+}
+
+/// Whether the engine does what a line asks.
+fn is_done(alloc: Global, engine: &mut Engine, keeper: &mut MemKeeper, line: &str) -> bool {
+    match command_of(alloc, line.as_bytes()) {
+        Ok(command) => engine.act(keeper, command).is_ok(),
+        Err(_) => false,
+    }
+}
+
+/// Compares the work of a register or of lots with what a line says: `register ACCOUNT CHANGES ROWS`, or
+/// `lots ACCOUNT RECKONED ROWS`.
+fn compare_work(
+    report: &mut Report<'_>,
+    case: Case<'_>,
+    engine: &Engine,
+    line: Line<'_>,
+    rest: &str,
+) -> io::Result<()> {
+    let is_lots = match line.text.split_once(' ') {
+        Some(("lots", _)) => true,
+        Some(("register", _)) => false,
+        _ => return Err(unread()),
+    };
+    let (account, wanted) = rest.split_once(' ').unwrap_or((rest, ""));
+    let account = number(account)?;
+    let Some((work, rows)) = work_of(engine, account, is_lots)? else {
+        return report.fail(case.at(line.number), wanted, "none");
+    };
+    let came = format!(in report.alloc(); "{work} {rows}")?;
+    if came.as_str() == wanted {
+        return Ok(());
+    }
+    report.fail(case.at(line.number), wanted, came.as_str())
+}
+
+/// Of the lots of an account, how many rows were reckoned so far and how many are now; of its register, how often it
+/// was changed, and how many rows it has.
+fn work_of(engine: &Engine, account: u64, is_lots: bool) -> io::Result<Option<(u64, usize)>> {
+    if is_lots {
+        return Ok(
+            engine
+                .lots(account)
+                .map(|lots| (lots.work(), lots.reckoned())),
+        );
+    }
+    Ok(
+        engine
+            .register(account)
+            .map(|register| (register.changes(), register.len())),
+    )
+}

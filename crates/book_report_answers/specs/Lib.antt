@@ -1,0 +1,2 @@
+pub mod LotsAsked
+pub mod Reports

@@ -1,0 +1,5 @@
+pub mod ChangeFits
+pub mod CurrencyLemmas
+pub mod RowTurns
+pub mod SmallLemmas
+pub mod TurnLemmas

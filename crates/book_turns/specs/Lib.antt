@@ -1,0 +1,4 @@
+pub mod Changes
+pub mod Standing
+pub mod Turned
+pub mod Whole

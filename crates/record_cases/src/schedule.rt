@@ -1,2 +1,0 @@
-mod due_days;
-mod occurrences;

@@ -1,7 +1,0 @@
-use Rattle.std.proofs.Common.{take, ◌≡◌, ◌++◌}
-use Rattle.show_statements.specs.Rows.{statement_rows}
-use Rattle.show_statements.proofs.rows.add_statements.Given as goal
-
--- the rows of the statements so far were added
-abbrev pub invariant-loop-statement : goal.invariant-loop-statement
-invariant-loop-statement l = l.out.items ≡ l.fn.out.items ++ statement_rows (take l.statement-index l.statements)
