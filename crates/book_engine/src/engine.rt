@@ -17,12 +17,11 @@ ghost use Rattle.book_engine.specs.Opening.{HasOpenCause, IsOpenedAs, Opened};
 ghost use Rattle.book_engine.specs.Planned.{after, commits, HasRoomFor, IsPlanFor, IsPlanOf, IsRefusal};
 ghost use Rattle.book_engine.specs.Standing.{Stands};
 
-use crate::dropped::{drop_command, drop_plan, drop_refused_plan};
 use crate::opening::{begin, checked, open_error};
 use crate::planning::plan_of;
 use crate::{OpenError, Plan};
 use book_command::What;
-use book_commodity::OutOfMemory;
+use book_commodity::{OutOfMemory, discard};
 use book_keeper::{KeepError, Keeper};
 use book_ledger::Registers;
 use book_lots::Lots;
@@ -137,7 +136,7 @@ impl Engine {
         ensures sound { IsSound (step_state self.new.state) }
     {
         if let Err(OutOfMemory) = self.reckon_for(&command.what) {
-            return Err(drop_command(command));
+            return Err(discard(command, Refusal::OutOfMemory));
         }
         let plan = match plan_of(
             self.alloc,
@@ -151,7 +150,7 @@ impl Engine {
         };
         match self.make_room(&plan) {
             Ok(()) => Ok(plan),
-            Err(OutOfMemory) => Err(drop_plan(plan)),
+            Err(OutOfMemory) => Err(discard(plan, Refusal::OutOfMemory)),
         }
     }
 
@@ -209,7 +208,7 @@ impl Engine {
         }
         match keeper.commit(plan.changes()) {
             Ok(()) => Ok(self.apply(plan)),
-            Err(error) => Err(drop_refused_plan(plan, error)),
+            Err(error) => Err(discard(plan, error)),
         }
     }
 

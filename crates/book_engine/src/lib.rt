@@ -6,7 +6,6 @@
 //! hold the book.
 #![tactic(auto)]
 
-mod dropped;
 mod engine;
 mod fault;
 mod opening;

@@ -19,10 +19,9 @@ ghost use Rattle.book_engine.specs.Planned.{IsLimitRefusal, IsPlanOf, IsPlanTo, 
 ghost use Rattle.book_engine.specs.Planned.{stay_plan, turn_plan};
 
 use crate::Plan;
-use crate::dropped::{drop_change, drop_edit, drop_turn};
 use book_balances::answered_step;
 use book_command::{Report, What};
-use book_commodity::{Counted, Day, Many, OutOfMemory};
+use book_commodity::{Counted, Day, Many, OutOfMemory, discard};
 use book_ledger::Registers;
 use book_opening::Saved;
 use book_report_answers::report_answer;
@@ -209,7 +208,7 @@ fn plan_change(
 {
     let inverse = match state.plain.inverse(alloc, &edit) {
         Ok(inverse) => inverse,
-        Err(error) => return Err(drop_change(edit, answer, error)),
+        Err(error) => return Err(discard(edit, discard(answer, error))),
     };
     let turn = Turn {
         way: Way::Change,
@@ -241,7 +240,7 @@ fn plan_turn(
             answer,
             changes,
         }),
-        Err(error) => Err(drop_turn(turn, answer, error)),
+        Err(error) => Err(discard(turn, discard(answer, error))),
     }
 }
 
@@ -315,7 +314,7 @@ fn kept_turn(alloc: Global, state: &Saved, way: Way, edit: &Edit) -> Result<Turn
             inverse,
             next: state.next,
         }),
-        Err(error) => Err(drop_edit(inverse, error)),
+        Err(error) => Err(discard(inverse, error)),
     }
 }
 

@@ -1,5 +1,6 @@
 use crate::counters::{count, counted, expanded};
 use crate::rows::{Spelled, rows_of};
+use book_commodity::discard;
 use book_keeper::RowKey;
 use std::alloc::{AllocError, Global};
 use std::io;
@@ -99,17 +100,21 @@ impl Wanted {
 
     /// Says how the answer that was added last ends, where only its beginning was said, or else how one more ends.
     fn add_end(&mut self, alloc: Global, text: &str, line: usize) -> io::Result<()> {
-        let needs_one = match self.answers.last() {
-            Some(answer) => answer.is_whole || !answer.ends.is_empty(),
-            None => true,
-        };
-        if needs_one {
+        if !self.is_open() {
             self.add_answer(alloc, "", false, line)?;
         }
-        if let Some(answer) = self.answers.last_mut() {
-            answer.ends.push_str(text)?;
+        match self.answers.last_mut() {
+            Some(answer) => Ok(answer.ends.push_str(text)?),
+            None => Ok(()),
         }
-        Ok(())
+    }
+
+    /// Whether there is an answer, and of the last one the beginning alone was said.
+    fn is_open(&self) -> bool {
+        match self.answers.last() {
+            Some(answer) => !answer.is_whole && answer.ends.is_empty(),
+            None => false,
+        }
     }
 
     /// Adds as many answers as the line's number says. Where it has no text, these are any answers.
@@ -123,8 +128,8 @@ impl Wanted {
         let (count, text) = counted(rest)?;
         for times in 0..count {
             let answer = expanded(alloc, text, times)?;
-            let is_whole = is_whole && !text.is_empty();
-            self.add_answer(alloc, answer.as_str(), is_whole, line)?;
+            let added = self.add_answer(alloc, answer.as_str(), is_whole && !text.is_empty(), line);
+            discard(answer, added)?;
         }
         Ok(())
     }

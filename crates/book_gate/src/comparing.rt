@@ -39,8 +39,7 @@ pub(crate) fn status_text(alloc: Global, status: Status) -> Result<String, Alloc
     }
 }
 
-/// Compares how a run ended, what it answered and left unread, and the rows that are held then; there are none where
-/// they can't be read.
+/// Compares how a run ended, what it answered and left unread, and the rows that are held then, where they can be read.
 pub(crate) fn compare(
     report: &mut Report<'_>,
     case: Case<'_>,
@@ -53,10 +52,23 @@ pub(crate) fn compare(
     if run.wanted.is_cut {
         compare_beginning(report, case, run, outcome)?;
     } else {
-        compare_answers(report, case, run, outcome)?;
+        compare_lines(report, case, run, outcome.output.written())?;
     }
-    compare_count(report, case, run, rows.map_or(0, |rows| rows.len()))?;
-    compare_rows(report, case, run, rows.unwrap_or(&[]))
+    match rows {
+        Some(rows) => {
+            compare_count(report, case, run, rows.len())?;
+            compare_rows(report, case, run, rows)
+        }
+        None => compare_unread_rows(report, case, run),
+    }
+}
+
+/// Where the rows can't be read, none may be wanted.
+fn compare_unread_rows(report: &mut Report<'_>, case: Case<'_>, run: &Run) -> io::Result<()> {
+    if run.wanted.count.is_none() && run.wanted.rows.is_empty() {
+        return Ok(());
+    }
+    report.fail(case.at(run.line), "rows", "rows that can't be read")
 }
 
 /// Compares how a run ended.
@@ -94,15 +106,15 @@ fn compare_unread(
     }
 }
 
-/// Compares the answers one by one. At most one that is wrong is said.
-fn compare_answers(
+/// Compares the lines that were written with the wanted ones, one by one. At most one that is wrong is said.
+pub(crate) fn compare_lines(
     report: &mut Report<'_>,
     case: Case<'_>,
     run: &Run,
-    outcome: &Outcome,
+    written: &[u8],
 ) -> io::Result<()> {
-    let Ok(text) = str::from_utf8(outcome.output.written()) else {
-        return report.fail(case.at(run.line), "answers in UTF-8", "other bytes");
+    let Ok(text) = str::from_utf8(written) else {
+        return report.fail(case.at(run.line), "lines in UTF-8", "other bytes");
     };
     let mut lines = text.split('\n');
     for answer in run.wanted.answers.as_slice() {
@@ -118,7 +130,7 @@ fn compare_answers(
         (Some(""), None) => Ok(()),
         (more, _) => report.fail(
             case.at(run.line),
-            "an end behind the answers",
+            "an end behind the lines",
             more.unwrap_or("none"),
         ),
     }

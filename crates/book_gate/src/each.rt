@@ -3,6 +3,7 @@ use crate::making::{Outcome, made_in_memory};
 use crate::report::{Place, Report};
 use crate::rows::{are_same, copy_of};
 use crate::run::{Each, Fault, Run, Sort};
+use book_app::Status;
 use book_keeper::MemKeeper;
 use std::alloc::{AllocError, Global};
 use std::io;
@@ -50,8 +51,8 @@ fn check_fault(
     fault: Fault,
 ) -> io::Result<()> {
     match fault.sort {
-        Sort::Read => check_cut(report, case, run, keeper, line, fault),
-        Sort::Write => check_cut(report, case, run, keeper, line, fault),
+        Sort::Read => check_read(report, case, run, keeper, line, fault),
+        Sort::Write => check_write(report, case, run, keeper, line, fault),
         Sort::Commit => check_commit(report, case, run, keeper, line, fault),
         Sort::Call => check_same(report, case, run, keeper, fault),
     }
@@ -80,9 +81,69 @@ fn check_same(
     compare(report, case, run, &outcome, Some(held.rows()))
 }
 
-/// Makes the run with a read or a write that fails: it ends by that fault, and what it wrote is a beginning of its
-/// answers; at a write not all of them.
-fn check_cut(
+/// Compares how a run ended.
+fn check_status(
+    report: &mut Report<'_>,
+    place: Place<'_>,
+    status: Status,
+    wanted: &str,
+) -> io::Result<()> {
+    let came = status_text(report.alloc(), status)?;
+    if came.as_str() == wanted {
+        return Ok(());
+    }
+    report.fail(place, wanted, came.as_str())
+}
+
+/// Makes the run with a read that fails: it ends by that fault, and its answers and rows are those of a run over the
+/// lines alone that were whole before that read.
+fn check_read(
+    report: &mut Report<'_>,
+    case: Case<'_>,
+    run: &Run,
+    keeper: &MemKeeper,
+    line: usize,
+    fault: Fault,
+) -> io::Result<()> {
+    let failed = made_again(report.alloc(), run, keeper, fault)?;
+    check_status(report, case.at(line), failed.0.status, "input fault")?;
+    let copy = copy_of(report.alloc(), keeper)?;
+    let other = made_in_memory(report.alloc(), run, copy, read_before(run, fault), None)?;
+    compare_read(report, case.at(line), &failed, &other)
+}
+
+/// Compares the answers and the rows of a run whose read failed with those of the other run.
+fn compare_read(
+    report: &mut Report<'_>,
+    place: Place<'_>,
+    failed: &(Outcome, MemKeeper),
+    other: &(Outcome, MemKeeper),
+) -> io::Result<()> {
+    if failed.0.output.written() != other.0.output.written() {
+        report.fail(place, "the answers to the lines that were read", "others")?;
+    }
+    if !are_same(failed.1.rows(), other.1.rows()) {
+        report.fail(place, "the rows after the lines that were read", "others")?;
+    }
+    Ok(())
+}
+
+/// The lines of the input that are whole in the reads before the one that fails.
+fn read_before(run: &Run, fault: Fault) -> &[u8] {
+    let input = run.input.as_slice();
+    let reads = usize::try_from(fault.number.saturating_sub(1)).unwrap_or(usize::MAX);
+    let read = input
+        .get(..reads.saturating_mul(run.piece))
+        .unwrap_or(input);
+    match read.iter().rposition(|byte| *byte == b'\n') {
+        Some(place) => read.get(..=place).unwrap_or(read),
+        None => &[],
+    }
+}
+
+/// Makes the run with a write that fails: it ends by that fault, and what it wrote is a beginning of its answers, and not
+/// all of them.
+fn check_write(
     report: &mut Report<'_>,
     case: Case<'_>,
     run: &Run,
@@ -91,18 +152,9 @@ fn check_cut(
     fault: Fault,
 ) -> io::Result<()> {
     let (outcome, _) = made_again(report.alloc(), run, keeper, fault)?;
-    let status = status_text(report.alloc(), outcome.status)?;
-    let is_read = fault.sort == Sort::Read;
-    let wanted = if is_read {
-        "input fault"
-    } else {
-        "output fault"
-    };
-    if status.as_str() != wanted {
-        report.fail(case.at(line), wanted, status.as_str())?;
-    }
+    check_status(report, case.at(line), outcome.status, "output fault")?;
     let all = run.wanted.text(report.alloc())?;
-    if !is_read && outcome.output.written().len() >= all.len() {
+    if outcome.output.written().len() >= all.len() {
         report.fail(case.at(line), "not all answers", "all")?;
     }
     compare_beginning(report, case, run, &outcome)

@@ -1,4 +1,4 @@
-use crate::comparing::Case;
+use crate::comparing::{Case, compare_lines};
 use crate::counters::{number, unread};
 use crate::making::memory;
 use crate::report::Report;
@@ -6,7 +6,7 @@ use crate::run::Run;
 use crate::script::{Line, Section, sections_of};
 use statement_texts::{Currencies, answer, read_words};
 use std::alloc::Global;
-use std::{io, str};
+use std::io;
 
 /// A statement file: its bytes and the rows that are wanted of it, its format, the currencies that are known if the
 /// case names some, and where the lines that are repeated begin, with how many times they stand there.
@@ -126,33 +126,11 @@ fn check_case(report: &mut Report<'_>, file: &str, section: &Section<'_>) -> io:
         }
     }
     match statement_file.rows(report.alloc()) {
-        Ok(rows) => compare_rows(report, case, &statement_file.run, rows.as_slice()),
+        Ok(rows) => compare_lines(report, case, &statement_file.run, rows.as_slice()),
         Err(_) => report.fail(
             case.at(section.number),
             "a format that can be read",
             statement_file.format,
-        ),
-    }
-}
-
-/// Compares the rows one by one. At most one that is wrong is said.
-fn compare_rows(report: &mut Report<'_>, case: Case<'_>, run: &Run, rows: &[u8]) -> io::Result<()> {
-    let Ok(text) = str::from_utf8(rows) else {
-        return report.fail(case.at(run.line), "rows in UTF-8", "other bytes");
-    };
-    let mut rows = text.split('\n');
-    for answer in run.wanted.answers.as_slice() {
-        let came = rows.next().unwrap_or("none");
-        if !answer.is(came) {
-            return report.fail(case.at(answer.line), answer.begins.as_str(), came);
-        }
-    }
-    match (rows.next(), rows.next()) {
-        (Some(""), None) => Ok(()),
-        (more, _) => report.fail(
-            case.at(run.line),
-            "an end behind the rows",
-            more.unwrap_or("none"),
         ),
     }
 }

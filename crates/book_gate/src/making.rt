@@ -1,7 +1,7 @@
 use crate::failing_keeper::FailingKeeper;
 use crate::run::{Fault, Run, Sort};
 use book_app::{Status, book_main};
-use book_commodity::Bytes;
+use book_commodity::{Bytes, discard};
 use book_keeper::{Keeper, MemKeeper, MemSink, MemSource, Source};
 use std::alloc::Global;
 use std::io;
@@ -62,8 +62,12 @@ pub(crate) fn made_in_memory(
     let calls = run.failing(alloc, Sort::Call, more)?;
     let commits = run.failing(alloc, Sort::Commit, more)?;
     let mut keeper = FailingKeeper::new(keeper, calls, commits);
-    let outcome = made(alloc, run, &mut keeper, input, more)?;
-    Ok((outcome, keeper.into_keeper()))
+    let outcome = made(alloc, run, &mut keeper, input, more);
+    let keeper = keeper.into_keeper();
+    match outcome {
+        Ok(outcome) => Ok((outcome, keeper)),
+        Err(error) => Err(discard(keeper, error)),
+    }
 }
 
 /// How many bytes are left in a source.

@@ -12,17 +12,22 @@ pub(crate) struct Place<'a> {
     pub(crate) name: &'a str,
 }
 
-/// Says what was compared, and counts the rows that failed.
+/// Says what was compared, and counts rows, and those that failed.
 #[derive(Drop)]
 pub(crate) struct Report<'a> {
     rt: &'a HostRuntime,
     failed: u64,
+    compared: u64,
 }
 
 impl<'a> Report<'a> {
     /// A report in which no row failed.
     pub(crate) fn new(rt: &'a HostRuntime) -> Report<'a> {
-        Report { rt, failed: 0 }
+        Report {
+            rt,
+            failed: 0,
+            compared: 0,
+        }
     }
 
     /// The host.
@@ -38,6 +43,16 @@ impl<'a> Report<'a> {
     /// Whether no row failed.
     pub(crate) fn has_no_failure(&self) -> bool {
         self.failed == 0
+    }
+
+    /// Counts a row that is compared.
+    pub(crate) fn count(&mut self) {
+        self.compared = self.compared.saturating_add(1);
+    }
+
+    /// How many rows were counted.
+    pub(crate) fn compared(&self) -> u64 {
+        self.compared
     }
 
     /// The text of a file.

@@ -3,6 +3,7 @@ use crate::making::made;
 use crate::rows::{are_same, no_rows, rows_in};
 use crate::run::Run;
 use book_app::Status;
+use book_commodity::discard;
 use book_keeper::{Keeper, Row};
 use book_sqlite::SqliteKeeper;
 use sqlite::{Connection, FileStore, Options};
@@ -56,14 +57,20 @@ fn opened(alloc: Global, files: FusedFiles) -> Result<Connection<Store>, FusedFi
 /// The connection with the table of rows, as the keeper would make it; made here, since the keeper does not give back a
 /// connection in which it can't make it.
 fn with_table(mut connection: Connection<Store>) -> Result<Connection<Store>, FusedFiles> {
+    if make_table(&mut connection) {
+        Ok(connection)
+    } else {
+        Err(connection.into_store().close())
+    }
+}
+
+/// Makes the table of rows. Whether that succeeded.
+fn make_table(connection: &mut Connection<Store>) -> bool {
     let made = connection.execute(
         "CREATE TABLE bk_rows(kind INTEGER, id INTEGER, body BLOB, PRIMARY KEY(kind, id)) STRICT",
         &[],
     );
-    match made {
-        Ok(_) => Ok(connection),
-        Err(_) => Err(connection.into_store().close()),
-    }
+    made.is_ok()
 }
 
 /// The files after they were closed, and whether that succeeded.
@@ -100,16 +107,28 @@ fn done<K: Keeper>(alloc: Global, keeper: &mut K, lines: &[&str]) -> io::Result<
 /// Runs the lines over the connection. An error where the keeper does not give it back.
 fn run_over(alloc: Global, connection: Connection<Store>, lines: &[&str]) -> io::Result<Ended> {
     let mut keeper = SqliteKeeper::over(alloc, connection);
-    let done = done(alloc, &mut keeper, lines)?;
-    let Some(connection) = keeper.into_connection() else {
-        return Err(io::Error::other("there is no connection"));
-    };
+    let done = done(alloc, &mut keeper, lines);
+    match keeper.into_connection() {
+        Some(connection) => ended(done, connection, lines.len()),
+        None => Err(io::Error::other("there is no connection")),
+    }
+}
+
+/// The run over this connection that did so many of its lines, after the connection was closed.
+fn ended(
+    done: io::Result<Option<usize>>,
+    connection: Connection<Store>,
+    count: usize,
+) -> io::Result<Ended> {
     let (is_whole, files) = closed(connection);
-    Ok(Ended {
-        done,
-        is_whole: is_whole && done == Some(lines.len()),
-        files,
-    })
+    match done {
+        Ok(done) => Ok(Ended {
+            done,
+            is_whole: is_whole && done == Some(count),
+            files,
+        }),
+        Err(error) => Err(discard(files, error)),
+    }
 }
 
 /// Runs the lines over files with these fuses.
@@ -135,14 +154,20 @@ fn unopened(files: FusedFiles) -> Ended {
 
 /// The rows of the book in the files, or none where it can't be opened.
 fn rows_again(alloc: Global, files: FusedFiles) -> io::Result<Option<Vec<Row>>> {
-    let Ok(connection) = opened(alloc, files) else {
-        return Ok(None);
-    };
-    let mut keeper = SqliteKeeper::over(alloc, connection);
-    if keeper.open("a.book").is_err() {
-        return Ok(None);
+    match opened(alloc, files) {
+        Ok(connection) => rows_over(alloc, SqliteKeeper::over(alloc, connection)),
+        Err(files) => Ok(discard(files, None)),
     }
-    rows_in(alloc, &mut keeper)
+}
+
+/// The rows of a keeper that is opened, or none where it can't be.
+fn rows_over<K: Keeper + Drop>(alloc: Global, mut keeper: K) -> io::Result<Option<Vec<Row>>> {
+    if keeper.open("a.book").is_ok() {
+        let rows = rows_in(alloc, &mut keeper);
+        discard(keeper, rows)
+    } else {
+        Ok(discard(keeper, None))
+    }
 }
 
 /// The rows of a book after the first lines, so many of them.

@@ -6,7 +6,8 @@ use crate::report::Report;
 use crate::rows::{no_rows, put_all, rows_in, take_out};
 use crate::run::Run;
 use book_app::named_book;
-use book_keeper::MemKeeper;
+use book_commodity::discard;
+use book_keeper::{Keeper, MemKeeper};
 use book_sqlite::{FileKeeper, SqliteKeeper};
 use sqlite::{Connection, MemStore, Start, Unknown};
 use std::alloc::Global;
@@ -149,13 +150,27 @@ fn check_in_database(
 ) -> io::Result<Store> {
     let alloc = report.alloc();
     let mut keeper = SqliteKeeper::over(alloc, connection);
-    let outcome = made(alloc, run, &mut keeper, run.input.as_slice(), None)?;
-    let rows = rows_in(alloc, &mut keeper)?;
-    compare(report, case, run, &outcome, rows.as_deref())?;
+    check_over(report, case, run, &mut keeper)?;
     match keeper.into_connection() {
         Some(connection) => Ok(Store::Database(connection)),
         None => Ok(Store::Database(Connection::open_in_memory(alloc)?)),
     }
+}
+
+/// Makes a run over a keeper, and compares. Calls that fail each in turn are for a keeper in memory.
+fn check_over<K: Keeper>(
+    report: &mut Report<'_>,
+    case: Case<'_>,
+    run: &Run,
+    keeper: &mut K,
+) -> io::Result<()> {
+    if run.each.is_some() {
+        return Err(unread());
+    }
+    let alloc = report.alloc();
+    let outcome = made(alloc, run, keeper, run.input.as_slice(), None)?;
+    let rows = rows_in(alloc, keeper)?;
+    compare(report, case, run, &outcome, rows.as_deref())
 }
 
 /// Makes a run over the file that the words name, as the program does: over whatever the file held before, and then
@@ -166,16 +181,19 @@ fn check_in_file<T: Start>(
     run: &Run,
     start: T,
 ) -> io::Result<()> {
-    let alloc = report.alloc();
     let mut keeper = FileKeeper::at(report.rt(), named_book(run.words.as_slice()), start);
-    let outcome = made(alloc, run, &mut keeper, run.input.as_slice(), None)?;
-    let rows = rows_in(alloc, &mut keeper)?;
-    compare(report, case, run, &outcome, rows.as_deref())?;
-    if run.is_killed {
-        return Ok(());
+    let checked = check_over(report, case, run, &mut keeper);
+    if !is_left(keeper, run.is_killed) {
+        report.fail(case.at(run.line), "a file that is closed", "an error")?;
     }
-    match keeper.close() {
-        Ok(()) => Ok(()),
-        Err(_) => report.fail(case.at(run.line), "a file that is closed", "an error"),
+    checked
+}
+
+/// Closes the file of a keeper, or leaves it as where the program is killed. Whether no error came.
+fn is_left<T: Start>(keeper: FileKeeper<T>, is_killed: bool) -> bool {
+    if is_killed {
+        discard(keeper, true)
+    } else {
+        keeper.close().is_ok()
     }
 }

@@ -52,6 +52,7 @@ static ENDS: [(Status, &str, u8); 9] = [
 
 /// Compares a condition of a row.
 fn check(report: &mut Report<'_>, name: &str, place: usize, holds: bool) -> io::Result<()> {
+    report.count();
     if holds {
         return Ok(());
     }
@@ -69,6 +70,7 @@ fn check(report: &mut Report<'_>, name: &str, place: usize, holds: bool) -> io::
 /// Runs over standard streams of a host, and over readers and writers of std that fail, are interrupted, or take and
 /// give little at a time: the numbers with which the program ends, what it writes, and what it says on standard error.
 pub(crate) fn check_streams(report: &mut Report<'_>, lines: &str, answers: &str) -> io::Result<()> {
+    let before = report.compared();
     let lines = report.read(lines)?;
     let answers = report.read(answers)?;
     let (lines, answers) = (lines.as_str().as_bytes(), answers.as_str().as_bytes());
@@ -77,7 +79,9 @@ pub(crate) fn check_streams(report: &mut Report<'_>, lines: &str, answers: &str)
     check_reads(report, lines, answers)?;
     check_writes(report, lines, answers)?;
     check_flushes(report)?;
-    report.say("streams: 28 rows")
+    let rows = report.compared().saturating_sub(before);
+    let line = format!(in report.alloc(); "streams: {rows} rows")?;
+    report.say(line.as_str())
 }
 
 /// The words and streams of a host.

@@ -8,7 +8,7 @@ ghost use Rattle.book_history.specs.Steps.{AreSound, IsStepOn, first_fault, is_b
 ghost use Rattle.book_history.specs.Steps.{leaves_sound};
 
 use book_check::first_unsound;
-use book_commodity::OutOfMemory;
+use book_commodity::{OutOfMemory, discard};
 use book_undo::{Edit, Plain, ThingKind};
 use std::alloc::Global;
 
@@ -62,8 +62,10 @@ fn fault_back(
     let Some(forth) = step_on(alloc, plain, next, &step.1, known)? else {
         return Ok(Some(step.0));
     };
-    let fault = fault_back(alloc, plain, next, nearer, true)?;
-    step_back(plain, forth, fault)
+    match fault_back(alloc, plain, next, nearer, true) {
+        Ok(fault) => step_back(plain, forth, fault),
+        Err(error) => Err(discard(forth, error)),
+    }
 }
 
 /// The same as `first_fault_forth`, also from a book that is known to be sound, with its numbers drawn.
@@ -85,8 +87,10 @@ fn fault_forth(
     let Some(back) = step_on(alloc, plain, next, &step.1, known)? else {
         return Ok(Some(step.0));
     };
-    let fault = fault_forth(alloc, plain, next, further, true)?;
-    step_back(plain, back, fault)
+    match fault_forth(alloc, plain, next, further, true) {
+        Ok(fault) => step_back(plain, back, fault),
+        Err(error) => Err(discard(back, error)),
+    }
 }
 
 /// Takes one step, where it is sound, and gives the edit that leads back; `None` where it is broken. The whole book is
@@ -110,11 +114,10 @@ fn step_on(
         return Ok(Some(pass(alloc, plain, edit)?));
     }
     let inverse = pass(alloc, plain, edit)?;
-    if is_sound(alloc, plain, next)? {
-        Ok(Some(inverse))
-    } else {
-        drop(inverse);
-        Ok(None)
+    match is_sound(alloc, plain, next) {
+        Ok(true) => Ok(Some(inverse)),
+        Ok(false) => Ok(discard(inverse, None)),
+        Err(error) => Err(discard(inverse, error)),
     }
 }
 
@@ -129,10 +132,7 @@ fn step_back(
     ensures book { OnOk result (fault ≡ None → book_of plain.new ≡ edited inverse (book_of plain.old)) }
 {
     match fault {
-        Some(number) => {
-            drop(inverse);
-            Ok(Some(number))
-        }
+        Some(number) => Ok(discard(inverse, Some(number))),
         None => {
             go(plain, inverse)?;
             Ok(None)
@@ -147,8 +147,10 @@ fn pass(alloc: Global, plain: &mut Plain, edit: &Edit) -> Result<Edit, OutOfMemo
     ensures book { OnOk result (book_of plain.new ≡ edited edit.now (book_of plain.old)) }
 {
     let inverse = plain.inverse(alloc, edit)?;
-    pass_copy(alloc, plain, edit)?;
-    Ok(inverse)
+    match pass_copy(alloc, plain, edit) {
+        Ok(()) => Ok(inverse),
+        Err(error) => Err(discard(inverse, error)),
+    }
 }
 
 /// Makes the book to which the edit leads, which stays as it is.
@@ -197,7 +199,11 @@ fn go(plain: &mut Plain, edit: Edit) -> Result<(), OutOfMemory>
     requires { IsAllowed (book_of plain.old) edit }
     ensures { OnOk result (book_of plain.new ≡ edited edit (book_of plain.old)) }
 {
-    plain.reserve_for(&edit)?;
-    plain.apply(edit);
-    Ok(())
+    match plain.reserve_for(&edit) {
+        Ok(()) => {
+            plain.apply(edit);
+            Ok(())
+        }
+        Err(error) => Err(discard(edit, error)),
+    }
 }

@@ -127,7 +127,7 @@ impl MemRows {
         ensures spare { self.old.spare ≤ self.new.spare }
     {
         if let Ok(place) = self.search(key) {
-            let _ = self.rows.remove(place);
+            drop(self.rows.remove(place));
         }
     }
 

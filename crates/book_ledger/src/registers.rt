@@ -147,7 +147,7 @@ impl Registers {
         ensures { IsReplaced account page self.old.entries self.new.entries }
     {
         page.in_order();
-        let _ = self.registers.put(account, page);
+        drop(self.registers.put(account, page));
     }
 
     /// Has a register kept for an account, an empty one where there was none.
@@ -159,7 +159,7 @@ impl Registers {
             return Ok(());
         }
         self.registers.reserve(1)?;
-        let _ = self.registers.put(account, Page::new(self.alloc));
+        drop(self.registers.put(account, Page::new(self.alloc)));
         Ok(())
     }
 

@@ -6,7 +6,7 @@ ghost use Rattle.book_opening.specs.Item.{record_of_item, with_item};
 ghost use Rattle.book_opening.specs.State.{state_of};
 
 use crate::Saved;
-use book_commodity::{OutOfMemory, Table};
+use book_commodity::{OutOfMemory, Table, discard};
 use book_rows::Record;
 use book_undo::{Edit, Plain, Thing};
 
@@ -57,16 +57,24 @@ fn put_thing(plain: &mut Plain, number: u64, thing: Thing) -> Result<(), OutOfMe
     ensures { OnOk result (book_of plain.new ≡ with_thing number thing (book_of plain.old)) }
 {
     let edit = Edit::Put(number, thing);
-    plain.reserve_for(&edit)?;
-    plain.apply(edit);
-    Ok(())
+    match plain.reserve_for(&edit) {
+        Ok(()) => {
+            plain.apply(edit);
+            Ok(())
+        }
+        Err(error) => Err(discard(edit, error)),
+    }
 }
 
 /// Puts the step under the number, with memory for it.
 fn put_step(steps: &mut Table<Edit>, number: u64, edit: Edit) -> Result<(), OutOfMemory>
     ensures { OnOk result (steps.new.entries ≡ with_entry number edit steps.old.entries) }
 {
-    steps.reserve(1)?;
-    let _ = steps.put(number, edit);
-    Ok(())
+    match steps.reserve(1) {
+        Ok(()) => {
+            drop(steps.put(number, edit));
+            Ok(())
+        }
+        Err(error) => Err(discard(edit, error)),
+    }
 }

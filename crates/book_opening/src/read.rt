@@ -17,7 +17,7 @@ ghost use Rattle.book_opening.specs.Steps.{AreCounted};
 use crate::item::Item;
 use crate::steps::first_odd;
 use crate::{OpenFault, Saved};
-use book_commodity::Table;
+use book_commodity::{Table, discard};
 use book_keeper::{KeepError, Keeper, Row, RowKey};
 use book_rows::{Head, Record, RowError, read_row};
 use book_undo::Plain;
@@ -104,8 +104,17 @@ fn head_in(it: Record) -> Option<Head>
     ensures head { IfSome result (λ head. it ≡ Record.Head head) }
     ensures none { IfNone result (kind_of it ≢ 1) }
 {
+    let head = seen_head(&it);
+    discard(it, head)
+}
+
+/// The head that a record is, which stays; None where it is another record.
+fn seen_head(it: &Record) -> Option<Head>
+    ensures head { IfSome result (λ head. it.now ≡ Record.Head head) }
+    ensures none { IfNone result (kind_of it.now ≢ 1) }
+{
     match it {
-        Record::Head(head) => Some(head),
+        Record::Head(head) => Some(*head),
         Record::Commodity(_)
         | Record::Account(_)
         | Record::Txn(_)
@@ -171,7 +180,7 @@ fn whole(saved: Saved) -> Result<Saved, OpenFault>
     ensures { IsWhole (state_of saved) result }
 {
     match first_odd(&saved) {
-        Some(key) => Err(bad(key)),
+        Some(key) => Err(discard(saved, bad(key))),
         None => Ok(saved),
     }
 }

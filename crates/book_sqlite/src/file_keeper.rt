@@ -10,15 +10,21 @@ ghost use Rattle.book_sqlite.specs.NewFiles.{HoldNothing};
 ghost use Rattle.book_sqlite.specs.KeeperInSqlite.{is_sure, HoldsRows};
 
 use crate::SqliteKeeper;
-use crate::orphan::is_log_alone;
+use crate::orphan::usable_path;
 use crate::sqlite_keeper::is_want_of_memory;
-use sqlite::{Connection, Error, FileFrom, FileStore, Start};
-use std::io::ErrorKind;
+use sqlite::{Connection, Error, FileFrom, FileStore, Leftover, Start};
 use std::rt::HostRuntime;
 
 /// A keeper of rows in a SQLite file. `T` stands for what the file and its log held before: what is proved over every
 /// `T` is proved of every file.
 pub type FileKeeper<T> = SqliteKeeper<FileStore<FileFrom<T>>>;
+
+/// Whether a file was not opened for want of memory. What is left of it is dropped.
+fn lacked_memory<T: Start>(refused: (Error, Option<Leftover<FileFrom<T>>>)) -> bool {
+    let (error, left) = refused;
+    drop(left);
+    is_want_of_memory(error)
+}
 
 impl<T: Start> SqliteKeeper<FileStore<FileFrom<T>>> {
     /// A keeper over the file at the path, which is made where there is none. Without a path, and where the file can't
@@ -32,19 +38,24 @@ impl<T: Start> SqliteKeeper<FileStore<FileFrom<T>>> {
         ensures path { result.path ≡ [] }
         ensures faults { result.faults ≡ 0 }
     {
-        let Some(path) = path else {
-            return SqliteKeeper::unopened(rt.alloc(), false);
-        };
-        match is_log_alone(rt, path) {
-            Ok(false) => {}
-            Ok(true) => return SqliteKeeper::unopened(rt.alloc(), false),
-            Err(error) => {
-                return SqliteKeeper::unopened(rt.alloc(), error.kind() == ErrorKind::OutOfMemory);
-            }
+        match usable_path(rt, path) {
+            Ok(path) => SqliteKeeper::over_file(rt, path, start),
+            Err(lacked_memory) => SqliteKeeper::unopened(rt.alloc(), lacked_memory),
         }
+    }
+
+    /// The same, over a file that no log stands beside alone.
+    fn over_file(rt: &HostRuntime, path: &str, start: T) -> FileKeeper<T>
+        ensures found { IsTrue (is_sure over_files result) → (db : Trees) → HoldsDatabase (image_at T.Start) db
+            → ListsRows db → HoldsRows over_files result (rows_of (db 0)) }
+        ensures empty { IsTrue (is_sure over_files result) → HoldNothing (image_at T.Start)
+            → HoldsRows over_files result [] }
+        ensures path { result.path ≡ [] }
+        ensures faults { result.faults ≡ 0 }
+    {
         match Connection::open_from(rt, path, false, start) {
             Ok(connection) => SqliteKeeper::over_opened(rt.alloc(), connection),
-            Err((error, _)) => SqliteKeeper::unopened(rt.alloc(), is_want_of_memory(error)),
+            Err(refused) => SqliteKeeper::unopened(rt.alloc(), lacked_memory(refused)),
         }
     }
 

@@ -26,10 +26,23 @@ fn log_of(rt: &HostRuntime, path: &str) -> io::Result<String> {
 
 /// Whether a log that is long enough for a commit stands beside a file that is missing or empty. To open the file would
 /// empty the log.
-pub(crate) fn is_log_alone(rt: &HostRuntime, path: &str) -> io::Result<bool> {
+fn is_log_alone(rt: &HostRuntime, path: &str) -> io::Result<bool> {
     if length_at(rt, path)? > 0 {
         return Ok(false);
     }
     let log = log_of(rt, path)?;
     Ok(length_at(rt, log.as_str())? >= LEAST_LOG)
+}
+
+/// The path of a file that may be opened. An error says whether the program lacked memory; where it did not, there is no
+/// path, or a log stands beside the file alone.
+pub(crate) fn usable_path<'a>(rt: &HostRuntime, path: Option<&'a str>) -> Result<&'a str, bool> {
+    let Some(path) = path else {
+        return Err(false);
+    };
+    match is_log_alone(rt, path) {
+        Ok(false) => Ok(path),
+        Ok(true) => Err(false),
+        Err(error) => Err(error.kind() == ErrorKind::OutOfMemory),
+    }
 }

@@ -2,7 +2,7 @@ ghost use Rattle.std.specs.Prelude.{◌≡◌, ◌<◌, ◌≤◌, ◌^◌, [], 
 ghost use Rattle.book_commodity.specs.Rules.{ReportsFirst};
 ghost use Rattle.book_undo.specs.Edit.{is_nothing};
 ghost use Rattle.book_undo.specs.Exact.{IsExact};
-ghost use Rattle.book_step.specs.Outcome.{ChangesBy, LeavesBy, StepsTo, numbers, version_after};
+ghost use Rattle.book_step.specs.Outcome.{ChangesBy, LeavesBy, StepsTo, numbers};
 ghost use Rattle.book_step.specs.Soundness.{IsSound};
 ghost use Rattle.book_step.specs.State.{state_of};
 ghost use Rattle.book_step.specs.Step.{outcome, stale};
@@ -17,7 +17,7 @@ use crate::prices::{price_drop, price_set};
 use crate::schedule_runs::schedule_run;
 use crate::schedules::{schedule_add, schedule_drop};
 use crate::{Answer, Refusal, Rule, Update};
-use book_commodity::Counted;
+use book_commodity::{Counted, discard};
 use book_undo::{Edit, Plain};
 use std::alloc::Global;
 
@@ -57,12 +57,14 @@ impl Step {
         requires exact { IsSound present.now → IsExact present.now.book edit }
         ensures { ChangesBy present.now edit drawn answer result }
     {
-        check_numbers(present, drawn)?;
-        Ok(Step {
-            edit,
-            next: present.next + drawn,
-            answer,
-        })
+        match check_numbers(present, drawn) {
+            Ok(()) => Ok(Step {
+                edit,
+                next: present.next + drawn,
+                answer,
+            }),
+            Err(rule) => Err(discard(edit, discard(answer, Refusal::Broken(rule)))),
+        }
     }
 }
 

@@ -51,8 +51,8 @@ pub fn fresh_book(alloc: Global) -> Result<Plain, OutOfMemory>
 {
     let mut plain = Plain::new(alloc, EURO);
     plain.commodities.reserve(1)?;
-    let _ = plain.commodities.put(EURO, euro(alloc)?);
+    drop(plain.commodities.put(EURO, euro(alloc)?));
     plain.accounts.reserve(1)?;
-    let _ = plain.accounts.put(ROOT, root(alloc)?);
+    drop(plain.accounts.put(ROOT, root(alloc)?));
     Ok(plain)
 }

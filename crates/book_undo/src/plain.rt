@@ -54,31 +54,31 @@ impl Plain {
     {
         match thing {
             Thing::Commodity(commodity) => {
-                let _ = self.commodities.put(number, commodity);
+                drop(self.commodities.put(number, commodity));
             }
             Thing::Account(account) => {
-                let _ = self.accounts.put(number, account);
+                drop(self.accounts.put(number, account));
             }
             Thing::Txn(transaction) => {
-                let _ = self.transactions.put(number, transaction);
+                drop(self.transactions.put(number, transaction));
             }
             Thing::Price(price) => {
-                let _ = self.prices.put(number, price);
+                drop(self.prices.put(number, price));
             }
             Thing::Schedule(schedule) => {
-                let _ = self.schedules.put(number, schedule);
+                drop(self.schedules.put(number, schedule));
             }
             Thing::Held(statement) => {
-                let _ = self.statements.put(number, statement);
+                drop(self.statements.put(number, statement));
             }
             Thing::Line(line) => {
-                let _ = self.lines.put(number, line);
+                drop(self.lines.put(number, line));
             }
             Thing::Binding(binding) => {
-                let _ = self.bindings.put(number, binding);
+                drop(self.bindings.put(number, binding));
             }
             Thing::Recon(reconciliation) => {
-                let _ = self.reconciliations.put(number, reconciliation);
+                drop(self.reconciliations.put(number, reconciliation));
             }
         }
     }
@@ -90,31 +90,31 @@ impl Plain {
     {
         match kind {
             ThingKind::Commodity => {
-                let _ = self.commodities.take(number);
+                drop(self.commodities.take(number));
             }
             ThingKind::Account => {
-                let _ = self.accounts.take(number);
+                drop(self.accounts.take(number));
             }
             ThingKind::Txn => {
-                let _ = self.transactions.take(number);
+                drop(self.transactions.take(number));
             }
             ThingKind::Price => {
-                let _ = self.prices.take(number);
+                drop(self.prices.take(number));
             }
             ThingKind::Schedule => {
-                let _ = self.schedules.take(number);
+                drop(self.schedules.take(number));
             }
             ThingKind::Held => {
-                let _ = self.statements.take(number);
+                drop(self.statements.take(number));
             }
             ThingKind::Line => {
-                let _ = self.lines.take(number);
+                drop(self.lines.take(number));
             }
             ThingKind::Binding => {
-                let _ = self.bindings.take(number);
+                drop(self.bindings.take(number));
             }
             ThingKind::Recon => {
-                let _ = self.reconciliations.take(number);
+                drop(self.reconciliations.take(number));
             }
         }
     }

@@ -2,7 +2,7 @@ use Rattle.sqlite.specs.WalFiles.{image_at}
 use Rattle.sqlite.specs.Files.{file_state}
 use Rattle.book_sqlite.proofs.KeeperLemmas.{found_holds}
 use Rattle.book_sqlite.proofs.OpeningLemmas.{bare_found, found_ready}
-use Rattle.book_sqlite.proofs.file_keeper.SqliteKeeper+FileStore+FileFrom+T.at.Goals as goal
+use Rattle.book_sqlite.proofs.file_keeper.SqliteKeeper+FileStore+FileFrom+T.over_file.Goals as goal
 
 pub over_opened-requires-clause-rowids : goal.over_opened-requires-clause-rowids
 over_opened-requires-clause-rowids g c = λ sure schema_is.
