@@ -7,7 +7,7 @@ ghost use Rattle.book_rows.specs.EditBytes.{HasValues, IsEdit, IsEditWithin, edi
 use crate::Rows;
 use crate::thing::{read_thing, spell_thing};
 use book_codec::{DecodeError, Field};
-use book_commodity::{Bytes, Many, OutOfMemory, discard};
+use book_commodity::{Bytes, Many, OutOfMemory};
 use book_undo::{Edit, ThingKind};
 use std::alloc::Global;
 
@@ -84,11 +84,10 @@ pub(crate) fn read_edit(alloc: Global, body: &[u8]) -> Result<Edit, DecodeError>
         Ok(found) => found,
         Err(error) => return Err(error),
     };
-    if left.is_empty() {
-        Ok(edit)
-    } else {
-        Err(discard(edit, DecodeError::Bad))
+    if !left.is_empty() {
+        return Err(DecodeError::Bad);
     }
+    Ok(edit)
 }
 
 /// Reads an edit at the front of the bytes, at most `most` of whose lists stand in one another, and gives the bytes
