@@ -1,2 +1,3 @@
 pub mod Lifted
+pub mod Rates
 pub mod Words

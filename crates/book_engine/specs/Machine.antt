@@ -12,7 +12,8 @@ use Rattle.book_command.specs.declared.rule.Rule.{Rule}
 use Rattle.book_command.specs.declared.rule.Rule.TheVariants.{NothingToUndo, NothingToRedo}
 use Rattle.book_step.specs.Outcome.{Outcome, numbers}
 use Rattle.book_step.specs.Outcome as outcome
-use Rattle.book_step.specs.Prices.{rate_on, rate_rules}
+use Rattle.book_command.specs.Rates.{rate_on}
+use Rattle.book_step.specs.Prices.{rate_rules}
 use Rattle.book_step.specs.Schedules.{day_rules, due_of}
 use Rattle.book_step.specs.State.{State, fresh_book}
 use Rattle.book_step.specs.Step.{outcome as outcome_of, stale}

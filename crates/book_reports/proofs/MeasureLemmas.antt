@@ -17,8 +17,8 @@ use Rattle.book_prices.specs.declared.price.Price.{Price}
 use Rattle.book_prices.specs.declared.valuation.Valuation.{Valuation}
 use Rattle.book_prices.specs.declared.valuation.Valuation.TheVariants.{Amount, NoPrice, Over}
 use Rattle.book_sound.specs.Soundness.{IsSoundBook}
-use Rattle.book_step.specs.Prices.{rate_on}
-use Rattle.book_step.proofs.PriceLemmas.{rate_is}
+use Rattle.book_command.specs.Rates.{rate_on}
+use Rattle.book_command.proofs.RateLemmas.{rate_is}
 use Rattle.book_undo.specs.Book.{Book}
 use Rattle.book_reports.specs.Measure.{fraction_of, worth, worth_by}
 use Rattle.book_reports.specs.Sections.{amount_in, is_turned, signed_in, turned}

@@ -33,7 +33,7 @@ use Rattle.book_sound.specs.Soundness.{IsSoundBook}
 use Rattle.book_splits.specs.Balance.{splits_of, sum_of_values, total}
 use Rattle.book_splits.specs.declared.split.Split.{Split}
 use Rattle.book_splits.specs.declared.transaction.Txn.{Txn}
-use Rattle.book_step.specs.Prices.{pair_rate, last_price, rate_on}
+use Rattle.book_command.specs.Rates.{pair_rate, last_price, rate_on}
 use Rattle.book_undo.specs.Book.{Book}
 use Rattle.book_reports.specs.Measure.{commodity_of, fraction_of, is_in, rows_in, sum_in, worth, worth_by}
 use Rattle.book_reports.specs.Sections.{amount_in, holds, is_turned, line_of, line_with, lines_of, signed_in, sum_of, turned}

@@ -14,7 +14,7 @@ use Rattle.book_prices.specs.declared.valuation.Valuation.TheVariants.{Amount, N
 use Rattle.book_register.specs.Register.{balance}
 use Rattle.book_register.specs.declared.entry.Entry.{Entry}
 use Rattle.book_splits.specs.Balance.{total}
-use Rattle.book_step.specs.Prices.{rate_on}
+use Rattle.book_command.specs.Rates.{rate_on}
 use Rattle.book_undo.specs.Book.{Book}
 use Rattle.book_reports.specs.declared.period.Period.{Period}
 

@@ -25,7 +25,8 @@ use Rattle.book_step.specs.Prices.{has_numbers, price_drop, price_of_day, price_
 use Rattle.book_step.specs.Prices.{too_many_prices, unknown_price}
 use Rattle.book_step.specs.Soundness.{IsSound, IsSoundBook}
 use Rattle.book_step.specs.State.{State}
-use Rattle.book_step.proofs.PriceLemmas.{alike_of, found_there}
+use Rattle.book_command.proofs.RateLemmas.{alike_of}
+use Rattle.book_step.proofs.PriceLemmas.{found_there}
 use Rattle.book_step.proofs.SoundOutcome.{changing_done, either_sound, sound_after}
 
 not_false : (b : Bool) → not b ≡ false → b ≡ true

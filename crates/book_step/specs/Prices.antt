@@ -1,7 +1,6 @@
--- The commands on prices, and the rate on a day.
-use Rattle.std.specs.Prelude.{ℕ, ◌+◌, ◌==◌, ◌&&◌, ◌||◌, not, nat_lt, ℤ, int_le, Bool, if◌then◌else◌}
+-- The commands on prices, and the rules of asking for a rate.
+use Rattle.std.specs.Prelude.{ℕ, ◌+◌, ◌==◌, ◌&&◌, not, nat_lt, Bool, if◌then◌else◌}
 use Rattle.std.specs.Prelude.{List, [], ◌∷◌, ◌++◌, find, length, Option, Some, None, is_none}
-use Rattle.std.specs.List.{list_all}
 use Rattle.book_commodity.specs.Rules.{broken_where}
 use Rattle.book_commodity.specs.Table.{value_of}
 use Rattle.book_commodity.specs.declared.counted.Counted.TheVariants.{Prices}
@@ -16,7 +15,6 @@ use Rattle.book_step.specs.Commodities.{unknown_commodity, wrong_currency}
 use Rattle.book_step.specs.Outcome.{Outcome, changing, leaving}
 use Rattle.book_step.specs.State.{State}
 use Rattle.book_command.specs.declared.answer.Answer.TheVariants as answer
-use Rattle.book_command.specs.declared.answer.Ratio.{Ratio}
 use Rattle.book_command.specs.declared.rule.Rule.{Rule}
 use Rattle.book_command.specs.declared.rule.Rule.TheVariants.{Limit, PriceShape, Unknown}
 
@@ -77,37 +75,3 @@ price_drop state number =
 abbrev pub rate_rules : Book → ℕ → ℕ → List (Option Rule)
 rate_rules book commodity currency =
     unknown_commodity book.commodities commodity ∷ unknown_commodity book.commodities currency ∷ []
-
--- Whether a price is of the pair, and on or before the day.
-abbrev pub is_price_of : ℕ → ℕ → ℤ → Price → Bool
-is_price_of commodity currency day price =
-    (price.commodity == commodity) && ((price.currency == currency) && int_le price.day day)
-
--- Whether it is, and none of these prices which is so too is later.
-abbrev pub is_last_price : List (ℕ × Price) → ℕ → ℕ → ℤ → Price → Bool
-is_last_price prices commodity currency day price =
-    is_price_of commodity currency day price
-    && list_all (λ entry. not (is_price_of commodity currency day entry.1) || int_le entry.1.day price.day) prices
-
--- The last price of the pair on or before the day, if it has one.
-abbrev pub last_price : List (ℕ × Price) → ℕ → ℕ → ℤ → Option (ℕ × Price)
-last_price prices commodity currency day =
-    find (λ entry. is_last_price prices commodity currency day entry.1) prices
-
--- The rate of a last price of the swapped pair, turned over.
-abbrev pub turned_rate : Option (ℕ × Price) → Option Ratio
-turned_rate None = None
-turned_rate (Some entry) = Some (record { num = entry.1.denom; denom = entry.1.num })
-
--- The rate of a last price of the pair, or else that of the swapped pair.
-abbrev pub pair_rate : Option (ℕ × Price) → Option (ℕ × Price) → Option Ratio
-pair_rate (Some entry) swapped = Some (record { num = entry.1.num; denom = entry.1.denom })
-pair_rate None swapped = turned_rate swapped
-
--- What one unit of a commodity is worth in a currency on a day: one to one in itself; else by the last price of the
--- pair; else by the last price of the swapped pair, turned over; else there is no rate (GnuCash Concepts Guide, the
--- price database).
-abbrev pub rate_on : List (ℕ × Price) → ℕ → ℕ → ℤ → Option Ratio
-rate_on prices commodity currency day =
-    if commodity == currency then Some (record { num = 1; denom = 1 })
-    else pair_rate (last_price prices commodity currency day) (last_price prices currency commodity day)

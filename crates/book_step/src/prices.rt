@@ -8,7 +8,8 @@ ghost use Rattle.book_sound.specs.Soundness.{IsSoundBook};
 ghost use Rattle.book_sound.specs.Tests.{is_within};
 ghost use Rattle.book_step.specs.Outcome.{StepsTo};
 ghost use Rattle.book_step.specs.Prices.{has_numbers, price_drop, price_of_day, price_rules, price_set, price_set_at};
-ghost use Rattle.book_step.specs.Prices.{rate_on, rate_rules, too_many_prices, unknown_price};
+ghost use Rattle.book_command.specs.Rates.{rate_on};
+ghost use Rattle.book_step.specs.Prices.{rate_rules, too_many_prices, unknown_price};
 ghost use Rattle.book_undo.specs.Book.{book_of};
 
 use crate::commodities::{check_currency, check_known};

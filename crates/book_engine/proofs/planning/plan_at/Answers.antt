@@ -3,7 +3,7 @@ use Rattle.book_command.specs.declared.answer.Answer.{Answer}
 use Rattle.book_command.specs.declared.answer.Answer.TheVariants as answer
 use Rattle.book_command.specs.declared.command.What.{What}
 use Rattle.book_command.specs.declared.rule.Rule.{Rule}
-use Rattle.book_step.specs.Prices.{rate_on}
+use Rattle.book_command.specs.Rates.{rate_on}
 use Rattle.book_opening.specs.State.{state_of}
 use Rattle.book_engine.specs.Books.{machine_of}
 use Rattle.book_engine.specs.Machine.{Done, reply, unless_broken}

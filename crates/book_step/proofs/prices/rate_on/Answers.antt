@@ -1,5 +1,5 @@
 use Rattle.std.proofs.Common.{None, Some, ◌∙◌}
-use Rattle.book_step.proofs.PriceLemmas.{rate_is}
+use Rattle.book_command.proofs.RateLemmas.{rate_is}
 use Rattle.book_step.proofs.prices.rate_on.Goals as goal
 
 pub returns-in_err-rate : goal.returns-in_err-rate
