@@ -1,5 +1,5 @@
 use crate::counters::{count, counted, expanded};
-use crate::rows::{Spelled, rows_of};
+use crate::rows::row_of;
 use book_commodity::discard;
 use book_keeper::RowKey;
 use std::alloc::{AllocError, Global};
@@ -20,7 +20,11 @@ impl Answer {
         if self.is_whole {
             return line == self.begins.as_str();
         }
-        line.starts_with(self.begins.as_str()) && line.ends_with(self.ends.as_str())
+        let (begins, ends) = (self.begins.as_str(), self.ends.as_str());
+        match line.strip_prefix(begins) {
+            Some(rest) => rest.ends_with(ends),
+            None => false,
+        }
     }
 }
 
@@ -32,12 +36,11 @@ pub(crate) struct WantedRow {
     pub(crate) body: Vec<u8>,
 }
 
-/// What a run wants: its answers, and whether it is enough that they begin so; how it ends; how many bytes of the input
-/// are not read; how many rows the keeper holds, and which.
+/// What a run wants: its answers; how it ends; how many bytes of the input are not read; how many rows the keeper holds,
+/// and which.
 #[derive(Drop)]
 pub(crate) struct Wanted {
     pub(crate) answers: Vec<Answer>,
-    pub(crate) is_cut: bool,
     pub(crate) status: String,
     pub(crate) unread: Option<usize>,
     pub(crate) count: Option<usize>,
@@ -49,7 +52,6 @@ impl Wanted {
     pub(crate) fn new(alloc: Global) -> Result<Wanted, AllocError> {
         Ok(Wanted {
             answers: Vec::new(alloc),
-            is_cut: false,
             status: String::from_str(alloc, "done")?,
             unread: None,
             count: None,
@@ -69,9 +71,7 @@ impl Wanted {
             "<" => self.add_answer(alloc, rest, true, line)?,
             "<^" => self.add_answer(alloc, rest, false, line)?,
             "<$" => self.add_end(alloc, rest, line)?,
-            "<*" => self.add_answers(alloc, rest, true, line)?,
-            "<*^" => self.add_answers(alloc, rest, false, line)?,
-            "cut" => self.is_cut = true,
+            "<*" => self.add_answers(alloc, rest, line)?,
             "ends" => self.status = String::from_str(alloc, rest)?,
             "unread" => self.unread = Some(count(rest)?),
             "rows" => self.count = Some(count(rest)?),
@@ -118,41 +118,19 @@ impl Wanted {
     }
 
     /// Adds as many answers as the line's number says. Where it has no text, these are any answers.
-    fn add_answers(
-        &mut self,
-        alloc: Global,
-        rest: &str,
-        is_whole: bool,
-        line: usize,
-    ) -> io::Result<()> {
+    fn add_answers(&mut self, alloc: Global, rest: &str, line: usize) -> io::Result<()> {
         let (count, text) = counted(rest)?;
         for times in 0..count {
             let answer = expanded(alloc, text, times)?;
-            let added = self.add_answer(alloc, answer.as_str(), is_whole && !text.is_empty(), line);
+            let added = self.add_answer(alloc, answer.as_str(), !text.is_empty(), line);
             discard(answer, added)?;
         }
         Ok(())
-    }
-
-    /// The answers in one text.
-    pub(crate) fn text(&self, alloc: Global) -> Result<String, AllocError> {
-        let mut text = String::new(alloc);
-        for answer in self.answers.as_slice() {
-            text.push_str(answer.begins.as_str())?;
-            text.push('\n')?;
-        }
-        Ok(text)
     }
 }
 
 /// The row that a line `KIND ID HEX` wants.
 fn wanted_row(alloc: Global, rest: &str, line: usize) -> io::Result<WantedRow> {
-    let Spelled {
-        kind,
-        first,
-        body,
-        ..
-    } = rows_of(alloc, rest)?;
-    let key = RowKey { kind, id: first };
+    let (key, body) = row_of(alloc, rest)?;
     Ok(WantedRow { line, key, body })
 }

@@ -27,8 +27,38 @@ pub(crate) fn check_runs(report: &mut Report<'_>, file: &str) -> io::Result<()> 
             runs = runs.saturating_add(check_case(report, file, section)?);
         }
     }
-    let line = format!(in report.alloc(); "{file}: {runs} runs")?;
+    let lines = text.as_str().lines().count();
+    let line = format!(in report.alloc(); "{file}: {runs} runs of {lines} lines")?;
     report.say(line.as_str())
+}
+
+/// Makes the runs of each case of a file, of which each is wrong in one thing, and says how many fail, as all have to.
+pub(crate) fn check_wrong(report: &mut Report<'_>, file: &str) -> io::Result<()> {
+    let text = report.read(file)?;
+    let sections = sections_of(report.alloc(), text.as_str())?;
+    let mut cases: u64 = 0;
+    for section in sections.as_slice() {
+        if section.is_case {
+            check_fails(report, file, section)?;
+            cases = cases.saturating_add(1);
+        }
+    }
+    let line = format!(in report.alloc(); "{file}: {cases} cases that fail")?;
+    report.say(line.as_str())
+}
+
+/// Makes the runs of a case that has to fail.
+fn check_fails(report: &mut Report<'_>, file: &str, section: &Section<'_>) -> io::Result<()> {
+    let mut silent = Report::silent(report.rt());
+    check_case(&mut silent, file, section)?;
+    if silent.has_no_failure() {
+        let case = Case {
+            file,
+            name: section.name,
+        };
+        return report.fail(case.at(section.number), "a case that fails", "none");
+    }
+    Ok(())
 }
 
 /// Makes the runs of a case. How many there are. A line that can't be read ends the case as one that fails.
@@ -46,10 +76,10 @@ fn check_case(report: &mut Report<'_>, file: &str, section: &Section<'_>) -> io:
     let taken = take_all(report, case, &mut progress, section.lines.as_slice());
     let runs = progress.runs;
     drop(progress);
-    match taken {
-        Ok(()) => Ok(runs),
-        Err(error) => Err(error),
+    if taken.is_err() {
+        report.fail(case.at(section.number), "a run that can be made", "an error")?;
     }
+    Ok(runs)
 }
 
 /// Takes in the lines of a case, and makes its last run.

@@ -25,7 +25,7 @@ impl<'a> Case<'a> {
 }
 
 /// A status as a row names it.
-pub(crate) fn status_text(alloc: Global, status: Status) -> Result<String, AllocError> {
+fn status_text(alloc: Global, status: Status) -> Result<String, AllocError> {
     match status {
         Status::Done => String::from_str(alloc, "done"),
         Status::Usage => String::from_str(alloc, "usage"),
@@ -47,13 +47,10 @@ pub(crate) fn compare(
     outcome: &Outcome,
     rows: Option<&[Row]>,
 ) -> io::Result<()> {
-    compare_status(report, case, run, outcome)?;
+    let status = run.wanted.status.as_str();
+    compare_status(report, case.at(run.line), outcome.status, status)?;
     compare_unread(report, case, run, outcome)?;
-    if run.wanted.is_cut {
-        compare_beginning(report, case, run, outcome)?;
-    } else {
-        compare_lines(report, case, run, outcome.output.written())?;
-    }
+    compare_lines(report, case, run, outcome.output.written())?;
     match rows {
         Some(rows) => {
             compare_count(report, case, run, rows.len())?;
@@ -72,21 +69,17 @@ fn compare_unread_rows(report: &mut Report<'_>, case: Case<'_>, run: &Run) -> io
 }
 
 /// Compares how a run ended.
-fn compare_status(
+pub(crate) fn compare_status(
     report: &mut Report<'_>,
-    case: Case<'_>,
-    run: &Run,
-    outcome: &Outcome,
+    place: Place<'_>,
+    status: Status,
+    wanted: &str,
 ) -> io::Result<()> {
-    let status = status_text(report.alloc(), outcome.status)?;
-    if status.as_str() == run.wanted.status.as_str() {
+    let came = status_text(report.alloc(), status)?;
+    if came.as_str() == wanted {
         return Ok(());
     }
-    report.fail(
-        case.at(run.line),
-        run.wanted.status.as_str(),
-        status.as_str(),
-    )
+    report.fail(place, wanted, came.as_str())
 }
 
 /// Compares how many bytes of the input were not read.
@@ -136,31 +129,6 @@ pub(crate) fn compare_lines(
     }
 }
 
-/// Whether what a run wrote is a beginning of the answers that it wants.
-fn is_beginning(report: &Report<'_>, run: &Run, outcome: &Outcome) -> io::Result<bool> {
-    let answers = run.wanted.text(report.alloc())?;
-    Ok(
-        answers
-            .as_str()
-            .as_bytes()
-            .starts_with(outcome.output.written()),
-    )
-}
-
-/// Compares what a run wrote with the beginning of its answers.
-pub(crate) fn compare_beginning(
-    report: &mut Report<'_>,
-    case: Case<'_>,
-    run: &Run,
-    outcome: &Outcome,
-) -> io::Result<()> {
-    if is_beginning(report, run, outcome)? {
-        return Ok(());
-    }
-    let came = str::from_utf8(outcome.output.written()).unwrap_or("other bytes");
-    report.fail(case.at(run.line), "a beginning of the answers", came)
-}
-
 /// Compares how many rows are held.
 fn compare_count(
     report: &mut Report<'_>,
@@ -190,7 +158,8 @@ fn compare_rows(
         let body = held.map_or(&[][..], |row| row.body.as_slice());
         if body != wanted.body.as_slice() {
             let came = hex_of(report.alloc(), body)?;
-            report.fail(case.at(wanted.line), "this row", came.as_str())?;
+            let wanted_body = hex_of(report.alloc(), wanted.body.as_slice())?;
+            report.fail(case.at(wanted.line), wanted_body.as_str(), came.as_str())?;
         }
     }
     Ok(())

@@ -1,10 +1,9 @@
-use crate::comparing::{Case, compare, compare_beginning, status_text};
-use crate::making::{Outcome, made_in_memory};
+use crate::comparing::{Case, compare, compare_status};
+use crate::making::{Outcome, first_lines, made_in_memory};
 use crate::report::{Place, Report};
 use crate::rows::{are_same, copy_of};
 use crate::run::{Each, Fault, Run, Sort};
-use book_app::Status;
-use book_keeper::MemKeeper;
+use book_keeper::{MemKeeper, Row};
 use std::alloc::{AllocError, Global};
 use std::io;
 
@@ -81,20 +80,6 @@ fn check_same(
     compare(report, case, run, &outcome, Some(held.rows()))
 }
 
-/// Compares how a run ended.
-fn check_status(
-    report: &mut Report<'_>,
-    place: Place<'_>,
-    status: Status,
-    wanted: &str,
-) -> io::Result<()> {
-    let came = status_text(report.alloc(), status)?;
-    if came.as_str() == wanted {
-        return Ok(());
-    }
-    report.fail(place, wanted, came.as_str())
-}
-
 /// Makes the run with a read that fails: it ends by that fault, and its answers and rows are those of a run over the
 /// lines alone that were whole before that read.
 fn check_read(
@@ -106,24 +91,26 @@ fn check_read(
     fault: Fault,
 ) -> io::Result<()> {
     let failed = made_again(report.alloc(), run, keeper, fault)?;
-    check_status(report, case.at(line), failed.0.status, "input fault")?;
+    compare_status(report, case.at(line), failed.0.status, "input fault")?;
     let copy = copy_of(report.alloc(), keeper)?;
     let other = made_in_memory(report.alloc(), run, copy, read_before(run, fault), None)?;
-    compare_read(report, case.at(line), &failed, &other)
+    let answers = other.0.output.written();
+    compare_stopped(report, case.at(line), &failed, answers, other.1.rows())
 }
 
-/// Compares the answers and the rows of a run whose read failed with those of the other run.
-fn compare_read(
+/// Compares what a run answered that was stopped, and the rows that are held then.
+fn compare_stopped(
     report: &mut Report<'_>,
     place: Place<'_>,
-    failed: &(Outcome, MemKeeper),
-    other: &(Outcome, MemKeeper),
+    stopped: &(Outcome, MemKeeper),
+    answers: &[u8],
+    rows: &[Row],
 ) -> io::Result<()> {
-    if failed.0.output.written() != other.0.output.written() {
-        report.fail(place, "the answers to the lines that were read", "others")?;
+    if stopped.0.output.written() != answers {
+        report.fail(place, "the answers before the call that fails", "others")?;
     }
-    if !are_same(failed.1.rows(), other.1.rows()) {
-        report.fail(place, "the rows after the lines that were read", "others")?;
+    if !are_same(stopped.1.rows(), rows) {
+        report.fail(place, "the rows of the lines that were done", "others")?;
     }
     Ok(())
 }
@@ -141,8 +128,8 @@ fn read_before(run: &Run, fault: Fault) -> &[u8] {
     }
 }
 
-/// Makes the run with a write that fails: it ends by that fault, and what it wrote is a beginning of its answers, and not
-/// all of them.
+/// Makes the run with a write that fails: it ends by that fault. Each answer is one write, so those before it are written,
+/// and the rows are those after its line.
 fn check_write(
     report: &mut Report<'_>,
     case: Case<'_>,
@@ -151,17 +138,17 @@ fn check_write(
     line: usize,
     fault: Fault,
 ) -> io::Result<()> {
-    let (outcome, _) = made_again(report.alloc(), run, keeper, fault)?;
-    check_status(report, case.at(line), outcome.status, "output fault")?;
-    let all = run.wanted.text(report.alloc())?;
-    if outcome.output.written().len() >= all.len() {
-        report.fail(case.at(line), "not all answers", "all")?;
-    }
-    compare_beginning(report, case, run, &outcome)
+    let failed = made_again(report.alloc(), run, keeper, fault)?;
+    compare_status(report, case.at(line), failed.0.status, "output fault")?;
+    let copy = copy_of(report.alloc(), keeper)?;
+    let input = first_lines(run.input.as_slice(), fault.number);
+    let other = made_in_memory(report.alloc(), run, copy, input, None)?;
+    let answers = first_lines(other.0.output.written(), fault.number.saturating_sub(1));
+    compare_stopped(report, case.at(line), &failed, answers, other.1.rows())
 }
 
-/// Makes the run with a commit that fails: one answer says so, and the other answers and the rows are those of a run
-/// without that line.
+/// Makes the run with a commit that fails, where each line makes one: the answer to that line says so, and the other
+/// answers and the rows are those of a run without it.
 fn check_commit(
     report: &mut Report<'_>,
     case: Case<'_>,
@@ -171,22 +158,14 @@ fn check_commit(
     fault: Fault,
 ) -> io::Result<()> {
     let failed = made_again(report.alloc(), run, keeper, fault)?;
-    compare_commit(report, case.at(line), run, keeper, &failed)
-}
-
-/// Compares a run whose commit failed with one without the line that was refused.
-fn compare_commit(
-    report: &mut Report<'_>,
-    place: Place<'_>,
-    run: &Run,
-    keeper: &MemKeeper,
-    failed: &(Outcome, MemKeeper),
-) -> io::Result<()> {
-    let Some(refused) = refused_at(failed.0.output.written()) else {
-        return report.fail(place, "one answer that is refused", "none");
-    };
-    let other = made_without(report.alloc(), run, keeper, refused)?;
-    compare_without(report, place, failed, &other, refused)
+    let place = case.at(line);
+    match refused_at(failed.0.output.written()) {
+        Some(refused) if (refused as u64).saturating_add(1) == fault.number => {
+            let other = made_without(report.alloc(), run, keeper, refused)?;
+            compare_without(report, place, &failed, &other, refused)
+        }
+        _ => report.fail(place, "the line of this commit refused", "none or another"),
+    }
 }
 
 /// The outcome of a run without the line at a place, and the keeper.

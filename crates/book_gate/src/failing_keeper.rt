@@ -50,8 +50,8 @@ impl FailingKeeper {
         self.keeper
     }
 
-    /// Whether the call that begins fails; then a fault is counted.
-    fn is_failing(&mut self, is_commit: bool) -> bool
+    /// Begins a call. Whether it fails; then a fault is counted.
+    fn begin_call(&mut self, is_commit: bool) -> bool
         ensures kept { self.new.keeper ≡ self.old.keeper }
         ensures later { self.old.faults ≤ self.new.faults }
         ensures fine { result ≡ false → self.new.faults ≡ self.old.faults }
@@ -85,7 +85,7 @@ impl Keeper for FailingKeeper {
     ghost rising = { λ it rows held. held.1 };
 
     fn open(&mut self, path: &str) -> Result<(), KeepError> {
-        if self.is_failing(false) {
+        if self.begin_call(false) {
             return Err(KeepError::Failed);
         }
         match self.keeper.open(path) {
@@ -95,7 +95,7 @@ impl Keeper for FailingKeeper {
     }
 
     fn commit(&mut self, changes: &[Change]) -> Result<(), KeepError> {
-        if self.is_failing(true) {
+        if self.begin_call(true) {
             return Err(KeepError::Failed);
         }
         match self.keeper.commit(changes) {
@@ -105,7 +105,7 @@ impl Keeper for FailingKeeper {
     }
 
     fn next_row(&mut self, after: Option<RowKey>) -> Result<Option<Row>, KeepError> {
-        if self.is_failing(false) {
+        if self.begin_call(false) {
             return Err(KeepError::Failed);
         }
         match self.keeper.next_row(after) {

@@ -102,7 +102,8 @@ pub(crate) fn check_files(report: &mut Report<'_>, file: &str) -> io::Result<()>
             files = files.saturating_add(1);
         }
     }
-    let line = format!(in report.alloc(); "{file}: {files} files")?;
+    let lines = text.as_str().lines().count();
+    let line = format!(in report.alloc(); "{file}: {files} files of {lines} lines")?;
     report.say(line.as_str())
 }
 
@@ -129,7 +130,7 @@ fn check_case(report: &mut Report<'_>, file: &str, section: &Section<'_>) -> io:
         Ok(rows) => compare_lines(report, case, &statement_file.run, rows.as_slice()),
         Err(_) => report.fail(
             case.at(section.number),
-            "a format that can be read",
+            "rows of a format that can be read",
             statement_file.format,
         ),
     }

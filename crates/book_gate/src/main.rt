@@ -1,5 +1,5 @@
-//! The rows of the gate: runs of the program, pages, books that are opened again, stops of a disk. Each row stands in a
-//! file beside the program, and `gate.txt` lists the files. The program makes what each row says, compares what comes
+//! The rows of the gate: runs of the program, pages, books that are opened again, stops of a disk, standard streams,
+//! statement files, and the work that an engine takes. Each row stands in a file beside the program, and `gate.txt` lists the files. The program makes what each row says, compares what comes
 //! with what the row wants, and says for each file how many rows it has. A row that fails is said on standard output
 //! and on standard error; then the program goes on, and ends with 1. With the words `opening COUNT` it measures instead
 //! how long a book of so many transactions takes to open.
@@ -29,7 +29,7 @@ mod streams;
 mod unsteady;
 mod work;
 
-use crate::case::check_runs;
+use crate::case::{check_runs, check_wrong};
 use crate::files::check_files;
 use crate::opening::measure;
 use crate::pages::{check_commands, check_example, check_page, check_readme};
@@ -42,7 +42,7 @@ use std::process::ExitCode;
 use std::{env, io};
 
 /// Does what one line of the list asks.
-fn check(report: &mut Report<'_>, line: &str) -> io::Result<()> {
+fn check(report: &mut Report<'_>, line: &str, number: usize) -> io::Result<()> {
     let words: Vec<&str> = line.split(' ').collect(report.alloc())?;
     match words.as_slice() {
         ["page", file] => check_page(report, file),
@@ -50,8 +50,9 @@ fn check(report: &mut Report<'_>, line: &str) -> io::Result<()> {
         ["example", file, answers] => check_example(report, file, answers),
         ["readme", file, salary, month] => check_readme(report, file, salary, month),
         ["runs", file] => check_runs(report, file),
+        ["wrong", file] => check_wrong(report, file),
         ["stops", lines, file, ending, before, after] => {
-            check_stops(report, lines, file, ending, [before, after])
+            check_stops(report, number, lines, file, ending, [before, after])
         }
         ["streams", lines, answers] => check_streams(report, lines, answers),
         ["files", file] => check_files(report, file),
@@ -63,10 +64,11 @@ fn check(report: &mut Report<'_>, line: &str) -> io::Result<()> {
 /// Does what each line of the list asks. A line that can't be done is a row that fails.
 fn check_all(report: &mut Report<'_>, list: &str) -> io::Result<()> {
     for (place, line) in list.lines().enumerate() {
-        if let Err(error) = check(report, line) {
+        let number = place.saturating_add(1);
+        if let Err(error) = check(report, line, number) {
             let place = Place {
                 file: "gate.txt",
-                line: place.saturating_add(1),
+                line: number,
                 name: line,
             };
             let came = format!(in report.alloc(); "{:?}", error.kind())?;

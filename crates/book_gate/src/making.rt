@@ -70,6 +70,16 @@ pub(crate) fn made_in_memory(
     }
 }
 
+/// The first lines of a text, so many of them.
+pub(crate) fn first_lines(text: &[u8], count: u64) -> &[u8] {
+    let most = usize::try_from(count).unwrap_or(usize::MAX);
+    let mut length: usize = 0;
+    for line in text.split_inclusive(|byte| *byte == b'\n').take(most) {
+        length = length.saturating_add(line.len());
+    }
+    text.get(..length).unwrap_or(text)
+}
+
 /// How many bytes are left in a source.
 fn left(source: &mut MemSource) -> usize {
     let mut buffer = [0; 4096];

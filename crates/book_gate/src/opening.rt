@@ -75,13 +75,13 @@ pub(crate) fn measure(rt: &HostRuntime, count: &str) -> io::Result<bool> {
     let start = rt.process_cpu_time()?;
     let engine = Engine::open(rt.alloc(), &mut keeper);
     let end = rt.process_cpu_time();
-    is_open(engine)?;
+    check_open(engine)?;
     println!(rt; "{}", end?.saturating_sub(start).as_nanos())?;
     Ok(true)
 }
 
-/// Whether the rows opened as an engine.
-fn is_open(engine: Result<Engine, OpenError>) -> io::Result<()> {
+/// Checks that the rows opened as an engine.
+fn check_open(engine: Result<Engine, OpenError>) -> io::Result<()> {
     match engine {
         Ok(engine) => {
             drop(engine);

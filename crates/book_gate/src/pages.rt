@@ -8,7 +8,7 @@ use crate::script::Line;
 use std::alloc::{AllocError, Global};
 use std::{io, str};
 
-/// The first run that the README shows, and the second one over the same book.
+/// The first two commands that the README shows. Their lines are made as one run here.
 const RUNS: [&str; 2] = [
     "./book run household.book < examples/salary.jsonl\n",
     "echo '{\"do\":\"status\"}' | ./book run household.book\n",
@@ -108,8 +108,10 @@ pub(crate) fn check_commands(report: &mut Report<'_>, file: &str, session: &str)
     let answers = answers_to(report.alloc(), commands.as_str())?;
     check_pairs(report, file, &page, commands.as_str(), answers.as_str())?;
     check_tables(report, file, &page, answers.as_str())?;
-    let count = page.commands.len();
-    let line = format!(in report.alloc(); "{file}: {count} commands of {session}")?;
+    let (count, more) = (page.commands.len(), page.in_tables.len());
+    let line = format!(in report.alloc();
+        "{file}: {count} commands of {session}, {more} answers of tables"
+    )?;
     report.say(line.as_str())
 }
 

@@ -14,30 +14,48 @@ const MOST_ROWS: u64 = 1 << 20;
 /// Rows of a kind and of the numbers from a first to a last one, as a line spells them: `KIND ID HEX`, or
 /// `KIND FIRST-LAST HEX`. The body may be empty.
 #[derive(Drop)]
-pub(crate) struct Spelled {
-    pub(crate) kind: u8,
-    pub(crate) first: u64,
-    pub(crate) last: u64,
-    pub(crate) body: Vec<u8>,
+struct Spelled {
+    kind: u8,
+    first: u64,
+    last: u64,
+    body: Vec<u8>,
 }
 
 /// The rows that a line spells.
-pub(crate) fn rows_of(alloc: Global, text: &str) -> io::Result<Spelled> {
+fn rows_of(alloc: Global, text: &str) -> io::Result<Spelled> {
     let mut words = text.split(' ');
     let Ok(kind) = u8::try_from(number(words.next().unwrap_or(""))?) else {
         return Err(unread());
     };
     let ids = words.next().unwrap_or("");
     let (first, last) = ids.split_once('-').unwrap_or((ids, ids));
+    let (first, last) = (number(first)?, number(last)?);
     let Ok(body) = hex::decode(alloc, words.next().unwrap_or("")) else {
         return Err(unread());
     };
+    if words.next().is_some() || last < first {
+        return Err(unread());
+    }
     Ok(Spelled {
         kind,
-        first: number(first)?,
-        last: number(last)?,
+        first,
+        last,
         body,
     })
+}
+
+/// The key and the body of the one row that a line spells, as `KIND ID HEX`.
+pub(crate) fn row_of(alloc: Global, text: &str) -> io::Result<(RowKey, Vec<u8>)> {
+    let Spelled {
+        kind,
+        first,
+        last,
+        body,
+    } = rows_of(alloc, text)?;
+    if first != last {
+        return Err(unread());
+    }
+    Ok((RowKey { kind, id: first }, body))
 }
 
 /// A keeper in memory without rows.
@@ -89,8 +107,7 @@ fn put(alloc: Global, keeper: &mut MemKeeper, row: Row) -> io::Result<()> {
 
 /// Takes out the row whose key a line spells.
 pub(crate) fn take_out(alloc: Global, keeper: &mut MemKeeper, text: &str) -> io::Result<()> {
-    let Spelled { kind, first, .. } = rows_of(alloc, text)?;
-    let key = RowKey { kind, id: first };
+    let (key, _) = row_of(alloc, text)?;
     change(alloc, keeper, Change::Gone(key))
 }
 

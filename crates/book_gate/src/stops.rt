@@ -63,6 +63,7 @@ fn ending_of(word: &str) -> io::Result<Ending> {
 /// the program is killed, and they are kept.
 pub(crate) fn check_stops(
     report: &mut Report<'_>,
+    number: usize,
     lines: &str,
     file: &str,
     ending: &str,
@@ -86,7 +87,7 @@ pub(crate) fn check_stops(
             file: "gate.txt",
             name: name.as_str(),
         };
-        report.fail(case.at(1), wanted.as_str(), came.as_str())?;
+        report.fail(case.at(number), wanted.as_str(), came.as_str())?;
     }
     let stops = before.saturating_add(after).saturating_add(others);
     let line = format!(in alloc; "{lines}, the {file}, writes {ending}: {stops} stops")?;

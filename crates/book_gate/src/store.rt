@@ -22,6 +22,8 @@ pub(crate) enum Store {
     Database(Connection<MemStore>),
     /// In the file that the words name.
     File,
+    /// Nowhere: the database has no table of rows, or it failed.
+    Gone,
 }
 
 impl Store {
@@ -42,6 +44,9 @@ impl Store {
         case: Case<'_>,
         run: &Run,
     ) -> io::Result<Store> {
+        if run.is_killed && !matches!(&self, Store::File) {
+            return Err(unread());
+        }
         match self {
             Store::Memory(keeper) => check_in_memory(report, case, run, keeper),
             Store::Database(connection) => check_in_database(report, case, run, connection),
@@ -49,6 +54,7 @@ impl Store {
                 check_in_file(report, case, run, Unknown)?;
                 Ok(Store::File)
             }
+            Store::Gone => Err(unread()),
         }
     }
 
@@ -153,18 +159,20 @@ fn check_in_database(
     check_over(report, case, run, &mut keeper)?;
     match keeper.into_connection() {
         Some(connection) => Ok(Store::Database(connection)),
-        None => Ok(Store::Database(Connection::open_in_memory(alloc)?)),
+        // Another run over it would find nothing of this one.
+        None => Ok(Store::Gone),
     }
 }
 
-/// Makes a run over a keeper, and compares. Calls that fail each in turn are for a keeper in memory.
+/// Makes a run over a keeper, and compares. Calls of the keeper that fail, and calls that fail each in turn, are for one
+/// in memory.
 fn check_over<K: Keeper>(
     report: &mut Report<'_>,
     case: Case<'_>,
     run: &Run,
     keeper: &mut K,
 ) -> io::Result<()> {
-    if run.each.is_some() {
+    if run.each.is_some() || run.has_keeper_fault() {
         return Err(unread());
     }
     let alloc = report.alloc();
@@ -183,14 +191,14 @@ fn check_in_file<T: Start>(
 ) -> io::Result<()> {
     let mut keeper = FileKeeper::at(report.rt(), named_book(run.words.as_slice()), start);
     let checked = check_over(report, case, run, &mut keeper);
-    if !is_left(keeper, run.is_killed) {
+    if !leave(keeper, run.is_killed) {
         report.fail(case.at(run.line), "a file that is closed", "an error")?;
     }
     checked
 }
 
 /// Closes the file of a keeper, or leaves it as where the program is killed. Whether no error came.
-fn is_left<T: Start>(keeper: FileKeeper<T>, is_killed: bool) -> bool {
+fn leave<T: Start>(keeper: FileKeeper<T>, is_killed: bool) -> bool {
     if is_killed {
         discard(keeper, true)
     } else {

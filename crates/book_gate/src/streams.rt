@@ -1,11 +1,14 @@
 use crate::comparing::Case;
 use crate::host::Host;
+use crate::making::{first_lines, made_in_memory};
 use crate::report::Report;
 use crate::rows::no_rows;
-use crate::unsteady::{Reader, Unforgiving, Writer};
+use crate::run::Run;
+use crate::unsteady::{Reader, Unflushable, Unforgiving, Writer};
 use book_app::{Ended, Status, run_over, run_program, words_of};
 use book_commodity::Text;
 use std::alloc::{AllocError, Global};
+use std::cell::Cell;
 use std::io;
 use std::io::{Read, Write};
 use std::process::{ExitCode, Termination};
@@ -79,6 +82,7 @@ pub(crate) fn check_streams(report: &mut Report<'_>, lines: &str, answers: &str)
     check_reads(report, lines, answers)?;
     check_writes(report, lines, answers)?;
     check_flushes(report)?;
+    check_flush(report, lines)?;
     let rows = report.compared().saturating_sub(before);
     let line = format!(in report.alloc(); "streams: {rows} rows")?;
     report.say(line.as_str())
@@ -137,8 +141,15 @@ fn check_reads(report: &mut Report<'_>, lines: &[u8], answers: &[u8]) -> io::Res
     let alloc = report.alloc();
     for fails in 1..9u32 {
         let host = Host::new(alloc, &[], "book: the input failed");
-        let end = ended(alloc, Reader::new(lines, fails), Writer::new(answers, 0))?;
-        let is_right = end.report(&host) == ExitCode::from(4) && host.is_content();
+        let taken = Cell::new(0);
+        let end = ended(
+            alloc,
+            Reader::new(lines, fails),
+            Writer::new(answers, 0, &taken),
+        )?;
+        let is_right = end.report(&host) == ExitCode::from(4)
+            && host.is_content()
+            && taken.get() == answered(lines, answers, fails).len();
         check(report, "a read that fails", fails as usize, is_right)?;
     }
     let host = Host::new(alloc, answers, "book: the input failed");
@@ -151,9 +162,17 @@ fn check_reads(report: &mut Report<'_>, lines: &[u8], answers: &[u8]) -> io::Res
     check(report, "no read fails", 10, is_right)
 }
 
-/// Nor is a write hidden that fails once.
+/// The answers to the lines that are whole in the reads before the one that fails, of forty bytes each.
+fn answered<'a>(lines: &[u8], answers: &'a [u8], fails: u32) -> &'a [u8] {
+    let reads = usize::try_from(fails.saturating_sub(1)).unwrap_or(usize::MAX);
+    let read = lines.get(..reads.saturating_mul(40)).unwrap_or(lines);
+    let count = read.iter().filter(|byte| **byte == b'\n').count();
+    first_lines(answers, count as u64)
+}
+
+/// Nor is a write hidden that fails once: an answer takes one to three of them. Where none fails, all is written.
 fn check_writes(report: &mut Report<'_>, lines: &[u8], answers: &[u8]) -> io::Result<()> {
-    for fails in [1, 5, 100] {
+    for fails in [1, 2, 5, 6, 7, 100] {
         let is_done = fails == 100;
         let said = if is_done {
             ""
@@ -161,9 +180,13 @@ fn check_writes(report: &mut Report<'_>, lines: &[u8], answers: &[u8]) -> io::Re
             "book: the output failed"
         };
         let host = Host::new(report.alloc(), &[], said);
-        let code = ended(report.alloc(), lines, Writer::new(answers, fails))?.report(&host);
+        let taken = Cell::new(0);
+        let writer = Writer::new(answers, fails, &taken);
+        let code = ended(report.alloc(), lines, writer)?.report(&host);
         let number = if is_done { 0 } else { 5 };
-        let is_right = code == ExitCode::from(number) && host.is_content();
+        let is_right = code == ExitCode::from(number)
+            && host.is_content()
+            && (taken.get() == answers.len()) == is_done;
         check(report, "a write that fails", fails as usize, is_right)?;
     }
     Ok(())
@@ -185,13 +208,29 @@ fn check_flushes(report: &mut Report<'_>) -> io::Result<()> {
     for count in [1, 100, 1_000, 1_700, 50_000, 1] {
         add_line(&mut lines, count)?;
     }
+    let lines = lines.as_str().as_bytes();
     let host = Host::new(report.alloc(), &[], "");
-    let end = ended(
-        report.alloc(),
-        lines.as_str().as_bytes(),
-        Unforgiving::new(),
-    )?;
-    let code = end.report(&host);
-    let is_right = code == ExitCode::from(0) && host.is_content();
+    let (taken, unflushed) = (Cell::new(0), Cell::new(0));
+    let writer = Unforgiving::new(&taken, &unflushed);
+    let code = ended(report.alloc(), lines, writer)?.report(&host);
+    let is_right = code == ExitCode::from(0)
+        && host.is_content()
+        && unflushed.get() == 0
+        && taken.get() == written(report.alloc(), lines)?;
     check(report, "answers of every length are flushed", 0, is_right)
+}
+
+/// How many bytes the answers to the lines have, from a fresh book on.
+fn written(alloc: Global, lines: &[u8]) -> io::Result<usize> {
+    let run = Run::new(alloc, 1)?;
+    let (outcome, _) = made_in_memory(alloc, &run, no_rows(alloc), lines, None)?;
+    Ok(outcome.output.written().len())
+}
+
+/// A flush that fails is a failure of the output.
+fn check_flush(report: &mut Report<'_>, lines: &[u8]) -> io::Result<()> {
+    let host = Host::new(report.alloc(), &[], "book: the output failed");
+    let code = ended(report.alloc(), lines, Unflushable)?.report(&host);
+    let is_right = code == ExitCode::from(5) && host.is_content();
+    check(report, "a flush that fails", 0, is_right)
 }

@@ -1,3 +1,4 @@
+use std::cell::Cell;
 use std::io;
 use std::io::{ErrorKind, Read, Write};
 
@@ -36,19 +37,21 @@ impl<'a> Read for Reader<'a> {
 }
 
 /// A writer that takes at most forty bytes at a time and fails at one of its calls; later calls take what they are
-/// given. It fails too where a byte is not the next of those that are wanted.
+/// given. It fails too where a byte is not the next of those that are wanted. It counts the bytes that it took.
 #[derive(Drop)]
 pub(crate) struct Writer<'a> {
     wanted: &'a [u8],
+    taken: &'a Cell<usize>,
     calls: u32,
     fails: u32,
 }
 
 impl<'a> Writer<'a> {
     /// A writer that wants these bytes, and fails at this call.
-    pub(crate) fn new(wanted: &'a [u8], fails: u32) -> Writer<'a> {
+    pub(crate) fn new(wanted: &'a [u8], fails: u32, taken: &'a Cell<usize>) -> Writer<'a> {
         Writer {
             wanted,
+            taken,
             calls: 0,
             fails,
         }
@@ -66,6 +69,7 @@ impl<'a> Write for Writer<'a> {
             return Err(io::Error::other("other bytes"));
         };
         self.wanted = rest;
+        self.taken.set(self.taken.get().saturating_add(count));
         Ok(count)
     }
 
@@ -74,30 +78,47 @@ impl<'a> Write for Writer<'a> {
     }
 }
 
-/// A writer that takes what it is given, and fails where what it took before is not flushed.
+/// A writer that takes what it is given, and fails where what it took before is not flushed. It counts the bytes that it
+/// took, and those of them that are not flushed.
 #[derive(Drop)]
-pub(crate) struct Unforgiving {
-    unflushed: usize,
+pub(crate) struct Unforgiving<'a> {
+    taken: &'a Cell<usize>,
+    unflushed: &'a Cell<usize>,
 }
 
-impl Unforgiving {
-    /// A writer that took nothing yet.
-    pub(crate) fn new() -> Unforgiving {
-        Unforgiving { unflushed: 0 }
+impl<'a> Unforgiving<'a> {
+    /// A writer that counts here.
+    pub(crate) fn new(taken: &'a Cell<usize>, unflushed: &'a Cell<usize>) -> Unforgiving<'a> {
+        Unforgiving { taken, unflushed }
     }
 }
 
-impl Write for Unforgiving {
+impl<'a> Write for Unforgiving<'a> {
     fn write(&mut self, bytes: &[u8]) -> io::Result<usize> {
-        if self.unflushed > 0 {
+        if self.unflushed.get() > 0 {
             return Err(io::Error::other("not flushed"));
         }
-        self.unflushed = bytes.len();
+        self.taken.set(self.taken.get().saturating_add(bytes.len()));
+        self.unflushed.set(bytes.len());
         Ok(bytes.len())
     }
 
     fn flush(&mut self) -> io::Result<()> {
-        self.unflushed = 0;
+        self.unflushed.set(0);
         Ok(())
+    }
+}
+
+/// A writer that takes what it is given, and fails at each flush.
+#[derive(Drop)]
+pub(crate) struct Unflushable;
+
+impl Write for Unflushable {
+    fn write(&mut self, bytes: &[u8]) -> io::Result<usize> {
+        Ok(bytes.len())
+    }
+
+    fn flush(&mut self) -> io::Result<()> {
+        Err(io::Error::other("broken"))
     }
 }

@@ -3,6 +3,7 @@ use crate::counters::{number, unread};
 use crate::report::Report;
 use crate::rows::no_rows;
 use crate::script::{Line, Section, sections_of};
+use book_commodity::discard;
 use book_engine::Engine;
 use book_keeper::MemKeeper;
 use book_wire::command_of;
@@ -30,7 +31,11 @@ fn check_case(report: &mut Report<'_>, file: &str, section: &Section<'_>) -> io:
     let case = Case { file, name };
     let mut keeper = no_rows(report.alloc());
     match Engine::open(report.alloc(), &mut keeper) {
-        Ok(engine) => check_with(report, case, engine, &mut keeper, section.lines.as_slice()),
+        Ok(mut engine) => {
+            let lines = section.lines.as_slice();
+            let rows = check_lines(report, case, &mut engine, &mut keeper, lines);
+            discard(engine, rows)
+        }
         Err(_) => no_book(report, case, section.number),
     }
 }
@@ -39,17 +44,6 @@ fn check_case(report: &mut Report<'_>, file: &str, section: &Section<'_>) -> io:
 fn no_book(report: &mut Report<'_>, case: Case<'_>, line: usize) -> io::Result<u64> {
     report.fail(case.at(line), "a book that opens", "none")?;
     Ok(0)
-}
-
-/// The same for an engine that was opened.
-fn check_with(
-    report: &mut Report<'_>,
-    case: Case<'_>,
-    mut engine: Engine,
-    keeper: &mut MemKeeper,
-    lines: &[Line<'_>],
-) -> io::Result<u64> {
-    check_lines(report, case, &mut engine, keeper, lines)
 }
 
 /// Has the engine do the lines, and compares the work that is asked for between them. How many rows that were.
@@ -82,14 +76,14 @@ fn do_line(
     line: Line<'_>,
 ) -> io::Result<()> {
     let text = line.text.strip_prefix("> ").unwrap_or("");
-    if is_done(report.alloc(), engine, keeper, text) {
+    if act(report.alloc(), engine, keeper, text) {
         return Ok(());
     }
     report.fail(case.at(line.number), "a line that is done", "a refusal")
 }
 
-/// Whether the engine does what a line asks.
-fn is_done(alloc: Global, engine: &mut Engine, keeper: &mut MemKeeper, line: &str) -> bool {
+/// Has the engine do what a line asks. Whether it is done.
+fn act(alloc: Global, engine: &mut Engine, keeper: &mut MemKeeper, line: &str) -> bool {
     match command_of(alloc, line.as_bytes()) {
         Ok(command) => engine.act(keeper, command).is_ok(),
         Err(_) => false,
