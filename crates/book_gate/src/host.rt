@@ -10,10 +10,10 @@ use std::io::{BufRead, Eprint, ErrorKind, Input, Lines, Print};
 #[derive(Drop)]
 pub(crate) struct Host<'a> {
     alloc: Global,
-    words: &'static [&'static [u8]],
+    words: &'a [Vec<u8>],
     input: &'a [u8],
     output: &'a [u8],
-    line: &'static str,
+    line: &'a str,
     fails: bool,
     written: Cell<usize>,
     lines: Cell<usize>,
@@ -23,17 +23,17 @@ pub(crate) struct Host<'a> {
 impl<'a> Host<'a> {
     /// A host without words and input, that wants these bytes to be written, and this line, if it isn't empty, to be
     /// said on standard error.
-    pub(crate) fn new(alloc: Global, output: &'a [u8], line: &'static str) -> Host<'a> {
+    pub(crate) fn new(alloc: Global, output: &'a [u8], line: &'a str) -> Host<'a> {
         Host::with_words(alloc, &[], &[], output, line)
     }
 
     /// The same with words and an input.
     pub(crate) fn with_words(
         alloc: Global,
-        words: &'static [&'static [u8]],
+        words: &'a [Vec<u8>],
         input: &'a [u8],
         output: &'a [u8],
-        line: &'static str,
+        line: &'a str,
     ) -> Host<'a> {
         Host {
             alloc,
@@ -76,7 +76,7 @@ impl<'a> Env for Host<'a> {
         if buf.len() < word.len() {
             return Err(FillError::TooLong);
         }
-        buf[..word.len()].copy_from_slice(word);
+        buf[..word.len()].copy_from_slice(word.as_slice());
         Ok(word.len())
     }
 

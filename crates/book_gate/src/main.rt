@@ -54,7 +54,7 @@ fn check(report: &mut Report<'_>, line: &str, number: usize) -> io::Result<()> {
         ["stops", lines, file, ending, before, after] => {
             check_stops(report, number, lines, file, ending, [before, after])
         }
-        ["streams", lines, answers] => check_streams(report, lines, answers),
+        ["streams", file, lines, answers] => check_streams(report, file, lines, answers),
         ["files", file] => check_files(report, file),
         ["work", file] => check_work(report, file),
         _ => Err(io::Error::from(ErrorKind::InvalidInput)),

@@ -12,12 +12,11 @@ pub(crate) struct Place<'a> {
     pub(crate) name: &'a str,
 }
 
-/// Says what was compared, and counts rows, and those that failed.
+/// Says what was compared, and counts the rows that failed.
 #[derive(Drop)]
 pub(crate) struct Report<'a> {
     rt: &'a HostRuntime,
     failed: u64,
-    compared: u64,
     is_silent: bool,
 }
 
@@ -27,7 +26,6 @@ impl<'a> Report<'a> {
         Report {
             rt,
             failed: 0,
-            compared: 0,
             is_silent: false,
         }
     }
@@ -37,7 +35,6 @@ impl<'a> Report<'a> {
         Report {
             rt,
             failed: 0,
-            compared: 0,
             is_silent: true,
         }
     }
@@ -55,16 +52,6 @@ impl<'a> Report<'a> {
     /// Whether no row failed.
     pub(crate) fn has_no_failure(&self) -> bool {
         self.failed == 0
-    }
-
-    /// Counts a row that is compared.
-    pub(crate) fn count(&mut self) {
-        self.compared = self.compared.saturating_add(1);
-    }
-
-    /// How many rows were counted.
-    pub(crate) fn compared(&self) -> u64 {
-        self.compared
     }
 
     /// The text of a file.

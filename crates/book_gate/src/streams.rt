@@ -1,4 +1,5 @@
 use crate::comparing::Case;
+use crate::counters::{number, unread};
 use crate::host::Host;
 use crate::making::{first_lines, made_in_memory};
 use crate::report::Report;
@@ -13,106 +14,157 @@ use std::io;
 use std::io::{Read, Write};
 use std::process::{ExitCode, Termination};
 
-const USAGE: &str = "usage: book run BOOK | sample NUMBER";
-
-/// A host's words, whether its output fails, what is said on standard error, and the number at the end.
-type Row = (&'static [&'static [u8]], bool, &'static str, u8);
-
-// A word that is not UTF-8 is no word of the program: wrong words, and not out of memory.
-static ROWS: [Row; 5] = [
-    (&[b"book", b"run", b"household.book"], false, "", 0),
-    (&[b"book", b"run"], false, USAGE, 2),
-    (&[b"book", b"run", b"-household.book"], false, USAGE, 2),
-    (&[b"book", b"run", b"household\xff.book"], false, USAGE, 2),
-    (
-        &[b"book", b"run", b"household.book"],
-        true,
-        "book: the output failed",
-        5,
-    ),
-];
-
-/// Each status but Done says its one line on standard error, and ends with its number.
-static ENDS: [(Status, &str, u8); 9] = [
-    (Status::Done, "", 0),
-    (Status::Usage, USAGE, 2),
-    (Status::Memory, "book: out of memory", 3),
-    (Status::InputFault, "book: the input failed", 4),
-    (Status::OutputFault, "book: the output failed", 5),
-    (Status::KeeperFault, "book: the book file failed", 6),
-    (
-        Status::BadRows { kind: 4, id: 5 },
-        "book: the book is damaged",
-        7,
-    ),
-    (
-        Status::UnsoundBook { kind: 4, id: 5 },
-        "book: the book is damaged",
-        7,
-    ),
-    (Status::InputLimit, "book: the input is too long", 9),
-];
-
-/// Compares a condition of a row.
-fn check(report: &mut Report<'_>, name: &str, place: usize, holds: bool) -> io::Result<()> {
-    report.count();
-    if holds {
-        return Ok(());
-    }
-    let case = Case {
-        file: "streams",
-        name,
-    };
-    report.fail(
-        case.at(place),
-        "its number, its bytes and its line",
-        "others",
-    )
+/// A row: its mark, the number with which the program ends, the line that it says on standard error, and the rest.
+#[derive(Clone, Copy)]
+struct Row<'a> {
+    mark: &'a str,
+    number: u8,
+    said: &'a str,
+    rest: &'a str,
 }
 
-/// Runs over standard streams of a host, and over readers and writers of std that fail, are interrupted, or take and
-/// give little at a time: the numbers with which the program ends, what it writes, and what it says on standard error.
-pub(crate) fn check_streams(report: &mut Report<'_>, lines: &str, answers: &str) -> io::Result<()> {
-    let before = report.compared();
+/// The lines of the program that rows are about, and their answers.
+#[derive(Clone, Copy)]
+struct Lines<'a> {
+    lines: &'a [u8],
+    answers: &'a [u8],
+}
+
+/// The row that a line `MARK NUMBER "LINE" REST` is.
+fn row_of(line: &str) -> io::Result<Row<'_>> {
+    let (mark, rest) = line.split_once(' ').unwrap_or((line, ""));
+    let (word, rest) = rest.split_once(' ').unwrap_or((rest, ""));
+    let Ok(number) = u8::try_from(number(word)?) else {
+        return Err(unread());
+    };
+    match rest.strip_prefix('"').and_then(|rest| rest.split_once('"')) {
+        Some((said, rest)) => Ok(Row {
+            mark,
+            number,
+            said,
+            rest: rest.trim_start(),
+        }),
+        None => Err(unread()),
+    }
+}
+
+/// Makes the rows of a file over these lines, whose answers stand in another: the numbers with which the program ends,
+/// what it writes, and what it says on standard error.
+pub(crate) fn check_streams(
+    report: &mut Report<'_>,
+    file: &str,
+    lines: &str,
+    answers: &str,
+) -> io::Result<()> {
+    let rows = report.read(file)?;
     let lines = report.read(lines)?;
     let answers = report.read(answers)?;
-    let (lines, answers) = (lines.as_str().as_bytes(), answers.as_str().as_bytes());
-    check_words(report, lines, answers)?;
-    check_ends(report)?;
-    check_reads(report, lines, answers)?;
-    check_writes(report, lines, answers)?;
-    check_flushes(report)?;
-    check_flush(report, lines)?;
-    let rows = report.compared().saturating_sub(before);
-    let line = format!(in report.alloc(); "streams: {rows} rows")?;
+    let lines = Lines {
+        lines: lines.as_str().as_bytes(),
+        answers: answers.as_str().as_bytes(),
+    };
+    let mut count: u64 = 0;
+    for (place, line) in rows.as_str().lines().enumerate() {
+        if !line.is_empty() && !line.starts_with('#') {
+            check_row(report, file, place.saturating_add(1), line, lines)?;
+            count = count.saturating_add(1);
+        }
+    }
+    let line = format!(in report.alloc(); "{file}: {count} rows")?;
     report.say(line.as_str())
 }
 
-/// The words and streams of a host.
-fn check_words(report: &mut Report<'_>, lines: &[u8], answers: &[u8]) -> io::Result<()> {
-    for (place, &(words, fails, line, number)) in ROWS.iter().enumerate() {
-        let written = if number == 0 { answers } else { &[] };
-        let mut host = Host::with_words(report.alloc(), words, lines, written, line);
-        if fails {
-            host.break_output();
-        }
-        let mut keeper = no_rows(report.alloc());
-        let code = run_program(&host, words_of(&host), &mut keeper).report(&host);
-        let is_right = code == ExitCode::from(number) && host.is_content();
-        check(report, "words and streams", place, is_right)?;
+/// Makes a row, and compares.
+fn check_row(
+    report: &mut Report<'_>,
+    file: &str,
+    number: usize,
+    line: &str,
+    lines: Lines<'_>,
+) -> io::Result<()> {
+    let case = Case { file, name: line };
+    match is_right(report.alloc(), line, lines) {
+        Ok(true) => Ok(()),
+        Ok(false) => report.fail(case.at(number), "its number, line and answers", "others"),
+        Err(_) => report.fail(case.at(number), "a row that can be made", "an error"),
     }
-    Ok(())
 }
 
-/// The line and the number of each status.
-fn check_ends(report: &mut Report<'_>) -> io::Result<()> {
-    for (place, &(status, line, number)) in ENDS.iter().enumerate() {
-        let host = Host::new(report.alloc(), &[], line);
-        let code = status.report(&host);
-        let is_right = code == ExitCode::from(number) && host.is_content();
-        check(report, "the line of a status", place, is_right)?;
+/// Whether all that a row wants comes.
+fn is_right(alloc: Global, line: &str, lines: Lines<'_>) -> io::Result<bool> {
+    let row = row_of(line)?;
+    match row.mark {
+        "words" => are_words_right(alloc, row, lines, false),
+        "output" => are_words_right(alloc, row, lines, true),
+        "status" => is_status_right(alloc, row),
+        "read" => is_read_right(alloc, row, lines),
+        "write" => is_write_right(alloc, row, lines),
+        "flushes" => are_flushes_right(alloc, row),
+        "flush" => is_flush_right(alloc, row, lines),
+        _ => Err(unread()),
     }
-    Ok(())
+}
+
+/// The program's name and the words behind it, in which %XX is a byte.
+fn host_words(alloc: Global, text: &str) -> io::Result<Vec<Vec<u8>>> {
+    let mut words = vec![in alloc; "book".as_bytes().to_vec(alloc)?]?;
+    for word in text.split(' ') {
+        words.push(bytes_of(alloc, word)?)?;
+    }
+    Ok(words)
+}
+
+/// The bytes of a word, in which %XX is a byte.
+fn bytes_of(alloc: Global, word: &str) -> io::Result<Vec<u8>> {
+    let Some((before, rest)) = word.split_once('%') else {
+        return Ok(word.as_bytes().to_vec(alloc)?);
+    };
+    let Some((digits, behind)) = rest.split_at_checked(2) else {
+        return Err(unread());
+    };
+    let Ok(byte) = hex::decode(alloc, digits) else {
+        return Err(unread());
+    };
+    let mut bytes = before.as_bytes().to_vec(alloc)?;
+    bytes.extend_from_slice(byte.as_slice())?;
+    bytes.extend_from_slice(behind.as_bytes())?;
+    Ok(bytes)
+}
+
+/// The words and streams of a host, whose output may fail.
+fn are_words_right(alloc: Global, row: Row<'_>, lines: Lines<'_>, fails: bool) -> io::Result<bool> {
+    let words = host_words(alloc, row.rest)?;
+    let written = if row.number == 0 { lines.answers } else { &[] };
+    let mut host = Host::with_words(alloc, words.as_slice(), lines.lines, written, row.said);
+    if fails {
+        host.break_output();
+    }
+    let mut keeper = no_rows(alloc);
+    let code = run_program(&host, words_of(&host), &mut keeper).report(&host);
+    Ok(code == ExitCode::from(row.number) && host.is_content())
+}
+
+/// The line and the number of a status.
+fn is_status_right(alloc: Global, row: Row<'_>) -> io::Result<bool> {
+    let host = Host::new(alloc, &[], row.said);
+    let code = status_of(row.rest)?.report(&host);
+    Ok(code == ExitCode::from(row.number) && host.is_content())
+}
+
+/// The status that a text names.
+fn status_of(text: &str) -> io::Result<Status> {
+    match text {
+        "done" => Ok(Status::Done),
+        "usage" => Ok(Status::Usage),
+        "memory" => Ok(Status::Memory),
+        "input fault" => Ok(Status::InputFault),
+        "output fault" => Ok(Status::OutputFault),
+        "keeper fault" => Ok(Status::KeeperFault),
+        "input limit" => Ok(Status::InputLimit),
+        "bad rows 4 5" => Ok(Status::BadRows { kind: 4, id: 5 }),
+        "unsound book 4 5" => Ok(Status::UnsoundBook { kind: 4, id: 5 }),
+        _ => Err(unread()),
+    }
 }
 
 /// The words of a run.
@@ -135,65 +187,51 @@ fn ended<R: Read + Drop, W: Write + Drop>(
     Ok(ran.ended)
 }
 
-/// A read that fails once ends the run, though a further read would go on: no fault is hidden. The lines come in eight
-/// pieces, and the ninth read finds their end. Where the read behind all lines fails, all are answered.
-fn check_reads(report: &mut Report<'_>, lines: &[u8], answers: &[u8]) -> io::Result<()> {
-    let alloc = report.alloc();
-    for fails in 1..9u32 {
-        let host = Host::new(alloc, &[], "book: the input failed");
-        let taken = Cell::new(0);
-        let end = ended(
-            alloc,
-            Reader::new(lines, fails),
-            Writer::new(answers, 0, &taken),
-        )?;
-        let is_right = end.report(&host) == ExitCode::from(4)
-            && host.is_content()
-            && taken.get() == answered(lines, answers, fails).len();
-        check(report, "a read that fails", fails as usize, is_right)?;
+/// The number of a call.
+fn call_of(row: Row<'_>) -> io::Result<u32> {
+    match u32::try_from(number(row.rest)?) {
+        Ok(call) => Ok(call),
+        Err(_) => Err(unread()),
     }
-    let host = Host::new(alloc, answers, "book: the input failed");
-    let end = ended(alloc, Reader::new(lines, 9), io::writer(&host))?;
-    let is_right = end.report(&host) == ExitCode::from(4) && host.is_content();
-    check(report, "the read behind all lines fails", 9, is_right)?;
-    let host = Host::new(alloc, answers, "");
-    let end = ended(alloc, Reader::new(lines, 10), io::writer(&host))?;
-    let is_right = end.report(&host) == ExitCode::from(0) && host.is_content();
-    check(report, "no read fails", 10, is_right)
+}
+
+/// A read that fails once ends the run: no fault is hidden.
+fn is_read_right(alloc: Global, row: Row<'_>, lines: Lines<'_>) -> io::Result<bool> {
+    let fails = call_of(row)?;
+    let host = Host::new(alloc, &[], row.said);
+    let taken = Cell::new(0);
+    let reader = Reader::new(lines.lines, fails);
+    let writer = Writer::new(lines.answers, 0, &taken);
+    let code = ended(alloc, reader, writer)?.report(&host);
+    Ok(code == ExitCode::from(row.number)
+        && host.is_content()
+        && taken.get() == answered(lines, fails).len())
 }
 
 /// The answers to the lines that are whole in the reads before the one that fails, of forty bytes each.
-fn answered<'a>(lines: &[u8], answers: &'a [u8], fails: u32) -> &'a [u8] {
+fn answered(lines: Lines<'_>, fails: u32) -> &[u8] {
     let reads = usize::try_from(fails.saturating_sub(1)).unwrap_or(usize::MAX);
-    let read = lines.get(..reads.saturating_mul(40)).unwrap_or(lines);
+    let read = lines
+        .lines
+        .get(..reads.saturating_mul(40))
+        .unwrap_or(lines.lines);
     let count = read.iter().filter(|byte| **byte == b'\n').count();
-    first_lines(answers, count as u64)
+    first_lines(lines.answers, count as u64)
 }
 
-/// Nor is a write hidden that fails once: an answer takes one to three of them. Where none fails, all is written.
-fn check_writes(report: &mut Report<'_>, lines: &[u8], answers: &[u8]) -> io::Result<()> {
-    for fails in [1, 2, 5, 6, 7, 100] {
-        let is_done = fails == 100;
-        let said = if is_done {
-            ""
-        } else {
-            "book: the output failed"
-        };
-        let host = Host::new(report.alloc(), &[], said);
-        let taken = Cell::new(0);
-        let writer = Writer::new(answers, fails, &taken);
-        let code = ended(report.alloc(), lines, writer)?.report(&host);
-        let number = if is_done { 0 } else { 5 };
-        let is_right = code == ExitCode::from(number)
-            && host.is_content()
-            && (taken.get() == answers.len()) == is_done;
-        check(report, "a write that fails", fails as usize, is_right)?;
-    }
-    Ok(())
+/// Nor is a write hidden that fails once. Where none fails, all is written.
+fn is_write_right(alloc: Global, row: Row<'_>, lines: Lines<'_>) -> io::Result<bool> {
+    let host = Host::new(alloc, &[], row.said);
+    let taken = Cell::new(0);
+    let writer = Writer::new(lines.answers, call_of(row)?, &taken);
+    let code = ended(alloc, lines.lines, writer)?.report(&host);
+    Ok(code == ExitCode::from(row.number)
+        && host.is_content()
+        && (taken.get() == lines.answers.len()) == (row.number == 0))
 }
 
 /// A line whose answer names a member of so many times forty bytes.
-fn add_line(lines: &mut String, count: usize) -> io::Result<()> {
+fn add_line(lines: &mut String, count: u64) -> io::Result<()> {
     lines.push_str("{\"do\":\"account_drop\",\"account\":2,\"")?;
     for _ in 0..count {
         lines.push_str("a member that the command does not know.")?;
@@ -202,22 +240,19 @@ fn add_line(lines: &mut String, count: usize) -> io::Result<()> {
     Ok(())
 }
 
-/// Each write is flushed, however long it is: the answers have a hundred bytes and up to two million.
-fn check_flushes(report: &mut Report<'_>) -> io::Result<()> {
-    let mut lines = String::new(report.alloc());
-    for count in [1, 100, 1_000, 1_700, 50_000, 1] {
-        add_line(&mut lines, count)?;
+/// Each write is flushed, however long it is.
+fn are_flushes_right(alloc: Global, row: Row<'_>) -> io::Result<bool> {
+    let mut text = String::new(alloc);
+    for word in row.rest.split(' ') {
+        add_line(&mut text, number(word)?)?;
     }
-    let lines = lines.as_str().as_bytes();
-    let host = Host::new(report.alloc(), &[], "");
+    let lines = text.as_str().as_bytes();
+    let host = Host::new(alloc, &[], row.said);
     let (taken, unflushed) = (Cell::new(0), Cell::new(0));
     let writer = Unforgiving::new(&taken, &unflushed);
-    let code = ended(report.alloc(), lines, writer)?.report(&host);
-    let is_right = code == ExitCode::from(0)
-        && host.is_content()
-        && unflushed.get() == 0
-        && taken.get() == written(report.alloc(), lines)?;
-    check(report, "answers of every length are flushed", 0, is_right)
+    let code = ended(alloc, lines, writer)?.report(&host);
+    let is_all = taken.get() == written(alloc, lines)? && unflushed.get() == 0;
+    Ok(code == ExitCode::from(row.number) && host.is_content() && is_all)
 }
 
 /// How many bytes the answers to the lines have, from a fresh book on.
@@ -228,9 +263,8 @@ fn written(alloc: Global, lines: &[u8]) -> io::Result<usize> {
 }
 
 /// A flush that fails is a failure of the output.
-fn check_flush(report: &mut Report<'_>, lines: &[u8]) -> io::Result<()> {
-    let host = Host::new(report.alloc(), &[], "book: the output failed");
-    let code = ended(report.alloc(), lines, Unflushable)?.report(&host);
-    let is_right = code == ExitCode::from(5) && host.is_content();
-    check(report, "a flush that fails", 0, is_right)
+fn is_flush_right(alloc: Global, row: Row<'_>, lines: Lines<'_>) -> io::Result<bool> {
+    let host = Host::new(alloc, &[], row.said);
+    let code = ended(alloc, lines.lines, Unflushable)?.report(&host);
+    Ok(code == ExitCode::from(row.number) && host.is_content())
 }
