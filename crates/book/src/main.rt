@@ -5,16 +5,20 @@
 
 ghost use Rattle.sqlite.specs.Files.{over_files};
 ghost use Rattle.sqlite.specs.WalFiles.{image_at};
-ghost use Rattle.book_app.specs.StatusClause.{IsStreamRun};
-ghost use Rattle.book_app.specs.Words.{given_number};
+ghost use Rattle.std.specs.Prelude.{◌≡◌, ◌≢◌, ◌↔◌, IfOk, MatchResult, OnErr};
+ghost use Rattle.std.specs.IoError.{error_kind};
+ghost use Rattle.book_keeper.specs.Faults.{Rose};
+ghost use Rattle.book_app.specs.StatusClause.{HasBookPath, IsStreamRun};
+ghost use Rattle.book_app.specs.Words.{AreNoWords, given_number};
 ghost use Rattle.book_sqlite.specs.KeeperInSqlite.{HoldsRows, is_sure};
 ghost use Rattle.book.specs.FileRun.{over_file};
 
-use book_app::{Ended, named_book, run_program, words_of};
+use book_app::{Ended, Status, named_book, run_program, words_of};
 use book_commodity::Text;
 use book_sqlite::FileKeeper;
 use sqlite::{Start, Unknown};
 use std::io;
+use std::io::ErrorKind;
 
 /// The book that the words name, where they could be read and name one.
 fn book_in(words: &io::Result<Vec<Text>>) -> Option<&str> {
@@ -34,6 +38,11 @@ fn run_in<T: Start>(
     ensures run { IsStreamRun (given_number (λ given. given.items) words)
         (over_file (image_at T.Start) (is_sure over_files) (HoldsRows over_files) (λ keeper. keeper.faults) result.1)
         result.0.status }
+    ensures usage { (result.0.status ≡ Status.Usage) ↔ MatchResult words
+        (λ given. AreNoWords given.items) (λ error. error_kind error ≡ ErrorKind.InvalidData) }
+    ensures path { IfOk words (λ given. HasBookPath given.items result.1.path result.0.status) }
+    ensures memory { OnErr words (result.0.status ≢ Status.Usage → result.0.status ≡ Status.Memory) }
+    ensures keeper_fault { result.0.status ≡ Status.KeeperFault → Rose 0 result.1.faults }
 {
     let mut keeper = FileKeeper::at(rt, book_in(&words), start);
     let ended = run_program(rt, words, &mut keeper);

@@ -77,7 +77,11 @@ fn check_case(report: &mut Report<'_>, file: &str, section: &Section<'_>) -> io:
     let runs = progress.runs;
     drop(progress);
     if taken.is_err() {
-        report.fail(case.at(section.number), "a run that can be made", "an error")?;
+        report.fail(
+            case.at(section.number),
+            "a run that can be made",
+            "an error",
+        )?;
     }
     Ok(runs)
 }

@@ -74,9 +74,7 @@ impl Run {
 
     /// Whether a call of the keeper is to fail.
     pub(crate) fn has_keeper_fault(&self) -> bool {
-        self.faults
-            .iter()
-            .any(|fault| fault.sort == Sort::Commit || fault.sort == Sort::Call)
+        self.faults.iter().any(|fault| fault.sort == Sort::Commit || fault.sort == Sort::Call)
     }
 
     /// Takes in a line that says what the run is given. Whether it is such a line.

@@ -203,9 +203,11 @@ fn is_read_right(alloc: Global, row: Row<'_>, lines: Lines<'_>) -> io::Result<bo
     let reader = Reader::new(lines.lines, fails);
     let writer = Writer::new(lines.answers, 0, &taken);
     let code = ended(alloc, reader, writer)?.report(&host);
-    Ok(code == ExitCode::from(row.number)
-        && host.is_content()
-        && taken.get() == answered(lines, fails).len())
+    Ok(
+        code == ExitCode::from(row.number)
+            && host.is_content()
+            && taken.get() == answered(lines, fails).len(),
+    )
 }
 
 /// The answers to the lines that are whole in the reads before the one that fails, of forty bytes each.
@@ -225,9 +227,11 @@ fn is_write_right(alloc: Global, row: Row<'_>, lines: Lines<'_>) -> io::Result<b
     let taken = Cell::new(0);
     let writer = Writer::new(lines.answers, call_of(row)?, &taken);
     let code = ended(alloc, lines.lines, writer)?.report(&host);
-    Ok(code == ExitCode::from(row.number)
-        && host.is_content()
-        && (taken.get() == lines.answers.len()) == (row.number == 0))
+    Ok(
+        code == ExitCode::from(row.number)
+            && host.is_content()
+            && (taken.get() == lines.answers.len()) == (row.number == 0),
+    )
 }
 
 /// A line whose answer names a member of so many times forty bytes.

@@ -1,3 +1,5 @@
+use Rattle.std.proofs.Common.{subst}
+use Rattle.book_keeper.specs.Faults.{Rose}
 use Rattle.book_app.proofs.StatusClauseLemmas.{stream_run_seen}
 use Rattle.book.specs.FileRun.{BeginsWith}
 use Rattle.book.proofs.FileLemmas.{of_rows}
@@ -12,4 +14,9 @@ returns g c = record {
       of_rows _ _ (c.at-keeper.ensures.found (c.run_program-ended.ensures.sure still))
       (c.at-keeper.ensures.empty (c.run_program-ended.ensures.sure still)))
       c.run_program-ended.ensures.run;
+  usage = c.run_program-ended.ensures.usage;
+  path = c.run_program-ended.ensures.path;
+  memory = c.run_program-ended.ensures.memory;
+  keeper_fault = λ fault.
+      subst (λ before. Rose before _) c.at-keeper.ensures.faults (c.run_program-ended.ensures.keeper_fault fault);
 }
