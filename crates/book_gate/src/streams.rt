@@ -199,7 +199,7 @@ fn call_of(row: Row<'_>) -> io::Result<u32> {
 fn is_read_right(alloc: Global, row: Row<'_>, lines: Lines<'_>) -> io::Result<bool> {
     let fails = call_of(row)?;
     let host = Host::new(alloc, &[], row.said);
-    let taken = Cell::new(0);
+    let taken = Cell::new(0usize);
     let reader = Reader::new(lines.lines, fails);
     let writer = Writer::new(lines.answers, 0, &taken);
     let code = ended(alloc, reader, writer)?.report(&host);
@@ -211,7 +211,7 @@ fn is_read_right(alloc: Global, row: Row<'_>, lines: Lines<'_>) -> io::Result<bo
 }
 
 /// The answers to the lines that are whole in the reads before the one that fails, of forty bytes each.
-fn answered(lines: Lines<'_>, fails: u32) -> &[u8] {
+fn answered<'a>(lines: Lines<'a>, fails: u32) -> &'a [u8] {
     let reads = usize::try_from(fails.saturating_sub(1)).unwrap_or(usize::MAX);
     let read = lines
         .lines
@@ -224,7 +224,7 @@ fn answered(lines: Lines<'_>, fails: u32) -> &[u8] {
 /// Nor is a write hidden that fails once. Where none fails, all is written.
 fn is_write_right(alloc: Global, row: Row<'_>, lines: Lines<'_>) -> io::Result<bool> {
     let host = Host::new(alloc, &[], row.said);
-    let taken = Cell::new(0);
+    let taken = Cell::new(0usize);
     let writer = Writer::new(lines.answers, call_of(row)?, &taken);
     let code = ended(alloc, lines.lines, writer)?.report(&host);
     Ok(
@@ -252,7 +252,7 @@ fn are_flushes_right(alloc: Global, row: Row<'_>) -> io::Result<bool> {
     }
     let lines = text.as_str().as_bytes();
     let host = Host::new(alloc, &[], row.said);
-    let (taken, unflushed) = (Cell::new(0), Cell::new(0));
+    let (taken, unflushed) = (Cell::new(0usize), Cell::new(0usize));
     let writer = Unforgiving::new(&taken, &unflushed);
     let code = ended(alloc, lines, writer)?.report(&host);
     let is_all = taken.get() == written(alloc, lines)? && unflushed.get() == 0;
