@@ -10,7 +10,7 @@ ghost use Rattle.book_texts.specs.AnswerText.{answer_bytes};
 ghost use Rattle.book_app.specs.Machine.{Changes, IsOutcome, Replies};
 ghost use Rattle.book_app.specs.Later.{IsLater};
 
-use book_commodity::{Bytes, OutOfMemory};
+use book_commodity::{Bytes, OutOfMemory, discard};
 use book_engine::{Engine, Plan};
 use book_keeper::{KeepError, Keeper};
 use book_lines::{Machine, Unanswered};
@@ -55,12 +55,12 @@ fn finished<K: Keeper>(
     ensures follows { IsLater K.path_given K.sure keeper.old keeper.new }
 {
     let Ok(text) = answer_text(alloc, plan.answer(), plan.version()) else {
-        return Err(Unanswered::Memory);
+        return Err(discard(plan, Unanswered::Memory));
     };
     match engine.finish(keeper, plan) {
-        Ok(_) => Ok(text),
-        Err(KeepError::Failed) => Err(Unanswered::Keeper),
-        Err(KeepError::OutOfMemory) => Err(Unanswered::Memory),
+        Ok(answer) => Ok(discard(answer, text)),
+        Err(KeepError::Failed) => Err(discard(text, Unanswered::Keeper)),
+        Err(KeepError::OutOfMemory) => Err(discard(text, Unanswered::Memory)),
     }
 }
 

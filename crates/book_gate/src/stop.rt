@@ -109,13 +109,13 @@ fn run_over(alloc: Global, connection: Connection<Store>, lines: &[&str]) -> io:
     let mut keeper = SqliteKeeper::over(alloc, connection);
     let done = done(alloc, &mut keeper, lines);
     match keeper.into_connection() {
-        Some(connection) => ended(done, connection, lines.len()),
+        Some(connection) => close_after(done, connection, lines.len()),
         None => Err(io::Error::other("there is no connection")),
     }
 }
 
-/// The run over this connection that did so many of its lines, after the connection was closed.
-fn ended(
+/// Closes the connection after a run that did so many of its lines. How the run ended.
+fn close_after(
     done: io::Result<Option<usize>>,
     connection: Connection<Store>,
     count: usize,

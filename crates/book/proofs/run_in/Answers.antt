@@ -1,8 +1,6 @@
-use Rattle.std.proofs.Common.{subst}
-use Rattle.book_keeper.specs.Faults.{Rose}
 use Rattle.book_app.proofs.StatusClauseLemmas.{stream_run_seen}
 use Rattle.book.specs.FileRun.{BeginsWith}
-use Rattle.book.proofs.FileLemmas.{of_rows}
+use Rattle.book.proofs.FileLemmas.{of_rows, rose_from_none}
 use Rattle.book.proofs.run_in.Goals as goal
 
 -- the keeper held the rows of the file as the run began, and had counted no fault
@@ -18,5 +16,5 @@ returns g c = record {
   path = c.run_program-ended.ensures.path;
   memory = c.run_program-ended.ensures.memory;
   keeper_fault = λ fault.
-      subst (λ before. Rose before _) c.at-keeper.ensures.faults (c.run_program-ended.ensures.keeper_fault fault);
+      rose_from_none _ _ c.at-keeper.ensures.faults (c.run_program-ended.ensures.keeper_fault fault);
 }
