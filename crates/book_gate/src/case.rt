@@ -1,12 +1,11 @@
 use crate::comparing::Case;
 use crate::counters::unread;
 use crate::report::Report;
-use crate::rows::no_rows;
 use crate::run::Run;
 use crate::script::{Line, Section, sections_of};
 use crate::store::Store;
 use std::alloc::Global;
-use std::{io, mem};
+use std::io;
 
 /// A case that is under way: the rows as the run before left them, the run as its lines have said it so far, and how
 /// many runs were made.
@@ -69,7 +68,7 @@ fn check_case(report: &mut Report<'_>, file: &str, section: &Section<'_>) -> io:
     };
     let run = Run::new(report.alloc(), section.number)?;
     let mut progress = Progress {
-        store: Store::Memory(no_rows(report.alloc())),
+        store: Store::new(report.alloc()),
         run,
         runs: 0,
     };
@@ -118,7 +117,7 @@ fn take(
             finish(report, case, progress)?;
             progress.run = Run::new(alloc, line.number)?;
         }
-        "over" => progress.store = Store::named(alloc, rest)?,
+        "over" => progress.store.choose(alloc, rest)?,
         _ => take_into(alloc, &mut progress.run, mark, rest, line.number)?,
     }
     Ok(())
@@ -135,8 +134,7 @@ fn take_into(alloc: Global, run: &mut Run, mark: &str, rest: &str, line: usize) 
 
 /// Makes the run.
 fn finish(report: &mut Report<'_>, case: Case<'_>, progress: &mut Progress) -> io::Result<()> {
-    let store = mem::replace(&mut progress.store, Store::File);
-    progress.store = store.after(report, case, &progress.run)?;
+    progress.store.check(report, case, &progress.run)?;
     progress.runs = progress.runs.saturating_add(1);
     Ok(())
 }

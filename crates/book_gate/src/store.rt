@@ -9,78 +9,137 @@ use book_app::named_book;
 use book_commodity::discard;
 use book_keeper::{Keeper, MemKeeper};
 use book_sqlite::{FileKeeper, SqliteKeeper};
-use sqlite::{Connection, MemStore, Start, Unknown};
+use sqlite::{Connection, MemStore, Unknown};
 use std::alloc::Global;
-use std::{fs, io};
+use std::{fs, io, mem};
 
 /// Where the rows of a case are kept between its runs.
-#[derive(Drop)]
-pub(crate) enum Store {
+#[derive(Clone, Copy, PartialEq, Eq)]
+enum Place {
     /// In memory, as they are.
-    Memory(MemKeeper),
+    Memory,
     /// In a database in memory.
-    Database(Connection<MemStore>),
+    Database,
     /// In the file that the words name.
     File,
-    /// Nowhere: the database has no table of rows, or it failed.
-    Gone,
+}
+
+/// The place that a word names.
+fn place_of(word: &str) -> io::Result<Place> {
+    match word {
+        "memory" => Ok(Place::Memory),
+        "database" => Ok(Place::Database),
+        "file" => Ok(Place::File),
+        _ => Err(unread()),
+    }
+}
+
+/// The rows of a case between its runs: those in memory, or the database. There is none where it has no table of rows, or
+/// where it failed.
+#[derive(Drop)]
+pub(crate) struct Store {
+    place: Place,
+    rows: MemKeeper,
+    database: Option<Connection<MemStore>>,
 }
 
 impl Store {
-    /// The store that a word names, without rows.
-    pub(crate) fn named(alloc: Global, word: &str) -> io::Result<Store> {
-        match word {
-            "memory" => Ok(Store::Memory(no_rows(alloc))),
-            "database" => Ok(Store::Database(Connection::open_in_memory(alloc)?)),
-            "file" => Ok(Store::File),
-            _ => Err(unread()),
+    /// A store in memory without rows.
+    pub(crate) fn new(alloc: Global) -> Store {
+        Store {
+            place: Place::Memory,
+            rows: no_rows(alloc),
+            database: None,
         }
     }
 
-    /// Makes a run over it, and compares. The store as the run leaves it.
-    pub(crate) fn after(
-        self,
+    /// From now on the rows are kept in the place that a word names, which has none yet.
+    pub(crate) fn choose(&mut self, alloc: Global, word: &str) -> io::Result<()> {
+        self.place = place_of(word)?;
+        self.rows = no_rows(alloc);
+        if self.place == Place::Database {
+            self.database = Some(Connection::open_in_memory(alloc)?);
+        }
+        Ok(())
+    }
+
+    /// Makes a run over the rows, and compares. They are those that the run leaves, from then on.
+    pub(crate) fn check(
+        &mut self,
         report: &mut Report<'_>,
         case: Case<'_>,
         run: &Run,
-    ) -> io::Result<Store> {
-        if run.is_killed && !matches!(&self, Store::File) {
+    ) -> io::Result<()> {
+        if run.is_killed && self.place != Place::File {
             return Err(unread());
         }
-        match self {
-            Store::Memory(keeper) => check_in_memory(report, case, run, keeper),
-            Store::Database(connection) => check_in_database(report, case, run, connection),
-            Store::File => {
-                check_in_file(report, case, run, Unknown)?;
-                Ok(Store::File)
-            }
-            Store::Gone => Err(unread()),
+        match self.place {
+            Place::Memory => self.check_in_memory(report, case, run),
+            Place::Database => self.check_in_database(report, case, run),
+            Place::File => check_in_file(report, case, run),
         }
     }
 
-    /// Does what a line says that changes the store between two runs: a row is put or taken out, a statement changes the
+    /// Makes a run over the rows in memory, over all calls that are to fail each in turn where it says so.
+    fn check_in_memory(
+        &mut self,
+        report: &mut Report<'_>,
+        case: Case<'_>,
+        run: &Run,
+    ) -> io::Result<()> {
+        if let Some(each) = run.each {
+            return check_each(report, case, run, &self.rows, each);
+        }
+        let alloc = report.alloc();
+        let keeper = mem::replace(&mut self.rows, no_rows(alloc));
+        let (outcome, keeper) =
+            made_in_memory(alloc, run, keeper, run.input.as_slice(), None)?;
+        self.rows = keeper;
+        compare(report, case, run, &outcome, Some(self.rows.rows()))
+    }
+
+    /// Makes a run over the database.
+    fn check_in_database(
+        &mut self,
+        report: &mut Report<'_>,
+        case: Case<'_>,
+        run: &Run,
+    ) -> io::Result<()> {
+        let Some(connection) = self.database.take() else {
+            return Err(unread());
+        };
+        let mut keeper = SqliteKeeper::over(report.alloc(), connection);
+        let checked = check_over(report, case, run, &mut keeper);
+        self.database = keeper.into_connection();
+        checked
+    }
+
+    /// Does what a line says that changes the rows between two runs: a row is put or taken out, a statement changes the
     /// database, a file is copied or emptied; or that two files have the same bytes, or that there is no such file.
     /// Whether it is such a line.
     pub(crate) fn change(&mut self, rt: &HostRuntime, mark: &str, rest: &str) -> io::Result<bool> {
-        match (mark, self) {
-            ("put", Store::Memory(keeper)) => put_all(rt.alloc(), keeper, rest)?,
-            ("gone", Store::Memory(keeper)) => take_out(rt.alloc(), keeper, rest)?,
-            ("sql", Store::Database(connection)) => execute(connection, rest)?,
-            ("copy", Store::File) => copy(rt, rest)?,
-            ("empty", Store::File) => fs::write(rt, rest, "")?,
-            ("same", Store::File) => check_same(rt, rest)?,
-            ("absent", Store::File) => check_absent(rt, rest)?,
+        match (mark, self.place) {
+            ("put", Place::Memory) => put_all(rt.alloc(), &mut self.rows, rest)?,
+            ("gone", Place::Memory) => take_out(rt.alloc(), &mut self.rows, rest)?,
+            ("sql", Place::Database) => self.execute(rest)?,
+            ("copy", Place::File) => copy(rt, rest)?,
+            ("empty", Place::File) => fs::write(rt, rest, "")?,
+            ("same", Place::File) => check_same(rt, rest)?,
+            ("absent", Place::File) => check_absent(rt, rest)?,
             _ => return Ok(false),
         }
         Ok(true)
     }
-}
 
-/// Does what a statement of a database says.
-fn execute(connection: &mut Connection<MemStore>, statement: &str) -> io::Result<()> {
-    match connection.execute(statement, &[]) {
-        Ok(_) => Ok(()),
-        Err(_) => Err(unread()),
+    /// Does what a statement of the database says.
+    fn execute(&mut self, statement: &str) -> io::Result<()> {
+        let Some(connection) = &mut self.database else {
+            return Err(unread());
+        };
+        match connection.execute(statement, &[]) {
+            Ok(_) => Ok(()),
+            Err(_) => Err(unread()),
+        }
     }
 }
 
@@ -110,60 +169,6 @@ fn check_absent(rt: &HostRuntime, name: &str) -> io::Result<()> {
     Ok(())
 }
 
-/// Makes a run over a keeper in memory, over all calls that are to fail each in turn where it says so.
-fn check_in_memory(
-    report: &mut Report<'_>,
-    case: Case<'_>,
-    run: &Run,
-    keeper: MemKeeper,
-) -> io::Result<Store> {
-    match run.each {
-        Some(each) => {
-            let checked = check_each(report, case, run, &keeper, each);
-            kept_after(checked, keeper)
-        }
-        None => check_once(report, case, run, keeper),
-    }
-}
-
-/// Makes a run over a keeper in memory once.
-fn check_once(
-    report: &mut Report<'_>,
-    case: Case<'_>,
-    run: &Run,
-    keeper: MemKeeper,
-) -> io::Result<Store> {
-    let input = run.input.as_slice();
-    let (outcome, keeper) = made_in_memory(report.alloc(), run, keeper, input, None)?;
-    let compared = compare(report, case, run, &outcome, Some(keeper.rows()));
-    kept_after(compared, keeper)
-}
-
-/// The store over this keeper, unless there was an error before.
-fn kept_after(done: io::Result<()>, keeper: MemKeeper) -> io::Result<Store> {
-    match done {
-        Ok(()) => Ok(Store::Memory(keeper)),
-        Err(error) => Err(error),
-    }
-}
-
-/// Makes a run over a database in memory.
-fn check_in_database(
-    report: &mut Report<'_>,
-    case: Case<'_>,
-    run: &Run,
-    connection: Connection<MemStore>,
-) -> io::Result<Store> {
-    let alloc = report.alloc();
-    let mut keeper = SqliteKeeper::over(alloc, connection);
-    check_over(report, case, run, &mut keeper)?;
-    match keeper.into_connection() {
-        Some(connection) => Ok(Store::Database(connection)),
-        // Another run over it would find nothing of this one.
-        None => Ok(Store::Gone),
-    }
-}
-
 /// Makes a run over a keeper, and compares. Calls of the keeper that fail, and calls that fail each in turn, are for one
 /// in memory.
 fn check_over<K: Keeper>(
@@ -183,13 +188,8 @@ fn check_over<K: Keeper>(
 
 /// Makes a run over the file that the words name, as the program does: over whatever the file held before, and then
 /// closes it, unless the run is one that is killed.
-fn check_in_file<T: Start>(
-    report: &mut Report<'_>,
-    case: Case<'_>,
-    run: &Run,
-    start: T,
-) -> io::Result<()> {
-    let mut keeper = FileKeeper::at(report.rt(), named_book(run.words.as_slice()), start);
+fn check_in_file(report: &mut Report<'_>, case: Case<'_>, run: &Run) -> io::Result<()> {
+    let mut keeper = FileKeeper::at(report.rt(), named_book(run.words.as_slice()), Unknown);
     let checked = check_over(report, case, run, &mut keeper);
     if !leave(keeper, run.is_killed) {
         report.fail(case.at(run.line), "a file that is closed", "an error")?;
@@ -198,7 +198,7 @@ fn check_in_file<T: Start>(
 }
 
 /// Closes the file of a keeper, or leaves it as where the program is killed. Whether no error came.
-fn leave<T: Start>(keeper: FileKeeper<T>, is_killed: bool) -> bool {
+fn leave(keeper: FileKeeper<Unknown>, is_killed: bool) -> bool {
     if is_killed {
         discard(keeper, true)
     } else {

@@ -154,20 +154,43 @@ fn read_behind<K: Keeper>(alloc: Global, keeper: &mut K, state: Saved) -> Result
     ensures cause { HasOpenCause (K.faults keeper.old) (K.faults keeper.new) result }
 {
     let mut saved = state;
+    match read_into(alloc, keeper, &mut saved) {
+        Ok(()) => whole(saved),
+        Err(fault) => Err(discard(saved, fault)),
+    }
+}
+
+/// Puts what the rows behind the head stand for into a state that has its head alone.
+fn read_into<K: Keeper>(
+    alloc: Global,
+    keeper: &mut K,
+    saved: &mut Saved,
+) -> Result<(), OpenFault>
+    requires only { AllByRecursion IsOnlyRecord (records_of (state_of saved.old)) }
+    requires begun { IsBegun (head_of (state_of saved.old)) (state_of saved.old) }
+    ensures keeper { WasRead K.path_given K.sure K.holds keeper.old keeper.new }
+    ensures head { OnOk result (head_of (state_of saved.new) ≡ head_of (state_of saved.old)) }
+    ensures read { OnOk result (AllByRecursion IsOnlyRecord (records_of (state_of saved.new))) }
+    ensures rows { OnOk result (IsTrue (K.sure keeper.new) → (rows : List HeldRow) → K.holds keeper.old rows
+        → Begins rows (head_of (state_of saved.old)) → rows ≡ rows_of (state_of saved.new)) }
+    ensures bad { IfErr result (λ fault. IsTrue (K.sure keeper.new) → (rows : List HeldRow)
+        → K.holds keeper.old rows → Begins rows (head_of (state_of saved.old)) → IsBadFor rows fault) }
+    ensures cause { HasOpenCause (K.faults keeper.old) (K.faults keeper.new) result }
+{
     let mut last = RowKey { kind: 1, id: 0 };
     'rows: loop {
         let row = match keeper.next_row(Some(last)) {
             Ok(Some(row)) => row,
-            Ok(None) => return whole(saved),
+            Ok(None) => return Ok(()),
             Err(error) => return Err(keeper_fault(error)),
         };
         let item = match read_item(alloc, &row) {
             Ok(item) => item,
-            Err(OpenFault::BadRows { .. }) => return Err(bad(first_bad(&saved, row.key))),
+            Err(OpenFault::BadRows { .. }) => return Err(bad(first_bad(saved, row.key))),
             Err(OpenFault::OutOfMemory) => return Err(OpenFault::OutOfMemory),
             Err(OpenFault::Keeper) => unreachable!(),
         };
-        let Ok(()) = item.put(row.key.id, &mut saved) else {
+        let Ok(()) = item.put(row.key.id, saved) else {
             return Err(OpenFault::OutOfMemory);
         };
         last = row.key;

@@ -1,107 +1,15 @@
--- One row more; or none is left, or it is bad.
-use Rattle.std.proofs.Common.{sym, ◌∙◌, refl, arith}
-use Rattle.book_keeper.specs.Rows.{rank}
+-- What was read of the rows is whole, or a step is missing or one too many.
 use Rattle.book_opening.specs.State.{head_of, state_of}
-use Rattle.book_opening.proofs.ReadLaws.{bad_thing, begins_as, last_rows, next_bad, next_head, next_read, next_rows}
-use Rattle.book_opening.proofs.ReadLaws.{read_more}
-use Rattle.book_opening.proofs.ReadLaws.{read_none, start_rows, unread_bad, whole_bad_for, whole_counted}
-use Rattle.book_opening.proofs.ReadLaws.{whole_head, whole_read, whole_rows}
+use Rattle.book_opening.proofs.ReadLaws.{whole_bad_for, whole_rows}
 use Rattle.book_opening.proofs.read.read_behind.Goals as goal
 
-pub rows-init : goal.rows-init
-rows-init g c = record {
-  read = c.requires.only;
-  head = refl;
-  last = omega arith;
-  keeper = read_none g.K.Keeper.path_given g.K.Keeper.sure g.K.Keeper.holds c.args.keeper.now;
-  count = refl;
-  rows = λ known rows held begins.
-      start_rows rows (state_of c.args.state) c.requires.begun
-      (g.met.K.Keeper.rising c.args.keeper.now rows held) begins;
-}
+pub returns-in-Ok-clause-rows : goal.returns-in-Ok-clause-rows
+returns-in-Ok-clause-rows g c =
+    whole_rows (g.K.Keeper.holds c.args.keeper.now) (state_of c.read_into.new.saved) c.whole.result
+    (head_of (state_of c.args.state)) c.whole.ensures c.in-Ok.ensures.read c.in-Ok.ensures.rows
 
-pub rows-preserved : goal.rows-preserved
-rows-preserved g c =
-    let row = c.in-Ok-Some.row in
-    let before = state_of c.rows.saved in
-    let after = state_of c.put.new.saved in
-    let above = rw c.in-Ok-Some.field-0-is at c.in-Ok-Some.ensures.above in
-    record {
-      read = next_read before after row.key.id c.in-Ok.item c.in-Ok-put.ensures c.in-Ok.ensures.read
-          c.rows.invariant.read;
-      head = next_head before after row.key.id c.in-Ok.item (head_of (state_of c.args.state)) c.in-Ok-put.ensures
-          c.rows.invariant.head;
-      last = (let past = c.rows.invariant.last in omega (arith, past, above));
-      keeper = read_more g.K.Keeper.path_given g.K.Keeper.sure g.K.Keeper.holds c.args.keeper.now c.rows.keeper
-          c.next_row.new.self c.rows.invariant.keeper
-          (record {
-            same_path = c.in-Ok-Some.ensures.path;
-            still_sure = c.in-Ok-Some.ensures.sure;
-            same_rows = c.in-Ok-Some.ensures.rows;
-          });
-      count = c.in-Ok-Some.ensures.cause.done ∙ c.rows.invariant.count;
-      rows = λ known rows held begins.
-          let still = c.in-Ok-Some.ensures.sure known in
-          let now = c.rows.invariant.keeper.same_rows still rows held in
-          next_rows rows (rank c.rows.last) row before after row.key.id c.in-Ok.item
-          (g.met.K.Keeper.rising c.args.keeper.now rows held)
-          (sym (c.in-Ok-Some.ensures.found known rows now) ∙ c.in-Ok-Some.field-0-is)
-          (c.rows.invariant.rows still rows held begins) c.in-Ok.ensures.found c.in-Ok-put.ensures
-          c.in-Ok.ensures.read c.rows.invariant.read;
-    }
-
-pub returns-in-Ok-None-clause-head : goal.returns-in-Ok-None-clause-head
-returns-in-Ok-None-clause-head g c =
-    whole_head (state_of c.rows.saved) c.whole.result (head_of (state_of c.args.state)) c.whole.ensures
-    c.rows.invariant.head
-
-pub returns-in-Ok-None-clause-read : goal.returns-in-Ok-None-clause-read
-returns-in-Ok-None-clause-read g c =
-    whole_read (state_of c.rows.saved) c.whole.result c.whole.ensures c.rows.invariant.read
-
-pub returns-in-Ok-None-clause-counted : goal.returns-in-Ok-None-clause-counted
-returns-in-Ok-None-clause-counted g c = whole_counted (state_of c.rows.saved) c.whole.result c.whole.ensures
-
-pub returns-in-Ok-None-clause-rows : goal.returns-in-Ok-None-clause-rows
-returns-in-Ok-None-clause-rows g c =
-    let before = state_of c.rows.saved in
-    whole_rows (g.K.Keeper.holds c.args.keeper.now) before c.whole.result (head_of (state_of c.args.state))
-    c.whole.ensures c.rows.invariant.read
-    (λ known rows held begins.
-    let still = c.in-Ok-None.ensures.sure known in
-    let now = c.rows.invariant.keeper.same_rows still rows held in
-    last_rows rows (rank c.rows.last) before
-    (sym (c.in-Ok-None.ensures.found known rows now) ∙ c.in-Ok-None.field-0-is)
-    (c.rows.invariant.rows still rows held begins))
-
-pub returns-in-Ok-None-clause-bad : goal.returns-in-Ok-None-clause-bad
-returns-in-Ok-None-clause-bad g c =
-    let before = state_of c.rows.saved in
-    whole_bad_for (g.K.Keeper.holds c.args.keeper.now) before c.whole.result (head_of (state_of c.args.state))
-    c.whole.ensures c.rows.invariant.head c.rows.invariant.read
-    (λ rows held. g.met.K.Keeper.rising c.args.keeper.now rows held)
-    (λ known rows held begins.
-    let still = c.in-Ok-None.ensures.sure known in
-    let now = c.rows.invariant.keeper.same_rows still rows held in
-    last_rows rows (rank c.rows.last) before
-    (sym (c.in-Ok-None.ensures.found known rows now) ∙ c.in-Ok-None.field-0-is)
-    (c.rows.invariant.rows still rows held begins))
-
-pub returns-in-Err-clause-bad : goal.returns-in-Err-clause-bad
-returns-in-Err-clause-bad g c = λ known rows held begins.
-    unread_bad rows c.keeper_fault.result c.keeper_fault.ensures.unread
-
-pub returns-in-Err-BadRows-clause-bad : goal.returns-in-Err-BadRows-clause-bad
-returns-in-Err-BadRows-clause-bad g c = λ known rows held begins.
-    let row = c.in-Ok-Some.row in
-    let before = state_of c.rows.saved in
-    let still = c.in-Ok-Some.ensures.sure known in
-    let now = c.rows.invariant.keeper.same_rows still rows held in
-    let fault = c.in-Err-BadRows in
-    next_bad rows (rank c.rows.last) row before c.first_bad.result c.bad.result
-    (g.met.K.Keeper.rising c.args.keeper.now rows held)
-    (sym (c.in-Ok-Some.ensures.found known rows now) ∙ c.in-Ok-Some.field-0-is)
-    (c.rows.invariant.rows still rows held begins) c.rows.invariant.read
-    (begins_as rows before (head_of (state_of c.args.state)) c.rows.invariant.head begins)
-    (bad_thing row fault.field-0 fault.field-0-0 fault.field-0-1 fault.field-0-is fault.ensures.bad)
-    c.first_bad.ensures c.bad.ensures
+pub returns-in-Ok-clause-bad : goal.returns-in-Ok-clause-bad
+returns-in-Ok-clause-bad g c =
+    whole_bad_for (g.K.Keeper.holds c.args.keeper.now) (state_of c.read_into.new.saved) c.whole.result
+    (head_of (state_of c.args.state)) c.whole.ensures c.in-Ok.ensures.head c.in-Ok.ensures.read
+    (λ rows held. g.met.K.Keeper.rising c.args.keeper.now rows held) c.in-Ok.ensures.rows

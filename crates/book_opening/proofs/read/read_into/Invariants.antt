@@ -7,17 +7,17 @@ use Rattle.book_opening.specs.BookRows.{records_of, rows_of}
 use Rattle.book_opening.specs.Opening.{Begins, IsOnlyRecord, WasRead, head_key}
 use Rattle.book_opening.specs.State.{head_of, state_of}
 use Rattle.book_opening.proofs.UpTo.{up_to}
-use Rattle.book_opening.proofs.read.read_behind.Given as goal
+use Rattle.book_opening.proofs.read.read_into.Given as goal
 
 abbrev pub invariant-rows : goal.invariant-rows
 invariant-rows g l = record {
   read : AllByRecursion IsOnlyRecord (records_of (state_of l.saved));
-  head : head_of (state_of l.saved) ≡ head_of (state_of l.fn.state);
+  head : head_of (state_of l.saved) ≡ head_of (state_of l.fn.saved);
   last : rank head_key ≤ rank l.last;
   keeper : WasRead g.K.Keeper.path_given g.K.Keeper.sure g.K.Keeper.holds l.fn.keeper l.keeper;
   count : g.K.Keeper.faults l.keeper ≡ g.K.Keeper.faults l.fn.keeper;
   rows : IsTrue (g.K.Keeper.sure l.keeper) → (rows : List Row) → g.K.Keeper.holds l.fn.keeper rows
-      → Begins rows (head_of (state_of l.fn.state)) → up_to (rank l.last) rows ≡ rows_of (state_of l.saved);
+      → Begins rows (head_of (state_of l.fn.saved)) → up_to (rank l.last) rows ≡ rows_of (state_of l.saved);
 }
 
 abbrev pub decreases-rows : goal.decreases-rows
