@@ -26,9 +26,7 @@ pub(crate) fn check_runs(report: &mut Report<'_>, file: &str) -> io::Result<()> 
             runs = runs.saturating_add(check_case(report, file, section)?);
         }
     }
-    let lines = text.as_str().lines().count();
-    let line = format!(in report.alloc(); "{file}: {runs} runs of {lines} lines")?;
-    report.say(line.as_str())
+    report.say_lines(file, runs, "runs", text.as_str())
 }
 
 /// Makes the runs of each case of a file, of which each is wrong in one thing, and says how many fail, as all have to.
@@ -42,8 +40,7 @@ pub(crate) fn check_wrong(report: &mut Report<'_>, file: &str) -> io::Result<()>
             cases = cases.saturating_add(1);
         }
     }
-    let line = format!(in report.alloc(); "{file}: {cases} cases that fail")?;
-    report.say(line.as_str())
+    report.say_count(file, cases, "cases that fail")
 }
 
 /// Makes the runs of a case that has to fail.

@@ -19,6 +19,26 @@ struct StatementFile<'a> {
 }
 
 impl<'a> StatementFile<'a> {
+    /// A file without bytes, whose case begins at this line.
+    fn new(alloc: Global, number: usize) -> io::Result<StatementFile<'a>> {
+        Ok(StatementFile {
+            run: Run::new(alloc, number)?,
+            format: "",
+            known: None,
+            repeated: (0, 1),
+        })
+    }
+
+    /// Takes in the lines of a case. The first that can't be read, if there is one.
+    fn take_all(&mut self, alloc: Global, lines: &[Line<'a>]) -> Result<(), Line<'a>> {
+        for line in lines {
+            if self.take(alloc, *line).is_err() {
+                return Err(*line);
+            }
+        }
+        Ok(())
+    }
+
     /// Takes in a line of a case. Lines `> TEXT`, `- TEXT`, `x HEX` and `< ROW` are those of a run; `>c TEXT` is a line
     /// that ends by a carriage return and a line feed. What stands between `repeat N` and `end` is there N times.
     fn take(&mut self, alloc: Global, line: Line<'a>) -> io::Result<()> {
@@ -102,34 +122,35 @@ pub(crate) fn check_files(report: &mut Report<'_>, file: &str) -> io::Result<()>
             files = files.saturating_add(1);
         }
     }
-    let lines = text.as_str().lines().count();
-    let line = format!(in report.alloc(); "{file}: {files} files of {lines} lines")?;
-    report.say(line.as_str())
+    report.say_lines(file, files, "files", text.as_str())
 }
 
 /// Reads the statement file of a case, and compares its rows. A line that can't be read fails the case.
 fn check_case(report: &mut Report<'_>, file: &str, section: &Section<'_>) -> io::Result<()> {
     let name = section.name;
     let case = Case { file, name };
-    let mut statement_file = StatementFile {
-        run: Run::new(report.alloc(), section.number)?,
-        format: "",
-        known: None,
-        repeated: (0, 1),
-    };
-    for line in section.lines.as_slice() {
-        if statement_file.take(report.alloc(), *line).is_err() {
-            return report.fail(
-                case.at(line.number),
-                "a line of a statement file",
-                line.text,
-            );
-        }
+    let mut statement_file = StatementFile::new(report.alloc(), section.number)?;
+    match statement_file.take_all(report.alloc(), section.lines.as_slice()) {
+        Ok(()) => compare_rows(report, case, section.number, &statement_file),
+        Err(line) => report.fail(
+            case.at(line.number),
+            "a line of a statement file",
+            line.text,
+        ),
     }
+}
+
+/// Compares the rows of a statement file with those that are wanted.
+fn compare_rows(
+    report: &mut Report<'_>,
+    case: Case<'_>,
+    number: usize,
+    statement_file: &StatementFile<'_>,
+) -> io::Result<()> {
     match statement_file.rows(report.alloc()) {
         Ok(rows) => compare_lines(report, case, &statement_file.run, rows.as_slice()),
         Err(_) => report.fail(
-            case.at(section.number),
+            case.at(number),
             "rows of a format that can be read",
             statement_file.format,
         ),

@@ -1,8 +1,9 @@
 //! The rows of the gate: runs of the program, pages, books that are opened again, stops of a disk, standard streams,
-//! statement files, and the work that an engine takes. Each row stands in a file beside the program, and `gate.txt` lists the files. The program makes what each row says, compares what comes
-//! with what the row wants, and says for each file how many rows it has. A row that fails is said on standard output
-//! and on standard error; then the program goes on, and ends with 1. With the words `opening COUNT` it measures instead
-//! how long a book of so many transactions takes to open.
+//! statement files, and the work that an engine takes. Each row stands in a file beside the program, and `gate.txt`
+//! lists the files. The program makes what each row says, compares what comes with what the row wants, and says for each
+//! file how many rows it has. A row that fails is said on standard output and on standard error; then the program goes
+//! on, and ends with 1. With the words `opening COUNT` it measures instead how long a book of so many transactions takes
+//! to open.
 #![tactic(auto)]
 
 mod answers;
@@ -34,7 +35,7 @@ use crate::files::check_files;
 use crate::opening::measure;
 use crate::pages::{check_commands, check_example, check_page, check_readme};
 use crate::report::{Place, Report};
-use crate::stops::check_stops;
+use crate::stops::{Stops, check_stops};
 use crate::streams::check_streams;
 use crate::work::check_work;
 use std::io::ErrorKind;
@@ -43,20 +44,38 @@ use std::{env, io};
 
 /// Does what one line of the list asks.
 fn check(report: &mut Report<'_>, line: &str, number: usize) -> io::Result<()> {
-    let words: Vec<&str> = line.split(' ').collect(report.alloc())?;
-    match words.as_slice() {
-        ["page", file] => check_page(report, file),
-        ["commands", file, session] => check_commands(report, file, session),
-        ["example", file, answers] => check_example(report, file, answers),
-        ["readme", file, salary, month] => check_readme(report, file, salary, month),
-        ["runs", file] => check_runs(report, file),
-        ["wrong", file] => check_wrong(report, file),
-        ["stops", lines, file, ending, before, after] => {
-            check_stops(report, number, lines, file, ending, [before, after])
+    let (mark, rest) = line.split_once(' ').unwrap_or((line, ""));
+    match mark {
+        "page" => check_page(report, rest),
+        "runs" => check_runs(report, rest),
+        "wrong" => check_wrong(report, rest),
+        "files" => check_files(report, rest),
+        "work" => check_work(report, rest),
+        _ => check_words(report, mark, rest, number),
+    }
+}
+
+/// Does what one line of the list asks, which names several files.
+fn check_words(
+    report: &mut Report<'_>,
+    mark: &str,
+    rest: &str,
+    number: usize,
+) -> io::Result<()> {
+    let words: Vec<&str> = rest.split(' ').collect(report.alloc())?;
+    match (mark, words.as_slice()) {
+        ("commands", [file, session]) => check_commands(report, file, session),
+        ("example", [file, answers]) => check_example(report, file, answers),
+        ("readme", [file, salary, month]) => check_readme(report, file, salary, month),
+        ("streams", [file, lines, answers]) => check_streams(report, file, lines, answers),
+        ("stops", [lines, file, ending, before, after]) => {
+            let stops = Stops {
+                lines,
+                file,
+                ending,
+            };
+            check_stops(report, number, stops, before, after)
         }
-        ["streams", file, lines, answers] => check_streams(report, file, lines, answers),
-        ["files", file] => check_files(report, file),
-        ["work", file] => check_work(report, file),
         _ => Err(io::Error::from(ErrorKind::InvalidInput)),
     }
 }

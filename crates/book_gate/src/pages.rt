@@ -84,9 +84,7 @@ pub(crate) fn check_page(report: &mut Report<'_>, file: &str) -> io::Result<()> 
     let page = page_of(report.alloc(), text.as_str())?;
     let commands = joined(report.alloc(), page.commands.as_slice())?;
     check_session(report, file, commands.as_str(), page.answers.as_slice())?;
-    let count = page.commands.len();
-    let line = format!(in report.alloc(); "{file}: {count} commands")?;
-    report.say(line.as_str())
+    report.say_count(file, page.commands.len() as u64, "commands")
 }
 
 /// Compares the answers to the commands of an example with its file of answers.
@@ -95,9 +93,8 @@ pub(crate) fn check_example(report: &mut Report<'_>, file: &str, answers: &str) 
     let text = report.read(answers)?;
     let lines = lines_of(report.alloc(), text.as_str())?;
     check_session(report, answers, commands.as_str(), lines.as_slice())?;
-    let count = commands.as_str().lines().count();
-    let line = format!(in report.alloc(); "{file}: {count} commands")?;
-    report.say(line.as_str())
+    let count = commands.as_str().lines().count() as u64;
+    report.say_count(file, count, "commands")
 }
 
 /// Compares a page of which each command stands in a session, with its answer, and so does each answer of its tables.
@@ -108,6 +105,11 @@ pub(crate) fn check_commands(report: &mut Report<'_>, file: &str, session: &str)
     let answers = answers_to(report.alloc(), commands.as_str())?;
     check_pairs(report, file, &page, commands.as_str(), answers.as_str())?;
     check_tables(report, file, &page, answers.as_str())?;
+    say_page(report, file, session, &page)
+}
+
+/// Says how many commands a page has, and how many answers stand in its tables.
+fn say_page(report: &Report<'_>, file: &str, session: &str, page: &Page<'_>) -> io::Result<()> {
     let (count, more) = (page.commands.len(), page.in_tables.len());
     let line = format!(in report.alloc();
         "{file}: {count} commands of {session}, {more} answers of tables"

@@ -65,6 +65,25 @@ impl<'a> Report<'a> {
         println!(rt; "{line}")
     }
 
+    /// Says how many things a file has, of which each was compared.
+    pub(crate) fn say_count(&self, file: &str, count: u64, things: &str) -> io::Result<()> {
+        let rt = self.rt;
+        println!(rt; "{file}: {count} {things}")
+    }
+
+    /// The same, and how many lines the file's text has.
+    pub(crate) fn say_lines(
+        &self,
+        file: &str,
+        count: u64,
+        things: &str,
+        text: &str,
+    ) -> io::Result<()> {
+        let rt = self.rt;
+        let lines = text.lines().count();
+        println!(rt; "{file}: {count} {things} of {lines} lines")
+    }
+
     /// Says that a row failed, on standard output and on standard error.
     pub(crate) fn fail(&mut self, place: Place<'_>, wanted: &str, came: &str) -> io::Result<()> {
         self.failed = self.failed.saturating_add(1);

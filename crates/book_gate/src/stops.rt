@@ -2,6 +2,7 @@ use crate::comparing::Case;
 use crate::disk::{Ending, Fuses};
 use crate::report::Report;
 use crate::stop::{Found, found_after};
+use std::alloc::{AllocError, Global};
 use std::io;
 use std::io::ErrorKind;
 
@@ -9,11 +10,29 @@ use std::io::ErrorKind;
 const MOST_CALLS: u64 = 1_000;
 
 /// How many runs ended with the rows before the commit that was stopped, with those after it, and with others.
-#[derive(Clone, Copy, Debug, PartialEq, Eq)]
+#[derive(Clone, Copy)]
 struct Counts {
     before: u64,
     after: u64,
     others: u64,
+}
+
+impl Counts {
+    /// As `gate.txt` wants them.
+    fn text(self, alloc: Global) -> Result<String, AllocError> {
+        let Counts {
+            before,
+            after,
+            others,
+        } = self;
+        format!(in alloc; "before {before}, after {after}, others {others}")
+    }
+
+    /// How many runs there were.
+    fn sum(self) -> u64 {
+        let known = self.before.saturating_add(self.after);
+        known.saturating_add(self.others)
+    }
 }
 
 /// Whether the file whose calls fail is the log, or else the book, by its word.
@@ -57,6 +76,14 @@ fn ending_of(word: &str) -> io::Result<Ending> {
     }
 }
 
+/// Stops of runs of a file of lines: the file whose calls fail, and what becomes of the writes that were not synced.
+#[derive(Clone, Copy)]
+pub(crate) struct Stops<'a> {
+    pub(crate) lines: &'a str,
+    pub(crate) file: &'a str,
+    pub(crate) ending: &'a str,
+}
+
 /// Stops runs of the lines at each call of a file, the book or its log, and opens the book again: its rows are those
 /// before the commit that was stopped, or those after it, so many times each. The disk is in memory and has the two
 /// files, of which one fails from a call on. Then the machine stops, and the writes that were not synced are lost, or
@@ -64,32 +91,48 @@ fn ending_of(word: &str) -> io::Result<Ending> {
 pub(crate) fn check_stops(
     report: &mut Report<'_>,
     number: usize,
-    lines: &str,
-    file: &str,
-    ending: &str,
-    wanted: [&str; 2],
+    stops: Stops<'_>,
+    before: &str,
+    after: &str,
 ) -> io::Result<()> {
-    let text = report.read(lines)?;
-    let all: Vec<&str> = text.as_str().lines().collect(report.alloc())?;
-    let counts = counts_of(report, all.as_slice(), is_log(file)?, ending_of(ending)?)?;
-    let Counts {
-        before,
-        after,
-        others,
-    } = counts;
-    let [wanted_before, wanted_after] = wanted;
-    let alloc = report.alloc();
-    let wanted = format!(in alloc; "before {wanted_before}, after {wanted_after}, others 0")?;
-    let came = format!(in alloc; "before {before}, after {after}, others {others}")?;
-    if wanted.as_str() != came.as_str() {
-        let name = format!(in alloc; "stops of the {file}, writes {ending}")?;
-        let case = Case {
-            file: "gate.txt",
-            name: name.as_str(),
-        };
-        report.fail(case.at(number), wanted.as_str(), came.as_str())?;
+    let text = report.read(stops.lines)?;
+    let lines: Vec<&str> = text.as_str().lines().collect(report.alloc())?;
+    let is_log = is_log(stops.file)?;
+    let counts = counts_of(report, lines.as_slice(), is_log, ending_of(stops.ending)?)?;
+    let wanted = format!(in report.alloc(); "before {before}, after {after}, others 0")?;
+    compare_counts(report, number, stops, wanted.as_str(), counts)?;
+    say_stops(report, stops, counts)
+}
+
+/// Compares how the runs ended.
+fn compare_counts(
+    report: &mut Report<'_>,
+    number: usize,
+    stops: Stops<'_>,
+    wanted: &str,
+    counts: Counts,
+) -> io::Result<()> {
+    let came = counts.text(report.alloc())?;
+    if came.as_str() == wanted {
+        return Ok(());
     }
-    let stops = before.saturating_add(after).saturating_add(others);
-    let line = format!(in alloc; "{lines}, the {file}, writes {ending}: {stops} stops")?;
+    let Stops { file, ending, .. } = stops;
+    let name = format!(in report.alloc(); "stops of the {file}, writes {ending}")?;
+    let case = Case {
+        file: "gate.txt",
+        name: name.as_str(),
+    };
+    report.fail(case.at(number), wanted, came.as_str())
+}
+
+/// Says how many stops there were.
+fn say_stops(report: &Report<'_>, stops: Stops<'_>, counts: Counts) -> io::Result<()> {
+    let Stops {
+        lines,
+        file,
+        ending,
+    } = stops;
+    let count = counts.sum();
+    let line = format!(in report.alloc(); "{lines}, the {file}, writes {ending}: {count} stops")?;
     report.say(line.as_str())
 }

@@ -118,17 +118,29 @@ impl Store {
     /// database, a file is copied or emptied; or that two files have the same bytes, or that there is no such file.
     /// Whether it is such a line.
     pub(crate) fn change(&mut self, rt: &HostRuntime, mark: &str, rest: &str) -> io::Result<bool> {
-        match (mark, self.place) {
-            ("put", Place::Memory) => put_all(rt.alloc(), &mut self.rows, rest)?,
-            ("gone", Place::Memory) => take_out(rt.alloc(), &mut self.rows, rest)?,
-            ("sql", Place::Database) => self.execute(rest)?,
-            ("copy", Place::File) => copy(rt, rest)?,
-            ("empty", Place::File) => fs::write(rt, rest, "")?,
-            ("same", Place::File) => check_same(rt, rest)?,
-            ("absent", Place::File) => check_absent(rt, rest)?,
+        match self.place {
+            Place::Memory => self.change_rows(rt.alloc(), mark, rest),
+            Place::Database => self.change_database(mark, rest),
+            Place::File => change_files(rt, mark, rest),
+        }
+    }
+
+    /// Puts a row in memory, or takes one out. Whether the line says so.
+    fn change_rows(&mut self, alloc: Global, mark: &str, rest: &str) -> io::Result<bool> {
+        match mark {
+            "put" => put_all(alloc, &mut self.rows, rest)?,
+            "gone" => take_out(alloc, &mut self.rows, rest)?,
             _ => return Ok(false),
         }
         Ok(true)
+    }
+
+    /// Does what a statement of the database says. Whether the line is one.
+    fn change_database(&mut self, mark: &str, rest: &str) -> io::Result<bool> {
+        if mark == "sql" {
+            self.execute(rest)?;
+        }
+        Ok(mark == "sql")
     }
 
     /// Does what a statement of the database says.
@@ -141,6 +153,18 @@ impl Store {
             Err(_) => Err(unread()),
         }
     }
+}
+
+/// Copies or empties a file, or checks that two have the same bytes, or that there is none. Whether the line says so.
+fn change_files(rt: &HostRuntime, mark: &str, rest: &str) -> io::Result<bool> {
+    match mark {
+        "copy" => copy(rt, rest)?,
+        "empty" => fs::write(rt, rest, "")?,
+        "same" => check_same(rt, rest)?,
+        "absent" => check_absent(rt, rest)?,
+        _ => return Ok(false),
+    }
+    Ok(true)
 }
 
 /// Copies the file that the first word names to the second.

@@ -70,8 +70,7 @@ pub(crate) fn check_streams(
             count = count.saturating_add(1);
         }
     }
-    let line = format!(in report.alloc(); "{file}: {count} rows")?;
-    report.say(line.as_str())
+    report.say_count(file, count, "rows")
 }
 
 /// Makes a row, and compares.

@@ -20,8 +20,7 @@ pub(crate) fn check_work(report: &mut Report<'_>, file: &str) -> io::Result<()> 
             rows = rows.saturating_add(check_case(report, file, section)?);
         }
     }
-    let line = format!(in report.alloc(); "{file}: {rows} rows")?;
-    report.say(line.as_str())
+    report.say_count(file, rows, "rows")
 }
 
 /// Has an engine over a keeper without rows do the lines of a case, and compares the work that is asked for between
