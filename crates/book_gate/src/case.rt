@@ -1,9 +1,5 @@
-use crate::comparing::Case;
-use crate::counters::unread;
-use crate::report::Report;
-use crate::run::Run;
-use crate::script::{Line, Section, sections_of};
 use crate::store::Store;
+use gate_rows::{Case, Line, Report, Run, Section, sections_of, unread};
 use std::alloc::Global;
 use std::io;
 

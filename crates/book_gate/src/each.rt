@@ -1,10 +1,8 @@
-use crate::comparing::{Case, compare, compare_status};
-use crate::making::{Outcome, first_lines, made_in_memory};
-use crate::report::{Place, Report};
-use crate::rows::{are_same, copy_of};
-use crate::run::{Each, Fault, Run, Sort};
+use crate::making::made_in_memory;
 use book_keeper::{MemKeeper, Row};
-use std::alloc::{AllocError, Global};
+use gate_rows::{Case, Each, Fault, Outcome, Place, Report, Run, Sort};
+use gate_rows::{are_same, compare, compare_status, copy_of, first_lines, without_line};
+use std::alloc::Global;
 use std::io;
 
 /// The answer to a line whose change was not kept.
@@ -91,11 +89,32 @@ fn check_read(
     fault: Fault,
 ) -> io::Result<()> {
     let failed = made_again(report.alloc(), run, keeper, fault)?;
-    compare_status(report, case.at(line), failed.0.status, "input fault")?;
-    let copy = copy_of(report.alloc(), keeper)?;
-    let other = made_in_memory(report.alloc(), run, copy, read_before(run, fault), None)?;
+    compare_read(report, case.at(line), run, keeper, fault, &failed)
+}
+
+/// Compares a run of which a read failed with a run over the lines that were whole before.
+fn compare_read(
+    report: &mut Report<'_>,
+    place: Place<'_>,
+    run: &Run,
+    keeper: &MemKeeper,
+    fault: Fault,
+    failed: &(Outcome, MemKeeper),
+) -> io::Result<()> {
+    compare_status(report, place, failed.0.status.as_str(), "input fault")?;
+    let other = made_over(report.alloc(), run, keeper, read_before(run, fault))?;
     let answers = other.0.output.written();
-    compare_stopped(report, case.at(line), &failed, answers, other.1.rows())
+    compare_stopped(report, place, failed, answers, other.1.rows())
+}
+
+/// The outcome of a run over another input, and the keeper.
+fn made_over(
+    alloc: Global,
+    run: &Run,
+    keeper: &MemKeeper,
+    input: &[u8],
+) -> io::Result<(Outcome, MemKeeper)> {
+    made_in_memory(alloc, run, copy_of(alloc, keeper)?, input, None)
 }
 
 /// Compares what a run answered that was stopped, and the rows that are held then.
@@ -139,12 +158,22 @@ fn check_write(
     fault: Fault,
 ) -> io::Result<()> {
     let failed = made_again(report.alloc(), run, keeper, fault)?;
-    compare_status(report, case.at(line), failed.0.status, "output fault")?;
-    let copy = copy_of(report.alloc(), keeper)?;
-    let input = first_lines(run.input.as_slice(), fault.number);
-    let other = made_in_memory(report.alloc(), run, copy, input, None)?;
-    let answers = first_lines(other.0.output.written(), fault.number.saturating_sub(1));
-    compare_stopped(report, case.at(line), &failed, answers, other.1.rows())
+    compare_write(report, case.at(line), run, keeper, fault.number, &failed)
+}
+
+/// Compares a run whose write of this number failed with a run of as many lines.
+fn compare_write(
+    report: &mut Report<'_>,
+    place: Place<'_>,
+    run: &Run,
+    keeper: &MemKeeper,
+    number: u64,
+    failed: &(Outcome, MemKeeper),
+) -> io::Result<()> {
+    compare_status(report, place, failed.0.status.as_str(), "output fault")?;
+    let other = made_over(report.alloc(), run, keeper, first_lines(run.input.as_slice(), number))?;
+    let answers = first_lines(other.0.output.written(), number.saturating_sub(1));
+    compare_stopped(report, place, failed, answers, other.1.rows())
 }
 
 /// Makes the run with a commit that fails, where each line makes one: the answer to that line says so, and the other
@@ -176,7 +205,7 @@ fn made_without(
     place: usize,
 ) -> io::Result<(Outcome, MemKeeper)> {
     let rest = without_line(alloc, run.input.as_slice(), place)?;
-    made_in_memory(alloc, run, copy_of(alloc, keeper)?, rest.as_slice(), None)
+    made_over(alloc, run, keeper, rest.as_slice())
 }
 
 /// Compares the answers but for the one at a place, and the rows, with those of the other run.
@@ -188,7 +217,7 @@ fn compare_without(
     refused: usize,
 ) -> io::Result<()> {
     let answers = without_line(report.alloc(), failed.0.output.written(), refused)?;
-    if failed.0.status != other.0.status || answers.as_slice() != other.0.output.written() {
+    if failed.0.status.as_str() != other.0.status.as_str() || answers.as_slice() != other.0.output.written() {
         report.fail(place, "the answers without the line", "others")?;
     }
     if !are_same(failed.1.rows(), other.1.rows()) {
@@ -202,15 +231,4 @@ fn refused_at(answers: &[u8]) -> Option<usize> {
     answers
         .split(|byte| *byte == b'\n')
         .position(|line| line == REFUSED)
-}
-
-/// The lines but for the one at a place.
-fn without_line(alloc: Global, lines: &[u8], place: usize) -> Result<Vec<u8>, AllocError> {
-    let mut others = Vec::new(alloc);
-    for (at, line) in lines.split_inclusive(|byte| *byte == b'\n').enumerate() {
-        if at != place {
-            others.extend_from_slice(line)?;
-        }
-    }
-    Ok(others)
 }

@@ -6,38 +6,25 @@
 //! to open.
 #![tactic(auto)]
 
-mod answers;
 mod case;
-mod comparing;
-mod counters;
 mod disk;
 mod each;
-mod failing_keeper;
-mod files;
-mod host;
 mod making;
 mod opening;
-mod page;
 mod pages;
-mod report;
-mod rows;
-mod run;
-mod script;
 mod stop;
 mod stops;
 mod store;
 mod streams;
-mod unsteady;
 mod work;
 
 use crate::case::{check_runs, check_wrong};
-use crate::files::check_files;
 use crate::opening::measure;
 use crate::pages::{check_commands, check_example, check_page, check_readme};
-use crate::report::{Place, Report};
 use crate::stops::{Stops, check_stops};
 use crate::streams::check_streams;
 use crate::work::check_work;
+use gate_rows::{Place, Report, check_files};
 use std::io::ErrorKind;
 use std::process::ExitCode;
 use std::{env, io};

@@ -1,11 +1,9 @@
-use crate::failing_keeper::FailingKeeper;
-use crate::run::{Fault, Run, Sort};
 use book_app::{Status, book_main};
 use book_commodity::{Bytes, discard};
 use book_keeper::{Keeper, MemKeeper, MemSink, MemSource, Source};
-use std::alloc::Global;
+use gate_rows::{FailingKeeper, Fault, Outcome, Run, Sort, memory};
+use std::alloc::{AllocError, Global};
 use std::io;
-use std::io::ErrorKind;
 
 /// How many bytes the answers of a run may have.
 const ROOM: usize = 1 << 22;
@@ -13,17 +11,19 @@ const ROOM: usize = 1 << 22;
 /// The most reads that are made to count what is left of an input.
 const MOST_READS: u64 = 1 << 24;
 
-/// How a run ended, what it wrote, and how many bytes of its input were not read.
-#[derive(Drop)]
-pub(crate) struct Outcome {
-    pub(crate) status: Status,
-    pub(crate) output: MemSink,
-    pub(crate) unread: usize,
-}
-
-/// The error of a call that is out of memory.
-pub(crate) fn memory() -> io::Error {
-    io::Error::from(ErrorKind::OutOfMemory)
+/// A status as a row names it.
+fn status_text(alloc: Global, status: Status) -> Result<String, AllocError> {
+    match status {
+        Status::Done => String::from_str(alloc, "done"),
+        Status::Usage => String::from_str(alloc, "usage"),
+        Status::Memory => String::from_str(alloc, "memory"),
+        Status::InputFault => String::from_str(alloc, "input fault"),
+        Status::OutputFault => String::from_str(alloc, "output fault"),
+        Status::KeeperFault => String::from_str(alloc, "keeper fault"),
+        Status::InputLimit => String::from_str(alloc, "input limit"),
+        Status::BadRows { kind, id } => format!(in alloc; "bad rows {kind} {id}"),
+        Status::UnsoundBook { kind, id } => format!(in alloc; "unsound book {kind} {id}"),
+    }
 }
 
 /// Makes a run over a keeper and this input. Beside the reads and writes that are to fail, one more call may fail.
@@ -44,11 +44,14 @@ pub(crate) fn made<K: Keeper>(
     let words = run.words.as_slice();
     let status = book_main(alloc, words, keeper, &mut source, &mut output);
     let unread = left(&mut source);
-    Ok(Outcome {
-        status,
-        output,
-        unread,
-    })
+    match status_text(alloc, status) {
+        Ok(status) => Ok(Outcome {
+            status,
+            output,
+            unread,
+        }),
+        Err(error) => Err(discard(output, io::Error::from(error))),
+    }
 }
 
 /// Makes a run over a keeper in memory; gives the keeper back.
@@ -68,16 +71,6 @@ pub(crate) fn made_in_memory(
         Ok(outcome) => Ok((outcome, keeper)),
         Err(error) => Err(discard(keeper, error)),
     }
-}
-
-/// The first lines of a text, so many of them.
-pub(crate) fn first_lines(text: &[u8], count: u64) -> &[u8] {
-    let most = usize::try_from(count).unwrap_or(usize::MAX);
-    let mut length: usize = 0;
-    for line in text.split_inclusive(|byte| *byte == b'\n').take(most) {
-        length = length.saturating_add(line.len());
-    }
-    text.get(..length).unwrap_or(text)
 }
 
 /// How many bytes are left in a source.

@@ -1,10 +1,6 @@
-use crate::comparing::{Case, compare};
 use crate::making::made_in_memory;
-use crate::page::{Page, page_of};
-use crate::report::Report;
-use crate::rows::no_rows;
-use crate::run::Run;
-use crate::script::Line;
+use gate_rows::{Case, Line, Report, Run};
+use gate_rows::{check_line, check_pairs, check_tables, compare, no_rows, page_of, say_page};
 use std::alloc::{AllocError, Global};
 use std::{io, str};
 
@@ -108,66 +104,6 @@ pub(crate) fn check_commands(report: &mut Report<'_>, file: &str, session: &str)
     say_page(report, file, session, &page)
 }
 
-/// Says how many commands a page has, and how many answers stand in its tables.
-fn say_page(report: &Report<'_>, file: &str, session: &str, page: &Page<'_>) -> io::Result<()> {
-    let (count, more) = (page.commands.len(), page.in_tables.len());
-    let line = format!(in report.alloc();
-        "{file}: {count} commands of {session}, {more} answers of tables"
-    )?;
-    report.say(line.as_str())
-}
-
-/// Compares each command and its answer with those of a session.
-fn check_pairs(
-    report: &mut Report<'_>,
-    file: &str,
-    page: &Page<'_>,
-    commands: &str,
-    answers: &str,
-) -> io::Result<()> {
-    let case = Case {
-        file,
-        name: "commands",
-    };
-    if page.commands.len() != page.answers.len() {
-        report.fail(case.at(1), "an answer for each command", "more or less")?;
-    }
-    for (command, answer) in page.commands.iter().zip(page.answers.as_slice()) {
-        let mut pairs = commands.lines().zip(answers.lines());
-        if !pairs.any(|(line, answered)| line == command.text && answered == answer.text) {
-            report.fail(
-                case.at(command.number),
-                "a line of the session and its answer",
-                command.text,
-            )?;
-        }
-    }
-    Ok(())
-}
-
-/// Compares each answer of the page's tables with those of a session.
-fn check_tables(
-    report: &mut Report<'_>,
-    file: &str,
-    page: &Page<'_>,
-    answers: &str,
-) -> io::Result<()> {
-    let case = Case {
-        file,
-        name: "tables",
-    };
-    for answer in page.in_tables.as_slice() {
-        if !answers.lines().any(|line| line == answer.text) {
-            report.fail(
-                case.at(answer.number),
-                "an answer of the session",
-                answer.text,
-            )?;
-        }
-    }
-    Ok(())
-}
-
 /// Compares what the README shows: the answers to the salary, then the status of the same book, and then the last
 /// command of the month with its answer.
 pub(crate) fn check_readme(
@@ -212,19 +148,6 @@ fn check_last(
     let answered = answers_to(report.alloc(), lines.as_str())?;
     check_line(report, case, *command, last_line(lines.as_str()))?;
     check_line(report, case, *answer, last_line(answered.as_str()))
-}
-
-/// Compares a line of a page.
-fn check_line(
-    report: &mut Report<'_>,
-    case: Case<'_>,
-    shown: Line<'_>,
-    wanted: &str,
-) -> io::Result<()> {
-    if shown.text == wanted {
-        return Ok(());
-    }
-    report.fail(case.at(shown.number), wanted, shown.text)
 }
 
 /// The last line of a text; empty where there is none.

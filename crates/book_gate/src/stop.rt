@@ -1,11 +1,9 @@
 use crate::disk::{Ending, FusedFiles, Fuses, empty_files, next_files};
 use crate::making::made;
-use crate::rows::{are_same, no_rows, rows_in};
-use crate::run::Run;
-use book_app::Status;
 use book_commodity::discard;
 use book_keeper::{Keeper, Row};
 use book_sqlite::SqliteKeeper;
+use gate_rows::{Run, are_same, no_rows, rows_in};
 use sqlite::{Connection, FileStore, Options};
 use sqlite_disk::{Fuse, Memory};
 use std::alloc::Global;
@@ -97,7 +95,7 @@ fn done<K: Keeper>(alloc: Global, keeper: &mut K, lines: &[&str]) -> io::Result<
     let run = run_of(alloc, lines)?;
     let outcome = made(alloc, &run, keeper, run.input.as_slice(), None)?;
     let answers = str::from_utf8(outcome.output.written()).unwrap_or("");
-    if outcome.status == Status::Memory || answers.contains("\"memory\"") {
+    if outcome.status.as_str() == "memory" || answers.contains("\"memory\"") {
         return Ok(None);
     }
     let is_done = |line: &&str| line.contains("\"ok\":");
@@ -155,18 +153,23 @@ fn unopened(files: FusedFiles) -> Ended {
 /// The rows of the book in the files, or none where it can't be opened.
 fn rows_again(alloc: Global, files: FusedFiles) -> io::Result<Option<Vec<Row>>> {
     match opened(alloc, files) {
-        Ok(connection) => rows_over(alloc, SqliteKeeper::over(alloc, connection)),
+        Ok(connection) => rows_over(alloc, connection),
         Err(files) => Ok(discard(files, None)),
     }
 }
 
+/// The rows that a keeper over the connection holds, or none where it can't be opened.
+fn rows_over(alloc: Global, connection: Connection<Store>) -> io::Result<Option<Vec<Row>>> {
+    let mut keeper = SqliteKeeper::over(alloc, connection);
+    rows_held(alloc, &mut keeper)
+}
+
 /// The rows of a keeper that is opened, or none where it can't be.
-fn rows_over<K: Keeper + Drop>(alloc: Global, mut keeper: K) -> io::Result<Option<Vec<Row>>> {
+fn rows_held<K: Keeper>(alloc: Global, keeper: &mut K) -> io::Result<Option<Vec<Row>>> {
     if keeper.open("a.book").is_ok() {
-        let rows = rows_in(alloc, &mut keeper);
-        discard(keeper, rows)
+        rows_in(alloc, keeper)
     } else {
-        Ok(discard(keeper, None))
+        Ok(None)
     }
 }
 

@@ -1,7 +1,6 @@
-use crate::comparing::Case;
 use crate::disk::{Ending, Fuses};
-use crate::report::Report;
 use crate::stop::{Found, found_after};
+use gate_rows::{Case, Report};
 use std::alloc::{AllocError, Global};
 use std::io;
 use std::io::ErrorKind;

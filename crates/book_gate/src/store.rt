@@ -1,14 +1,10 @@
-use crate::comparing::{Case, compare};
-use crate::counters::unread;
 use crate::each::check_each;
 use crate::making::{made, made_in_memory};
-use crate::report::Report;
-use crate::rows::{no_rows, put_all, rows_in, take_out};
-use crate::run::Run;
 use book_app::named_book;
 use book_commodity::discard;
 use book_keeper::{Keeper, MemKeeper};
 use book_sqlite::{FileKeeper, SqliteKeeper};
+use gate_rows::{Case, Report, Run, compare, no_rows, put_all, rows_in, take_out, unread};
 use sqlite::{Connection, MemStore, Unknown};
 use std::alloc::Global;
 use std::{fs, io, mem};

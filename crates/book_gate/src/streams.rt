@@ -1,51 +1,19 @@
-use crate::comparing::Case;
-use crate::counters::{number, unread};
-use crate::host::Host;
-use crate::making::{first_lines, made_in_memory};
-use crate::report::Report;
-use crate::rows::no_rows;
-use crate::run::Run;
-use crate::unsteady::{Reader, Unflushable, Unforgiving, Writer};
+use crate::making::made_in_memory;
 use book_app::{Ended, Status, run_over, run_program, words_of};
 use book_commodity::Text;
+use gate_rows::{Case, Host, Reader, Report, Run, StreamRow, Unflushable, Unforgiving, Writer};
+use gate_rows::{first_lines, host_words, long_lines, no_rows, number, stream_row, unread};
 use std::alloc::{AllocError, Global};
 use std::cell::Cell;
 use std::io;
 use std::io::{Read, Write};
 use std::process::{ExitCode, Termination};
 
-/// A row: its mark, the number with which the program ends, the line that it says on standard error, and the rest.
-#[derive(Clone, Copy)]
-struct Row<'a> {
-    mark: &'a str,
-    number: u8,
-    said: &'a str,
-    rest: &'a str,
-}
-
 /// The lines of the program that rows are about, and their answers.
 #[derive(Clone, Copy)]
 struct Lines<'a> {
     lines: &'a [u8],
     answers: &'a [u8],
-}
-
-/// The row that a line `MARK NUMBER "LINE" REST` is.
-fn row_of(line: &str) -> io::Result<Row<'_>> {
-    let (mark, rest) = line.split_once(' ').unwrap_or((line, ""));
-    let (word, rest) = rest.split_once(' ').unwrap_or((rest, ""));
-    let Ok(number) = u8::try_from(number(word)?) else {
-        return Err(unread());
-    };
-    match rest.strip_prefix('"').and_then(|rest| rest.split_once('"')) {
-        Some((said, rest)) => Ok(Row {
-            mark,
-            number,
-            said,
-            rest: rest.trim_start(),
-        }),
-        None => Err(unread()),
-    }
 }
 
 /// Makes the rows of a file over these lines, whose answers stand in another: the numbers with which the program ends,
@@ -91,7 +59,7 @@ fn check_row(
 
 /// Whether all that a row wants comes.
 fn is_right(alloc: Global, line: &str, lines: Lines<'_>) -> io::Result<bool> {
-    let row = row_of(line)?;
+    let row = stream_row(line)?;
     match row.mark {
         "words" => are_words_right(alloc, row, lines, false),
         "output" => are_words_right(alloc, row, lines, true),
@@ -104,34 +72,8 @@ fn is_right(alloc: Global, line: &str, lines: Lines<'_>) -> io::Result<bool> {
     }
 }
 
-/// The program's name and the words behind it, in which %XX is a byte.
-fn host_words(alloc: Global, text: &str) -> io::Result<Vec<Vec<u8>>> {
-    let mut words = vec![in alloc; "book".as_bytes().to_vec(alloc)?]?;
-    for word in text.split(' ') {
-        words.push(bytes_of(alloc, word)?)?;
-    }
-    Ok(words)
-}
-
-/// The bytes of a word, in which %XX is a byte.
-fn bytes_of(alloc: Global, word: &str) -> io::Result<Vec<u8>> {
-    let Some((before, rest)) = word.split_once('%') else {
-        return Ok(word.as_bytes().to_vec(alloc)?);
-    };
-    let Some((digits, behind)) = rest.split_at_checked(2) else {
-        return Err(unread());
-    };
-    let Ok(byte) = hex::decode(alloc, digits) else {
-        return Err(unread());
-    };
-    let mut bytes = before.as_bytes().to_vec(alloc)?;
-    bytes.extend_from_slice(byte.as_slice())?;
-    bytes.extend_from_slice(behind.as_bytes())?;
-    Ok(bytes)
-}
-
 /// The words and streams of a host, whose output may fail.
-fn are_words_right(alloc: Global, row: Row<'_>, lines: Lines<'_>, fails: bool) -> io::Result<bool> {
+fn are_words_right(alloc: Global, row: StreamRow<'_>, lines: Lines<'_>, fails: bool) -> io::Result<bool> {
     let words = host_words(alloc, row.rest)?;
     let written = if row.number == 0 { lines.answers } else { &[] };
     let mut host = Host::with_words(alloc, words.as_slice(), lines.lines, written, row.said);
@@ -144,7 +86,7 @@ fn are_words_right(alloc: Global, row: Row<'_>, lines: Lines<'_>, fails: bool) -
 }
 
 /// The line and the number of a status.
-fn is_status_right(alloc: Global, row: Row<'_>) -> io::Result<bool> {
+fn is_status_right(alloc: Global, row: StreamRow<'_>) -> io::Result<bool> {
     let host = Host::new(alloc, &[], row.said);
     let code = status_of(row.rest)?.report(&host);
     Ok(code == ExitCode::from(row.number) && host.is_content())
@@ -187,7 +129,7 @@ fn ended<R: Read + Drop, W: Write + Drop>(
 }
 
 /// The number of a call.
-fn call_of(row: Row<'_>) -> io::Result<u32> {
+fn call_of(row: StreamRow<'_>) -> io::Result<u32> {
     match u32::try_from(number(row.rest)?) {
         Ok(call) => Ok(call),
         Err(_) => Err(unread()),
@@ -195,7 +137,7 @@ fn call_of(row: Row<'_>) -> io::Result<u32> {
 }
 
 /// A read that fails once ends the run: no fault is hidden.
-fn is_read_right(alloc: Global, row: Row<'_>, lines: Lines<'_>) -> io::Result<bool> {
+fn is_read_right(alloc: Global, row: StreamRow<'_>, lines: Lines<'_>) -> io::Result<bool> {
     let fails = call_of(row)?;
     let host = Host::new(alloc, &[], row.said);
     let taken = Cell::new(0usize);
@@ -221,7 +163,7 @@ fn answered<'a>(lines: Lines<'a>, fails: u32) -> &'a [u8] {
 }
 
 /// Nor is a write hidden that fails once. Where none fails, all is written.
-fn is_write_right(alloc: Global, row: Row<'_>, lines: Lines<'_>) -> io::Result<bool> {
+fn is_write_right(alloc: Global, row: StreamRow<'_>, lines: Lines<'_>) -> io::Result<bool> {
     let host = Host::new(alloc, &[], row.said);
     let taken = Cell::new(0usize);
     let writer = Writer::new(lines.answers, call_of(row)?, &taken);
@@ -233,22 +175,9 @@ fn is_write_right(alloc: Global, row: Row<'_>, lines: Lines<'_>) -> io::Result<b
     )
 }
 
-/// A line whose answer names a member of so many times forty bytes.
-fn add_line(lines: &mut String, count: u64) -> io::Result<()> {
-    lines.push_str("{\"do\":\"account_drop\",\"account\":2,\"")?;
-    for _ in 0..count {
-        lines.push_str("a member that the command does not know.")?;
-    }
-    lines.push_str("\":1}\n")?;
-    Ok(())
-}
-
 /// Each write is flushed, however long it is.
-fn are_flushes_right(alloc: Global, row: Row<'_>) -> io::Result<bool> {
-    let mut text = String::new(alloc);
-    for word in row.rest.split(' ') {
-        add_line(&mut text, number(word)?)?;
-    }
+fn are_flushes_right(alloc: Global, row: StreamRow<'_>) -> io::Result<bool> {
+    let text = long_lines(alloc, row.rest)?;
     let lines = text.as_str().as_bytes();
     let host = Host::new(alloc, &[], row.said);
     let (taken, unflushed) = (Cell::new(0usize), Cell::new(0usize));
@@ -266,7 +195,7 @@ fn written(alloc: Global, lines: &[u8]) -> io::Result<usize> {
 }
 
 /// A flush that fails is a failure of the output.
-fn is_flush_right(alloc: Global, row: Row<'_>, lines: Lines<'_>) -> io::Result<bool> {
+fn is_flush_right(alloc: Global, row: StreamRow<'_>, lines: Lines<'_>) -> io::Result<bool> {
     let host = Host::new(alloc, &[], row.said);
     let code = ended(alloc, lines.lines, Unflushable)?.report(&host);
     Ok(code == ExitCode::from(row.number) && host.is_content())

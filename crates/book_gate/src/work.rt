@@ -1,12 +1,8 @@
-use crate::comparing::Case;
-use crate::counters::{number, unread};
-use crate::report::Report;
-use crate::rows::no_rows;
-use crate::script::{Line, Section, sections_of};
 use book_commodity::discard;
 use book_engine::Engine;
 use book_keeper::MemKeeper;
 use book_wire::command_of;
+use gate_rows::{Case, Line, Report, Section, no_rows, number, sections_of, unread};
 use std::alloc::Global;
 use std::io;
 

@@ -8,7 +8,7 @@ use std::io::{BufRead, Eprint, ErrorKind, Input, Lines, Print};
 /// A host with words, an input and an output, which may fail. It notes how many bytes are written and how many lines
 /// are said on standard error, and whether these are others than those that are wanted.
 #[derive(Drop)]
-pub(crate) struct Host<'a> {
+pub struct Host<'a> {
     alloc: Global,
     words: &'a [Vec<u8>],
     input: &'a [u8],
@@ -23,12 +23,12 @@ pub(crate) struct Host<'a> {
 impl<'a> Host<'a> {
     /// A host without words and input, that wants these bytes to be written, and this line, if it isn't empty, to be
     /// said on standard error.
-    pub(crate) fn new(alloc: Global, output: &'a [u8], line: &'a str) -> Host<'a> {
+    pub fn new(alloc: Global, output: &'a [u8], line: &'a str) -> Host<'a> {
         Host::with_words(alloc, &[], &[], output, line)
     }
 
     /// The same with words and an input.
-    pub(crate) fn with_words(
+    pub fn with_words(
         alloc: Global,
         words: &'a [Vec<u8>],
         input: &'a [u8],
@@ -49,12 +49,12 @@ impl<'a> Host<'a> {
     }
 
     /// Has each write to its output fail from now on.
-    pub(crate) fn break_output(&mut self) {
+    pub fn break_output(&mut self) {
         self.fails = true;
     }
 
     /// Whether all that is wanted came, and nothing else.
-    pub(crate) fn is_content(&self) -> bool {
+    pub fn is_content(&self) -> bool {
         let lines = usize::from(!self.line.is_empty());
         self.written.get() == self.output.len() && self.lines.get() == lines && !self.differs.get()
     }

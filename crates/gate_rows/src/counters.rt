@@ -3,12 +3,17 @@ use std::io;
 use std::io::ErrorKind;
 
 /// The error of a line that can't be read.
-pub(crate) fn unread() -> io::Error {
+pub fn unread() -> io::Error {
     io::Error::from(ErrorKind::InvalidData)
 }
 
+/// The error of a call that is out of memory.
+pub fn memory() -> io::Error {
+    io::Error::from(ErrorKind::OutOfMemory)
+}
+
 /// The number that a word is.
-pub(crate) fn number(word: &str) -> io::Result<u64> {
+pub fn number(word: &str) -> io::Result<u64> {
     match word.parse() {
         Ok(number) => Ok(number),
         Err(_) => Err(unread()),
@@ -16,7 +21,7 @@ pub(crate) fn number(word: &str) -> io::Result<u64> {
 }
 
 /// The number that a word is.
-pub(crate) fn count(word: &str) -> io::Result<usize> {
+pub fn count(word: &str) -> io::Result<usize> {
     match word.parse() {
         Ok(number) => Ok(number),
         Err(_) => Err(unread()),
@@ -24,7 +29,7 @@ pub(crate) fn count(word: &str) -> io::Result<usize> {
 }
 
 /// The number that a text begins with, and what stands behind the blank after it.
-pub(crate) fn counted(text: &str) -> io::Result<(u64, &str)> {
+pub fn counted(text: &str) -> io::Result<(u64, &str)> {
     let (word, rest) = text.split_once(' ').unwrap_or((text, ""));
     match word.parse() {
         Ok(number) => Ok((number, rest)),
@@ -33,7 +38,7 @@ pub(crate) fn counted(text: &str) -> io::Result<(u64, &str)> {
 }
 
 /// A text in which `#FIRST+STEP#` stands for FIRST and so many times STEP.
-pub(crate) fn expanded(alloc: Global, text: &str, times: u64) -> io::Result<String> {
+pub fn expanded(alloc: Global, text: &str, times: u64) -> io::Result<String> {
     let mut all = String::new(alloc);
     for (place, piece) in text.split('#').enumerate() {
         if place % 2 == 0 {

@@ -6,15 +6,15 @@ const SHOWN: usize = 150;
 
 /// Where a row stands: its file, the number of its line, and the name of its case.
 #[derive(Clone, Copy)]
-pub(crate) struct Place<'a> {
-    pub(crate) file: &'a str,
-    pub(crate) line: usize,
-    pub(crate) name: &'a str,
+pub struct Place<'a> {
+    pub file: &'a str,
+    pub line: usize,
+    pub name: &'a str,
 }
 
 /// Says what was compared, and counts the rows that failed.
 #[derive(Drop)]
-pub(crate) struct Report<'a> {
+pub struct Report<'a> {
     rt: &'a HostRuntime,
     failed: u64,
     is_silent: bool,
@@ -22,7 +22,7 @@ pub(crate) struct Report<'a> {
 
 impl<'a> Report<'a> {
     /// A report in which no row failed.
-    pub(crate) fn new(rt: &'a HostRuntime) -> Report<'a> {
+    pub fn new(rt: &'a HostRuntime) -> Report<'a> {
         Report {
             rt,
             failed: 0,
@@ -31,7 +31,7 @@ impl<'a> Report<'a> {
     }
 
     /// A report in which no row failed, and which says nothing.
-    pub(crate) fn silent(rt: &'a HostRuntime) -> Report<'a> {
+    pub fn silent(rt: &'a HostRuntime) -> Report<'a> {
         Report {
             rt,
             failed: 0,
@@ -40,39 +40,39 @@ impl<'a> Report<'a> {
     }
 
     /// The host.
-    pub(crate) fn rt(&self) -> &'a HostRuntime {
+    pub fn rt(&self) -> &'a HostRuntime {
         self.rt
     }
 
     /// The allocator.
-    pub(crate) fn alloc(&self) -> Global {
+    pub fn alloc(&self) -> Global {
         self.rt.alloc()
     }
 
     /// Whether no row failed.
-    pub(crate) fn has_no_failure(&self) -> bool {
+    pub fn has_no_failure(&self) -> bool {
         self.failed == 0
     }
 
     /// The text of a file.
-    pub(crate) fn read(&self, file: &str) -> io::Result<String> {
+    pub fn read(&self, file: &str) -> io::Result<String> {
         fs::read_to_string(self.rt, file)
     }
 
     /// Says a line on standard output.
-    pub(crate) fn say(&self, line: &str) -> io::Result<()> {
+    pub fn say(&self, line: &str) -> io::Result<()> {
         let rt = self.rt;
         println!(rt; "{line}")
     }
 
     /// Says how many things a file has, of which each was compared.
-    pub(crate) fn say_count(&self, file: &str, count: u64, things: &str) -> io::Result<()> {
+    pub fn say_count(&self, file: &str, count: u64, things: &str) -> io::Result<()> {
         let rt = self.rt;
         println!(rt; "{file}: {count} {things}")
     }
 
     /// The same, and how many lines the file's text has.
-    pub(crate) fn say_lines(
+    pub fn say_lines(
         &self,
         file: &str,
         count: u64,
@@ -85,7 +85,7 @@ impl<'a> Report<'a> {
     }
 
     /// Says that a row failed, on standard output and on standard error.
-    pub(crate) fn fail(&mut self, place: Place<'_>, wanted: &str, came: &str) -> io::Result<()> {
+    pub fn fail(&mut self, place: Place<'_>, wanted: &str, came: &str) -> io::Result<()> {
         self.failed = self.failed.saturating_add(1);
         if self.is_silent {
             return Ok(());

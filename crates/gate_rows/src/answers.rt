@@ -7,16 +7,16 @@ use std::io;
 
 /// An answer that is wanted: how it begins and ends, and whether it is its beginning alone.
 #[derive(Drop)]
-pub(crate) struct Answer {
-    pub(crate) line: usize,
-    pub(crate) begins: String,
-    pub(crate) ends: String,
-    pub(crate) is_whole: bool,
+pub struct Answer {
+    pub line: usize,
+    pub begins: String,
+    pub ends: String,
+    pub is_whole: bool,
 }
 
 impl Answer {
     /// Whether a line is this answer.
-    pub(crate) fn is(&self, line: &str) -> bool {
+    pub fn is(&self, line: &str) -> bool {
         if self.is_whole {
             return line == self.begins.as_str();
         }
@@ -30,26 +30,26 @@ impl Answer {
 
 /// A row that the keeper holds at the end.
 #[derive(Drop)]
-pub(crate) struct WantedRow {
-    pub(crate) line: usize,
-    pub(crate) key: RowKey,
-    pub(crate) body: Vec<u8>,
+pub struct WantedRow {
+    pub line: usize,
+    pub key: RowKey,
+    pub body: Vec<u8>,
 }
 
 /// What a run wants: its answers; how it ends; how many bytes of the input are not read; how many rows the keeper holds,
 /// and which.
 #[derive(Drop)]
-pub(crate) struct Wanted {
-    pub(crate) answers: Vec<Answer>,
-    pub(crate) status: String,
-    pub(crate) unread: Option<usize>,
-    pub(crate) count: Option<usize>,
-    pub(crate) rows: Vec<WantedRow>,
+pub struct Wanted {
+    pub answers: Vec<Answer>,
+    pub status: String,
+    pub unread: Option<usize>,
+    pub count: Option<usize>,
+    pub rows: Vec<WantedRow>,
 }
 
 impl Wanted {
     /// No answers, and that all is done.
-    pub(crate) fn new(alloc: Global) -> Result<Wanted, AllocError> {
+    pub fn new(alloc: Global) -> Result<Wanted, AllocError> {
         Ok(Wanted {
             answers: Vec::new(alloc),
             status: String::from_str(alloc, "done")?,
@@ -60,7 +60,7 @@ impl Wanted {
     }
 
     /// Takes in a line that says what is wanted. Whether it is such a line.
-    pub(crate) fn take(
+    pub fn take(
         &mut self,
         alloc: Global,
         mark: &str,
@@ -82,7 +82,7 @@ impl Wanted {
     }
 
     /// Adds an answer.
-    pub(crate) fn add_answer(
+    pub fn add_answer(
         &mut self,
         alloc: Global,
         text: &str,

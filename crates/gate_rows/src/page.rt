@@ -3,16 +3,16 @@ use std::alloc::{AllocError, Global};
 
 /// The commands and the answers that a page shows, each in the page's order.
 #[derive(Drop)]
-pub(crate) struct Page<'a> {
-    pub(crate) commands: Vec<Line<'a>>,
-    pub(crate) answers: Vec<Line<'a>>,
+pub struct Page<'a> {
+    pub commands: Vec<Line<'a>>,
+    pub answers: Vec<Line<'a>>,
     /// The answers that stand in the page's tables.
-    pub(crate) in_tables: Vec<Line<'a>>,
+    pub in_tables: Vec<Line<'a>>,
 }
 
 /// What the text of a page shows: its commands and answers are indented by four blanks, and a command begins with its
 /// member `do`; the answers of a table stand between back quotes.
-pub(crate) fn page_of<'a>(alloc: Global, text: &'a str) -> Result<Page<'a>, AllocError> {
+pub fn page_of<'a>(alloc: Global, text: &'a str) -> Result<Page<'a>, AllocError> {
     let mut page = Page {
         commands: Vec::new(alloc),
         answers: Vec::new(alloc),

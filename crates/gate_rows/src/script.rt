@@ -3,23 +3,23 @@ use std::io;
 
 /// A line of a file of runs, and its number in the file.
 #[derive(Clone, Copy)]
-pub(crate) struct Line<'a> {
-    pub(crate) number: usize,
-    pub(crate) text: &'a str,
+pub struct Line<'a> {
+    pub number: usize,
+    pub text: &'a str,
 }
 
 /// A case, or a part that cases share: its name, the number of its first line, and its lines.
 #[derive(Drop)]
-pub(crate) struct Section<'a> {
-    pub(crate) is_case: bool,
-    pub(crate) name: &'a str,
-    pub(crate) number: usize,
-    pub(crate) lines: Vec<Line<'a>>,
+pub struct Section<'a> {
+    pub is_case: bool,
+    pub name: &'a str,
+    pub number: usize,
+    pub lines: Vec<Line<'a>>,
 }
 
 /// The cases and parts of a text. A line `with PART` stands for the lines of a part before it; empty lines and those
 /// that begin with `#` are left out.
-pub(crate) fn sections_of<'a>(alloc: Global, text: &'a str) -> io::Result<Vec<Section<'a>>> {
+pub fn sections_of<'a>(alloc: Global, text: &'a str) -> io::Result<Vec<Section<'a>>> {
     let mut sections = Vec::new(alloc);
     for (place, text) in text.split('\n').enumerate() {
         let number = place.saturating_add(1);

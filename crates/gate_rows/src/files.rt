@@ -1,6 +1,5 @@
 use crate::comparing::{Case, compare_lines};
-use crate::counters::{number, unread};
-use crate::making::memory;
+use crate::counters::{memory, number, unread};
 use crate::report::Report;
 use crate::run::Run;
 use crate::script::{Line, Section, sections_of};
@@ -112,7 +111,7 @@ impl<'a> StatementFile<'a> {
 }
 
 /// Reads the statement files of a file, and says how many there are.
-pub(crate) fn check_files(report: &mut Report<'_>, file: &str) -> io::Result<()> {
+pub fn check_files(report: &mut Report<'_>, file: &str) -> io::Result<()> {
     let text = report.read(file)?;
     let sections = sections_of(report.alloc(), text.as_str())?;
     let mut files: u64 = 0;

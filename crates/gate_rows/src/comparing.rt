@@ -1,21 +1,19 @@
-use crate::making::Outcome;
 use crate::report::{Place, Report};
 use crate::run::Run;
-use book_app::Status;
-use book_keeper::Row;
-use std::alloc::{AllocError, Global};
+use book_keeper::{MemSink, Row};
+use std::alloc::Global;
 use std::{io, str};
 
 /// The case that is compared: its file and its name.
 #[derive(Clone, Copy)]
-pub(crate) struct Case<'a> {
-    pub(crate) file: &'a str,
-    pub(crate) name: &'a str,
+pub struct Case<'a> {
+    pub file: &'a str,
+    pub name: &'a str,
 }
 
 impl<'a> Case<'a> {
     /// A line of it.
-    pub(crate) fn at(self, line: usize) -> Place<'a> {
+    pub fn at(self, line: usize) -> Place<'a> {
         Place {
             file: self.file,
             line,
@@ -24,31 +22,24 @@ impl<'a> Case<'a> {
     }
 }
 
-/// A status as a row names it.
-fn status_text(alloc: Global, status: Status) -> Result<String, AllocError> {
-    match status {
-        Status::Done => String::from_str(alloc, "done"),
-        Status::Usage => String::from_str(alloc, "usage"),
-        Status::Memory => String::from_str(alloc, "memory"),
-        Status::InputFault => String::from_str(alloc, "input fault"),
-        Status::OutputFault => String::from_str(alloc, "output fault"),
-        Status::KeeperFault => String::from_str(alloc, "keeper fault"),
-        Status::InputLimit => String::from_str(alloc, "input limit"),
-        Status::BadRows { kind, id } => format!(in alloc; "bad rows {kind} {id}"),
-        Status::UnsoundBook { kind, id } => format!(in alloc; "unsound book {kind} {id}"),
-    }
+/// How a run ended, as rows name it, what it wrote, and how many bytes of its input were not read.
+#[derive(Drop)]
+pub struct Outcome {
+    pub status: String,
+    pub output: MemSink,
+    pub unread: usize,
 }
 
 /// Compares how a run ended, what it answered and left unread, and the rows that are held then, where they can be read.
-pub(crate) fn compare(
+pub fn compare(
     report: &mut Report<'_>,
     case: Case<'_>,
     run: &Run,
     outcome: &Outcome,
     rows: Option<&[Row]>,
 ) -> io::Result<()> {
-    let status = run.wanted.status.as_str();
-    compare_status(report, case.at(run.line), outcome.status, status)?;
+    let came = outcome.status.as_str();
+    compare_status(report, case.at(run.line), came, run.wanted.status.as_str())?;
     compare_unread(report, case, run, outcome)?;
     compare_lines(report, case, run, outcome.output.written())?;
     match rows {
@@ -69,17 +60,16 @@ fn compare_unread_rows(report: &mut Report<'_>, case: Case<'_>, run: &Run) -> io
 }
 
 /// Compares how a run ended.
-pub(crate) fn compare_status(
+pub fn compare_status(
     report: &mut Report<'_>,
     place: Place<'_>,
-    status: Status,
+    came: &str,
     wanted: &str,
 ) -> io::Result<()> {
-    let came = status_text(report.alloc(), status)?;
-    if came.as_str() == wanted {
+    if came == wanted {
         return Ok(());
     }
-    report.fail(place, wanted, came.as_str())
+    report.fail(place, wanted, came)
 }
 
 /// Compares how many bytes of the input were not read.
@@ -100,7 +90,7 @@ fn compare_unread(
 }
 
 /// Compares the lines that were written with the wanted ones, one by one. At most one that is wrong is said.
-pub(crate) fn compare_lines(
+pub fn compare_lines(
     report: &mut Report<'_>,
     case: Case<'_>,
     run: &Run,

@@ -6,7 +6,7 @@ use std::io;
 
 /// The calls that may fail: reads of the input, writes of the output, commits of the keeper, and all of its calls.
 #[derive(Clone, Copy, PartialEq, Eq)]
-pub(crate) enum Sort {
+pub enum Sort {
     Read,
     Write,
     Commit,
@@ -15,36 +15,36 @@ pub(crate) enum Sort {
 
 /// A call that fails: its sort, and its number among the calls of this sort, counted from 1.
 #[derive(Clone, Copy)]
-pub(crate) struct Fault {
-    pub(crate) sort: Sort,
-    pub(crate) number: u64,
+pub struct Fault {
+    pub sort: Sort,
+    pub number: u64,
 }
 
 /// The run is made again for each call of a sort, up to a number: that call fails.
 #[derive(Clone, Copy)]
-pub(crate) struct Each {
-    pub(crate) sort: Sort,
-    pub(crate) last: u64,
-    pub(crate) line: usize,
+pub struct Each {
+    pub sort: Sort,
+    pub last: u64,
+    pub line: usize,
 }
 
 /// What a run is given, and what it wants.
 #[derive(Drop)]
-pub(crate) struct Run {
-    pub(crate) line: usize,
-    pub(crate) words: Vec<Text>,
-    pub(crate) input: Vec<u8>,
-    pub(crate) piece: usize,
-    pub(crate) faults: Vec<Fault>,
-    pub(crate) each: Option<Each>,
+pub struct Run {
+    pub line: usize,
+    pub words: Vec<Text>,
+    pub input: Vec<u8>,
+    pub piece: usize,
+    pub faults: Vec<Fault>,
+    pub each: Option<Each>,
     /// Whether the file is left as where the program is killed: it is not closed.
-    pub(crate) is_killed: bool,
-    pub(crate) wanted: Wanted,
+    pub is_killed: bool,
+    pub wanted: Wanted,
 }
 
 impl Run {
     /// A run of `run household.book` without input, which begins at this line of the file.
-    pub(crate) fn new(alloc: Global, line: usize) -> io::Result<Run> {
+    pub fn new(alloc: Global, line: usize) -> io::Result<Run> {
         Ok(Run {
             line,
             words: words_of(alloc, "run household.book")?,
@@ -58,7 +58,7 @@ impl Run {
     }
 
     /// The numbers of the calls of a sort that fail, and of one more.
-    pub(crate) fn failing(
+    pub fn failing(
         &self,
         alloc: Global,
         sort: Sort,
@@ -73,12 +73,12 @@ impl Run {
     }
 
     /// Whether a call of the keeper is to fail.
-    pub(crate) fn has_keeper_fault(&self) -> bool {
+    pub fn has_keeper_fault(&self) -> bool {
         self.faults.iter().any(|fault| fault.sort == Sort::Commit || fault.sort == Sort::Call)
     }
 
     /// Takes in a line that says what the run is given. Whether it is such a line.
-    pub(crate) fn take_given(
+    pub fn take_given(
         &mut self,
         alloc: Global,
         mark: &str,

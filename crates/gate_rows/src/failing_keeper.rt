@@ -6,14 +6,14 @@ use book_keeper::{Change, KeepError, Keeper, MemKeeper, Row, RowKey};
 
 /// Calls of which some fail: the numbers of those, counted from 1, and how many calls were made.
 #[derive(Drop)]
-pub(crate) struct Numbered {
+pub struct Numbered {
     failing: Many<u64>,
     made: u64,
 }
 
 impl Numbered {
     /// The calls of these numbers fail.
-    pub(crate) fn new(failing: Many<u64>) -> Numbered {
+    pub fn new(failing: Many<u64>) -> Numbered {
         Numbered { failing, made: 0 }
     }
 
@@ -27,7 +27,7 @@ impl Numbered {
 /// A keeper in memory whose calls may fail, whichever they are: those of these numbers among all calls, and those
 /// among the commits.
 #[derive(Drop)]
-pub(crate) struct FailingKeeper {
+pub struct FailingKeeper {
     keeper: MemKeeper,
     calls: Numbered,
     commits: Numbered,
@@ -36,7 +36,7 @@ pub(crate) struct FailingKeeper {
 
 impl FailingKeeper {
     /// The keeper, of which these calls and commits fail.
-    pub(crate) fn new(keeper: MemKeeper, calls: Many<u64>, commits: Many<u64>) -> FailingKeeper {
+    pub fn new(keeper: MemKeeper, calls: Many<u64>, commits: Many<u64>) -> FailingKeeper {
         FailingKeeper {
             keeper,
             calls: Numbered::new(calls),
@@ -46,7 +46,7 @@ impl FailingKeeper {
     }
 
     /// The keeper in memory.
-    pub(crate) fn into_keeper(self) -> MemKeeper {
+    pub fn into_keeper(self) -> MemKeeper {
         self.keeper
     }
 
@@ -70,7 +70,7 @@ impl FailingKeeper {
 
 impl Keeper for FailingKeeper {
     ghost use Rattle.book_keeper.specs.Rows.{Rises, do_rise};
-    ghost use Rattle.book_gate.specs.KeptRows.{held_where};
+    ghost use Rattle.gate_rows.specs.KeptRows.{held_where};
 
     ghost path_given = { λ it. it.keeper.path };
 

@@ -5,7 +5,7 @@ use std::io::{ErrorKind, Read, Write};
 /// A reader that gives at most forty bytes at a time and fails at one of its calls; later calls give what is left. Each
 /// call is interrupted once before.
 #[derive(Drop)]
-pub(crate) struct Reader<'a> {
+pub struct Reader<'a> {
     left: &'a [u8],
     calls: u32,
     fails: u32,
@@ -13,7 +13,7 @@ pub(crate) struct Reader<'a> {
 
 impl<'a> Reader<'a> {
     /// A reader of the bytes that fails at this call.
-    pub(crate) fn new(left: &'a [u8], fails: u32) -> Reader<'a> {
+    pub fn new(left: &'a [u8], fails: u32) -> Reader<'a> {
         Reader {
             left,
             calls: 0,
@@ -39,7 +39,7 @@ impl<'a> Read for Reader<'a> {
 /// A writer that takes at most forty bytes at a time and fails at one of its calls; later calls take what they are
 /// given. It fails too where a byte is not the next of those that are wanted. It counts the bytes that it took.
 #[derive(Drop)]
-pub(crate) struct Writer<'a> {
+pub struct Writer<'a> {
     wanted: &'a [u8],
     taken: &'a Cell<usize>,
     calls: u32,
@@ -48,7 +48,7 @@ pub(crate) struct Writer<'a> {
 
 impl<'a> Writer<'a> {
     /// A writer that wants these bytes, and fails at this call.
-    pub(crate) fn new(wanted: &'a [u8], fails: u32, taken: &'a Cell<usize>) -> Writer<'a> {
+    pub fn new(wanted: &'a [u8], fails: u32, taken: &'a Cell<usize>) -> Writer<'a> {
         Writer {
             wanted,
             taken,
@@ -81,14 +81,14 @@ impl<'a> Write for Writer<'a> {
 /// A writer that takes what it is given, and fails where what it took before is not flushed. It counts the bytes that it
 /// took, and those of them that are not flushed.
 #[derive(Drop)]
-pub(crate) struct Unforgiving<'a> {
+pub struct Unforgiving<'a> {
     taken: &'a Cell<usize>,
     unflushed: &'a Cell<usize>,
 }
 
 impl<'a> Unforgiving<'a> {
     /// A writer that counts here.
-    pub(crate) fn new(taken: &'a Cell<usize>, unflushed: &'a Cell<usize>) -> Unforgiving<'a> {
+    pub fn new(taken: &'a Cell<usize>, unflushed: &'a Cell<usize>) -> Unforgiving<'a> {
         Unforgiving { taken, unflushed }
     }
 }
@@ -111,7 +111,7 @@ impl<'a> Write for Unforgiving<'a> {
 
 /// A writer that takes what it is given, and fails at each flush.
 #[derive(Drop)]
-pub(crate) struct Unflushable;
+pub struct Unflushable;
 
 impl Write for Unflushable {
     fn write(&mut self, bytes: &[u8]) -> io::Result<usize> {

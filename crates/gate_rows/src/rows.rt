@@ -1,5 +1,4 @@
-use crate::counters::{number, unread};
-use crate::making::memory;
+use crate::counters::{memory, number, unread};
 use book_commodity::{Bytes, Many, OutOfMemory};
 use book_keeper::{Change, Keeper, MemKeeper, Row, RowKey};
 use std::alloc::Global;
@@ -45,7 +44,7 @@ fn rows_of(alloc: Global, text: &str) -> io::Result<Spelled> {
 }
 
 /// The key and the body of the one row that a line spells, as `KIND ID HEX`.
-pub(crate) fn row_of(alloc: Global, text: &str) -> io::Result<(RowKey, Vec<u8>)> {
+pub fn row_of(alloc: Global, text: &str) -> io::Result<(RowKey, Vec<u8>)> {
     let Spelled {
         kind,
         first,
@@ -59,12 +58,12 @@ pub(crate) fn row_of(alloc: Global, text: &str) -> io::Result<(RowKey, Vec<u8>)>
 }
 
 /// A keeper in memory without rows.
-pub(crate) fn no_rows(alloc: Global) -> MemKeeper {
+pub fn no_rows(alloc: Global) -> MemKeeper {
     MemKeeper::new(Many::new(alloc), Many::new(alloc))
 }
 
 /// A keeper in memory with equal rows.
-pub(crate) fn copy_of(alloc: Global, keeper: &MemKeeper) -> io::Result<MemKeeper> {
+pub fn copy_of(alloc: Global, keeper: &MemKeeper) -> io::Result<MemKeeper> {
     let mut copy = no_rows(alloc);
     for row in keeper.rows() {
         match row.copy() {
@@ -76,7 +75,7 @@ pub(crate) fn copy_of(alloc: Global, keeper: &MemKeeper) -> io::Result<MemKeeper
 }
 
 /// Puts the rows that a line spells. One whose number is too great to be given to a keeper can only be its first.
-pub(crate) fn put_all(alloc: Global, keeper: &mut MemKeeper, text: &str) -> io::Result<()> {
+pub fn put_all(alloc: Global, keeper: &mut MemKeeper, text: &str) -> io::Result<()> {
     let Spelled {
         kind,
         first,
@@ -106,7 +105,7 @@ fn put(alloc: Global, keeper: &mut MemKeeper, row: Row) -> io::Result<()> {
 }
 
 /// Takes out the row whose key a line spells.
-pub(crate) fn take_out(alloc: Global, keeper: &mut MemKeeper, text: &str) -> io::Result<()> {
+pub fn take_out(alloc: Global, keeper: &mut MemKeeper, text: &str) -> io::Result<()> {
     let (key, _) = row_of(alloc, text)?;
     change(alloc, keeper, Change::Gone(key))
 }
@@ -128,7 +127,7 @@ fn change(alloc: Global, keeper: &mut MemKeeper, change: Change) -> io::Result<(
 }
 
 /// Whether the rows are the same.
-pub(crate) fn are_same(rows: &[Row], others: &[Row]) -> bool {
+pub fn are_same(rows: &[Row], others: &[Row]) -> bool {
     rows.len() == others.len()
         && rows.iter().zip(others).all(|(row, other)| {
             row.key == other.key && row.body.as_slice() == other.body.as_slice()
@@ -136,7 +135,7 @@ pub(crate) fn are_same(rows: &[Row], others: &[Row]) -> bool {
 }
 
 /// The rows that a keeper gives one after another. None where it fails.
-pub(crate) fn rows_in<K: Keeper>(alloc: Global, keeper: &mut K) -> io::Result<Option<Vec<Row>>> {
+pub fn rows_in<K: Keeper>(alloc: Global, keeper: &mut K) -> io::Result<Option<Vec<Row>>> {
     let mut rows = Vec::new(alloc);
     let mut after = None;
     for _ in 0..MOST_ROWS {
