@@ -1,7 +1,9 @@
 use crate::making::made_in_memory;
 use book_keeper::{MemKeeper, Row};
-use gate_rows::{Case, Each, Fault, Outcome, Place, Report, Run, Sort};
-use gate_rows::{are_same, compare, compare_status, copy_of, first_lines, without_line};
+use gate_rows::{
+    Case, Each, Fault, Outcome, Place, Report, Run, Sort, are_same, compare, compare_status,
+    copy_of, first_lines, without_line,
+};
 use std::alloc::Global;
 use std::io;
 
@@ -171,7 +173,12 @@ fn compare_write(
     failed: &(Outcome, MemKeeper),
 ) -> io::Result<()> {
     compare_status(report, place, failed.0.status.as_str(), "output fault")?;
-    let other = made_over(report.alloc(), run, keeper, first_lines(run.input.as_slice(), number))?;
+    let other = made_over(
+        report.alloc(),
+        run,
+        keeper,
+        first_lines(run.input.as_slice(), number),
+    )?;
     let answers = first_lines(other.0.output.written(), number.saturating_sub(1));
     compare_stopped(report, place, failed, answers, other.1.rows())
 }
@@ -217,7 +224,9 @@ fn compare_without(
     refused: usize,
 ) -> io::Result<()> {
     let answers = without_line(report.alloc(), failed.0.output.written(), refused)?;
-    if failed.0.status.as_str() != other.0.status.as_str() || answers.as_slice() != other.0.output.written() {
+    if failed.0.status.as_str() != other.0.status.as_str()
+        || answers.as_slice() != other.0.output.written()
+    {
         report.fail(place, "the answers without the line", "others")?;
     }
     if !are_same(failed.1.rows(), other.1.rows()) {

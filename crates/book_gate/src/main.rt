@@ -43,12 +43,7 @@ fn check(report: &mut Report<'_>, line: &str, number: usize) -> io::Result<()> {
 }
 
 /// Does what one line of the list asks, which names several files.
-fn check_words(
-    report: &mut Report<'_>,
-    mark: &str,
-    rest: &str,
-    number: usize,
-) -> io::Result<()> {
+fn check_words(report: &mut Report<'_>, mark: &str, rest: &str, number: usize) -> io::Result<()> {
     let words: Vec<&str> = rest.split(' ').collect(report.alloc())?;
     match (mark, words.as_slice()) {
         ("commands", [file, session]) => check_commands(report, file, session),

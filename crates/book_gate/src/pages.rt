@@ -1,6 +1,8 @@
 use crate::making::made_in_memory;
-use gate_rows::{Case, Line, Report, Run};
-use gate_rows::{check_line, check_pairs, check_tables, compare, no_rows, page_of, say_page};
+use gate_rows::{
+    Case, Line, Report, Run, check_line, check_pairs, check_tables, compare, no_rows, page_of,
+    say_page,
+};
 use std::alloc::{AllocError, Global};
 use std::{io, str};
 

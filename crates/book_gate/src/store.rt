@@ -88,8 +88,7 @@ impl Store {
         }
         let alloc = report.alloc();
         let keeper = mem::replace(&mut self.rows, no_rows(alloc));
-        let (outcome, keeper) =
-            made_in_memory(alloc, run, keeper, run.input.as_slice(), None)?;
+        let (outcome, keeper) = made_in_memory(alloc, run, keeper, run.input.as_slice(), None)?;
         self.rows = keeper;
         compare(report, case, run, &outcome, Some(self.rows.rows()))
     }

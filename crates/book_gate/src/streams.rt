@@ -1,8 +1,10 @@
 use crate::making::made_in_memory;
 use book_app::{Ended, Status, run_over, run_program, words_of};
 use book_commodity::Text;
-use gate_rows::{Case, Host, Reader, Report, Run, StreamRow, Unflushable, Unforgiving, Writer};
-use gate_rows::{first_lines, host_words, long_lines, no_rows, number, stream_row, unread};
+use gate_rows::{
+    Case, Host, Reader, Report, Run, StreamRow, Unflushable, Unforgiving, Writer, first_lines,
+    host_words, long_lines, no_rows, number, stream_row, unread,
+};
 use std::alloc::{AllocError, Global};
 use std::cell::Cell;
 use std::io;
@@ -73,7 +75,12 @@ fn is_right(alloc: Global, line: &str, lines: Lines<'_>) -> io::Result<bool> {
 }
 
 /// The words and streams of a host, whose output may fail.
-fn are_words_right(alloc: Global, row: StreamRow<'_>, lines: Lines<'_>, fails: bool) -> io::Result<bool> {
+fn are_words_right(
+    alloc: Global,
+    row: StreamRow<'_>,
+    lines: Lines<'_>,
+    fails: bool,
+) -> io::Result<bool> {
     let words = host_words(alloc, row.rest)?;
     let written = if row.number == 0 { lines.answers } else { &[] };
     let mut host = Host::with_words(alloc, words.as_slice(), lines.lines, written, row.said);

@@ -161,11 +161,7 @@ fn read_behind<K: Keeper>(alloc: Global, keeper: &mut K, state: Saved) -> Result
 }
 
 /// Puts what the rows behind the head stand for into a state that has its head alone.
-fn read_into<K: Keeper>(
-    alloc: Global,
-    keeper: &mut K,
-    saved: &mut Saved,
-) -> Result<(), OpenFault>
+fn read_into<K: Keeper>(alloc: Global, keeper: &mut K, saved: &mut Saved) -> Result<(), OpenFault>
     requires only { AllByRecursion IsOnlyRecord (records_of (state_of saved.old)) }
     requires begun { IsBegun (head_of (state_of saved.old)) (state_of saved.old) }
     ensures keeper { WasRead K.path_given K.sure K.holds keeper.old keeper.new }

@@ -60,13 +60,7 @@ impl Wanted {
     }
 
     /// Takes in a line that says what is wanted. Whether it is such a line.
-    pub fn take(
-        &mut self,
-        alloc: Global,
-        mark: &str,
-        rest: &str,
-        line: usize,
-    ) -> io::Result<bool> {
+    pub fn take(&mut self, alloc: Global, mark: &str, rest: &str, line: usize) -> io::Result<bool> {
         match mark {
             "<" => self.add_answer(alloc, rest, true, line)?,
             "<^" => self.add_answer(alloc, rest, false, line)?,

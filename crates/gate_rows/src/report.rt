@@ -72,13 +72,7 @@ impl<'a> Report<'a> {
     }
 
     /// The same, and how many lines the file's text has.
-    pub fn say_lines(
-        &self,
-        file: &str,
-        count: u64,
-        things: &str,
-        text: &str,
-    ) -> io::Result<()> {
+    pub fn say_lines(&self, file: &str, count: u64, things: &str, text: &str) -> io::Result<()> {
         let rt = self.rt;
         let lines = text.lines().count();
         println!(rt; "{file}: {count} {things} of {lines} lines")
