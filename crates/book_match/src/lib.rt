@@ -1,0 +1,12 @@
+//! Matching the lines of a bank statement with splits (GnuCash Manual, import matcher; the rule by which a pair is
+//! chosen is this project's own). `propose` tells for each line which split it takes: of the splits that no earlier line
+//! took, with its amount and at most so many days away, the nearest one.
+#![tactic(auto)]
+
+mod nearest;
+mod order;
+mod proposal;
+mod views;
+
+pub use proposal::propose;
+pub use views::{LineView, Matched, SplitView};
