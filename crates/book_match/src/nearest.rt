@@ -49,7 +49,7 @@ fn nearer<'a>(
     best: Option<&'a SplitView>,
     split: &'a SplitView,
 ) -> Option<&'a SplitView>
-    ensures { option_copied result ≡ Some (nearer line.now (option_copied best) split.now) }
+    ensures { option_copied result ≡ Some (nearer line.now (option_copied best.entry) split.now) }
 {
     match best {
         Some(best) if !is_nearer(line, split, best) => Some(best),
@@ -68,9 +68,13 @@ pub(crate) fn nearest<'a>(
 {
     let mut best = None;
     for split in splits {
-        if is_candidate(line, split, window) && !taken.contains(&split.split) {
-            best = nearer(line, best, split);
+        if !is_candidate(line, split, window) {
+            continue;
         }
+        if taken.contains(&split.split) {
+            continue;
+        }
+        best = nearer(line, best, split);
     }
     best
 }

@@ -23,13 +23,14 @@ pub fn propose(
     let mut taken = BTreeSet::new(alloc);
     let mut pairs = Many::new(alloc);
     for line in order.as_slice() {
-        if let Some(split) = nearest(line, splits, &taken, window) {
-            taken.insert(split.split)?;
-            pairs.push(Matched {
-                line: line.line,
-                split: split.split,
-            })?;
-        }
+        let Some(split) = nearest(line, splits, &taken, window) else {
+            continue;
+        };
+        taken.insert(split.split)?;
+        pairs.push(Matched {
+            line: line.line,
+            split: split.split,
+        })?;
     }
     Ok(pairs)
 }
