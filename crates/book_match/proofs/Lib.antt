@@ -1,2 +1,4 @@
+pub mod NearestLemmas
 pub mod OrderLemmas
 pub mod TakenLemmas
+pub mod Worked

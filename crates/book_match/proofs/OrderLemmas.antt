@@ -177,11 +177,11 @@ same-rows {X} lt o (x ∷ xs) (y ∷ ys) up on same =
     (λ less. absurd (cons_not_nil y (filter (ties lt y) ys) (sym own_y ∙ sym (same y)
     ∙ none-ties lt o y x (x ∷ xs) less (itself lt o x, up.0))))
     (λ e f.
-      let is : x ≡ y = heads x y (filter (ties lt x) xs) (filter (ties lt x) ys)
-      (sym own_x ∙ same x ∙ first-ties lt x y ys e f) in
-      let more : xs ≡ ys = same-rows lt o xs ys up.1 on.1 (λ z. rest-ties (ties lt z x) x _ _
-      (same z ∙ ap (λ (r : X). filter (ties lt z) (r ∷ ys)) (sym is))) in
-      ap (λ l. x ∷ l) more ∙ ap (λ (r : X). r ∷ ys) is)
+    let is : x ≡ y = heads x y (filter (ties lt x) xs) (filter (ties lt x) ys)
+    (sym own_x ∙ same x ∙ first-ties lt x y ys e f) in
+    let more : xs ≡ ys = same-rows lt o xs ys up.1 on.1 (λ z. rest-ties (ties lt z x) x _ _
+    (same z ∙ ap (λ (r : X). filter (ties lt z) (r ∷ ys)) (sym is))) in
+    ap (λ l. x ∷ l) more ∙ ap (λ (r : X). r ∷ ys) is)
 
 -- ---- what a stable sort leaves
 from-sorted : {X : Type 0} (lt : X → X → Bool) → IsStrictWeakOrder lt → (x : X) (rows : List X)

@@ -6,7 +6,10 @@ use book_commodity::OutOfMemory;
 use std::alloc::Global;
 
 /// The lines by day, and those of one day by number.
-pub(crate) fn in_order<'a>(alloc: Global, lines: &'a [LineView]) -> Result<Vec<&'a LineView>, OutOfMemory>
+pub(crate) fn in_order<'a>(
+    alloc: Global,
+    lines: &'a [LineView],
+) -> Result<Vec<&'a LineView>, OutOfMemory>
     ensures { IfOk result (λ order. map (λ line. line.now) order.items ≡ in_order lines.now) }
 {
     let mut order = Vec::new(alloc);
