@@ -1,3 +1,4 @@
+pub mod IndexLemmas
 pub mod NearestLemmas
 pub mod OrderLemmas
 pub mod TakenLemmas

@@ -1,2 +1,3 @@
+pub mod AmountIndex
 pub mod Proposal
 pub mod Taken

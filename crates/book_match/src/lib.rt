@@ -3,10 +3,14 @@
 //! took, with its amount and at most so many days away, the nearest one.
 #![tactic(auto)]
 
+mod free;
+mod index;
 mod nearest;
 mod order;
 mod proposal;
 mod views;
 
+pub use free::Free;
+pub use index::AmountIndex;
 pub use proposal::propose;
 pub use views::{LineView, Matched, SplitView};
