@@ -1,4 +1,5 @@
 pub mod IndexLemmas
+pub mod KeptLemmas
 pub mod NearestLemmas
 pub mod OrderLemmas
 pub mod TakenLemmas

@@ -22,7 +22,7 @@ filter-has : {X : Type 0} (p : X → Bool) (x : X) (xs : List X) → p x ≡ tru
 filter-has p x xs e = ap (λ (t : Bool). if t then x ∷ filter p xs else filter p xs) e
 
 -- two filters one after the other
-filter-both : {X : Type 0} (p q r : X → Bool) (xs : List X) → ((x : X) → p x ≡ (q x && r x))
+pub filter-both : {X : Type 0} (p q r : X → Bool) (xs : List X) → ((x : X) → p x ≡ (q x && r x))
     → filter p xs ≡ filter r (filter q xs)
 filter-both p q r [] same = refl
 filter-both {X} p q r (x ∷ xs) same = by_tests (q x) (r x) refl refl (filter-both p q r xs same)

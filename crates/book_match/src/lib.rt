@@ -5,6 +5,7 @@
 
 mod free;
 mod index;
+mod kept;
 mod nearest;
 mod order;
 mod proposal;
@@ -12,5 +13,6 @@ mod views;
 
 pub use free::Free;
 pub use index::AmountIndex;
+pub use kept::propose_kept;
 pub use proposal::propose;
 pub use views::{LineView, Matched, SplitView};
