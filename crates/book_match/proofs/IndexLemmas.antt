@@ -1,10 +1,11 @@
 -- Splits in the order of the index: where one stands, and what one put in or taken out leaves.
-use Rattle.std.proofs.Common.{◌≡◌, ℕ, zero, suc, ◌+◌, ◌-◌, ◌<◌, ◌≤◌, ◌==◌, nat_lt, ℤ, Bool, true, false, not, ◌&&◌, ◌||◌}
-use Rattle.std.proofs.Common.{if◌then◌else◌, List, [], ◌∷◌, length, get_or, take, drop, filter, refl, sym, ap, ◌∙◌, arith}
+use Rattle.std.proofs.Common.{◌≡◌, ℕ, zero, suc, ◌-◌, ◌<◌, ◌≤◌, nat_lt, ℤ, Bool, true, false, not, ◌&&◌, ◌||◌}
+use Rattle.std.proofs.Common.{if◌then◌else◌, List, [], ◌∷◌, length, get_or, take, drop, filter, refl, sym, ap}
+use Rattle.std.proofs.Common.{◌∙◌, arith}
 use Rattle.std.proofs.lemmas.Bool.Decides.{nat_tests, Decides-int_eq}
 use Rattle.std.proofs.lemmas.Int.{ints}
-use Rattle.std.specs.List.{insert, list_any, remove}
-use Rattle.std.specs.List.Sorted.{IsPartitionedBy, IsPartitionPoint}
+use Rattle.std.specs.List.{insert, remove}
+use Rattle.std.specs.List.Sorted.{IsPartitionedBy}
 use Rattle.std.specs.Prelude.{int_lt}
 use Rattle.book_match.specs.AmountIndex.{IsCut, NonePasses, PrecedesAll, Rises, is_of_amount, is_past_amount, is_same}
 use Rattle.book_match.specs.AmountIndex.{is_there, is_under_amount, of_amount, precedes, with_free, without_free}
@@ -106,16 +107,19 @@ parted-past account amount es up =
 none-from : (test : Free → Bool) (es : List Free) → ((k : ℕ) (d : Free) → k < length es → test (get_or es k d) ≡ false)
     → NonePasses test es
 none-from test [] none = tt
-none-from test (e ∷ es) none = (none 0 e (omega arith), none-from test es (λ k d lt. none (suc k) d (omega (arith, lt))))
+none-from test (e ∷ es) none =
+    (none 0 e (omega arith), none-from test es (λ k d lt. none (suc k) d (omega (arith, lt))))
 
 pub cut-from : (test : Free → Bool) (es : List Free) (i : ℕ) → i ≤ length es
     → ((k : ℕ) (d : Free) → k < i → test (get_or es k d) ≡ true)
     → ((k : ℕ) (d : Free) → i ≤ k → k < length es → test (get_or es k d) ≡ false) → IsCut test es i
 cut-from test es zero le before after = none-from test es (λ k d lt. after k d (omega arith) lt)
 cut-from test [] (suc i) le before after = absurd (omega (arith, le))
-cut-from test (e ∷ es) (suc i) le before after =
-    (before 0 e (omega arith), cut-from test es i (omega (arith, le)) (λ k d lt. before (suc k) d (omega (arith, lt)))
-      (λ k d ge lt. after (suc k) d (omega (arith, ge)) (omega (arith, lt))))
+cut-from test (e ∷ es) (suc i) le before after = (
+  before 0 e (omega arith),
+  cut-from test es i (omega (arith, le)) (λ k d lt. before (suc k) d (omega (arith, lt)))
+      (λ k d ge lt. after (suc k) d (omega (arith, ge)) (omega (arith, lt))),
+)
 
 -- ---- what is put in and taken out there
 pub insert-is : (free : Free) (es : List Free) (i : ℕ) → IsCut (λ entry. precedes entry free) es i
@@ -172,7 +176,9 @@ none-without free (e ∷ es) none = by_test (is_same free e) refl none (none-wit
   where
     by_test : (t : Bool) → is_same free e ≡ t → (is_same free e || is_there free es) ≡ false
         → (is_there free es ≡ false → without_free free es ≡ es) → without_free free (e ∷ es) ≡ e ∷ es
-    by_test true is none more = absurd (let e : (is_same free e || is_there free es) ≡ true = ap (λ (t : Bool). t || is_there free es) is in cc)
+    by_test true is none more =
+        absurd (let some : (is_same free e || is_there free es) ≡ true = ap (λ (t : Bool). t || is_there free es) is in
+        cc)
     by_test false is none more =
         ap (λ (t : Bool). if t then es else e ∷ without_free free es) is
         ∙ ap (λ l. e ∷ l) (more (ap (λ (t : Bool). t || is_there free es) (sym is) ∙ none))

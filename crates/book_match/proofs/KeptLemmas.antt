@@ -1,18 +1,18 @@
 -- The splits that an index has for an account: their number texts, and those of them that a line may take.
-use Rattle.std.proofs.Common.{◌≡◌, ℕ, zero, suc, ◌+◌, ◌<◌, ◌==◌, nat_le, ℤ, Bool, true, false, not, ◌&&◌, ◌||◌}
-use Rattle.std.proofs.Common.{if◌then◌else◌, List, [], ◌∷◌, ◌++◌, length, drop, get_or, filter, map, Option, Some, None}
+use Rattle.std.proofs.Common.{◌≡◌, ℕ, zero, suc, ◌+◌, ◌<◌, ◌==◌, nat_le, Bool, true, false, not, ◌&&◌, ◌||◌}
+use Rattle.std.proofs.Common.{if◌then◌else◌, List, [], ◌∷◌, ◌++◌, length, drop, get_or, filter, map, Some}
 use Rattle.std.proofs.Common.{option_map, refl, sym, ap, ◌∙◌, arith}
 use Rattle.std.specs.BTreeSet.{BTreeSet, contains}
 use Rattle.std.specs.Ordering.{int_eq, nat_cmp}
 use Rattle.std.proofs.lemmas.Bool.{eqb-true}
-use Rattle.book_commodity.proofs.ListLemmas.{from-item, mapped_none, mapped_some}
+use Rattle.book_commodity.proofs.ListLemmas.{from-item}
 use Rattle.book_splits.specs.Balance.{splits_of}
 use Rattle.book_splits.specs.TransactionRules.{are_once, is_among, numbers_of}
 use Rattle.book_splits.specs.declared.split.Split.{Split}
 use Rattle.book_splits.specs.declared.transaction.Txn.{Txn}
 use Rattle.book_match.specs.AmountIndex.{is_of_amount, of_amount}
 use Rattle.book_match.specs.Kept.{is_free, num_of, view_of, views_on}
-use Rattle.book_match.specs.Proposal.{choice, distance, is_candidate, left_by, nearest, pairs_of}
+use Rattle.book_match.specs.Proposal.{choice, distance, is_candidate, nearest}
 use Rattle.book_match.specs.Taken.{left}
 use Rattle.book_match.specs.declared.free.Free.{Free}
 use Rattle.book_match.specs.declared.views.LineView.{LineView}
@@ -20,7 +20,8 @@ use Rattle.book_match.specs.declared.views.SplitView.{SplitView}
 use Rattle.book_match.proofs.TakenLemmas.{filter-both}
 
 -- ---- numbers that stand once
-among-back : (xs ys : List Split) (n : ℕ) → is_among (numbers_of ys) n ≡ true → is_among (numbers_of (xs ++ ys)) n ≡ true
+among-back : (xs ys : List Split) (n : ℕ) → is_among (numbers_of ys) n ≡ true
+    → is_among (numbers_of (xs ++ ys)) n ≡ true
 among-back [] ys n h = h
 among-back (x ∷ xs) ys n h = either (x.id == n) (is_among (numbers_of (xs ++ ys)) n) (among-back xs ys n h)
   where
@@ -28,7 +29,8 @@ among-back (x ∷ xs) ys n h = either (x.id == n) (is_among (numbers_of (xs ++ y
     either true t e = refl
     either false t e = e
 
-among-front : (xs ys : List Split) (n : ℕ) → is_among (numbers_of xs) n ≡ true → is_among (numbers_of (xs ++ ys)) n ≡ true
+among-front : (xs ys : List Split) (n : ℕ) → is_among (numbers_of xs) n ≡ true
+    → is_among (numbers_of (xs ++ ys)) n ≡ true
 among-front [] ys n h = absurd cc
 among-front (x ∷ xs) ys n h = either (x.id == n) h (among-front xs ys n)
   where
@@ -62,11 +64,11 @@ once-apart (x ∷ xs) ys n once has =
     by_test : (s : Bool) → (x.id == n) ≡ s → is_among (numbers_of xs) n ≡ false
         → (s || is_among (numbers_of xs) n) ≡ false
     by_test true same more = absurd (
-      let here : is_among (numbers_of (xs ++ ys)) x.id ≡ false =
-      once-first (is_among (numbers_of (xs ++ ys)) x.id) (are_once (numbers_of (xs ++ ys))) once in
-      let there : is_among (numbers_of (xs ++ ys)) x.id ≡ true =
-      ap (is_among (numbers_of (xs ++ ys))) (eqb-true x.id n same) ∙ among-back xs ys n has in
-      cc)
+        let here : is_among (numbers_of (xs ++ ys)) x.id ≡ false =
+        once-first (is_among (numbers_of (xs ++ ys)) x.id) (are_once (numbers_of (xs ++ ys))) once in
+        let there : is_among (numbers_of (xs ++ ys)) x.id ≡ true =
+        ap (is_among (numbers_of (xs ++ ys))) (eqb-true x.id n same) ∙ among-back xs ys n has in
+        cc)
     by_test false same more = more
 
 among-of : (ts : List (ℕ × Txn)) (i : ℕ) (d : ℕ × Txn) (n : ℕ) → i < length ts

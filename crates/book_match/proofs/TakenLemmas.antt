@@ -1,6 +1,6 @@
 -- The splits that are left, as the loops over lines and splits go through them.
 use Rattle.std.proofs.Common.{◌≡◌, ℕ, ◌+◌, ◌<◌, nat_lt, ◌==◌, Bool, true, false, not, ◌&&◌, cond, if◌then◌else◌}
-use Rattle.std.proofs.Common.{List, [], ◌∷◌, ◌++◌, length, drop, get_or, filter, map, Option, Some, None, refl, sym, ap}
+use Rattle.std.proofs.Common.{List, [], ◌∷◌, ◌++◌, length, drop, get_or, filter, map, Some, None, refl, sym, ap}
 use Rattle.std.proofs.Common.{◌∙◌, arith}
 use Rattle.std.proofs.lemmas.Bool.{ne_eqb}
 use Rattle.std.proofs.lemmas.Bool.Decides.{nat_tests}
@@ -40,7 +40,9 @@ filter-both {X} p q r (x ∷ xs) same = by_tests (q x) (r x) refl refl (filter-b
 
 -- ---- the numbers that are taken
 at-number : (k q : ℕ) → is_at (nat_cmp k) q ≡ (k == q)
-at-number k q = by_tests (nat_lt k q) (k == q) (λ e. ne_eqb k q (λ same. absurd (let less : k < q = grind (arith, nat_tests, e) in omega (arith, less, same))))
+at-number k q =
+    by_tests (nat_lt k q) (k == q) (λ e. ne_eqb k q (λ same. absurd (let less : k < q = grind (arith, nat_tests, e) in
+    omega (arith, less, same))))
   where
     by_tests : (s t : Bool) → (s ≡ true → t ≡ false)
         → is_eq (if s then Less else (if t then Equal else Greater)) ≡ t

@@ -34,8 +34,8 @@ abbrev pub is_nearer : LineView → SplitView → SplitView → Bool
 is_nearer line one other =
     in_turn (nat_lt (distance line.day one.day) (distance line.day other.day))
     (nat_lt (distance line.day other.day) (distance line.day one.day))
-    (in_turn (same_number line one && not (same_number line other)) (same_number line other && not (same_number line one))
-    (nat_lt one.split other.split))
+    (in_turn (same_number line one && not (same_number line other))
+    (same_number line other && not (same_number line one)) (nat_lt one.split other.split))
 
 -- The nearer to a line of a split and another, if there is another.
 abbrev pub nearer : LineView → Option SplitView → SplitView → SplitView

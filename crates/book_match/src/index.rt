@@ -1,11 +1,12 @@
 ghost use Rattle.std.specs.Prelude.{◌≡◌, ◌+◌, ◌-◌, ◌^◌, ◌<◌, ◌≤◌, [], not, false, length, min, OnOk, OnErr};
 ghost use Rattle.std.specs.Prelude.{if◌then◌else◌};
 ghost use Rattle.std.specs.List.{slice_range};
-ghost use Rattle.book_match.specs.AmountIndex.{IsCut, Rises, is_past_amount as past, is_there, is_under_amount as under};
+ghost use Rattle.book_match.specs.AmountIndex.{IsCut, Rises, is_past_amount as past, is_there};
+ghost use Rattle.book_match.specs.AmountIndex.{is_under_amount as under};
 ghost use Rattle.book_match.specs.AmountIndex.{of_amount, precedes as comes_before, with_free, without_free};
 
-use crate::free::{is_past_amount, is_same, is_under_amount, precedes};
 use crate::Free;
+use crate::free::{is_past_amount, is_same, is_under_amount, precedes};
 use book_commodity::OutOfMemory;
 use std::alloc::Global;
 use std::marker::Model;

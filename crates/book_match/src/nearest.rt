@@ -1,6 +1,7 @@
 ghost use Rattle.std.specs.Prelude.{◌≡◌, Some, filter};
 ghost use Rattle.std.specs.Option.{option_copied};
-ghost use Rattle.book_match.specs.Proposal.{choice, distance, is_candidate, is_nearer, nearer, nearest as nearest_of, same_number};
+ghost use Rattle.book_match.specs.Proposal.{choice, distance, is_candidate, is_nearer, nearer};
+ghost use Rattle.book_match.specs.Proposal.{nearest as nearest_of, same_number};
 ghost use Rattle.book_match.specs.Taken.{left};
 
 use crate::{LineView, SplitView};

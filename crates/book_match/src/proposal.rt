@@ -8,9 +8,9 @@ use book_commodity::{Many, OutOfMemory};
 use std::alloc::Global;
 use std::collections::BTreeSet;
 
-/// The pairs of lines and splits, in the order of the lines by day and number. Each line takes one of the splits that no
-/// line before it took, with its amount and at most `window` days away: the nearest in days, of those as near one that
-/// has the line's number, where the line has one, and of those the one with the least split number.
+/// The pairs of lines and splits, in the order of the lines by day and number. Each line takes one of the splits that
+/// no line before it took, with its amount and at most `window` days away: the nearest in days, of those as near one
+/// that has the line's number, where the line has one, and of those the one with the least split number.
 pub fn propose(
     alloc: Global,
     lines: &[LineView],

@@ -1,5 +1,5 @@
 -- Splits in the order of their days: a stable sort gives what the definition says, and no sum depends on the order.
-use Rattle.std.proofs.Common.{◌≡◌, ℕ, zero, suc, ◌+◌, ◌<◌, ℤ, pos, ◌+ℤ◌, ◌≤ℤ◌, ◌<ℤ◌, Bool, true, false, if◌then◌else◌, not, ◌&&◌}
+use Rattle.std.proofs.Common.{◌≡◌, ℕ, suc, ◌<◌, ℤ, pos, ◌+ℤ◌, ◌≤ℤ◌, ◌<ℤ◌, Bool, true, false, if◌then◌else◌, not, ◌&&◌}
 use Rattle.std.proofs.Common.{List, [], ◌∷◌, length, get_or, filter, map, refl, sym, ap, subst, ◌∙◌, add-one, arith}
 use Rattle.std.proofs.Math.IntN.{+ℤ_assoc, +ℤ_comm}
 use Rattle.std.proofs.lemmas.Int.{by_lt_z, ints}
@@ -41,7 +41,8 @@ from-earlier a b [] le all = tt
 from-earlier a b (row ∷ rows) le all = (omega (arith, ints, le, all.0), from-earlier a b rows le all.1)
 
 -- ---- the definition's order
-with-from : (day : ℤ) (row : Row) (rows : List Row) → day ≤ℤ row.0 → AllFrom day rows → AllFrom day (with_dated row rows)
+with-from : (day : ℤ) (row : Row) (rows : List Row) → day ≤ℤ row.0 → AllFrom day rows
+    → AllFrom day (with_dated row rows)
 with-from day row [] le all = (le, tt)
 with-from day row (first ∷ more) le all =
     let P : Bool → Type 0 = λ t. AllFrom day (if t then first ∷ with_dated row more else row ∷ first ∷ more) in

@@ -1,8 +1,7 @@
--- Worked rows: an account 3 whose statement of 2024-01-31 closes at 850.00. Days count from 1970-01-01, so that 19723 is
--- 2024-01-01 and 19753 is 2024-01-31. Account 4 stands for rent, account 5 for opening balances.
-use Rattle.std.proofs.Common.{◌≡◌, ℕ, ℤ, pos, negsuc, Bool, true, false, List, [], ◌∷◌, map, Option, Some, None, refl}
+-- Worked rows: an account 3 whose statement of 2024-01-31 closes at 850.00. Days count from 1970-01-01, so that 19723
+-- is 2024-01-01 and 19753 is 2024-01-31. Account 4 stands for rent, account 5 for opening balances.
+use Rattle.std.proofs.Common.{◌≡◌, ℕ, ℤ, pos, negsuc, true, false, List, [], ◌∷◌, Option, Some, None, refl}
 use Rattle.book_splits.specs.declared.reconciliation.MarkedSplit.{MarkedSplit}
-use Rattle.book_splits.specs.declared.reconciliation.Recon.{Recon}
 use Rattle.book_splits.specs.declared.split.Mark.{Mark}
 use Rattle.book_splits.specs.declared.split.Mark.TheVariants.{New, Cleared, Reconciled}
 use Rattle.book_splits.specs.declared.split.Split.{Split}

@@ -1,4 +1,4 @@
-use Rattle.std.proofs.Common.{◌≡◌, ℤ, FitsSigned, not, rules, subst, ◌∙◌, to_z, of_z, w64, arith}
+use Rattle.std.proofs.Common.{◌≡◌, ℤ, FitsSigned, not, rules, subst, ◌∙◌, to_z, of_z, w64}
 use Rattle.std.proofs.lemmas.Int.{to_z-of_z}
 use Rattle.book_match.specs.AmountIndex.{IsCut, is_past_amount, is_under_amount}
 use Rattle.book_match.proofs.IndexLemmas.{amount-is, amount-within}

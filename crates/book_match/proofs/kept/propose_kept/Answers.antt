@@ -1,4 +1,5 @@
-use Rattle.std.proofs.Common.{◌≡◌, ℕ, true, cond, filter, subst, ◌+◌, ◌++◌, Bor, List, [], ◌∷◌, drop, map, option_map, ap, sym, ◌∙◌, append_assoc, None, Some}
+use Rattle.std.proofs.Common.{◌≡◌, ℕ, true, cond, filter, subst, ◌+◌, ◌++◌, Bor, List, [], ◌∷◌, drop, map}
+use Rattle.std.proofs.Common.{option_map, ap, sym, ◌∙◌, append_assoc, None, Some}
 use Rattle.std.specs.List.{list_any}
 use Rattle.std.specs.BTreeMap.{is_at}
 use Rattle.std.specs.BTreeSet.{contains}

@@ -1,4 +1,4 @@
-use Rattle.std.proofs.Common.{false, None, ap, sym, ◌∙◌, ◌≡◌}
+use Rattle.std.proofs.Common.{false, ap, sym, ◌∙◌, ◌≡◌}
 use Rattle.std.specs.Option.{option_copied}
 use Rattle.std.specs.Prelude.{Some, fold}
 use Rattle.book_match.specs.Proposal.{is_candidate, nearer}

@@ -1,4 +1,4 @@
-use Rattle.std.proofs.Common.{◌≡◌, ◌+◌, ◌++◌, false, Bor, List, [], ◌∷◌, drop, map, ap, sym, ◌∙◌, append_assoc, refl, Some}
+use Rattle.std.proofs.Common.{◌≡◌, ◌+◌, ◌++◌, Bor, List, [], ◌∷◌, drop, map, ap, sym, ◌∙◌, append_assoc, Some}
 use Rattle.std.specs.Option.{option_copied}
 use Rattle.std.specs.List.{list_any}
 use Rattle.std.specs.BTreeMap.{is_at}
@@ -8,7 +8,7 @@ use Rattle.book_match.specs.Taken.{left}
 use Rattle.book_match.specs.declared.views.LineView.{LineView}
 use Rattle.book_match.specs.declared.views.Matched.{Matched}
 use Rattle.book_match.specs.declared.views.SplitView.{SplitView}
-use Rattle.book_match.proofs.TakenLemmas.{left-all, left-more, none-here, pair-here}
+use Rattle.book_match.proofs.TakenLemmas.{left-all, left-more, pair-here}
 use Rattle.book_match.proofs.proposal.propose.Goals as goal
 
 pub loop-line-init : goal.loop-line-init

@@ -1,4 +1,4 @@
-use Rattle.std.proofs.Common.{◌≡◌, ◌+ℤ◌, pos, List, map, ap, sym, ◌∙◌, to_z, of_z, w64, arith}
+use Rattle.std.proofs.Common.{◌≡◌, pos, List, map, ap, to_z, of_z, w64, arith}
 use Rattle.std.proofs.lemmas.Int.{ints}
 use Rattle.book_splits.specs.Balance.{total}
 use Rattle.book_splits.specs.declared.reconciliation.MarkedSplit.{MarkedSplit}

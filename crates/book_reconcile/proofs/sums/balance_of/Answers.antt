@@ -1,4 +1,4 @@
-use Rattle.std.proofs.Common.{◌+◌, arith}
+use Rattle.std.proofs.Common.{arith}
 use Rattle.std.proofs.lemmas.Int.{ints}
 use Rattle.book_reconcile.proofs.SumLemmas.{balance-split}
 use Rattle.book_reconcile.proofs.sums.balance_of.Goals as goal

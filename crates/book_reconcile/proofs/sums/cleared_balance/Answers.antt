@@ -1,9 +1,10 @@
-use Rattle.std.proofs.Common.{◌+◌, length, ap, sym, subst, ◌∙◌, ◌≡◌, ◌+ℤ◌, take, arith}
+use Rattle.std.proofs.Common.{◌+◌, length, ap, sym, ◌∙◌, take, arith}
 use Rattle.std.proofs.lemmas.Int.{ints}
-use Rattle.book_splits.specs.Balance.{IsWithin, splits_of}
+use Rattle.book_splits.specs.Balance.{splits_of}
 use Rattle.book_splits.specs.declared.split.Mark.TheVariants.{Cleared}
 use Rattle.book_reconcile.specs.Reconciliation.{balance_with, until}
-use Rattle.book_reconcile.proofs.SumLemmas.{balance-until, until-item, until-later, length-first, length-item, within-sum, within-more}
+use Rattle.book_reconcile.proofs.SumLemmas.{balance-until, until-item, until-later, length-first, length-item}
+use Rattle.book_reconcile.proofs.SumLemmas.{within-sum, within-more}
 use Rattle.book_reconcile.proofs.sums.cleared_balance.Goals as goal
 
 pub loop-transaction-preserved-then-gt : goal.loop-transaction-preserved-then-gt

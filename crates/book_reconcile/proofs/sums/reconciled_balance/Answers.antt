@@ -1,6 +1,6 @@
-use Rattle.std.proofs.Common.{◌+◌, length, ap, sym, subst, ◌∙◌, ◌≡◌, ◌+ℤ◌, take, arith}
+use Rattle.std.proofs.Common.{◌+◌, length, ap, sym, ◌∙◌, take, arith}
 use Rattle.std.proofs.lemmas.Int.{ints}
-use Rattle.book_splits.specs.Balance.{IsWithin, splits_of}
+use Rattle.book_splits.specs.Balance.{splits_of}
 use Rattle.book_splits.specs.declared.split.Mark.TheVariants.{Reconciled}
 use Rattle.book_reconcile.specs.Reconciliation.{balance_with}
 use Rattle.book_reconcile.proofs.SumLemmas.{balance-item, length-first, length-item, within-sum}

@@ -39,7 +39,13 @@ invariant_of-self c =
     let cut = subst (λ (l : List Free). IsCut (λ entry. precedes entry c.args.free) l c.place_of-place.result)
     c.as_slice.ensures.value c.place_of-place.ensures.cut in
     let below : c.place_of-place.result < length es =
-    omega (arith, c.place_of-place.ensures.within, ap length c.as_slice.ensures.value, c.len.ensures, c.if-place-len.false) in
+    omega (
+      arith,
+      c.place_of-place.ensures.within,
+      ap length c.as_slice.ensures.value,
+      c.len.ensures,
+      c.if-place-len.false,
+    ) in
     let same : is_same c.args.free (get_or es c.place_of-place.result c.index.result.now) ≡ true =
     ap (is_same c.args.free) (sym c.index.ensures) ∙ sym c.is_same.ensures ∙ c.if-not-is_same.false in
     subst Rises (sym (c.remove.ensures.items ∙ remove-is c.args.free es c.place_of-place.result c.index.result.now cut
@@ -53,7 +59,13 @@ returns-clause-entries c =
     let cut = subst (λ (l : List Free). IsCut (λ entry. precedes entry c.args.free) l c.place_of-place.result)
     c.as_slice.ensures.value c.place_of-place.ensures.cut in
     let below : c.place_of-place.result < length es =
-    omega (arith, c.place_of-place.ensures.within, ap length c.as_slice.ensures.value, c.len.ensures, c.if-place-len.false) in
+    omega (
+      arith,
+      c.place_of-place.ensures.within,
+      ap length c.as_slice.ensures.value,
+      c.len.ensures,
+      c.if-place-len.false,
+    ) in
     let same : is_same c.args.free (get_or es c.place_of-place.result c.index.result.now) ≡ true =
     ap (is_same c.args.free) (sym c.index.ensures) ∙ sym c.is_same.ensures ∙ c.if-not-is_same.false in
     c.remove.ensures.items ∙ remove-is c.args.free es c.place_of-place.result c.index.result.now cut below same
@@ -66,7 +78,13 @@ returns-clause-taken c =
     let cut = subst (λ (l : List Free). IsCut (λ entry. precedes entry c.args.free) l c.place_of-place.result)
     c.as_slice.ensures.value c.place_of-place.ensures.cut in
     let below : c.place_of-place.result < length es =
-    omega (arith, c.place_of-place.ensures.within, ap length c.as_slice.ensures.value, c.len.ensures, c.if-place-len.false) in
+    omega (
+      arith,
+      c.place_of-place.ensures.within,
+      ap length c.as_slice.ensures.value,
+      c.len.ensures,
+      c.if-place-len.false,
+    ) in
     let same : is_same c.args.free (get_or es c.place_of-place.result c.index.result.now) ≡ true =
     ap (is_same c.args.free) (sym c.index.ensures) ∙ sym c.is_same.ensures ∙ c.if-not-is_same.false in
     sym (ap (is_there c.args.free) (sym seen)
