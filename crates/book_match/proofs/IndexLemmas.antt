@@ -1,0 +1,288 @@
+-- Splits in the order of the index: where one stands, and what one put in or taken out leaves.
+use Rattle.std.proofs.Common.{◌≡◌, ℕ, zero, suc, ◌-◌, ◌<◌, ◌≤◌, nat_lt, ℤ, Bool, true, false, not, ◌&&◌, ◌||◌}
+use Rattle.std.proofs.Common.{if◌then◌else◌, List, [], ◌∷◌, length, get_or, take, drop, filter, refl, sym, ap}
+use Rattle.std.proofs.Common.{◌∙◌, arith}
+use Rattle.std.proofs.lemmas.Bool.Decides.{nat_tests, Decides-int_eq}
+use Rattle.std.proofs.lemmas.Int.{ints}
+use Rattle.std.specs.List.{insert, remove}
+use Rattle.std.specs.List.Sorted.{IsPartitionedBy}
+use Rattle.std.specs.Prelude.{int_lt}
+use Rattle.book_match.specs.AmountIndex.{IsCut, NonePasses, PrecedesAll, Rises, is_of_amount, is_past_amount, is_same}
+use Rattle.book_match.specs.AmountIndex.{is_there, is_under_amount, of_amount, precedes, with_free, without_free}
+use Rattle.book_match.specs.Proposal.{in_turn}
+use Rattle.book_match.specs.declared.free.Free.{Free}
+
+-- ---- the order
+nat-trans : (a b c : ℕ) (u v w : Bool) → (u ≡ true → v ≡ true → w ≡ true) → in_turn (nat_lt a b) (nat_lt b a) u ≡ true
+    → in_turn (nat_lt b c) (nat_lt c b) v ≡ true → in_turn (nat_lt a c) (nat_lt c a) w ≡ true
+nat-trans a b c true true w next e f = let is = next refl refl in grind (arith, nat_tests, is)
+nat-trans a b c true false w next e f = grind (arith, nat_tests)
+nat-trans a b c false v w next e f = grind (arith, nat_tests)
+
+int-trans : (a b c : ℤ) (u v w : Bool) → (u ≡ true → v ≡ true → w ≡ true) → in_turn (int_lt a b) (int_lt b a) u ≡ true
+    → in_turn (int_lt b c) (int_lt c b) v ≡ true → in_turn (int_lt a c) (int_lt c a) w ≡ true
+int-trans a b c true true w next e f = let is = next refl refl in grind (arith, ints, is)
+int-trans a b c true false w next e f = grind (arith, ints)
+int-trans a b c false v w next e f = grind (arith, ints)
+
+less-trans : (a b c : ℕ) → nat_lt a b ≡ true → nat_lt b c ≡ true → nat_lt a c ≡ true
+less-trans a b c e f = grind (arith, nat_tests)
+
+abbrev by_day : Free → Free → Bool
+by_day a b = in_turn (int_lt a.day b.day) (int_lt b.day a.day) (nat_lt a.split b.split)
+
+abbrev by_amount : Free → Free → Bool
+by_amount a b = in_turn (int_lt a.amount b.amount) (int_lt b.amount a.amount) (by_day a b)
+
+pub precedes-trans : (a b c : Free) → precedes a b ≡ true → precedes b c ≡ true → precedes a c ≡ true
+precedes-trans a b c e f =
+    nat-trans a.account b.account c.account (by_amount a b) (by_amount b c) (by_amount a c)
+    (int-trans a.amount b.amount c.amount (by_day a b) (by_day b c) (by_day a c)
+    (int-trans a.day b.day c.day (nat_lt a.split b.split) (nat_lt b.split c.split) (nat_lt a.split c.split)
+    (less-trans a.split b.split c.split)))
+    e f
+
+before-other : (free entry : Free) → precedes entry free ≡ true → is_same free entry ≡ false
+before-other free entry before = grind (arith, ints, nat_tests, Decides-int_eq)
+
+after-other : (free entry : Free) → precedes free entry ≡ true → is_same free entry ≡ false
+after-other free entry after = grind (arith, ints, nat_tests, Decides-int_eq)
+
+after-neither : (free entry : Free) → precedes entry free ≡ false → is_same free entry ≡ false
+    → precedes free entry ≡ true
+after-neither free entry before other = grind (arith, ints, nat_tests, Decides-int_eq)
+
+-- what comes before a split that isn't past an amount isn't past it, and so on
+under-before : (account : ℕ) (amount : ℤ) (a b : Free) → precedes a b ≡ true → is_under_amount account amount b ≡ true
+    → is_under_amount account amount a ≡ true
+under-before account amount a b e f = grind (arith, ints, nat_tests)
+
+past-before : (account : ℕ) (amount : ℤ) (a b : Free) → precedes a b ≡ true
+    → not (is_past_amount account amount b) ≡ true → not (is_past_amount account amount a) ≡ true
+past-before account amount a b e f = grind (arith, ints, nat_tests)
+
+-- a split is of the amount where it is neither before nor behind those of it
+between : (account : ℕ) (amount : ℤ) (e : Free)
+    → is_of_amount account amount e ≡ (not (is_under_amount account amount e) && not (is_past_amount account amount e))
+between account amount e = grind (arith, ints, nat_tests, Decides-int_eq)
+
+under-not_past : (account : ℕ) (amount : ℤ) (e : Free) → is_under_amount account amount e ≡ true
+    → not (is_past_amount account amount e) ≡ true
+under-not_past account amount e h = grind (arith, ints, nat_tests)
+
+-- ---- rising splits
+all-at : (free : Free) (es : List Free) (i : ℕ) (d : Free) → PrecedesAll free es → i < length es
+    → precedes free (get_or es i d) ≡ true
+all-at free [] i d all lt = absurd (omega (arith, lt))
+all-at free (e ∷ es) zero d all lt = all.0
+all-at free (e ∷ es) (suc i) d all lt = all-at free es i d all.1 (omega (arith, lt))
+
+-- a test that splits pass which come before one that passes it parts rising splits in two
+partitioned : (test : Free → Bool) → ((a b : Free) → precedes a b ≡ true → test b ≡ true → test a ≡ true)
+    → (es : List Free) → Rises es → (i j : ℕ) (d : Free) → i ≤ j → j < length es → test (get_or es j d) ≡ true
+    → test (get_or es i d) ≡ true
+partitioned test down [] up i j d le lt h = absurd (omega (arith, lt))
+partitioned test down (e ∷ es) up zero zero d le lt h = h
+partitioned test down (e ∷ es) up zero (suc j) d le lt h =
+    down e (get_or es j d) (all-at e es j d up.0 (omega (arith, lt))) h
+partitioned test down (e ∷ es) up (suc i) zero d le lt h = absurd (omega (arith, le))
+partitioned test down (e ∷ es) up (suc i) (suc j) d le lt h =
+    partitioned test down es up.1 i j d (omega (arith, le)) (omega (arith, lt)) h
+
+pub parted-before : (free : Free) (es : List Free) → Rises es → IsPartitionedBy (λ entry. precedes entry free) es
+parted-before free es up =
+    partitioned (λ entry. precedes entry free) (λ a b e f. precedes-trans a b free e f) es up
+
+pub parted-under : (account : ℕ) (amount : ℤ) (es : List Free) → Rises es
+    → IsPartitionedBy (is_under_amount account amount) es
+parted-under account amount es up =
+    partitioned (is_under_amount account amount) (under-before account amount) es up
+
+pub parted-past : (account : ℕ) (amount : ℤ) (es : List Free) → Rises es
+    → IsPartitionedBy (λ entry. not (is_past_amount account amount entry)) es
+parted-past account amount es up =
+    partitioned (λ entry. not (is_past_amount account amount entry)) (past-before account amount) es up
+
+-- ---- where the two parts meet
+none-from : (test : Free → Bool) (es : List Free) → ((k : ℕ) (d : Free) → k < length es → test (get_or es k d) ≡ false)
+    → NonePasses test es
+none-from test [] none = tt
+none-from test (e ∷ es) none =
+    (none 0 e (omega arith), none-from test es (λ k d lt. none (suc k) d (omega (arith, lt))))
+
+pub cut-from : (test : Free → Bool) (es : List Free) (i : ℕ) → i ≤ length es
+    → ((k : ℕ) (d : Free) → k < i → test (get_or es k d) ≡ true)
+    → ((k : ℕ) (d : Free) → i ≤ k → k < length es → test (get_or es k d) ≡ false) → IsCut test es i
+cut-from test es zero le before after = none-from test es (λ k d lt. after k d (omega arith) lt)
+cut-from test [] (suc i) le before after = absurd (omega (arith, le))
+cut-from test (e ∷ es) (suc i) le before after = (
+  before 0 e (omega arith),
+  cut-from test es i (omega (arith, le)) (λ k d lt. before (suc k) d (omega (arith, lt)))
+      (λ k d ge lt. after (suc k) d (omega (arith, ge)) (omega (arith, lt))),
+)
+
+-- ---- what is put in and taken out there
+pub insert-is : (free : Free) (es : List Free) (i : ℕ) → IsCut (λ entry. precedes entry free) es i
+    → insert es i free ≡ with_free free es
+insert-is free [] zero cut = refl
+insert-is free [] (suc i) cut = absurd cut
+insert-is free (e ∷ es) zero cut = ap (λ (t : Bool). if t then e ∷ with_free free es else free ∷ e ∷ es) (sym cut.0)
+insert-is free (e ∷ es) (suc i) cut =
+    ap (λ l. e ∷ l) (insert-is free es i cut.1)
+    ∙ ap (λ (t : Bool). if t then e ∷ with_free free es else free ∷ e ∷ es) (sym cut.0)
+
+pub remove-is : (free : Free) (es : List Free) (i : ℕ) (d : Free) → IsCut (λ entry. precedes entry free) es i
+    → i < length es → is_same free (get_or es i d) ≡ true → remove es i ≡ without_free free es
+remove-is free [] i d cut lt same = absurd (omega (arith, lt))
+remove-is free (e ∷ es) zero d cut lt same =
+    ap (λ (t : Bool). if t then es else e ∷ without_free free es) (sym same)
+remove-is free (e ∷ es) (suc i) d cut lt same =
+    ap (λ l. e ∷ l) (remove-is free es i d cut.1 (omega (arith, lt)) same)
+    ∙ ap (λ (t : Bool). if t then es else e ∷ without_free free es) (sym (before-other free e cut.0))
+
+pub there : (free : Free) (es : List Free) (i : ℕ) (d : Free) → IsCut (λ entry. precedes entry free) es i
+    → i < length es → is_same free (get_or es i d) ≡ true → is_there free es ≡ true
+there free [] i d cut lt same = absurd (omega (arith, lt))
+there free (e ∷ es) zero d cut lt same = ap (λ (t : Bool). t || is_there free es) same
+there free (e ∷ es) (suc i) d cut lt same =
+    ap (λ (t : Bool). t || is_there free es) (before-other free e cut.0)
+    ∙ there free es i d cut.1 (omega (arith, lt)) same
+
+none-behind : (free : Free) (es : List Free) → PrecedesAll free es → is_there free es ≡ false
+none-behind free [] all = refl
+none-behind free (e ∷ es) all =
+    ap (λ (t : Bool). t || is_there free es) (after-other free e all.0) ∙ none-behind free es all.1
+
+all-behind : (a b : Free) (es : List Free) → precedes a b ≡ true → PrecedesAll b es → PrecedesAll a es
+all-behind a b [] less all = tt
+all-behind a b (e ∷ es) less all = (precedes-trans a b e less all.0, all-behind a b es less all.1)
+
+-- where the split at the place is another, or there is none, it isn't there
+pub not-there : (free : Free) (es : List Free) (i : ℕ) → Rises es → IsCut (λ entry. precedes entry free) es i
+    → ((d : Free) → i < length es → is_same free (get_or es i d) ≡ false) → is_there free es ≡ false
+not-there free [] i up cut other = refl
+not-there free (e ∷ es) zero up cut other =
+    let apart : is_same free e ≡ false = other e (omega arith) in
+    ap (λ (t : Bool). t || is_there free es) apart
+    ∙ none-behind free es (all-behind free e es (after-neither free e cut.0 apart) up.0)
+not-there free (e ∷ es) (suc i) up cut other =
+    ap (λ (t : Bool). t || is_there free es) (before-other free e cut.0)
+    ∙ not-there free es i up.1 cut.1 (λ d lt. other d (omega (arith, lt)))
+
+-- and then nothing is to be taken
+pub none-without : (free : Free) (es : List Free) → is_there free es ≡ false → without_free free es ≡ es
+none-without free [] none = refl
+none-without free (e ∷ es) none = by_test (is_same free e) refl none (none-without free es)
+  where
+    by_test : (t : Bool) → is_same free e ≡ t → (is_same free e || is_there free es) ≡ false
+        → (is_there free es ≡ false → without_free free es ≡ es) → without_free free (e ∷ es) ≡ e ∷ es
+    by_test true is none more =
+        absurd (let some : (is_same free e || is_there free es) ≡ true = ap (λ (t : Bool). t || is_there free es) is in
+        cc)
+    by_test false is none more =
+        ap (λ (t : Bool). if t then es else e ∷ without_free free es) is
+        ∙ ap (λ l. e ∷ l) (more (ap (λ (t : Bool). t || is_there free es) (sym is) ∙ none))
+
+-- ---- the splits still rise
+all-with : (x free : Free) (es : List Free) → precedes x free ≡ true → PrecedesAll x es
+    → PrecedesAll x (with_free free es)
+all-with x free [] less all = (less, tt)
+all-with x free (e ∷ es) less all =
+    let P : Bool → Type 0 = λ t. PrecedesAll x (if t then e ∷ with_free free es else free ∷ e ∷ es) in
+    elim (precedes e free) as P [
+      | true ↦ (all.0, all-with x free es less all.1)
+      | false ↦ (less, all)
+    ]
+
+pub rises-with : (free : Free) (es : List Free) → Rises es → is_there free es ≡ false → Rises (with_free free es)
+rises-with free [] up none = (tt, tt)
+rises-with free (e ∷ es) up none =
+    by_test (precedes e free) refl (apart (is_same free e) (is_there free es) none)
+    (rises-with free es up.1 (rest (is_same free e) (is_there free es) none))
+  where
+    apart : (s t : Bool) → (s || t) ≡ false → s ≡ false
+    apart true t e = e
+    apart false t e = refl
+
+    rest : (s t : Bool) → (s || t) ≡ false → t ≡ false
+    rest true t e = absurd cc
+    rest false t e = e
+
+    by_test : (t : Bool) → precedes e free ≡ t → is_same free e ≡ false → Rises (with_free free es)
+        → Rises (if t then e ∷ with_free free es else free ∷ e ∷ es)
+    by_test true is other more = (all-with e free es is up.0, more)
+    by_test false is other more =
+        let less = after-neither free e is other in ((less, all-behind free e es less up.0), up)
+
+all-without : (x free : Free) (es : List Free) → PrecedesAll x es → PrecedesAll x (without_free free es)
+all-without x free [] all = tt
+all-without x free (e ∷ es) all =
+    let P : Bool → Type 0 = λ t. PrecedesAll x (if t then es else e ∷ without_free free es) in
+    elim (is_same free e) as P [ true ↦ all.1 | false ↦ (all.0, all-without x free es all.1) ]
+
+pub rises-without : (free : Free) (es : List Free) → Rises es → Rises (without_free free es)
+rises-without free [] up = tt
+rises-without free (e ∷ es) up =
+    let P : Bool → Type 0 = λ t. Rises (if t then es else e ∷ without_free free es) in
+    elim (is_same free e) as P [
+      | true ↦ up.1
+      | false ↦ (all-without e free es up.0, rises-without free es up.1)
+    ]
+
+-- ---- the splits of one amount
+none-kept : (test kept : Free → Bool) (es : List Free) → ((e : Free) → test e ≡ false → kept e ≡ false)
+    → NonePasses test es → filter kept es ≡ []
+none-kept test kept [] asks none = refl
+none-kept test kept (e ∷ es) asks none =
+    ap (λ (t : Bool). if t then e ∷ filter kept es else filter kept es) (asks e none.0)
+    ∙ none-kept test kept es asks none.1
+
+range-is : (low high kept : Free → Bool) (es : List Free) (i j : ℕ) → IsCut low es i → IsCut high es j
+    → ((e : Free) → low e ≡ true → high e ≡ true) → ((e : Free) → kept e ≡ (not (low e) && high e))
+    → take (j - i) (drop i es) ≡ filter kept es
+range-is low high kept [] zero zero cut end within same = refl
+range-is low high kept [] (suc i) j cut end within same = absurd cut
+range-is low high kept [] zero (suc j) cut end within same = absurd end
+range-is low high kept (e ∷ es) zero zero cut end within same =
+    sym (none-kept high kept (e ∷ es) (λ x h. same x ∙ past (low x) (high x) h) end)
+  where
+    past : (s t : Bool) → t ≡ false → (not s && t) ≡ false
+    past true t h = refl
+    past false t h = h
+range-is low high kept (e ∷ es) zero (suc j) cut end within same =
+    let passes : kept e ≡ true =
+    same e ∙ ap (λ (t : Bool). not t && high e) cut.0 ∙ end.0 in
+    let all : suc j - 0 ≡ suc j = omega arith in
+    let rest : j - 0 ≡ j = omega arith in
+    ap (λ n. take n (e ∷ es)) all
+    ∙ ap (λ l. e ∷ l) (ap (λ n. take n es) (sym rest) ∙ range-is low high kept es zero j cut.1 end.1 within same)
+    ∙ ap (λ (t : Bool). if t then e ∷ filter kept es else filter kept es) (sym passes)
+range-is low high kept (e ∷ es) (suc i) zero cut end within same =
+    absurd (let both = within e cut.0 in let other = end.0 in cc)
+range-is low high kept (e ∷ es) (suc i) (suc j) cut end within same =
+    let fails : kept e ≡ false = same e ∙ ap (λ (t : Bool). not t && high e) cut.0 in
+    let fewer : suc j - suc i ≡ j - i = omega arith in
+    ap (λ n. take n (drop i es)) fewer ∙ range-is low high kept es i j cut.1 end.1 within same
+    ∙ ap (λ (t : Bool). if t then e ∷ filter kept es else filter kept es) (sym fails)
+
+cut-below : (low high : Free → Bool) (es : List Free) (i j : ℕ) → IsCut low es i → IsCut high es j
+    → ((e : Free) → low e ≡ true → high e ≡ true) → i ≤ j
+cut-below low high es zero j cut end within = omega arith
+cut-below low high [] (suc i) j cut end within = absurd cut
+cut-below low high (e ∷ es) (suc i) zero cut end within =
+    absurd (let both = within e cut.0 in let other = end.0 in cc)
+cut-below low high (e ∷ es) (suc i) (suc j) cut end within =
+    let less = cut-below low high es i j cut.1 end.1 within in omega (arith, less)
+
+pub amount-is : (account : ℕ) (amount : ℤ) (es : List Free) (i j : ℕ) → IsCut (is_under_amount account amount) es i
+    → IsCut (λ entry. not (is_past_amount account amount entry)) es j
+    → take (j - i) (drop i es) ≡ of_amount account amount es
+amount-is account amount es i j cut end =
+    range-is (is_under_amount account amount) (λ entry. not (is_past_amount account amount entry))
+    (is_of_amount account amount) es i j cut end (under-not_past account amount) (between account amount)
+
+pub amount-within : (account : ℕ) (amount : ℤ) (es : List Free) (i j : ℕ) → IsCut (is_under_amount account amount) es i
+    → IsCut (λ entry. not (is_past_amount account amount entry)) es j → i ≤ j
+amount-within account amount es i j cut end =
+    cut-below (is_under_amount account amount) (λ entry. not (is_past_amount account amount entry)) es i j cut end
+    (under-not_past account amount)

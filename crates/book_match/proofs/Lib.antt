@@ -1,0 +1,6 @@
+pub mod IndexLemmas
+pub mod KeptLemmas
+pub mod NearestLemmas
+pub mod OrderLemmas
+pub mod TakenLemmas
+pub mod Worked

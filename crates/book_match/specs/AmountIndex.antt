@@ -1,0 +1,78 @@
+-- The splits that may be matched, kept so that those of one account and amount stand together.
+use Rattle.std.specs.Prelude.{◌≡◌, ⊤, ℕ, zero, suc, ◌==◌, nat_lt, int_lt, ℤ, Bool, true, false, ◌&&◌, if◌then◌else◌}
+use Rattle.std.specs.Prelude.{List, [], ◌∷◌, filter}
+use Rattle.std.specs.List.{list_any}
+use Rattle.std.specs.Ordering.{int_eq}
+use Rattle.book_match.specs.Proposal.{in_turn}
+use Rattle.book_match.specs.declared.free.Free.{Free}
+
+-- What contracts see of an index: its splits, how many more it has room for, and how often it was changed.
+pub record Index : Type 0 where
+  pub entries : List Free
+  pub spare : ℕ
+  pub changes : ℕ
+
+-- One split comes before another: by account, by amount, by day and by number.
+abbrev pub precedes : Free → Free → Bool
+precedes one other =
+    in_turn (nat_lt one.account other.account) (nat_lt other.account one.account)
+    (in_turn (int_lt one.amount other.amount) (int_lt other.amount one.amount)
+    (in_turn (int_lt one.day other.day) (int_lt other.day one.day) (nat_lt one.split other.split)))
+
+-- A split comes before all of these.
+abbrev pub PrecedesAll : Free → List Free → Type 0
+PrecedesAll free [] = ⊤
+PrecedesAll free (entry ∷ more) = (precedes free entry ≡ true) × PrecedesAll free more
+
+-- The splits rise: each comes before all behind it, so that none stands twice.
+abbrev pub Rises : List Free → Type 0
+Rises [] = ⊤
+Rises (entry ∷ more) = PrecedesAll entry more × Rises more
+
+-- Whether two splits are the same in account, amount, day and number.
+abbrev pub is_same : Free → Free → Bool
+is_same one other =
+    (one.account == other.account) && (int_eq one.amount other.amount && (int_eq one.day other.day
+    && (one.split == other.split)))
+
+-- Whether a split is one of these.
+abbrev pub is_there : Free → List Free → Bool
+is_there free entries = list_any (is_same free) entries
+
+-- The splits with one more, which stands in front of the first that doesn't come before it.
+abbrev pub with_free : Free → List Free → List Free
+with_free free [] = free ∷ []
+with_free free (entry ∷ more) = if precedes entry free then entry ∷ with_free free more else free ∷ entry ∷ more
+
+-- The splits without this one.
+abbrev pub without_free : Free → List Free → List Free
+without_free free [] = []
+without_free free (entry ∷ more) = if is_same free entry then more else entry ∷ without_free free more
+
+-- Whether a split is one of an account with an amount.
+abbrev pub is_of_amount : ℕ → ℤ → Free → Bool
+is_of_amount account amount entry = (entry.account == account) && int_eq entry.amount amount
+
+-- The splits of an account with an amount.
+abbrev pub of_amount : ℕ → ℤ → List Free → List Free
+of_amount account amount entries = filter (is_of_amount account amount) entries
+
+-- Whether a split comes before those of an account with an amount, and whether it comes behind them.
+abbrev pub is_under_amount : ℕ → ℤ → Free → Bool
+is_under_amount account amount entry =
+    in_turn (nat_lt entry.account account) (nat_lt account entry.account) (int_lt entry.amount amount)
+
+abbrev pub is_past_amount : ℕ → ℤ → Free → Bool
+is_past_amount account amount entry =
+    in_turn (nat_lt account entry.account) (nat_lt entry.account account) (int_lt amount entry.amount)
+
+-- No split passes the test.
+abbrev pub NonePasses : (Free → Bool) → List Free → Type 0
+NonePasses test [] = ⊤
+NonePasses test (entry ∷ more) = (test entry ≡ false) × NonePasses test more
+
+-- So many first splits pass the test, and no other does.
+abbrev pub IsCut : (Free → Bool) → List Free → ℕ → Type 0
+IsCut test entries zero = NonePasses test entries
+IsCut test [] (suc count) = ⊥
+IsCut test (entry ∷ more) (suc count) = (test entry ≡ true) × IsCut test more count

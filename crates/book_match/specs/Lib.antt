@@ -1,0 +1,4 @@
+pub mod AmountIndex
+pub mod Kept
+pub mod Proposal
+pub mod Taken

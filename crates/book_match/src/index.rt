@@ -1,0 +1,157 @@
+ghost use Rattle.std.specs.Prelude.{◌≡◌, ◌+◌, ◌-◌, ◌^◌, ◌<◌, ◌≤◌, [], not, false, length, min, OnOk, OnErr};
+ghost use Rattle.std.specs.Prelude.{if◌then◌else◌};
+ghost use Rattle.std.specs.List.{slice_range};
+ghost use Rattle.book_match.specs.AmountIndex.{IsCut, Rises, is_past_amount as past, is_there};
+ghost use Rattle.book_match.specs.AmountIndex.{is_under_amount as under};
+ghost use Rattle.book_match.specs.AmountIndex.{of_amount, precedes as comes_before, with_free, without_free};
+
+use crate::Free;
+use crate::free::{is_past_amount, is_same, is_under_amount, precedes};
+use book_commodity::OutOfMemory;
+use std::alloc::Global;
+use std::marker::Model;
+
+/// The splits that may be matched, by account, amount, day and number, so that those of one amount stand together.
+/// Contracts see the list of them, for how many more there is room, and how often it was changed.
+#[derive(Drop)]
+pub struct AmountIndex {
+    entries: Vec<Free>,
+    changes: u64,
+}
+
+impl Model for AmountIndex {
+    ghost use Rattle.std.specs.Prelude.{◌-◌, vec_capacity, vec_len};
+    ghost use Rattle.book_match.specs.AmountIndex.{Index, Rises};
+
+    ghost Value = { Index };
+
+    ghost view = { λ i. record {
+      entries = i.entries.items;
+      spare = vec_capacity i.entries - vec_len i.entries;
+      changes = i.changes;
+    } };
+
+    ghost invariant = { λ i. Rises i.entries.items };
+}
+
+impl AmountIndex {
+    /// The index without splits; it takes no memory.
+    pub fn new(alloc: Global) -> AmountIndex
+        ensures entries { result.entries ≡ [] }
+        ensures changes { result.changes ≡ 0 }
+    {
+        AmountIndex {
+            entries: Vec::new(alloc),
+            changes: 0,
+        }
+    }
+
+    /// How many splits were put in and taken out so far; at 2^64 - 1 it stays.
+    pub fn changes(&self) -> u64
+        ensures changes { result ≡ self.now.changes }
+        ensures rises { Rises self.now.entries }
+    {
+        let _ = self.entries.len();
+        self.changes
+    }
+
+    /// Makes room for so many more splits. The splits stay, and no room is lost where it is out of memory.
+    pub fn reserve(&mut self, extra: usize) -> Result<(), OutOfMemory>
+        ensures room { OnOk result (extra ≤ self.new.spare) }
+        ensures full { OnErr result (self.old.spare < extra) }
+        ensures entries { self.new.entries ≡ self.old.entries }
+        ensures changes { self.new.changes ≡ self.old.changes }
+        ensures spare { self.old.spare ≤ self.new.spare }
+    {
+        self.entries.reserve(extra)?;
+        Ok(())
+    }
+
+    /// Puts a split in, which isn't there. It takes no memory.
+    pub fn put(&mut self, free: Free)
+        requires room { 1 ≤ self.old.spare }
+        requires absent { is_there free self.old.entries ≡ false }
+        ensures entries { self.new.entries ≡ with_free free self.old.entries }
+        ensures changes { self.new.changes ≡ min (self.old.changes + 1) (2 ^ 64 - 1) }
+        ensures spare { self.old.spare ≤ self.new.spare + 1 }
+    {
+        let place = place_of(self.entries.as_slice(), &free);
+        let Ok(()) = self.entries.insert(place, free) else {
+            unreachable!()
+        };
+        self.changes = self.changes.saturating_add(1);
+    }
+
+    /// Takes a split out, and tells whether it was there. It takes no memory.
+    pub fn take(&mut self, free: Free) -> bool
+        ensures taken { result ≡ is_there free self.old.entries }
+        ensures entries { self.new.entries ≡ without_free free self.old.entries }
+        ensures changes { self.new.changes
+            ≡ (if result then min (self.old.changes + 1) (2 ^ 64 - 1) else self.old.changes) }
+        ensures spare { self.old.spare ≤ self.new.spare }
+    {
+        let place = place_of(self.entries.as_slice(), &free);
+        if place == self.entries.len() {
+            return false;
+        }
+        if !is_same(&free, &self.entries[place]) {
+            return false;
+        }
+        let _ = self.entries.remove(place);
+        self.changes = self.changes.saturating_add(1);
+        true
+    }
+
+    /// The splits of the account with this amount, by day and number.
+    pub fn of(&self, account: u64, amount: i64) -> &[Free]
+        ensures { result.now ≡ of_amount account amount self.now.entries }
+    {
+        splits_of(self.entries.as_slice(), account, amount)
+    }
+}
+
+/// How many of the splits come before this one.
+fn place_of(entries: &[Free], free: &Free) -> usize
+    requires { Rises entries.now }
+    ensures cut { IsCut (λ entry. comes_before entry free.now) entries.now result }
+    ensures within { result ≤ length entries.now }
+{
+    entries.partition_point(|entry| precedes(entry, free))
+}
+
+/// The splits of the account with this amount.
+fn splits_of(entries: &[Free], account: u64, amount: i64) -> &[Free]
+    requires { Rises entries.now }
+    ensures { result.now ≡ of_amount account amount entries.now }
+{
+    let end = end_of(entries, account, amount);
+    let start = start_of(entries, account, amount);
+    part(entries, start, end)
+}
+
+/// The splits from one place up to another.
+fn part(entries: &[Free], start: usize, end: usize) -> &[Free]
+    requires order { start ≤ end }
+    requires within { end ≤ length entries.now }
+    ensures { result.now ≡ slice_range entries.now start end }
+{
+    &entries[start..end]
+}
+
+/// How many of the splits come before those of the account with this amount.
+fn start_of(entries: &[Free], account: u64, amount: i64) -> usize
+    requires { Rises entries.now }
+    ensures cut { IsCut (under account amount) entries.now result }
+    ensures within { result ≤ length entries.now }
+{
+    entries.partition_point(|entry| is_under_amount(entry, account, amount))
+}
+
+/// How many of the splits don't come behind those of the account with this amount.
+fn end_of(entries: &[Free], account: u64, amount: i64) -> usize
+    requires { Rises entries.now }
+    ensures cut { IsCut (λ entry. not (past account amount entry)) entries.now result }
+    ensures within { result ≤ length entries.now }
+{
+    entries.partition_point(|entry| !is_past_amount(entry, account, amount))
+}

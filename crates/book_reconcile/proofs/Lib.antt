@@ -1,0 +1,4 @@
+pub mod KeptLemmas
+pub mod OrderLemmas
+pub mod SumLemmas
+pub mod Worked
