@@ -1,5 +1,11 @@
 //! What a book has, as texts for a person or as comma-separated values.
 #![tactic(auto)]
 
+mod accounts;
+mod cells;
 mod columns;
 mod layout;
+mod present;
+
+pub use accounts::accounts_text;
+pub use present::PresentBook;
