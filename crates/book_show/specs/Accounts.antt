@@ -44,6 +44,10 @@ abbrev pub account_name : Book → ℕ → Account → List ℕ
 account_name book number account =
     option_map_or (λ parent. path book.accounts number) account.parent account.name
 
+-- What the account with a number is called; empty, where there is no such account.
+abbrev pub name_in : Book → ℕ → List ℕ
+name_in book number = option_map_or (account_name book number) (value_of number book.accounts) []
+
 -- The row of an account: its number, its balance over all days in its commodity, the commodity, its kind, its marks, and
 -- what it is called.
 abbrev pub account_row : Book → ℕ → Account → List (List ℕ)

@@ -1,7 +1,7 @@
 ghost use Rattle.std.specs.Prelude.{◌≡◌, ◌∷◌, ◌++◌, All, IfOk, IsSome, OnOk, map};
 ghost use Rattle.book_commodity.specs.Table.{value_of};
 ghost use Rattle.book_show.specs.Accounts.{account_columns, account_marks, account_name, account_row, account_rows};
-ghost use Rattle.book_show.specs.Accounts.{accounts_text, kind_word, row_at};
+ghost use Rattle.book_show.specs.Accounts.{accounts_text, kind_word, name_in, row_at};
 
 use crate::PresentBook;
 use crate::cells::{Cells, row_of};
@@ -104,6 +104,16 @@ fn account_name(book: &PresentBook, number: u64, account: &Account) -> Result<Te
     match account.parent {
         Some(_) => book.path(number),
         None => account.name.copy(),
+    }
+}
+
+/// What the account with a number is called; empty, where there is no such account.
+pub(crate) fn name_in(alloc: Global, book: &PresentBook, number: u64) -> Result<Text, OutOfMemory>
+    ensures { IfOk result (λ name. name ≡ name_in book.now number) }
+{
+    match book.plain().accounts.find(number) {
+        Some(account) => account_name(book, number, account),
+        None => Ok(Text::new(alloc)),
     }
 }
 

@@ -4,8 +4,13 @@
 mod accounts;
 mod cells;
 mod columns;
+mod days;
+mod journal;
 mod layout;
+mod order;
 mod present;
 
 pub use accounts::accounts_text;
+pub use days::Days;
+pub use journal::journal_text;
 pub use present::PresentBook;

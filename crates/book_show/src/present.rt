@@ -3,7 +3,7 @@ ghost use Rattle.book_accounts.specs.Order.{depth_first};
 ghost use Rattle.book_accounts.specs.Path.{path};
 ghost use Rattle.book_commodity.specs.Table.{value_of};
 ghost use Rattle.book_ledger.specs.Ledger.{Keeps};
-ghost use Rattle.book_reports.specs.Measure.{fraction_of, name_of};
+ghost use Rattle.book_reports.specs.Measure.{commodity_of, fraction_of, name_of};
 ghost use Rattle.book_sound.specs.Soundness.{IsSoundBook};
 ghost use Rattle.book_splits.specs.Balance.{balance};
 ghost use Rattle.book_undo.specs.Book.{book_of};
@@ -87,6 +87,17 @@ impl PresentBook {
         match self.plain.commodities.find(commodity) {
             Some(commodity) => commodity.name.as_str(),
             None => "",
+        }
+    }
+
+    /// The commodity of an account; 0, where there is no such account.
+    pub(crate) fn commodity_of(&self, account: u64) -> u64
+        ensures { result ≡ commodity_of self.now account }
+    {
+        let _ = &self.registers;
+        match self.plain.accounts.find(account) {
+            Some(account) => account.commodity,
+            None => 0,
         }
     }
 
