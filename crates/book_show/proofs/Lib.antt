@@ -1,3 +1,5 @@
 pub mod ColumnLemmas
+pub mod CommandLemmas
 pub mod OrderLemmas
 pub mod RowLemmas
+pub mod WordLemmas

@@ -1,0 +1,16 @@
+use crate::Days;
+
+/// What is asked of a book.
+#[derive(Clone, Copy, Debug, PartialEq, Eq)]
+pub enum Question {
+    /// All accounts, in the order of their tree.
+    Accounts,
+    /// All commodities, by number.
+    Commodities,
+    /// All prices, by number.
+    Prices,
+    /// The transactions by day: those of these days or, where none are given, all.
+    Journal(Option<Days>),
+    /// The line of the command `edit` of the transaction with this number.
+    Command(u64),
+}

@@ -1,0 +1,117 @@
+ghost use Rattle.std.specs.Prelude.{◌≡◌, ◌^◌, nat_lt, if◌then◌else◌, Some, None};
+ghost use Rattle.std.specs.Char.{is_ascii_digit};
+ghost use Rattle.std.specs.List.{list_all};
+ghost use Rattle.book_json.specs.Forms.{day_named};
+ghost use Rattle.book_show.specs.Words.{alone, has_digits, is_book, number_of, question_of, with_one, with_two};
+
+use crate::{Days, Question};
+use book_commodity::{Day, Text};
+
+/// The numbers of things are below 2^62.
+const NUMBER_LIMIT: u64 = 1 << 62;
+
+/// Whether a word names a book: it is not empty and does not begin with a hyphen.
+pub fn names_book(word: &str) -> bool
+    ensures { result ≡ is_book word.now }
+{
+    match word.as_bytes().first() {
+        None => false,
+        Some(byte) => *byte != b'-',
+    }
+}
+
+/// Whether each byte of a word is a decimal digit.
+fn are_digits(word: &str) -> bool
+    ensures { result ≡ list_all is_ascii_digit word.now }
+{
+    word.as_bytes().iter().all(|byte| byte.is_ascii_digit())
+}
+
+/// Whether a word has decimal digits alone, at least one.
+fn has_digits(word: &str) -> bool
+    ensures { result ≡ has_digits word.now }
+{
+    !word.is_empty() && are_digits(word)
+}
+
+/// The number, where it is below 2^62.
+fn below_limit(number: u64) -> Option<u64>
+    ensures { result ≡ (if nat_lt number (2 ^ 62) then Some number else None) }
+{
+    if number < NUMBER_LIMIT {
+        Some(number)
+    } else {
+        None
+    }
+}
+
+/// The number that a word of decimal digits spells, where it is below 2^62.
+fn number_of(word: &str) -> Option<u64>
+    ensures { result ≡ number_of word.now }
+{
+    if !has_digits(word) {
+        return None;
+    }
+    match word.parse::<u64>() {
+        Ok(number) => below_limit(number),
+        Err(_) => None,
+    }
+}
+
+/// The day that a word names.
+fn day_of(word: &str) -> Option<Day>
+    ensures { result ≡ day_named word.now }
+{
+    Day::of_text(word.as_bytes())
+}
+
+/// The question of words; None where they ask nothing.
+pub fn question_of(words: &[Text]) -> Option<Question>
+    ensures { result ≡ question_of words.now }
+{
+    match words {
+        [word] => alone(word.as_str()),
+        [word, one] => with_one(word.as_str(), one.as_str()),
+        [word, one, two] => with_two(word.as_str(), one.as_str(), two.as_str()),
+        _ => None,
+    }
+}
+
+/// The question of a word alone.
+fn alone(word: &str) -> Option<Question>
+    ensures { result ≡ alone word.now }
+{
+    match word {
+        "accounts" => Some(Question::Accounts),
+        "commodities" => Some(Question::Commodities),
+        "prices" => Some(Question::Prices),
+        "journal" => Some(Question::Journal(None)),
+        _ => None,
+    }
+}
+
+/// The question of a word with one more.
+fn with_one(word: &str, one: &str) -> Option<Question>
+    ensures { result ≡ with_one word.now one.now }
+{
+    if word != "command" {
+        return None;
+    }
+    match number_of(one) {
+        Some(number) => Some(Question::Command(number)),
+        None => None,
+    }
+}
+
+/// The question of a word with two more.
+fn with_two(word: &str, from: &str, to: &str) -> Option<Question>
+    ensures { result ≡ with_two word.now from.now to.now }
+{
+    if word != "journal" {
+        return None;
+    }
+    match (day_of(from), day_of(to)) {
+        (Some(from), Some(to)) => Some(Question::Journal(Some(Days { from, to }))),
+        _ => None,
+    }
+}
