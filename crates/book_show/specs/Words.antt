@@ -1,8 +1,9 @@
 -- The words of the program: a book, what is asked of it, and `--csv` behind a question that a table answers.
 use Rattle.std.specs.Prelude.{◌≡◌, ℕ, ◌^◌, nat_lt, Bool, true, false, not, ◌&&◌, ◌==◌, if◌then◌else◌, List, [], ◌∷◌, length}
-use Rattle.std.specs.Prelude.{Option, Some, None, option_map, codes, ℤ}
+use Rattle.std.specs.Prelude.{Option, Some, None, option_map, option_and_then, codes, slice_get, take, ◌-◌, ℤ}
 use Rattle.std.specs.Char.{is_ascii_digit}
 use Rattle.std.specs.List.{list_all}
+use Rattle.std.specs.Option.{option_map_or}
 use Rattle.std.specs.Str.{bytes_eq}
 use Rattle.std.specs.Str.Parse.{digits_value}
 use Rattle.book_json.specs.Forms.{day_named}
@@ -56,3 +57,37 @@ question_of (word ∷ []) = alone word
 question_of (word ∷ one ∷ []) = with_one word one
 question_of (word ∷ one ∷ two ∷ []) = with_two word one two
 question_of _ = None
+
+-- Whether a question is answered in a form: a command line is no table.
+abbrev pub in_form : Form → Question → Option Question
+in_form Csv (Command number) = None
+in_form form question = Some question
+
+-- What is asked: a question on a book, answered in a form.
+pub record Asking : Type 0 where
+  pub book : List ℕ
+  pub question : Question
+  pub form : Form
+
+-- The form that the last word asks for.
+abbrev pub form_of : List (List ℕ) → Form
+form_of words =
+    option_map_or (λ last. if bytes_eq last (codes "--csv") then Csv else Plain) (slice_get words (length words - 1)) Plain
+
+-- The words but for the one that asks for a form.
+abbrev pub without_form : Form → List (List ℕ) → List (List ℕ)
+without_form Csv words = take (length words - 1) words
+without_form Plain words = words
+
+-- What a book and the words behind it ask.
+abbrev pub asks : Form → List (List ℕ) → Option Asking
+asks form [] = None
+asks form (book ∷ words) =
+    if is_book book
+    then option_map (λ question. record { book = book; question = question; form = form })
+    (option_and_then (in_form form) (question_of words))
+    else None
+
+-- What the words of the program ask, if anything.
+abbrev pub asked_of : List (List ℕ) → Option Asking
+asked_of words = asks (form_of words) (without_form (form_of words) words)

@@ -1,22 +1,31 @@
-//! What a book has, as texts for a person or as comma-separated values.
+//! What a book has, as texts for a person or as comma-separated values, with the numbers by which commands name things:
+//! its accounts, commodities and prices, its journal, and the command that changes a transaction. `asked_of` reads the
+//! words of a program, and `show` answers them from a keeper's rows, which stay as they are. Each text is stated as a
+//! function of the book or, as the journal, as the one text of which its definition holds.
 #![tactic(auto)]
 
 mod accounts;
 mod cells;
 mod columns;
 mod command;
+mod commodities;
 mod days;
 mod journal;
 mod layout;
+mod opening;
 mod order;
 mod present;
 mod question;
+mod showing;
 mod words;
 
 pub use accounts::accounts_text;
 pub use command::command_text;
+pub use commodities::{commodities_text, prices_text};
 pub use days::Days;
 pub use journal::journal_text;
+pub use opening::open_book;
 pub use present::PresentBook;
 pub use question::Question;
-pub use words::{names_book, question_of};
+pub use showing::{ShowError, show};
+pub use words::{Asked, asked_of};

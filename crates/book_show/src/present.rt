@@ -10,6 +10,7 @@ ghost use Rattle.book_undo.specs.Book.{book_of};
 
 use book_commodity::{Many, OutOfMemory, Text};
 use book_ledger::Registers;
+use book_prices::Prices;
 use book_undo::Plain;
 use std::marker::Model;
 
@@ -48,6 +49,14 @@ impl PresentBook {
     {
         let _ = &self.registers;
         &self.plain
+    }
+
+    /// The prices of the book.
+    pub(crate) fn prices(&self) -> &Prices
+        ensures { result.now.entries ≡ self.now.prices }
+    {
+        let _ = &self.registers;
+        &self.plain.prices
     }
 
     /// The numbers of the accounts, in the order of their tree.

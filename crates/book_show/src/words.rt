@@ -1,17 +1,85 @@
-ghost use Rattle.std.specs.Prelude.{◌≡◌, ◌^◌, nat_lt, if◌then◌else◌, Some, None};
+ghost use Rattle.std.specs.Prelude.{◌≡◌, ◌^◌, nat_lt, if◌then◌else◌, Some, None, option_and_then, option_map};
 ghost use Rattle.std.specs.Char.{is_ascii_digit};
 ghost use Rattle.std.specs.List.{list_all};
 ghost use Rattle.book_json.specs.Forms.{day_named};
-ghost use Rattle.book_show.specs.Words.{alone, has_digits, is_book, number_of, question_of, with_one, with_two};
+ghost use Rattle.book_show.specs.Words.{alone, asked_of, asks, form_of, has_digits, in_form, is_book, number_of, question_of, with_one, with_two, without_form};
+ghost use Rattle.book_show.specs.Asked.{seen};
 
 use crate::{Days, Question};
 use book_commodity::{Day, Text};
+use book_reports::Form;
+
+/// What the words ask: a question on a book, answered in a form.
+#[derive(Clone, Copy, Debug)]
+pub struct Asked<'a> {
+    pub book: &'a str,
+    pub question: Question,
+    pub form: Form,
+}
+
+/// What the words of the program ask; None where they ask nothing.
+pub fn asked_of(words: &[Text]) -> Option<Asked<'_>>
+    ensures { option_map seen result ≡ asked_of words.now }
+{
+    let form = form_of(words);
+    asks(form, without_form(words, form))
+}
+
+/// The form that the last word asks for.
+fn form_of(words: &[Text]) -> Form
+    ensures { result ≡ form_of words.now }
+{
+    match words.last() {
+        Some(last) if last.as_str() == "--csv" => Form::Csv,
+        _ => Form::Plain,
+    }
+}
+
+/// The words but for the one that asks for a form.
+fn without_form(words: &[Text], form: Form) -> &[Text]
+    ensures { result.now ≡ without_form form words.now }
+{
+    match form {
+        Form::Csv => &words[..words.len().saturating_sub(1)],
+        Form::Plain => words,
+    }
+}
+
+/// What a book and the words behind it ask.
+fn asks(form: Form, words: &[Text]) -> Option<Asked<'_>>
+    ensures { option_map seen result ≡ asks form words.now }
+{
+    let [book, rest @ ..] = words else {
+        return None;
+    };
+    if !names_book(book.as_str()) {
+        return None;
+    }
+    match question_in(form, rest) {
+        Some(question) => Some(Asked {
+            book: book.as_str(),
+            question,
+            form,
+        }),
+        None => None,
+    }
+}
+
+/// The question of words, where it is answered in a form.
+fn question_in(form: Form, words: &[Text]) -> Option<Question>
+    ensures { result ≡ option_and_then (in_form form) (question_of words.now) }
+{
+    match (form, question_of(words)) {
+        (Form::Csv, Some(Question::Command(_))) => None,
+        (_, question) => question,
+    }
+}
 
 /// The numbers of things are below 2^62.
 const NUMBER_LIMIT: u64 = 1 << 62;
 
 /// Whether a word names a book: it is not empty and does not begin with a hyphen.
-pub fn names_book(word: &str) -> bool
+fn names_book(word: &str) -> bool
     ensures { result ≡ is_book word.now }
 {
     match word.as_bytes().first() {
@@ -66,7 +134,7 @@ fn day_of(word: &str) -> Option<Day>
 }
 
 /// The question of words; None where they ask nothing.
-pub fn question_of(words: &[Text]) -> Option<Question>
+fn question_of(words: &[Text]) -> Option<Question>
     ensures { result ≡ question_of words.now }
 {
     match words {
