@@ -4,3 +4,4 @@ pub mod OpeningLemmas
 pub mod OrderLemmas
 pub mod RowLemmas
 pub mod WordLemmas
+pub mod Worked
