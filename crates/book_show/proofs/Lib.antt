@@ -1,5 +1,6 @@
 pub mod ColumnLemmas
 pub mod CommandLemmas
+pub mod FindLemmas
 pub mod OpeningLemmas
 pub mod OrderLemmas
 pub mod RowLemmas

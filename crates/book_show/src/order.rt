@@ -15,7 +15,14 @@ pub(crate) fn by_day(
 ) -> Result<Vec<(i32, u64)>, OutOfMemory>
     ensures { IfOk result (λ order. AreByDay (dated days.now transactions.now) order.items) }
 {
-    let mut order = dated(alloc, transactions, days)?;
+    sorted(dated(alloc, transactions, days)?)
+}
+
+/// Transactions by day, each given by its day and its number.
+pub(crate) fn sorted(all: Vec<(i32, u64)>) -> Result<Vec<(i32, u64)>, OutOfMemory>
+    ensures { IfOk result (λ order. AreByDay all.items order.items) }
+{
+    let mut order = all;
     order.sort_by_key(|dated| dated.0)?;
     Ok(order)
 }

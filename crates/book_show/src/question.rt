@@ -1,7 +1,8 @@
 use crate::Days;
+use book_commodity::Text;
 
 /// What is asked of a book.
-#[derive(Clone, Copy, Debug, PartialEq, Eq)]
+#[derive(Drop)]
 pub enum Question {
     /// All accounts, in the order of their tree.
     Accounts,
@@ -11,6 +12,8 @@ pub enum Question {
     Prices,
     /// The transactions by day: those of these days or, where none are given, all.
     Journal(Option<Days>),
+    /// The transactions in whose num, description or memos this text stands, by day.
+    Find(Text),
     /// The line of the command `edit` of the transaction with this number.
     Command(u64),
 }

@@ -8,6 +8,7 @@ ghost use Rattle.book_show.specs.Shown.{Answers, IsShown};
 use crate::accounts::accounts_text;
 use crate::command::command_text;
 use crate::commodities::{commodities_text, prices_text};
+use crate::find::found_text;
 use crate::journal::journal_text;
 use crate::opening::open_book;
 use crate::{PresentBook, Question};
@@ -91,6 +92,7 @@ fn answer(
         Question::Commodities => Ok(Some(commodities_text(alloc, book, form)?)),
         Question::Prices => Ok(Some(prices_text(alloc, book, form)?)),
         Question::Journal(days) => Ok(Some(journal_text(alloc, book, days, form)?)),
+        Question::Find(sought) => Ok(Some(found_text(alloc, book, sought.as_str(), form)?)),
         Question::Command(number) => command_text(alloc, book, *number),
     }
 }

@@ -1,4 +1,4 @@
-ghost use Rattle.std.specs.Prelude.{◌≡◌, ◌^◌, nat_lt, if◌then◌else◌, Some, None, option_and_then, option_map};
+ghost use Rattle.std.specs.Prelude.{◌≡◌, ◌^◌, nat_lt, if◌then◌else◌, Some, None, IfOk, option_and_then, option_map};
 ghost use Rattle.std.specs.Char.{is_ascii_digit};
 ghost use Rattle.std.specs.List.{list_all};
 ghost use Rattle.book_json.specs.Forms.{day_named};
@@ -6,11 +6,11 @@ ghost use Rattle.book_show.specs.Words.{alone, asked_of, asks, form_of, has_digi
 ghost use Rattle.book_show.specs.Asked.{seen};
 
 use crate::{Days, Question};
-use book_commodity::{Day, Text};
+use book_commodity::{Day, OutOfMemory, Text};
 use book_reports::Form;
 
 /// What the words ask: a question on a book, answered in a form.
-#[derive(Clone, Copy, Debug)]
+#[derive(Drop)]
 pub struct Asked<'a> {
     pub book: &'a str,
     pub question: Question,
@@ -18,8 +18,8 @@ pub struct Asked<'a> {
 }
 
 /// What the words of the program ask; None where they ask nothing.
-pub fn asked_of(words: &[Text]) -> Option<Asked<'_>>
-    ensures { option_map seen result ≡ asked_of words.now }
+pub fn asked_of(words: &[Text]) -> Result<Option<Asked<'_>>, OutOfMemory>
+    ensures { IfOk result (λ asked. option_map seen asked ≡ asked_of words.now) }
 {
     let form = form_of(words);
     asks(form, without_form(words, form))
@@ -46,32 +46,44 @@ fn without_form(words: &[Text], form: Form) -> &[Text]
 }
 
 /// What a book and the words behind it ask.
-fn asks(form: Form, words: &[Text]) -> Option<Asked<'_>>
-    ensures { option_map seen result ≡ asks form words.now }
+fn asks(form: Form, words: &[Text]) -> Result<Option<Asked<'_>>, OutOfMemory>
+    ensures { IfOk result (λ asked. option_map seen asked ≡ asks form words.now) }
 {
     let [book, rest @ ..] = words else {
-        return None;
+        return Ok(None);
     };
     if !names_book(book.as_str()) {
-        return None;
+        return Ok(None);
     }
     match question_in(form, rest) {
-        Some(question) => Some(Asked {
+        Ok(Some(question)) => Ok(Some(Asked {
             book: book.as_str(),
             question,
             form,
-        }),
-        None => None,
+        })),
+        Ok(None) => Ok(None),
+        Err(OutOfMemory) => Err(OutOfMemory),
     }
 }
 
 /// The question of words, where it is answered in a form.
-fn question_in(form: Form, words: &[Text]) -> Option<Question>
-    ensures { result ≡ option_and_then (in_form form) (question_of words.now) }
+fn question_in(form: Form, words: &[Text]) -> Result<Option<Question>, OutOfMemory>
+    ensures { IfOk result (λ question. question ≡ option_and_then (in_form form) (question_of words.now)) }
 {
-    match (form, question_of(words)) {
-        (Form::Csv, Some(Question::Command(_))) => None,
-        (_, question) => question,
+    match question_of(words) {
+        Ok(Some(question)) => Ok(in_form(form, question)),
+        Ok(None) => Ok(None),
+        Err(OutOfMemory) => Err(OutOfMemory),
+    }
+}
+
+/// The question, where it is answered in a form: a command line is no table.
+fn in_form(form: Form, question: Question) -> Option<Question>
+    ensures { result ≡ in_form form question }
+{
+    match (form, question) {
+        (Form::Csv, Question::Command(_)) => None,
+        (_, question) => Some(question),
     }
 }
 
@@ -134,14 +146,14 @@ fn day_of(word: &str) -> Option<Day>
 }
 
 /// The question of words; None where they ask nothing.
-fn question_of(words: &[Text]) -> Option<Question>
-    ensures { result ≡ question_of words.now }
+fn question_of(words: &[Text]) -> Result<Option<Question>, OutOfMemory>
+    ensures { IfOk result (λ question. question ≡ question_of words.now) }
 {
     match words {
-        [word] => alone(word.as_str()),
-        [word, one] => with_one(word.as_str(), one.as_str()),
-        [word, one, two] => with_two(word.as_str(), one.as_str(), two.as_str()),
-        _ => None,
+        [word] => Ok(alone(word.as_str())),
+        [word, one] => with_one(word.as_str(), one),
+        [word, one, two] => Ok(with_two(word.as_str(), one.as_str(), two.as_str())),
+        _ => Ok(None),
     }
 }
 
@@ -159,13 +171,21 @@ fn alone(word: &str) -> Option<Question>
 }
 
 /// The question of a word with one more.
-fn with_one(word: &str, one: &str) -> Option<Question>
-    ensures { result ≡ with_one word.now one.now }
+fn with_one(word: &str, one: &Text) -> Result<Option<Question>, OutOfMemory>
+    ensures { IfOk result (λ question. question ≡ with_one word.now one.now) }
 {
-    if word != "command" {
-        return None;
+    match word {
+        "command" => Ok(command(one.as_str())),
+        "find" => Ok(Some(Question::Find(one.copy()?))),
+        _ => Ok(None),
     }
-    match number_of(one) {
+}
+
+/// The question for the command line of a transaction, where the word is its number.
+fn command(word: &str) -> Option<Question>
+    ensures { result ≡ option_map Question.Command (number_of word.now) }
+{
+    match number_of(word) {
         Some(number) => Some(Question::Command(number)),
         None => None,
     }

@@ -8,6 +8,10 @@ use std::io;
 use std::io::ErrorKind;
 use std::process::{ExitCode, Termination};
 
+/// What the program prints where the words ask nothing.
+const USAGE: &str = "usage: bookshow BOOK accounts|commodities|prices|journal [FROM TO]|find TEXT|command NUMBER \
+    [--csv], or bookshow --help";
+
 /// How the program ended.
 #[derive(Clone, Copy, Debug, PartialEq, Eq)]
 pub(crate) enum Ended {
@@ -83,9 +87,7 @@ impl Ended {
         match self {
             Ended::Done | Ended::Closed => "",
             Ended::NotThere => "bookshow: the book has no transaction with this number",
-            Ended::Usage => {
-                "usage: bookshow BOOK accounts|commodities|prices|journal [FROM TO]|command NUMBER [--csv]"
-            }
+            Ended::Usage => USAGE,
             Ended::Memory => "bookshow: out of memory",
             Ended::OutputFault => "bookshow: the output failed",
             Ended::NoBook => "bookshow: there is no book at this path",

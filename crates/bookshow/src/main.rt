@@ -14,7 +14,7 @@ ghost use Rattle.book_show.specs.Shown.{IsShown};
 ghost use Rattle.bookshow.specs.FileRows.{BeginsWith};
 
 use crate::ended::Ended;
-use book_commodity::Text;
+use book_commodity::{OutOfMemory, Text};
 use book_show::{Asked, ShowError, asked_of, show};
 use book_sqlite::FileKeeper;
 use sqlite::{Start, Unknown};
@@ -31,6 +31,7 @@ Shows what the book in the file BOOK has, and writes nothing to it. WORD .. is o
   prices              the prices, with their numbers
   journal             all transactions by day, with their splits
   journal FROM TO     those from one day to another, as 2024-01-31
+  find TEXT           the transactions with TEXT in num, description or a memo
   command NUMBER      the line `edit` of a transaction as it stands
 
 --csv asks for comma-separated values in place of columns.
@@ -108,8 +109,9 @@ fn run(rt: &HostRuntime, words: &[Text]) -> Ended {
         [word] if word.as_str() == "--help" => print(rt, HELP),
         [word] if word.as_str() == "--version" => print(rt, VERSION),
         _ => match asked_of(words) {
-            Some(asked) => show_file(rt, &asked),
-            None => Ended::Usage,
+            Ok(Some(asked)) => show_file(rt, &asked),
+            Ok(None) => Ended::Usage,
+            Err(OutOfMemory) => Ended::Memory,
         },
     }
 }
