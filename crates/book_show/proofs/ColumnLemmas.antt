@@ -1,6 +1,6 @@
 -- Rows of texts one after another, and the texts of a row in their columns.
-use Rattle.std.proofs.Common.{◌≡◌, ℕ, suc, zero, ◌+◌, ◌≤◌, ◌<◌, max, min, List, [], ◌∷◌, ◌++◌, length, drop, get_or, refl, sym, ap, ◌∙◌, arith, subst, add-one}
-use Rattle.std.proofs.Common.{drop-cons, append_assoc}
+use Rattle.std.proofs.Common.{◌≡◌, ℕ, suc, zero, ◌+◌, ◌≤◌, ◌<◌, max, min, List, [], ◌∷◌, ◌++◌, length, drop, get_or, refl, sym, ap, ◌∙◌, arith, add-one}
+use Rattle.std.proofs.Common.{drop-cons}
 use Rattle.book_show.specs.Columns.{columns_from, gap, line, placed, widest, width_at}
 use Rattle.book_show.specs.declared.columns.Column.{Column}
 use Rattle.book_show.specs.declared.columns.Side.{Side}

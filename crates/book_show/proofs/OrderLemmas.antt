@@ -1,10 +1,10 @@
 -- What a stable sort by days gives stands by day.
 use Rattle.std.proofs.Common.{◌≡◌, ℕ, ◌&&◌, Bool, true, false, cond, not, ℤ, int_lt, List, [], ◌∷◌, filter, if◌then◌else◌, refl, sym, ap, ◌∙◌}
 use Rattle.std.proofs.Common.{is_lt, int_cmp}
-use Rattle.std.specs.List.Sorted.{IsSortedBy, IsSortedByKey, IsStableByKey, ties}
+use Rattle.std.specs.List.Sorted.{IsSortedByKey, IsStableByKey, ties}
 use Rattle.std.specs.Ordering.{int_eq, is_eq}
 use Rattle.std.specs.declared.cmp.Ordering.TheVariants.{Less, Equal, Greater}
-use Rattle.book_show.specs.Journal.{AreByDay, on_day}
+use Rattle.book_show.specs.Journal.{AreByDay}
 
 -- a comparison of integers tells whether the first is less, and whether neither is
 less_is : (t u : Bool) → is_lt (cond t Less (cond u Greater Equal)) ≡ t

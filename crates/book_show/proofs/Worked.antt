@@ -1,8 +1,7 @@
 -- Worked texts: a book with a broker's account, a hidden account, and an entry of three splits.
-use Rattle.std.proofs.Common.{◌≡◌, ℕ, ℤ, pos, negsuc, Bool, true, false, List, [], ◌∷◌, ◌++◌, Some, None, codes, map, refl}
+use Rattle.std.proofs.Common.{◌≡◌, ℕ, ℤ, pos, negsuc, Bool, true, false, List, [], ◌∷◌, ◌++◌, Some, None, codes, refl}
 use Rattle.std.specs.Fmt.{digits}
-use Rattle.std.specs.List.{flat_map}
-use Rattle.book_accounts.specs.Order.{depth_first, with_generations}
+use Rattle.book_accounts.specs.Order.{with_generations}
 use Rattle.book_accounts.specs.Tree.{nearest_parents}
 use Rattle.book_accounts.specs.declared.account.Account.{Account}
 use Rattle.book_accounts.specs.declared.kind.AccountKind.{AccountKind}
@@ -15,16 +14,15 @@ use Rattle.book_splits.specs.declared.split.Split.{Split}
 use Rattle.book_splits.specs.declared.transaction.Txn.{Txn}
 use Rattle.book_undo.specs.Book.{Book, empty_book}
 use Rattle.csv.specs.Writing.{escaped, fields_text, is_blank}
-use Rattle.book_reports.specs.Layout.{printed, record_text}
+use Rattle.book_reports.specs.Layout.{record_text}
 use Rattle.book_reports.specs.declared.form.Form.TheVariants.{Csv, Plain}
 use Rattle.unicode_width.proofs.Computing.{unicode_width}
-use Rattle.book_show.specs.Accounts.{account_columns, account_rows, accounts_text, kind_word}
-use Rattle.book_show.specs.Columns.{columns_from, line, lines, placed, table_text, width}
-use Rattle.book_show.specs.Commodities.{commodities_text}
-use Rattle.book_show.specs.Journal.{dated, listed, record_row, rows_at, rows_of}
-use Rattle.book_show.specs.Words.{asked_of, question_of}
+use Rattle.book_show.specs.Accounts.{account_columns, account_rows, kind_word}
+use Rattle.book_show.specs.Columns.{lines, placed, table_text, width}
+use Rattle.book_show.specs.Journal.{dated, rows_of}
+use Rattle.book_show.specs.Words.{asked_of}
 use Rattle.book_show.specs.declared.columns.Side.TheVariants.{Free, Left, Right}
-use Rattle.book_show.specs.declared.question.Question.TheVariants.{Accounts, Command, Journal}
+use Rattle.book_show.specs.declared.question.Question.TheVariants.{Accounts, Command}
 
 abbrev commodity : List ℕ → List ℕ → ℕ → Commodity
 commodity space name fraction = record { space = space; name = name; full_name = []; fraction = fraction }

@@ -1,6 +1,6 @@
 -- The accounts of a book as a table: each with its number, by which commands name it, and its present balance (GnuCash
 -- Concepts Guide, accounts).
-use Rattle.std.specs.Prelude.{ℕ, Bool, if◌then◌else◌, List, [], ◌∷◌, ◌++◌, map, codes, Option, Some, None}
+use Rattle.std.specs.Prelude.{ℕ, Bool, if◌then◌else◌, List, [], ◌∷◌, ◌++◌, map, codes}
 use Rattle.std.specs.Option.{option_map_or}
 use Rattle.std.specs.Fmt.{decimal}
 use Rattle.book_accounts.specs.Order.{depth_first}

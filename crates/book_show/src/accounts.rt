@@ -26,11 +26,7 @@ const SIDES: [Side; 6] = [
 
 /// The accounts of a book, each with its number and its balance over all days, in the order of their tree.
 #[tactic(auto, unfolding(crate::specs::Accounts::accounts_text))]
-pub fn accounts_text(
-    alloc: Global,
-    book: &PresentBook,
-    form: Form,
-) -> Result<Text, OutOfMemory>
+pub fn accounts_text(alloc: Global, book: &PresentBook, form: Form) -> Result<Text, OutOfMemory>
     ensures { IfOk result (λ text. text ≡ accounts_text book.now form) }
 {
     let rows = account_rows(alloc, book)?;

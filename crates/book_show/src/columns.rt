@@ -55,11 +55,7 @@ fn records_text(alloc: Global, rows: &[Many<Text>]) -> Result<Text, OutOfMemory>
 }
 
 /// The rows in columns.
-fn lines_text(
-    alloc: Global,
-    sides: &[Side],
-    rows: &[Many<Text>],
-) -> Result<Text, OutOfMemory>
+fn lines_text(alloc: Global, sides: &[Side], rows: &[Many<Text>]) -> Result<Text, OutOfMemory>
     ensures { IfOk result (λ text. text ≡ lines sides.now rows.now) }
 {
     let columns = columns_of(alloc, sides, rows)?;

@@ -37,11 +37,7 @@ const PRICE_SIDES: [Side; 6] = [
 
 /// The commodities of a book, by number.
 #[tactic(auto, unfolding(crate::specs::Commodities::commodities_text))]
-pub fn commodities_text(
-    alloc: Global,
-    book: &PresentBook,
-    form: Form,
-) -> Result<Text, OutOfMemory>
+pub fn commodities_text(alloc: Global, book: &PresentBook, form: Form) -> Result<Text, OutOfMemory>
     ensures { IfOk result (λ text. text ≡ commodities_text book.now form) }
 {
     let mut rows = Many::new(alloc);

@@ -60,11 +60,7 @@ pub fn show<K: Keeper>(
 }
 
 /// The present book that the keeper has at a path.
-fn open_at<K: Keeper>(
-    alloc: Global,
-    keeper: &mut K,
-    path: &str,
-) -> Result<PresentBook, OpenError>
+fn open_at<K: Keeper>(alloc: Global, keeper: &mut K, path: &str) -> Result<PresentBook, OpenError>
     ensures sure { IsTrue (K.sure keeper.new) → IsTrue (K.sure keeper.old) }
     ensures rows { IsTrue (K.sure keeper.new) → (rows : List Row) → K.holds keeper.old rows → K.holds keeper.new rows }
     ensures opened { IsTrue (K.sure keeper.new) → (rows : List Row) → K.holds keeper.old rows → OpenedAs rows result }

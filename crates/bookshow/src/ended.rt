@@ -9,7 +9,8 @@ use std::io::ErrorKind;
 use std::process::{ExitCode, Termination};
 
 /// What the program prints where the words ask nothing.
-const USAGE: &str = "usage: bookshow BOOK accounts|commodities|prices|journal [FROM TO]|find TEXT|command NUMBER \
+const USAGE: &str =
+    "usage: bookshow BOOK accounts|commodities|prices|journal [FROM TO]|find TEXT|command NUMBER \
     [--csv], or bookshow --help";
 
 /// How the program ended.

@@ -1,6 +1,6 @@
 use Rattle.std.proofs.Common.{ℕ, List, [], ◌∷◌, ◌++◌, ap, map, ◌∙◌}
 use Rattle.book_prices.specs.declared.price.Price.{Price}
-use Rattle.book_show.specs.Commodities.{price_columns, price_row}
+use Rattle.book_show.specs.Commodities.{price_row}
 use Rattle.book_show.proofs.commodities.price_rows.Goals as goal
 
 pub returns : goal.returns

@@ -13,9 +13,9 @@ returns c =
     let in_text : List ℕ → Bool = λ text. holds part (folded text) in
     let in_memos : List Split → Bool = λ splits. list_any (λ split. holds part (folded split.memo)) splits in
     let not_num : in_text transaction.num ≡ false =
-        ap in_text (sym c.as_str.ensures) ∙ sym c.in_ok-holds.ensures ∙ c.if-branch.false in
+    ap in_text (sym c.as_str.ensures) ∙ sym c.in_ok-holds.ensures ∙ c.if-branch.false in
     let not_described : in_text transaction.description ≡ false =
-        ap in_text (sym c.as_str-2.ensures) ∙ sym c.in_ok-holds-2.ensures ∙ c.if-branch-2.false in
+    ap in_text (sym c.as_str-2.ensures) ∙ sym c.in_ok-holds-2.ensures ∙ c.if-branch-2.false in
     IfOk-weaker c.has_memo.result _ _
     (λ has is. is ∙ ap in_memos c.as_slice.ensures
     ∙ sym (ap (λ (t : Bool). t || (in_text transaction.description || in_memos transaction.splits)) not_num
