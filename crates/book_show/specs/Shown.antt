@@ -3,6 +3,7 @@ use Rattle.std.specs.Prelude.{◌≡◌, ⊤, List, ℕ, Option, Some, None, Res
 use Rattle.book_keeper.specs.declared.row.Row.{Row}
 use Rattle.book_reports.specs.declared.form.Form.{Form}
 use Rattle.book_undo.specs.Book.{Book}
+use Rattle.book_show.specs.Account.{account_text}
 use Rattle.book_show.specs.Accounts.{accounts_text}
 use Rattle.book_show.specs.Command.{command_text}
 use Rattle.book_show.specs.Commodities.{commodities_text, prices_text}
@@ -10,7 +11,7 @@ use Rattle.book_show.specs.Find.{AreFound}
 use Rattle.book_show.specs.Journal.{IsJournal}
 use Rattle.book_show.specs.Opening.{AreRefused, HaveBook}
 use Rattle.book_show.specs.declared.question.Question.{Question}
-use Rattle.book_show.specs.declared.question.Question.TheVariants.{Accounts, Command, Commodities, Find, Journal, Prices}
+use Rattle.book_show.specs.declared.question.Question.TheVariants.{Account, Accounts, Command, Commodities, Find, Journal, Prices}
 use Rattle.book_show.specs.declared.showing.ShowError.{ShowError}
 use Rattle.book_show.specs.declared.showing.ShowError.TheVariants as error
 
@@ -26,6 +27,7 @@ Answers book Commodities form answer = answer ≡ Some (commodities_text book fo
 Answers book Prices form answer = answer ≡ Some (prices_text book form)
 Answers book (Journal days) form answer = IsSomeText answer (IsJournal book days form)
 Answers book (Find sought) form answer = IsSomeText answer (AreFound book sought form)
+Answers book (Account number) form answer = answer ≡ account_text book number form
 Answers book (Command number) form answer = answer ≡ command_text book number
 
 -- What is shown of rows: the answer of their present book, or that it has nothing of that number; or by what the rows

@@ -11,7 +11,7 @@ use Rattle.book_reports.specs.declared.form.Form.{Form}
 use Rattle.book_reports.specs.declared.form.Form.TheVariants.{Csv, Plain}
 use Rattle.book_show.specs.declared.days.Days.{Days}
 use Rattle.book_show.specs.declared.question.Question.{Question}
-use Rattle.book_show.specs.declared.question.Question.TheVariants.{Accounts, Command, Commodities, Find, Journal, Prices}
+use Rattle.book_show.specs.declared.question.Question.TheVariants.{Account, Accounts, Command, Commodities, Find, Journal, Prices}
 
 -- A word names a book where it is not empty and does not begin with a hyphen.
 abbrev pub is_book : List ℕ → Bool
@@ -45,6 +45,7 @@ alone word =
 abbrev pub with_one : List ℕ → List ℕ → Option Question
 with_one word one =
     if bytes_eq word (codes "command") then option_map Command (number_of one)
+    else if bytes_eq word (codes "account") then option_map Account (number_of one)
     else if bytes_eq word (codes "find") then Some (Find one)
     else None
 

@@ -2,8 +2,8 @@ ghost use Rattle.std.specs.Prelude.{◌≡◌, All, IfOk, IsSome};
 ghost use Rattle.book_accounts.specs.Order.{depth_first};
 ghost use Rattle.book_accounts.specs.Path.{path};
 ghost use Rattle.book_commodity.specs.Table.{value_of};
-ghost use Rattle.book_ledger.specs.Ledger.{Keeps};
-ghost use Rattle.book_reports.specs.Measure.{commodity_of, fraction_of, name_of};
+ghost use Rattle.book_ledger.specs.Ledger.{Keeps, register_of};
+ghost use Rattle.book_reports.specs.Measure.{CanBeSummed, commodity_of, fraction_of, name_of};
 ghost use Rattle.book_sound.specs.Soundness.{IsSoundBook};
 ghost use Rattle.book_splits.specs.Balance.{balance};
 ghost use Rattle.book_undo.specs.Book.{book_of};
@@ -11,6 +11,7 @@ ghost use Rattle.book_undo.specs.Book.{book_of};
 use book_commodity::{Many, OutOfMemory, Text};
 use book_ledger::Registers;
 use book_prices::Prices;
+use book_register::Register;
 use book_undo::Plain;
 use std::marker::Model;
 
@@ -108,6 +109,18 @@ impl PresentBook {
             Some(account) => account.commodity,
             None => 0,
         }
+    }
+
+    /// The register of an account of the book.
+    pub(crate) fn register(&self, account: u64) -> &Register
+        requires { IsSome (value_of account self.now.accounts) }
+        ensures rows { result.now.rows ≡ register_of account self.now.transactions }
+        ensures summed { CanBeSummed result.now.rows }
+    {
+        let Some(register) = self.registers.register(&self.plain.accounts, account) else {
+            unreachable!()
+        };
+        register
     }
 
     /// The balance of an account over all days, in smallest units of its commodity.

@@ -12,6 +12,8 @@ pub enum Question {
     Prices,
     /// The transactions by day: those of these days or, where none are given, all.
     Journal(Option<Days>),
+    /// The register of the account with this number.
+    Account(u64),
     /// The transactions in whose num, description or memos this text stands, by day.
     Find(Text),
     /// The line of the command `edit` of the transaction with this number.

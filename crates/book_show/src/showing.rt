@@ -5,6 +5,7 @@ ghost use Rattle.book_engine.specs.Opening.{HasOpenCause};
 ghost use Rattle.book_show.specs.Opening.{OpenedAs};
 ghost use Rattle.book_show.specs.Shown.{Answers, IsShown};
 
+use crate::account::account_text;
 use crate::accounts::accounts_text;
 use crate::command::command_text;
 use crate::commodities::{commodities_text, prices_text};
@@ -88,6 +89,7 @@ fn answer(
         Question::Commodities => Ok(Some(commodities_text(alloc, book, form)?)),
         Question::Prices => Ok(Some(prices_text(alloc, book, form)?)),
         Question::Journal(days) => Ok(Some(journal_text(alloc, book, days, form)?)),
+        Question::Account(number) => account_text(alloc, book, *number, form),
         Question::Find(sought) => Ok(Some(found_text(alloc, book, sought.as_str(), form)?)),
         Question::Command(number) => command_text(alloc, book, *number),
     }

@@ -176,8 +176,19 @@ fn with_one(word: &str, one: &Text) -> Result<Option<Question>, OutOfMemory>
 {
     match word {
         "command" => Ok(command(one.as_str())),
+        "account" => Ok(account(one.as_str())),
         "find" => Ok(Some(Question::Find(one.copy()?))),
         _ => Ok(None),
+    }
+}
+
+/// The question for the register of an account, where the word is its number.
+fn account(word: &str) -> Option<Question>
+    ensures { result ≡ option_map Question.Account (number_of word.now) }
+{
+    match number_of(word) {
+        Some(number) => Some(Question::Account(number)),
+        None => None,
     }
 }
 

@@ -10,7 +10,7 @@ use std::process::{ExitCode, Termination};
 
 /// What the program prints where the words ask nothing.
 const USAGE: &str =
-    "usage: bookshow BOOK accounts|commodities|prices|journal [FROM TO]|find TEXT|command NUMBER \
+    "usage: bookshow BOOK accounts|commodities|prices|journal [FROM TO]|account NUMBER|find TEXT|command NUMBER \
     [--csv], or bookshow --help";
 
 /// How the program ended.
@@ -87,7 +87,7 @@ impl Ended {
     fn message(self) -> &'static str {
         match self {
             Ended::Done | Ended::Closed => "",
-            Ended::NotThere => "bookshow: the book has no transaction with this number",
+            Ended::NotThere => "bookshow: the book has nothing with this number",
             Ended::Usage => USAGE,
             Ended::Memory => "bookshow: out of memory",
             Ended::OutputFault => "bookshow: the output failed",

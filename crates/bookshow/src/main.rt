@@ -31,6 +31,7 @@ Shows what the book in the file BOOK has, and writes nothing to it. WORD .. is o
   prices              the prices, with their numbers
   journal             all transactions by day, with their splits
   journal FROM TO     those from one day to another, as 2024-01-31
+  account NUMBER      the register of an account, with the other side of each split
   find TEXT           the transactions with TEXT in num, description or a memo
   command NUMBER      the line `edit` of a transaction as it stands
 
