@@ -37,7 +37,7 @@ pub rows_next :
 rows_next book fraction rows i row after made old new whole there is added held same =
     let rest = rows_after book fraction (take (i + 1) rows) (drop (i + 1) rows) in
     let here : made ≡ register_row book fraction row (balance (take (i + 1) rows)) =
-        is ∙ ap (register_row book fraction row) same in
+    is ∙ ap (register_row book fraction row) same in
     ap (λ (l : List (List (List ℕ))). l ++ rest) (added ∙ ap (λ (r : List (List ℕ)). old ++ r ∷ []) here)
     ∙ append_assoc old (register_row book fraction row (balance (take (i + 1) rows)) ∷ []) rest
     ∙ ap (λ (l : List (List (List ℕ))). old ++ l) (sym (rows_step book fraction rows i row there)) ∙ held

@@ -18,7 +18,7 @@ overflow_add-balance c =
     let next = balance_next rows i c.row-row.result c.row-row.ensures.row in
     let before = balance_small (take i rows) (first_can_be_summed rows i can) in
     let after = balance_small (take (i + 1) rows) (first_can_be_summed rows (i + 1) can) in
-    search (rules, fits, next, before, after, c.loop-place.invariant.1, c.from-balance.ensures)
+    search (rules, fits, next, before, after, c.loop-place.invariant.1, c.from.ensures)
 
 pub loop-place-preserved : goal.loop-place-preserved
 loop-place-preserved c =
@@ -32,8 +32,8 @@ loop-place-preserved c =
     (balance_small (take (i + 1) rows) (first_can_be_summed rows (i + 1) can)) in (
       rows_next c.args.book.now c.fraction-fraction.result rows i c.row-row.result _ _ _ _ _ c.row-row.ensures.row
           c.in_ok-register_row.ensures c.in_ok-push.ensures.added c.loop-place.invariant.0
-          (omega (arith, ints, fits, next, before.0, before.1, after.0, after.1, c.loop-place.invariant.1, c.from-balance.ensures)),
-      omega (arith, ints, fits, next, before.0, before.1, after.0, after.1, c.loop-place.invariant.1, c.from-balance.ensures),
+          (omega (arith, ints, fits, next, before.0, before.1, after.0, after.1, c.loop-place.invariant.1, c.from.ensures)),
+      omega (arith, ints, fits, next, before.0, before.1, after.0, after.1, c.loop-place.invariant.1, c.from.ensures),
     )
 
 pub returns : goal.returns
