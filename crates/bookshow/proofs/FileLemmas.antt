@@ -18,3 +18,11 @@ pub of_rows :
     → (rows : List Row) → BeginsWith image rows → P rows
 of_rows image P holds empty rows (inl it) = subst P (sym it.are) (holds it.db it.database it.listed)
 of_rows image P holds empty rows (inr it) = subst P (sym it.1) (empty it.0)
+
+-- so does what follows from that
+pub from_rows :
+    (image : Image) (P Q : List Row → Type 0) → ((rows : List Row) → P rows → Q rows)
+    → ((db : Trees) → HoldsDatabase image db → ListsRows db → P (rows_of (db 0)))
+    → (HoldNothing image → P [])
+    → (rows : List Row) → BeginsWith image rows → Q rows
+from_rows image P Q next holds empty rows begins = next rows (of_rows image P holds empty rows begins)
