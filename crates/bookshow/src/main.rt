@@ -87,7 +87,7 @@ fn show_file(rt: &HostRuntime, asked: &Asked) -> Ended {
     if !is_there(rt, asked.book) {
         return Ended::NoBook;
     }
-    // The keeper is not closed, so that a log beside the file stays as it is.
+    // The keeper is not closed, since that would copy the commits of a log beside the file into it.
     let (answer, keeper) = show_in(rt, asked, Unknown);
     drop(keeper);
     match answer {
