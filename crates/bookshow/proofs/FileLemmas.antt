@@ -1,5 +1,5 @@
 -- What is said of the rows of a file.
-use Rattle.std.proofs.Common.{◌≡◌, List, [], inl, inr, sym, subst}
+use Rattle.std.proofs.Common.{List, [], inl, inr, sym, subst}
 use Rattle.sqlite_trees.specs.Tree.{Trees}
 use Rattle.sqlite_wal.specs.Recovery.{Image}
 use Rattle.sqlite.specs.Files.{HoldsDatabase}
