@@ -1,0 +1,36 @@
+-- The present book of a keeper's rows, as the machine of whole books has it that opens from them.
+use Rattle.std.specs.Prelude.{◌≡◌, ⊤, List, None, Some, Result, Ok, Err}
+use Rattle.book_keeper.specs.declared.row.Row.{Row}
+use Rattle.book_opening.specs.State.{State}
+use Rattle.book_state_check.specs.SoundState.{unsound_at}
+use Rattle.book_undo.specs.Book.{Book}
+use Rattle.book_engine.specs.Machine.{Machine}
+use Rattle.book_engine.specs.Opening.{row_key}
+use Rattle.book_engine.specs.Opens.{Bad, Opens, OpensTo, Unsound}
+use Rattle.book_engine.specs.declared.fault.OpenError.{OpenError}
+use Rattle.book_engine.specs.declared.fault.OpenError.TheVariants as error
+
+-- The rows open as a machine with this present book.
+abbrev pub HaveBook : List Row → Book → Type 0
+HaveBook rows book = (machine : Machine) × OpensTo rows (Opens machine) × (machine.book ≡ book)
+
+-- What the rows are refused by: the least bad key, or the first at which they are not sound. That the keeper failed, or
+-- the program is out of memory, says nothing of them.
+abbrev pub AreRefused : List Row → OpenError → Type 0
+AreRefused rows (error.BadRows kind id) = OpensTo rows (Bad (row_key kind id))
+AreRefused rows (error.UnsoundBook kind id) = OpensTo rows (Unsound (row_key kind id))
+AreRefused rows error.Keeper = ⊤
+AreRefused rows error.OutOfMemory = ⊤
+
+-- What is answered of rows.
+abbrev pub OpenedAs : List Row → Result Book OpenError → Type 0
+OpenedAs rows (Ok book) = HaveBook rows book
+OpenedAs rows (Err error) = AreRefused rows error
+
+-- What is answered of a state that was read: its book, or the first key at which it is not sound.
+abbrev pub CheckedAs : State → Result Book OpenError → Type 0
+CheckedAs state (Ok book) = (book ≡ state.book) × (unsound_at state ≡ None)
+CheckedAs state (Err (error.BadRows kind id)) = ⊥
+CheckedAs state (Err (error.UnsoundBook kind id)) = unsound_at state ≡ Some (row_key kind id)
+CheckedAs state (Err error.Keeper) = ⊥
+CheckedAs state (Err error.OutOfMemory) = ⊤

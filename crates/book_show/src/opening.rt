@@ -1,0 +1,88 @@
+ghost use Rattle.std.specs.Prelude.{◌≡◌, List, IfErr, IfOk, IsTrue};
+ghost use Rattle.book_keeper.specs.declared.row.Row.{Row};
+ghost use Rattle.book_opening.specs.Opening.{WasRead};
+ghost use Rattle.book_opening.specs.Reading.{IsReadable};
+ghost use Rattle.book_opening.specs.State.{state_of};
+ghost use Rattle.book_sound.specs.Soundness.{IsSoundBook};
+ghost use Rattle.book_step.specs.State.{fresh_book as fresh_book_is};
+ghost use Rattle.book_undo.specs.Book.{book_of};
+ghost use Rattle.book_engine.specs.Opening.{HasOpenCause, open_error};
+ghost use Rattle.book_show.specs.Opening.{CheckedAs, OpenedAs};
+
+use crate::PresentBook;
+use book_commodity::OutOfMemory;
+use book_engine::OpenError;
+use book_keeper::Keeper;
+use book_ledger::Registers;
+use book_opening::{OpenFault, Saved, read_rows};
+use book_state_check::first_unsound_key;
+use book_turns::fresh_book;
+use book_undo::Plain;
+use std::alloc::Global;
+
+/// The present book of the keeper's rows, which stay: that of the machine that opens from them, and without rows the
+/// fresh book. The errors are those of `Engine::open`, which asks the same of the rows.
+pub fn open_book<K: Keeper>(alloc: Global, keeper: &mut K) -> Result<PresentBook, OpenError>
+    ensures keeper { WasRead K.path_given K.sure K.holds keeper.old keeper.new }
+    ensures opened { IsTrue (K.sure keeper.new) → (rows : List Row) → K.holds keeper.old rows → OpenedAs rows result }
+    ensures cause { HasOpenCause (K.faults keeper.old) (K.faults keeper.new) result }
+{
+    match read_rows(alloc, keeper) {
+        Ok(Some(state)) => checked(alloc, state),
+        Ok(None) => begin(alloc),
+        Err(fault) => Err(open_error(fault)),
+    }
+}
+
+/// The fresh book.
+fn begin(alloc: Global) -> Result<PresentBook, OpenError>
+    ensures book { IfOk result (λ book. book ≡ fresh_book_is) }
+    ensures memory { IfErr result (λ error. error ≡ OpenError.OutOfMemory) }
+{
+    match fresh_book(alloc) {
+        Ok(plain) => with_registers(alloc, plain),
+        Err(OutOfMemory) => Err(OpenError::OutOfMemory),
+    }
+}
+
+/// The book of a state that was read, or the first key at which that is unsound.
+fn checked(alloc: Global, state: Saved) -> Result<PresentBook, OpenError>
+    requires { IsReadable (state_of state) }
+    ensures { CheckedAs (state_of state) result }
+{
+    let mut state = state;
+    match first_unsound_key(alloc, &mut state) {
+        Ok(None) => {
+            let Saved { plain, .. } = state;
+            with_registers(alloc, plain)
+        }
+        Ok(Some(key)) => Err(OpenError::UnsoundBook {
+            kind: key.kind,
+            id: key.id,
+        }),
+        Err(OutOfMemory) => Err(OpenError::OutOfMemory),
+    }
+}
+
+/// A sound book with its registers.
+fn with_registers(alloc: Global, plain: Plain) -> Result<PresentBook, OpenError>
+    requires { IsSoundBook (book_of plain) }
+    ensures book { IfOk result (λ book. book ≡ book_of plain) }
+    ensures memory { IfErr result (λ error. error ≡ OpenError.OutOfMemory) }
+{
+    match Registers::of(alloc, &plain) {
+        Ok(registers) => Ok(PresentBook::of(plain, registers)),
+        Err(OutOfMemory) => Err(OpenError::OutOfMemory),
+    }
+}
+
+/// The error of a keeper's rows that could not be read.
+fn open_error(fault: OpenFault) -> OpenError
+    ensures { result ≡ open_error fault }
+{
+    match fault {
+        OpenFault::Keeper => OpenError::Keeper,
+        OpenFault::BadRows { kind, id } => OpenError::BadRows { kind, id },
+        OpenFault::OutOfMemory => OpenError::OutOfMemory,
+    }
+}

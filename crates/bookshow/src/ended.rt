@@ -1,0 +1,112 @@
+ghost use Rattle.std.specs.Prelude.{◌≡◌};
+ghost use Rattle.std.specs.Process.{exit_status};
+ghost use Rattle.bookshow.specs.Ended.{number_of};
+
+use book_engine::OpenError;
+use book_show::ShowError;
+use std::io;
+use std::io::ErrorKind;
+use std::process::{ExitCode, Termination};
+
+/// What the program prints where the words ask nothing.
+const USAGE: &str =
+    "usage: bookshow BOOK accounts|commodities|prices|journal [FROM TO]|account NUMBER|find TEXT|command NUMBER \
+    [--csv], or bookshow --help";
+
+/// How the program ended.
+#[derive(Clone, Copy, Debug, PartialEq, Eq)]
+pub(crate) enum Ended {
+    /// All was written.
+    Done,
+    /// The book has nothing of the number that is asked for.
+    NotThere,
+    /// The words ask nothing.
+    Usage,
+    /// It was out of memory.
+    Memory,
+    /// What reads the output closed it.
+    Closed,
+    /// The output failed.
+    OutputFault,
+    /// There is no book at the path.
+    NoBook,
+    /// The book's file can't be opened or read.
+    KeeperFault,
+    /// The row of this key can't be read, or is missing.
+    BadRows { kind: u8, id: u64 },
+    /// This key is the first at which the book breaks a rule.
+    UnsoundBook { kind: u8, id: u64 },
+}
+
+impl Ended {
+    /// The end by an error of what is shown.
+    pub(crate) fn of_error(error: ShowError) -> Ended {
+        match error {
+            ShowError::Unknown => Ended::NotThere,
+            ShowError::OutOfMemory | ShowError::Open(OpenError::OutOfMemory) => Ended::Memory,
+            ShowError::Open(OpenError::Keeper) => Ended::KeeperFault,
+            ShowError::Open(OpenError::BadRows { kind, id }) => Ended::BadRows { kind, id },
+            ShowError::Open(OpenError::UnsoundBook { kind, id }) => Ended::UnsoundBook { kind, id },
+        }
+    }
+
+    /// The end by an error of the output.
+    pub(crate) fn of_output(error: &io::Error) -> Ended {
+        if error.kind() == ErrorKind::BrokenPipe {
+            Ended::Closed
+        } else {
+            Ended::OutputFault
+        }
+    }
+
+    /// The end where the words could not be read: one of them is not UTF-8, or there was no memory.
+    pub(crate) fn of_words(error: &io::Error) -> Ended {
+        if error.kind() == ErrorKind::InvalidData {
+            Ended::Usage
+        } else {
+            Ended::Memory
+        }
+    }
+
+    /// The number with which the program ends, as those of `book`.
+    pub(crate) fn number(self) -> u8
+        ensures { result ≡ number_of self }
+    {
+        match self {
+            Ended::Done => 0,
+            Ended::NotThere => 1,
+            Ended::Usage => 2,
+            Ended::Memory => 3,
+            Ended::Closed | Ended::OutputFault => 5,
+            Ended::NoBook | Ended::KeeperFault => 6,
+            Ended::BadRows { .. } | Ended::UnsoundBook { .. } => 7,
+        }
+    }
+
+    /// The line that the program prints on standard error; empty where it prints none.
+    fn message(self) -> &'static str {
+        match self {
+            Ended::Done | Ended::Closed => "",
+            Ended::NotThere => "bookshow: the book has nothing with this number",
+            Ended::Usage => USAGE,
+            Ended::Memory => "bookshow: out of memory",
+            Ended::OutputFault => "bookshow: the output failed",
+            Ended::NoBook => "bookshow: there is no book at this path",
+            Ended::KeeperFault => "bookshow: the book file failed",
+            Ended::BadRows { .. } | Ended::UnsoundBook { .. } => "bookshow: the book is damaged",
+        }
+    }
+}
+
+impl Termination for Ended {
+    /// Prints the message on standard error where there is one, and ends with the number.
+    fn report<R: Eprint>(self, rt: &R) -> ExitCode
+        ensures number { exit_status result ≡ number_of self }
+    {
+        let message = self.message();
+        if !message.is_empty() {
+            let _ = rt.eprintln(message);
+        }
+        ExitCode::from(self.number())
+    }
+}

@@ -1,0 +1,125 @@
+//! The program `bookshow`: `bookshow BOOK WORD ..` shows what the book in a file has, with the numbers by which commands
+//! name things. It reads the file through the keeper that `book` writes it by, and commits nothing: the rows of the file
+//! stay as they are, whatever the words.
+#![tactic(auto)]
+
+mod ended;
+
+ghost use Rattle.std.specs.Prelude.{◌≡◌, List, IsTrue, OnOk};
+ghost use Rattle.sqlite.specs.Files.{over_files};
+ghost use Rattle.sqlite.specs.WalFiles.{image_at};
+ghost use Rattle.book_keeper.specs.declared.row.Row.{Row};
+ghost use Rattle.book_sqlite.specs.KeeperInSqlite.{HoldsRows, is_sure};
+ghost use Rattle.book_show.specs.Shown.{IsShown};
+ghost use Rattle.bookshow.specs.FileRows.{BeginsWith};
+
+use crate::ended::Ended;
+use book_commodity::{OutOfMemory, Text};
+use book_show::{Asked, ShowError, asked_of, show};
+use book_sqlite::FileKeeper;
+use sqlite::{Start, Unknown};
+use std::io::Write;
+use std::{env, fs, io};
+
+/// What `--help` shows.
+const HELP: &str = "usage: bookshow BOOK WORD .. [--csv]
+
+Shows what the book in the file BOOK has, and writes nothing to it. WORD .. is one of
+
+  accounts            the accounts, with their numbers and balances
+  commodities         the commodities, with their numbers
+  prices              the prices, with their numbers
+  journal             all transactions by day, with their splits
+  journal FROM TO     those from one day to another, as 2024-01-31
+  account NUMBER      the register of an account, with the other side of each split
+  find TEXT           the transactions with TEXT in num, description or a memo
+  command NUMBER      the line `edit` of a transaction as it stands
+
+--csv asks for comma-separated values in place of columns.
+";
+
+/// What `--version` shows.
+const VERSION: &str = "bookshow 1\n";
+
+/// The words behind the program's name.
+fn words(rt: &HostRuntime) -> io::Result<Vec<Text>> {
+    let mut words = Vec::new(rt.alloc());
+    for word in env::args(rt)?.skip(1) {
+        words.push(Text::of(word))?;
+    }
+    Ok(words)
+}
+
+/// The answer to what is asked of the book in a file, and the keeper over that file as it was left. `T` stands for what
+/// the file and its log held before. It is proved for every `T`, so it holds of any file: the rows stay.
+fn show_in<T: Start>(
+    rt: &HostRuntime,
+    asked: &Asked,
+    start: T,
+) -> (Result<Text, ShowError>, FileKeeper<T>)
+    ensures rows { IsTrue (is_sure over_files result.1) → (rows : List Row)
+        → BeginsWith (image_at T.Start) rows → HoldsRows over_files result.1 rows }
+    ensures shown { IsTrue (is_sure over_files result.1) → (rows : List Row)
+        → BeginsWith (image_at T.Start) rows → IsShown rows asked.now.question asked.now.form result.0 }
+    ensures path { OnOk result.0 (result.1.path ≡ asked.now.book.now) }
+{
+    let mut keeper = FileKeeper::at(rt, Some(asked.book), start);
+    let answer = show(
+        rt.alloc(),
+        &mut keeper,
+        asked.book,
+        &asked.question,
+        asked.form,
+    );
+    (answer, keeper)
+}
+
+/// Whether a file with something in it stands at the path. A keeper would make one where there is none.
+fn is_there(rt: &HostRuntime, path: &str) -> bool {
+    match fs::metadata(rt, path) {
+        Ok(found) => found.len() > 0,
+        Err(_) => false,
+    }
+}
+
+/// Shows what is asked of the book in a file.
+fn show_file(rt: &HostRuntime, asked: &Asked) -> Ended {
+    if !is_there(rt, asked.book) {
+        return Ended::NoBook;
+    }
+    // The keeper is not closed, since that would copy the commits of a log beside the file into it.
+    let (answer, keeper) = show_in(rt, asked, Unknown);
+    drop(keeper);
+    match answer {
+        Ok(text) => print(rt, text.as_str()),
+        Err(error) => Ended::of_error(error),
+    }
+}
+
+/// Writes a text on standard output.
+fn print(rt: &HostRuntime, text: &str) -> Ended {
+    match io::writer(rt).write_all(text.as_bytes()) {
+        Ok(()) => Ended::Done,
+        Err(error) => Ended::of_output(&error),
+    }
+}
+
+/// Does what the words ask.
+fn run(rt: &HostRuntime, words: &[Text]) -> Ended {
+    match words {
+        [word] if word.as_str() == "--help" => print(rt, HELP),
+        [word] if word.as_str() == "--version" => print(rt, VERSION),
+        _ => match asked_of(words) {
+            Ok(Some(asked)) => show_file(rt, &asked),
+            Ok(None) => Ended::Usage,
+            Err(OutOfMemory) => Ended::Memory,
+        },
+    }
+}
+
+fn main(rt: HostRuntime) -> Ended {
+    match words(&rt) {
+        Ok(words) => run(&rt, words.as_slice()),
+        Err(error) => Ended::of_words(&error),
+    }
+}
