@@ -1,5 +1,9 @@
 -- The number with which the program ends: those of `book`, and 1 where the book has nothing of the number asked for.
 use Rattle.std.specs.Prelude.{ℕ}
+use Rattle.book_engine.specs.declared.fault.OpenError.{OpenError}
+use Rattle.book_engine.specs.declared.fault.OpenError.TheVariants as fault
+use Rattle.book_show.specs.declared.showing.ShowError.{ShowError}
+use Rattle.book_show.specs.declared.showing.ShowError.TheVariants as error
 use Rattle.bookshow.specs.declared.ended.Ended.{Ended}
 use Rattle.bookshow.specs.declared.ended.Ended.TheVariants.{Done, NotThere, Usage, Memory, Closed, OutputFault}
 use Rattle.bookshow.specs.declared.ended.Ended.TheVariants.{NoBook, KeeperFault, BadRows, UnsoundBook}
@@ -15,3 +19,16 @@ number_of NoBook = 6
 number_of KeeperFault = 6
 number_of (BadRows kind id) = 7
 number_of (UnsoundBook kind id) = 7
+
+-- The end where rows are refused.
+abbrev pub end_of_opening : OpenError → Ended
+end_of_opening fault.Keeper = KeeperFault
+end_of_opening fault.OutOfMemory = Memory
+end_of_opening (fault.BadRows kind id) = BadRows kind id
+end_of_opening (fault.UnsoundBook kind id) = UnsoundBook kind id
+
+-- The end where nothing is shown.
+abbrev pub end_of : ShowError → Ended
+end_of error.Unknown = NotThere
+end_of error.OutOfMemory = Memory
+end_of (error.Open cause) = end_of_opening cause

@@ -1,6 +1,6 @@
 ghost use Rattle.std.specs.Prelude.{◌≡◌};
 ghost use Rattle.std.specs.Process.{exit_status};
-ghost use Rattle.bookshow.specs.Ended.{number_of};
+ghost use Rattle.bookshow.specs.Ended.{end_of, number_of};
 
 use book_engine::OpenError;
 use book_show::ShowError;
@@ -40,7 +40,9 @@ pub(crate) enum Ended {
 
 impl Ended {
     /// The end by an error of what is shown.
-    pub(crate) fn of_error(error: ShowError) -> Ended {
+    pub(crate) fn of_error(error: ShowError) -> Ended
+        ensures { result ≡ end_of error }
+    {
         match error {
             ShowError::Unknown => Ended::NotThere,
             ShowError::OutOfMemory | ShowError::Open(OpenError::OutOfMemory) => Ended::Memory,

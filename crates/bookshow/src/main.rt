@@ -1,6 +1,6 @@
 //! The program `bookshow`: `bookshow BOOK WORD ..` shows what the book in a file has, with the numbers by which commands
 //! name things. It reads the file through the keeper that `book` writes it by, and commits nothing: the rows of the file
-//! stay as they are, whatever the words.
+//! stay as they are, whatever the words. A log may be left beside the file, as by each run over it.
 #![tactic(auto)]
 
 mod ended;
@@ -18,13 +18,13 @@ use book_commodity::{OutOfMemory, Text};
 use book_show::{Asked, ShowError, asked_of, show};
 use book_sqlite::FileKeeper;
 use sqlite::{Start, Unknown};
-use std::io::Write;
+use std::io::{ErrorKind, Write};
 use std::{env, fs, io};
 
 /// What `--help` shows.
 const HELP: &str = "usage: bookshow BOOK WORD .. [--csv]
 
-Shows what the book in the file BOOK has, and writes nothing to it. WORD .. is one of
+Shows what the book in the file BOOK has, and changes nothing in it. WORD .. is one of
 
   accounts            the accounts, with their numbers and balances
   commodities         the commodities, with their numbers
@@ -35,7 +35,7 @@ Shows what the book in the file BOOK has, and writes nothing to it. WORD .. is o
   find TEXT           the transactions with TEXT in num, description or a memo
   command NUMBER      the line `edit` of a transaction as it stands
 
---csv asks for comma-separated values in place of columns.
+--csv asks for comma-separated values in place of columns, but for `command`.
 ";
 
 /// What `--version` shows.
@@ -74,18 +74,31 @@ fn show_in<T: Start>(
     (answer, keeper)
 }
 
-/// Whether a file with something in it stands at the path. A keeper would make one where there is none.
-fn is_there(rt: &HostRuntime, path: &str) -> bool {
+/// Why the file at the path is not opened, if it is not. A keeper would make one where there is none, so one that is
+/// missing or empty has no book; a log beside it may have one, which only `book` may take over.
+fn refused(rt: &HostRuntime, path: &str) -> Option<Ended> {
     match fs::metadata(rt, path) {
-        Ok(found) => found.len() > 0,
-        Err(_) => false,
+        Ok(found) if found.len() > 0 => None,
+        Err(error) if error.kind() != ErrorKind::NotFound => Some(Ended::KeeperFault),
+        _ => Some(without_file(rt, path)),
+    }
+}
+
+/// The end where the file is missing or empty.
+fn without_file(rt: &HostRuntime, path: &str) -> Ended {
+    match format!(in rt.alloc(); "{path}-wal") {
+        Ok(log) => match fs::exists(rt, log.as_str()) {
+            Ok(false) => Ended::NoBook,
+            Ok(true) | Err(_) => Ended::KeeperFault,
+        },
+        Err(_) => Ended::Memory,
     }
 }
 
 /// Shows what is asked of the book in a file.
 fn show_file(rt: &HostRuntime, asked: &Asked) -> Ended {
-    if !is_there(rt, asked.book) {
-        return Ended::NoBook;
+    if let Some(ended) = refused(rt, asked.book) {
+        return ended;
     }
     // The keeper is not closed, since that would copy the commits of a log beside the file into it.
     let (answer, keeper) = show_in(rt, asked, Unknown);
