@@ -13,8 +13,8 @@ use std::alloc::Global;
 /// Why a reconciliation isn't finished.
 #[derive(Clone, Copy, Debug, PartialEq, Eq)]
 pub enum FinishError {
-    /// The closing balance is so much above what is reconciled and cleared, in smallest units of the account's
-    /// commodity; below it for a negative number.
+    /// The closing balance is so much above what is reconciled and, on or before the day, cleared, in smallest units
+    /// of the account's commodity; below it for a negative number.
     Difference { by: i128 },
     OutOfMemory,
 }
