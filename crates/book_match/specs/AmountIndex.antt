@@ -1,5 +1,5 @@
 -- The splits that may be matched, kept so that those of one account and amount stand together.
-use Rattle.std.specs.Prelude.{◌≡◌, ⊤, ℕ, zero, suc, ◌==◌, nat_lt, int_lt, ℤ, Bool, true, false, ◌&&◌, if◌then◌else◌}
+use Rattle.std.specs.Prelude.{◌≡◌, ⊤, ℕ, ◌==◌, nat_lt, int_lt, ℤ, Bool, true, ◌&&◌, if◌then◌else◌}
 use Rattle.std.specs.Prelude.{List, [], ◌∷◌, filter}
 use Rattle.std.specs.List.{list_any}
 use Rattle.std.specs.Ordering.{int_eq}
@@ -56,23 +56,3 @@ is_of_amount account amount entry = (entry.account == account) && int_eq entry.a
 -- The splits of an account with an amount.
 abbrev pub of_amount : ℕ → ℤ → List Free → List Free
 of_amount account amount entries = filter (is_of_amount account amount) entries
-
--- Whether a split comes before those of an account with an amount, and whether it comes behind them.
-abbrev pub is_under_amount : ℕ → ℤ → Free → Bool
-is_under_amount account amount entry =
-    in_turn (nat_lt entry.account account) (nat_lt account entry.account) (int_lt entry.amount amount)
-
-abbrev pub is_past_amount : ℕ → ℤ → Free → Bool
-is_past_amount account amount entry =
-    in_turn (nat_lt account entry.account) (nat_lt entry.account account) (int_lt amount entry.amount)
-
--- No split passes the test.
-abbrev pub NonePasses : (Free → Bool) → List Free → Type 0
-NonePasses test [] = ⊤
-NonePasses test (entry ∷ more) = (test entry ≡ false) × NonePasses test more
-
--- So many first splits pass the test, and no other does.
-abbrev pub IsCut : (Free → Bool) → List Free → ℕ → Type 0
-IsCut test entries zero = NonePasses test entries
-IsCut test [] (suc count) = ⊥
-IsCut test (entry ∷ more) (suc count) = (test entry ≡ true) × IsCut test more count
