@@ -3,7 +3,7 @@
 use Rattle.std.proofs.Common.{◌≡◌, ℕ, ℤ, pos, negsuc, false, List, [], ◌∷◌, None, refl}
 use Rattle.book_splits.specs.declared.split.Mark.TheVariants.{New}
 use Rattle.book_splits.specs.declared.transaction.Txn.{Txn}
-use Rattle.book_match.specs.AmountIndex.{is_there, of_amount, with_free, without_free}
+use Rattle.book_match.specs.AmountIndex.{is_there, of_amount, ordered, with_free, without_free}
 use Rattle.book_match.specs.Kept.{views_on}
 use Rattle.book_match.specs.Proposal.{proposal}
 use Rattle.book_match.specs.declared.free.Free.{Free}
@@ -125,6 +125,11 @@ index =
 index_rises : index
     ≡ free 2 (negsuc 499) (pos 19733) 9 ∷ free 3 (negsuc 499) (pos 19733) 5 ∷ free 3 (negsuc 499) (pos 19742) 6 ∷ []
 index_rises = refl
+
+-- the same put in at once
+all_at_once : ordered (free 3 (negsuc 499) (pos 19742) 6 ∷ free 2 (negsuc 499) (pos 19733) 9
+    ∷ free 3 (negsuc 499) (pos 19733) 5 ∷ []) ≡ index
+all_at_once = refl
 
 of_one_amount : of_amount 3 (negsuc 499) index
     ≡ free 3 (negsuc 499) (pos 19733) 5 ∷ free 3 (negsuc 499) (pos 19742) 6 ∷ []

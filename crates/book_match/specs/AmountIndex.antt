@@ -1,5 +1,5 @@
 -- The splits that may be matched, kept so that those of one account and amount stand together.
-use Rattle.std.specs.Prelude.{◌≡◌, ⊤, ℕ, ◌==◌, nat_lt, int_lt, ℤ, Bool, true, ◌&&◌, if◌then◌else◌}
+use Rattle.std.specs.Prelude.{◌≡◌, ⊤, ℕ, ◌==◌, nat_lt, int_lt, ℤ, Bool, true, false, ◌&&◌, if◌then◌else◌}
 use Rattle.std.specs.Prelude.{List, [], ◌∷◌, filter}
 use Rattle.std.specs.List.{list_any}
 use Rattle.std.specs.Ordering.{int_eq}
@@ -43,6 +43,16 @@ is_there free entries = list_any (is_same free) entries
 abbrev pub with_free : Free → List Free → List Free
 with_free free [] = free ∷ []
 with_free free (entry ∷ more) = if precedes entry free then entry ∷ with_free free more else free ∷ entry ∷ more
+
+-- These splits in the order of the index, each put in where it stands.
+abbrev pub ordered : List Free → List Free
+ordered [] = []
+ordered (free ∷ more) = with_free free (ordered more)
+
+-- None of these splits is there twice.
+abbrev pub AreApart : List Free → Type 0
+AreApart [] = ⊤
+AreApart (free ∷ more) = (is_there free more ≡ false) × AreApart more
 
 -- The splits without this one.
 abbrev pub without_free : Free → List Free → List Free

@@ -1,5 +1,5 @@
 ghost use Rattle.std.specs.Prelude.{◌≡◌, ◌+ℤ◌, ◌-ℤ◌, int_lt, pos};
-ghost use Rattle.book_match.specs.AmountIndex.{is_same as is_same_free, precedes as comes_before};
+ghost use Rattle.book_match.specs.AmountIndex.{is_same as is_same_free, precedes as stands_before};
 ghost use Rattle.book_match.specs.Cut.{is_past_amount as is_past, is_past_days as is_past_near};
 ghost use Rattle.book_match.specs.Cut.{is_under_amount as is_under, is_under_days as is_under_near};
 
@@ -17,7 +17,7 @@ pub struct Free {
 
 /// Whether one split comes before another: by account, amount, day and number.
 pub(crate) fn precedes(one: &Free, other: &Free) -> bool
-    ensures { result ≡ comes_before one.now other.now }
+    ensures { result ≡ stands_before one.now other.now }
 {
     if one.account != other.account {
         return one.account < other.account;
@@ -63,13 +63,7 @@ pub(crate) fn is_past_amount(free: &Free, account: u64, amount: i64) -> bool
 
 /// Whether the split comes before those of the account with this amount that are at most so many days away from the
 /// day.
-pub(crate) fn is_under_days(
-    free: &Free,
-    account: u64,
-    amount: i64,
-    day: Day,
-    window: u32,
-) -> bool
+pub(crate) fn is_under_days(free: &Free, account: u64, amount: i64, day: Day, window: u32) -> bool
     ensures { result ≡ is_under_near account amount day window free.now }
 {
     if free.account != account {
@@ -83,13 +77,7 @@ pub(crate) fn is_under_days(
 
 /// Whether the split comes behind those of the account with this amount that are at most so many days away from the
 /// day.
-pub(crate) fn is_past_days(
-    free: &Free,
-    account: u64,
-    amount: i64,
-    day: Day,
-    window: u32,
-) -> bool
+pub(crate) fn is_past_days(free: &Free, account: u64, amount: i64, day: Day, window: u32) -> bool
     ensures { result ≡ is_past_near account amount day window free.now }
 {
     if free.account != account {

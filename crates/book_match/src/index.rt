@@ -1,13 +1,15 @@
 ghost use Rattle.std.specs.Prelude.{◌≡◌, ◌+◌, ◌-◌, ◌^◌, ◌<◌, ◌≤◌, [], not, false, filter, length, min, OnOk, OnErr};
-ghost use Rattle.std.specs.Prelude.{if◌then◌else◌};
+ghost use Rattle.std.specs.Prelude.{IfOk, if◌then◌else◌};
 ghost use Rattle.std.specs.List.{slice_range};
-ghost use Rattle.book_match.specs.AmountIndex.{Rises, is_there, of_amount, precedes as comes_before, with_free};
-ghost use Rattle.book_match.specs.AmountIndex.{without_free};
+ghost use Rattle.book_match.specs.AmountIndex.{Rises, is_there, of_amount, precedes as stands_before, with_free};
+ghost use Rattle.book_match.specs.AmountIndex.{AreApart, ordered, without_free};
 ghost use Rattle.book_match.specs.Cut.{IsCut, is_near, is_past_amount as past, is_past_days as past_near};
 ghost use Rattle.book_match.specs.Cut.{is_under_amount as under, is_under_days as under_near};
 
 use crate::Free;
-use crate::free::{is_past_amount, is_past_days, is_same, is_under_amount, is_under_days, precedes};
+use crate::free::{
+    is_past_amount, is_past_days, is_same, is_under_amount, is_under_days, precedes,
+};
 use book_commodity::{Day, OutOfMemory};
 use std::alloc::Global;
 use std::marker::Model;
@@ -45,6 +47,20 @@ impl AmountIndex {
             entries: Vec::new(alloc),
             changes: 0,
         }
+    }
+
+    /// The index of all these splits, none of which is there twice. They are sorted once.
+    pub fn of_all(entries: Vec<Free>) -> Result<AmountIndex, OutOfMemory>
+        requires apart { AreApart entries.items }
+        ensures entries { IfOk result (λ index. index.entries ≡ ordered entries.items) }
+        ensures changes { IfOk result (λ index. index.changes ≡ 0) }
+    {
+        let mut entries = entries;
+        sort(&mut entries)?;
+        Ok(AmountIndex {
+            entries,
+            changes: 0,
+        })
     }
 
     /// How many splits were put in and taken out so far; at 2^64 - 1 it stays.
@@ -124,10 +140,20 @@ impl AmountIndex {
     }
 }
 
+/// Sorts splits by account, amount, day and number.
+fn sort(entries: &mut Vec<Free>) -> Result<(), OutOfMemory>
+    ensures { OnOk result (entries.new.items ≡ ordered entries.old.items) }
+{
+    entries.sort_by_key(|entry| {
+        (entry.account, entry.amount, entry.day.number(), entry.split)
+    })?;
+    Ok(())
+}
+
 /// How many of the splits come before this one.
 fn place_of(entries: &[Free], free: &Free) -> usize
     requires { Rises entries.now }
-    ensures cut { IsCut (λ entry. comes_before entry free.now) entries.now result }
+    ensures cut { IsCut (λ entry. stands_before entry free.now) entries.now result }
     ensures within { result ≤ length entries.now }
 {
     entries.partition_point(|entry| precedes(entry, free))

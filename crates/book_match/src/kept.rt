@@ -61,12 +61,7 @@ fn entries_near<'a>(
 }
 
 /// The number of the split that the line takes of these; `None` where none of them is left.
-fn split_for(
-    line: &LineView,
-    entries: &[Free],
-    txns: &Txns,
-    taken: &BTreeSet<u64>,
-) -> Option<u64>
+fn split_for(line: &LineView, entries: &[Free], txns: &Txns, taken: &BTreeSet<u64>) -> Option<u64>
     requires { are_once (numbers_of (splits_of txns.now.entries)) ≡ true }
     ensures { result ≡ option_map (λ view. view.split)
         (nearest_of line.now (map (view_of txns.now.entries) (filter (is_left taken.now) entries.now))) }
