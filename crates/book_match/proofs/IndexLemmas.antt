@@ -7,8 +7,10 @@ use Rattle.std.proofs.lemmas.Int.{ints}
 use Rattle.std.specs.List.{insert, remove}
 use Rattle.std.specs.List.Sorted.{IsPartitionedBy}
 use Rattle.std.specs.Prelude.{int_lt}
-use Rattle.book_match.specs.AmountIndex.{IsCut, NonePasses, PrecedesAll, Rises, is_of_amount, is_past_amount, is_same}
-use Rattle.book_match.specs.AmountIndex.{is_there, is_under_amount, of_amount, precedes, with_free, without_free}
+use Rattle.book_match.specs.AmountIndex.{PrecedesAll, Rises, is_of_amount, is_same, is_there, of_amount, precedes}
+use Rattle.book_match.specs.AmountIndex.{with_free, without_free}
+use Rattle.book_match.specs.Cut.{IsCut, NonePasses, is_near, is_past_amount, is_past_days, is_under_amount}
+use Rattle.book_match.specs.Cut.{is_under_days}
 use Rattle.book_match.specs.Proposal.{in_turn}
 use Rattle.book_match.specs.declared.free.Free.{Free}
 
@@ -70,6 +72,24 @@ under-not_past : (account : ℕ) (amount : ℤ) (e : Free) → is_under_amount a
     → not (is_past_amount account amount e) ≡ true
 under-not_past account amount e h = grind (arith, ints, nat_tests)
 
+-- and the same for those of an amount that are so near to a day
+under_days-before : (account : ℕ) (amount day : ℤ) (window : ℕ) (a b : Free) → precedes a b ≡ true
+    → is_under_days account amount day window b ≡ true → is_under_days account amount day window a ≡ true
+under_days-before account amount day window a b e f = grind (arith, ints, nat_tests)
+
+past_days-before : (account : ℕ) (amount day : ℤ) (window : ℕ) (a b : Free) → precedes a b ≡ true
+    → not (is_past_days account amount day window b) ≡ true → not (is_past_days account amount day window a) ≡ true
+past_days-before account amount day window a b e f = grind (arith, ints, nat_tests)
+
+between_days : (account : ℕ) (amount day : ℤ) (window : ℕ) (e : Free)
+    → is_near account amount day window e
+    ≡ (not (is_under_days account amount day window e) && not (is_past_days account amount day window e))
+between_days account amount day window e = grind (arith, ints, nat_tests, Decides-int_eq)
+
+under_days-not_past : (account : ℕ) (amount day : ℤ) (window : ℕ) (e : Free)
+    → is_under_days account amount day window e ≡ true → not (is_past_days account amount day window e) ≡ true
+under_days-not_past account amount day window e h = grind (arith, ints, nat_tests)
+
 -- ---- rising splits
 all-at : (free : Free) (es : List Free) (i : ℕ) (d : Free) → PrecedesAll free es → i < length es
     → precedes free (get_or es i d) ≡ true
@@ -102,6 +122,17 @@ pub parted-past : (account : ℕ) (amount : ℤ) (es : List Free) → Rises es
     → IsPartitionedBy (λ entry. not (is_past_amount account amount entry)) es
 parted-past account amount es up =
     partitioned (λ entry. not (is_past_amount account amount entry)) (past-before account amount) es up
+
+pub parted-under_days : (account : ℕ) (amount day : ℤ) (window : ℕ) (es : List Free) → Rises es
+    → IsPartitionedBy (is_under_days account amount day window) es
+parted-under_days account amount day window es up =
+    partitioned (is_under_days account amount day window) (under_days-before account amount day window) es up
+
+pub parted-past_days : (account : ℕ) (amount day : ℤ) (window : ℕ) (es : List Free) → Rises es
+    → IsPartitionedBy (λ entry. not (is_past_days account amount day window entry)) es
+parted-past_days account amount day window es up =
+    partitioned (λ entry. not (is_past_days account amount day window entry))
+    (past_days-before account amount day window) es up
 
 -- ---- where the two parts meet
 none-from : (test : Free → Bool) (es : List Free) → ((k : ℕ) (d : Free) → k < length es → test (get_or es k d) ≡ false)
@@ -286,3 +317,20 @@ pub amount-within : (account : ℕ) (amount : ℤ) (es : List Free) (i j : ℕ) 
 amount-within account amount es i j cut end =
     cut-below (is_under_amount account amount) (λ entry. not (is_past_amount account amount entry)) es i j cut end
     (under-not_past account amount)
+
+-- ---- the splits of one amount that are so near to a day
+pub near-is : (account : ℕ) (amount day : ℤ) (window : ℕ) (es : List Free) (i j : ℕ)
+    → IsCut (is_under_days account amount day window) es i
+    → IsCut (λ entry. not (is_past_days account amount day window entry)) es j
+    → take (j - i) (drop i es) ≡ filter (is_near account amount day window) es
+near-is account amount day window es i j cut end =
+    range-is (is_under_days account amount day window) (λ entry. not (is_past_days account amount day window entry))
+    (is_near account amount day window) es i j cut end (under_days-not_past account amount day window)
+    (between_days account amount day window)
+
+pub near-within : (account : ℕ) (amount day : ℤ) (window : ℕ) (es : List Free) (i j : ℕ)
+    → IsCut (is_under_days account amount day window) es i
+    → IsCut (λ entry. not (is_past_days account amount day window entry)) es j → i ≤ j
+near-within account amount day window es i j cut end =
+    cut-below (is_under_days account amount day window) (λ entry. not (is_past_days account amount day window entry))
+    es i j cut end (under_days-not_past account amount day window)

@@ -1,10 +1,11 @@
 -- The nearest of some splits is one of them, and none of them is nearer.
-use Rattle.std.proofs.Common.{◌≡◌, ℕ, nat_lt, Bool, true, false, not, ◌&&◌, List, [], ◌∷◌, Some, All}
+use Rattle.std.proofs.Common.{◌≡◌, ℕ, zero, suc, nat_lt, Bool, true, false, not, ◌&&◌, List, [], ◌∷◌, Option, Some}
+use Rattle.std.proofs.Common.{None, All, filter}
 use Rattle.std.proofs.Common.{refl, sym, ap, subst, ◌∙◌, arith, if◌then◌else◌}
 use Rattle.std.proofs.lemmas.Bool.Decides.{nat_tests}
 use Rattle.std.proofs.lemmas.List.Elements.{All-nil, All-cons}
-use Rattle.std.specs.Prelude.{fold}
-use Rattle.book_match.specs.Proposal.{distance, in_turn, is_nearer, nearer, nearest, same_number}
+use Rattle.std.specs.Prelude.{Contains, fold}
+use Rattle.book_match.specs.Proposal.{choice, distance, in_turn, is_candidate, is_nearer, nearer, nearest, same_number}
 use Rattle.book_match.specs.declared.views.LineView.{LineView}
 use Rattle.book_match.specs.declared.views.SplitView.{SplitView}
 
@@ -81,3 +82,42 @@ pub nearest-is_least : (line : LineView) (s : SplitView) (splits : List SplitVie
 nearest-is_least line s [] e = All-nil (λ split. is_nearer line split s ≡ false)
 nearest-is_least line s (x ∷ xs) e =
     let more = none-nearer line x s xs e in All-cons (λ split. is_nearer line split s ≡ false) x xs more.0 more.1
+
+-- ---- the choice of a line
+-- one that is chosen of some: one of them, and none of them is nearer; none only where there are none
+abbrev pub IsChosen : LineView → Option SplitView → List SplitView → Type 0
+IsChosen line None splits = splits ≡ []
+IsChosen line (Some s) splits = Contains splits s × All (λ split. is_nearer line split s ≡ false) splits
+
+later : (x s : SplitView) (splits : List SplitView) → Contains splits s → Contains (x ∷ splits) s
+later x s splits (k, lt, is) = (suc k, omega (arith, lt), is)
+
+-- the one that is left of those gone through is the first or one of the others
+one-of : (line : LineView) (other s : SplitView) (splits : List SplitView)
+    → fold (λ o split. Some (nearer line o split)) (Some other) splits ≡ Some s → Contains (other ∷ splits) s
+one-of line other s [] e = (zero, omega arith, some_is other s e)
+one-of line other s (x ∷ xs) e =
+    by_test (is_nearer line x other) (one-of line (nearer line (Some other) x) s xs e)
+  where
+    by_test : (t : Bool) → Contains ((if t then x else other) ∷ xs) s → Contains (other ∷ x ∷ xs) s
+    by_test true has = later other s (x ∷ xs) has
+    by_test false (zero, lt, is) = (zero, omega arith, is)
+    by_test false (suc k, lt, is) = (suc (suc k), omega (arith, lt), is)
+
+some_left : (line : LineView) (other : SplitView) (splits : List SplitView)
+    → fold (λ o split. Some (nearer line o split)) (Some other) splits ≡ None → ⊥
+some_left line other [] e = absurd cc
+some_left line other (x ∷ xs) e = some_left line (nearer line (Some other) x) xs e
+
+nearest-is : (line : LineView) (o : Option SplitView) (splits : List SplitView) → nearest line splits ≡ o
+    → IsChosen line o splits
+nearest-is line None [] e = refl
+nearest-is line None (x ∷ xs) e = absurd (some_left line x xs e)
+nearest-is line (Some s) [] e = absurd cc
+nearest-is line (Some s) (x ∷ xs) e = (one-of line x s xs e, nearest-is_least line s (x ∷ xs) e)
+
+-- the split that a line takes is one of the candidates, and no candidate is nearer; it takes none where there is none
+pub choice-is : (window : ℕ) (line : LineView) (splits : List SplitView)
+    → IsChosen line (choice window line splits) (filter (is_candidate window line) splits)
+choice-is window line splits =
+    nearest-is line (choice window line splits) (filter (is_candidate window line) splits) refl

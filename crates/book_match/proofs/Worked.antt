@@ -3,7 +3,7 @@
 use Rattle.std.proofs.Common.{◌≡◌, ℕ, ℤ, pos, negsuc, false, List, [], ◌∷◌, None, refl}
 use Rattle.book_splits.specs.declared.split.Mark.TheVariants.{New}
 use Rattle.book_splits.specs.declared.transaction.Txn.{Txn}
-use Rattle.book_match.specs.AmountIndex.{is_there, of_amount, with_free, without_free}
+use Rattle.book_match.specs.AmountIndex.{is_there, of_amount, ordered, with_free, without_free}
 use Rattle.book_match.specs.Kept.{views_on}
 use Rattle.book_match.specs.Proposal.{proposal}
 use Rattle.book_match.specs.declared.free.Free.{Free}
@@ -62,6 +62,28 @@ nearer_first : proposal 5 (line 1 (pos 19732) (pos 100) (55 ∷ []) ∷ [])
     ≡ with 1 6 ∷ []
 nearer_first = refl
 
+-- of splits two days before and two days after the one of the smaller number is taken, unless the other one alone has
+-- the line's check number
+abbrev one_line : List ℕ → List LineView
+one_line check = line 1 (pos 19732) (pos 100) check ∷ []
+
+abbrev both_sides : List ℕ → List ℕ → List SplitView
+both_sides before after = split 6 (pos 19730) (pos 100) before ∷ split 5 (pos 19734) (pos 100) after ∷ []
+
+as_near : proposal 2 (one_line []) (both_sides [] []) ≡ with 1 5 ∷ []
+as_near = refl
+
+one_has_the_number : proposal 2 (one_line (55 ∷ 55 ∷ [])) (both_sides (55 ∷ 55 ∷ []) []) ≡ with 1 6 ∷ []
+one_has_the_number = refl
+
+both_have_the_number : proposal 2 (one_line (55 ∷ 55 ∷ [])) (both_sides (55 ∷ 55 ∷ []) (55 ∷ 55 ∷ []))
+    ≡ with 1 5 ∷ []
+both_have_the_number = refl
+
+-- and a day less is too little for both
+within_one_day : proposal 1 (one_line []) (both_sides [] []) ≡ []
+within_one_day = refl
+
 -- another amount is never taken
 other_amount : proposal 366 (line 1 (pos 19732) (pos 100) [] ∷ []) (split 5 (pos 19732) (negsuc 99) [] ∷ []) ≡ []
 other_amount = refl
@@ -104,6 +126,11 @@ index_rises : index
     ≡ free 2 (negsuc 499) (pos 19733) 9 ∷ free 3 (negsuc 499) (pos 19733) 5 ∷ free 3 (negsuc 499) (pos 19742) 6 ∷ []
 index_rises = refl
 
+-- the same put in at once
+all_at_once : ordered (free 3 (negsuc 499) (pos 19742) 6 ∷ free 2 (negsuc 499) (pos 19733) 9
+    ∷ free 3 (negsuc 499) (pos 19733) 5 ∷ []) ≡ index
+all_at_once = refl
+
 of_one_amount : of_amount 3 (negsuc 499) index
     ≡ free 3 (negsuc 499) (pos 19733) 5 ∷ free 3 (negsuc 499) (pos 19742) 6 ∷ []
 of_one_amount = refl
@@ -125,3 +152,18 @@ kept_within_three_days = refl
 
 kept_within_ten_days : proposal 10 two_lines (views_on 3 index transactions) ≡ with 1 5 ∷ with 2 6 ∷ []
 kept_within_ten_days = refl
+
+-- the check number that decides is read in the split's transaction
+abbrev with_number : List ℕ → List (ℕ × Txn)
+with_number num = posted 4 5 (pos 19734) (pos 100) [] ∷ posted 7 6 (pos 19730) (pos 100) num ∷ []
+
+abbrev as_near_in_index : List Free
+as_near_in_index = free 3 (pos 100) (pos 19730) 6 ∷ free 3 (pos 100) (pos 19734) 5 ∷ []
+
+number_through_the_index : proposal 2 (one_line (55 ∷ 55 ∷ [])) (views_on 3 as_near_in_index
+    (with_number (55 ∷ 55 ∷ []))) ≡ with 1 6 ∷ []
+number_through_the_index = refl
+
+another_number_through_the_index : proposal 2 (one_line (55 ∷ 55 ∷ [])) (views_on 3 as_near_in_index
+    (with_number (55 ∷ 56 ∷ []))) ≡ with 1 5 ∷ []
+another_number_through_the_index = refl

@@ -1,5 +1,5 @@
 -- The splits that may be matched, kept so that those of one account and amount stand together.
-use Rattle.std.specs.Prelude.{◌≡◌, ⊤, ℕ, zero, suc, ◌==◌, nat_lt, int_lt, ℤ, Bool, true, false, ◌&&◌, if◌then◌else◌}
+use Rattle.std.specs.Prelude.{◌≡◌, ⊤, ℕ, ◌==◌, nat_lt, int_lt, ℤ, Bool, true, false, ◌&&◌, if◌then◌else◌}
 use Rattle.std.specs.Prelude.{List, [], ◌∷◌, filter}
 use Rattle.std.specs.List.{list_any}
 use Rattle.std.specs.Ordering.{int_eq}
@@ -44,6 +44,16 @@ abbrev pub with_free : Free → List Free → List Free
 with_free free [] = free ∷ []
 with_free free (entry ∷ more) = if precedes entry free then entry ∷ with_free free more else free ∷ entry ∷ more
 
+-- These splits in the order of the index, each put in where it stands.
+abbrev pub ordered : List Free → List Free
+ordered [] = []
+ordered (free ∷ more) = with_free free (ordered more)
+
+-- None of these splits is there twice.
+abbrev pub AreApart : List Free → Type 0
+AreApart [] = ⊤
+AreApart (free ∷ more) = (is_there free more ≡ false) × AreApart more
+
 -- The splits without this one.
 abbrev pub without_free : Free → List Free → List Free
 without_free free [] = []
@@ -56,23 +66,3 @@ is_of_amount account amount entry = (entry.account == account) && int_eq entry.a
 -- The splits of an account with an amount.
 abbrev pub of_amount : ℕ → ℤ → List Free → List Free
 of_amount account amount entries = filter (is_of_amount account amount) entries
-
--- Whether a split comes before those of an account with an amount, and whether it comes behind them.
-abbrev pub is_under_amount : ℕ → ℤ → Free → Bool
-is_under_amount account amount entry =
-    in_turn (nat_lt entry.account account) (nat_lt account entry.account) (int_lt entry.amount amount)
-
-abbrev pub is_past_amount : ℕ → ℤ → Free → Bool
-is_past_amount account amount entry =
-    in_turn (nat_lt account entry.account) (nat_lt entry.account account) (int_lt amount entry.amount)
-
--- No split passes the test.
-abbrev pub NonePasses : (Free → Bool) → List Free → Type 0
-NonePasses test [] = ⊤
-NonePasses test (entry ∷ more) = (test entry ≡ false) × NonePasses test more
-
--- So many first splits pass the test, and no other does.
-abbrev pub IsCut : (Free → Bool) → List Free → ℕ → Type 0
-IsCut test entries zero = NonePasses test entries
-IsCut test [] (suc count) = ⊥
-IsCut test (entry ∷ more) (suc count) = (test entry ≡ true) × IsCut test more count

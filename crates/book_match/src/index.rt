@@ -1,13 +1,16 @@
-ghost use Rattle.std.specs.Prelude.{◌≡◌, ◌+◌, ◌-◌, ◌^◌, ◌<◌, ◌≤◌, [], not, false, length, min, OnOk, OnErr};
-ghost use Rattle.std.specs.Prelude.{if◌then◌else◌};
+ghost use Rattle.std.specs.Prelude.{◌≡◌, ◌+◌, ◌-◌, ◌^◌, ◌<◌, ◌≤◌, [], not, false, filter, length, min, OnOk, OnErr};
+ghost use Rattle.std.specs.Prelude.{IfOk, if◌then◌else◌};
 ghost use Rattle.std.specs.List.{slice_range};
-ghost use Rattle.book_match.specs.AmountIndex.{IsCut, Rises, is_past_amount as past, is_there};
-ghost use Rattle.book_match.specs.AmountIndex.{is_under_amount as under};
-ghost use Rattle.book_match.specs.AmountIndex.{of_amount, precedes as comes_before, with_free, without_free};
+ghost use Rattle.book_match.specs.AmountIndex.{Rises, is_there, of_amount, precedes as stands_before, with_free};
+ghost use Rattle.book_match.specs.AmountIndex.{AreApart, ordered, without_free};
+ghost use Rattle.book_match.specs.Cut.{IsCut, is_near, is_past_amount as past, is_past_days as past_near};
+ghost use Rattle.book_match.specs.Cut.{is_under_amount as under, is_under_days as under_near};
 
 use crate::Free;
-use crate::free::{is_past_amount, is_same, is_under_amount, precedes};
-use book_commodity::OutOfMemory;
+use crate::free::{
+    is_past_amount, is_past_days, is_same, is_under_amount, is_under_days, precedes,
+};
+use book_commodity::{Day, OutOfMemory};
 use std::alloc::Global;
 use std::marker::Model;
 
@@ -46,13 +49,33 @@ impl AmountIndex {
         }
     }
 
+    /// The index of all these splits, none of which is there twice. They are sorted once.
+    pub fn of_all(entries: Vec<Free>) -> Result<AmountIndex, OutOfMemory>
+        requires apart { AreApart entries.items }
+        ensures entries { IfOk result (λ index. index.entries ≡ ordered entries.items) }
+        ensures changes { IfOk result (λ index. index.changes ≡ 0) }
+    {
+        let mut entries = entries;
+        sort(&mut entries)?;
+        Ok(AmountIndex {
+            entries,
+            changes: 0,
+        })
+    }
+
     /// How many splits were put in and taken out so far; at 2^64 - 1 it stays.
     pub fn changes(&self) -> u64
-        ensures changes { result ≡ self.now.changes }
+        ensures { result ≡ self.now.changes }
+    {
+        self.changes
+    }
+
+    /// All splits, by account, amount, day and number.
+    pub fn as_slice(&self) -> &[Free]
+        ensures entries { result.now ≡ self.now.entries }
         ensures rises { Rises self.now.entries }
     {
-        let _ = self.entries.len();
-        self.changes
+        self.entries.as_slice()
     }
 
     /// Makes room for so many more splits. The splits stay, and no room is lost where it is out of memory.
@@ -108,12 +131,29 @@ impl AmountIndex {
     {
         splits_of(self.entries.as_slice(), account, amount)
     }
+
+    /// Those of them that are at most so many days away from the day.
+    pub(crate) fn near(&self, account: u64, amount: i64, day: Day, window: u32) -> &[Free]
+        ensures { result.now ≡ filter (is_near account amount day window) self.now.entries }
+    {
+        splits_near(self.entries.as_slice(), account, amount, day, window)
+    }
+}
+
+/// Sorts splits by account, amount, day and number.
+fn sort(entries: &mut Vec<Free>) -> Result<(), OutOfMemory>
+    ensures { OnOk result (entries.new.items ≡ ordered entries.old.items) }
+{
+    entries.sort_by_key(|entry| {
+        (entry.account, entry.amount, entry.day.number(), entry.split)
+    })?;
+    Ok(())
 }
 
 /// How many of the splits come before this one.
 fn place_of(entries: &[Free], free: &Free) -> usize
     requires { Rises entries.now }
-    ensures cut { IsCut (λ entry. comes_before entry free.now) entries.now result }
+    ensures cut { IsCut (λ entry. stands_before entry free.now) entries.now result }
     ensures within { result ≤ length entries.now }
 {
     entries.partition_point(|entry| precedes(entry, free))
@@ -154,4 +194,32 @@ fn end_of(entries: &[Free], account: u64, amount: i64) -> usize
     ensures within { result ≤ length entries.now }
 {
     entries.partition_point(|entry| !is_past_amount(entry, account, amount))
+}
+
+/// The splits of the account with this amount that are at most so many days away from the day.
+fn splits_near(entries: &[Free], account: u64, amount: i64, day: Day, window: u32) -> &[Free]
+    requires { Rises entries.now }
+    ensures { result.now ≡ filter (is_near account amount day window) entries.now }
+{
+    let end = end_near(entries, account, amount, day, window);
+    let start = start_near(entries, account, amount, day, window);
+    part(entries, start, end)
+}
+
+/// How many of the splits come before those of the account with this amount that are so near to the day.
+fn start_near(entries: &[Free], account: u64, amount: i64, day: Day, window: u32) -> usize
+    requires { Rises entries.now }
+    ensures cut { IsCut (under_near account amount day window) entries.now result }
+    ensures within { result ≤ length entries.now }
+{
+    entries.partition_point(|entry| is_under_days(entry, account, amount, day, window))
+}
+
+/// How many of the splits don't come behind those of the account with this amount that are so near to the day.
+fn end_near(entries: &[Free], account: u64, amount: i64, day: Day, window: u32) -> usize
+    requires { Rises entries.now }
+    ensures cut { IsCut (λ entry. not (past_near account amount day window entry)) entries.now result }
+    ensures within { result ≤ length entries.now }
+{
+    entries.partition_point(|entry| !is_past_days(entry, account, amount, day, window))
 }

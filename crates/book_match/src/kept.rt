@@ -1,22 +1,24 @@
-ghost use Rattle.std.specs.Prelude.{◌≡◌, ◌==◌, IfOk, IfSome, Some, filter, map, option_map, true, unwrap_or};
-ghost use Rattle.std.specs.List.{list_any};
+ghost use Rattle.std.specs.Prelude.{◌≡◌, [], IfOk, IfSome, Some, filter, map, option_map, true, unwrap_or};
 ghost use Rattle.std.specs.Option.{option_copied};
 ghost use Rattle.book_splits.specs.Balance.{splits_of};
 ghost use Rattle.book_splits.specs.TransactionRules.{are_once, is_among, numbers_of};
-ghost use Rattle.book_match.specs.AmountIndex.{of_amount};
-ghost use Rattle.book_match.specs.Kept.{is_free as is_left, num_of, view_of, views_on};
-ghost use Rattle.book_match.specs.Proposal.{nearest as nearest_of, proposal};
+ghost use Rattle.book_match.specs.Cut.{is_near};
+ghost use Rattle.book_match.specs.Kept.{num_of, view_of, views_on};
+ghost use Rattle.book_match.specs.Proposal.{nearest as nearest_of, proposal, same_number};
+ghost use Rattle.book_match.specs.Rank.{rank_of};
+ghost use Rattle.book_match.specs.Taken.{is_left};
 
-use crate::nearest::{distance, least};
+use crate::nearest::distance;
 use crate::order::in_order;
-use crate::{AmountIndex, Free, LineView, Matched, SplitView};
+use crate::rank::{Rank, nearer};
+use crate::{AmountIndex, Free, LineView, Matched};
 use book_commodity::{Many, OutOfMemory, Text};
 use book_splits::{Split, Txn, Txns};
 use std::alloc::Global;
 use std::collections::BTreeSet;
 
 /// The pairs that `propose` gives for the splits that the index has for the account. The number text of a split is that
-/// of its transaction.
+/// of its transaction; empty, where no transaction has it.
 pub fn propose_kept(
     alloc: Global,
     lines: &[LineView],
@@ -33,8 +35,8 @@ pub fn propose_kept(
     let mut taken = BTreeSet::new(alloc);
     let mut pairs = Many::new(alloc);
     for line in order.as_slice() {
-        let entries = entries_for(line, index, account);
-        let Some(split) = split_for(alloc, line, entries, txns, &taken, window)? else {
+        let entries = entries_near(line, index, account, window);
+        let Some(split) = split_for(line, entries, txns, &taken) else {
             continue;
         };
         taken.insert(split)?;
@@ -46,84 +48,70 @@ pub fn propose_kept(
     Ok(pairs)
 }
 
-/// The splits of the account that have the line's amount.
-fn entries_for<'a>(line: &LineView, index: &'a AmountIndex, account: u64) -> &'a [Free]
-    ensures { result.now ≡ of_amount account line.now.amount index.now.entries }
-{
-    index.of(account, line.amount)
-}
-
-/// The number of the split that the line takes of those with its amount; `None` where there is no candidate left.
-fn split_for(
-    alloc: Global,
+/// The splits of the account that have the line's amount and are at most so many days away.
+fn entries_near<'a>(
     line: &LineView,
-    entries: &[Free],
-    txns: &Txns,
-    taken: &BTreeSet<u64>,
+    index: &'a AmountIndex,
+    account: u64,
     window: u32,
-) -> Result<Option<u64>, OutOfMemory>
-    requires { are_once (numbers_of (splits_of txns.now.entries)) ≡ true }
-    ensures { IfOk result (λ split. split ≡ option_map (λ view. view.split) (nearest_of line.now
-        (map (view_of txns.now.entries) (filter (is_left window line.now taken.now) entries.now)))) }
+) -> &'a [Free]
+    ensures { result.now ≡ filter (is_near account line.now.amount line.now.day window) index.now.entries }
 {
-    let views = candidates(alloc, line, entries, txns, taken, window)?;
-    Ok(number_of_least(line, views.as_slice()))
+    index.near(account, line.amount, line.day, window)
 }
 
-/// The number of the split that is nearest to the line; `None` where there is no split.
-fn number_of_least(line: &LineView, splits: &[SplitView]) -> Option<u64>
-    ensures { result ≡ option_map (λ view. view.split) (nearest_of line.now splits.now) }
+/// The number of the split that the line takes of these; `None` where none of them is left.
+fn split_for(line: &LineView, entries: &[Free], txns: &Txns, taken: &BTreeSet<u64>) -> Option<u64>
+    requires { are_once (numbers_of (splits_of txns.now.entries)) ≡ true }
+    ensures { result ≡ option_map (λ view. view.split)
+        (nearest_of line.now (map (view_of txns.now.entries) (filter (is_left taken.now) entries.now))) }
 {
-    match least(line, splits) {
-        Some(split) => Some(split.split),
+    match least(line, entries, txns, taken) {
+        Some(rank) => Some(rank.split),
         None => None,
     }
 }
 
-/// The splits of an amount that the line may take.
-fn candidates(
-    alloc: Global,
-    line: &LineView,
-    entries: &[Free],
-    txns: &Txns,
-    taken: &BTreeSet<u64>,
-    window: u32,
-) -> Result<Vec<SplitView>, OutOfMemory>
+/// How near the nearest of these splits that is left is to the line; `None` where none of them is left.
+fn least(line: &LineView, entries: &[Free], txns: &Txns, taken: &BTreeSet<u64>) -> Option<Rank>
     requires { are_once (numbers_of (splits_of txns.now.entries)) ≡ true }
-    ensures { IfOk result (λ views. views.items
-        ≡ map (view_of txns.now.entries) (filter (is_left window line.now taken.now) entries.now)) }
+    ensures { result ≡ option_map (rank_of line.now)
+        (nearest_of line.now (map (view_of txns.now.entries) (filter (is_left taken.now) entries.now))) }
 {
-    let mut views = Vec::new(alloc);
+    let mut best = None;
     for free in entries {
-        if is_free(line, free, taken, window) {
-            views.push(view(alloc, free, txns)?)?;
+        if taken.contains(&free.split) {
+            continue;
         }
+        best = Some(nearer(best, rank(line, free, txns)));
     }
-    Ok(views)
+    best
 }
 
-/// Whether a split of the line's amount is at most so many days away and isn't taken.
-fn is_free(line: &LineView, free: &Free, taken: &BTreeSet<u64>, window: u32) -> bool
-    ensures { result ≡ is_left window line.now taken.now free.now }
-{
-    distance(line.day, free.day) <= window && !taken.contains(&free.split)
-}
-
-/// The split as it is matched.
-fn view(alloc: Global, free: &Free, txns: &Txns) -> Result<SplitView, OutOfMemory>
+/// How near the split is to the line.
+fn rank(line: &LineView, free: &Free, txns: &Txns) -> Rank
     requires { are_once (numbers_of (splits_of txns.now.entries)) ≡ true }
-    ensures { IfOk result (λ view. view ≡ view_of txns.now.entries free.now) }
+    ensures { result ≡ rank_of line.now (view_of txns.now.entries free.now) }
 {
-    let num = match find_num(txns, free.split) {
-        Some(num) => num.copy()?,
-        None => Text::new(alloc),
-    };
-    Ok(SplitView {
+    Rank {
+        days: distance(line.day, free.day),
+        same: has_number(line, free, txns),
         split: free.split,
-        day: free.day,
-        quantity: free.amount,
-        num,
-    })
+    }
+}
+
+/// Whether the split's transaction has the line's number, and the line has one.
+fn has_number(line: &LineView, free: &Free, txns: &Txns) -> bool
+    requires { are_once (numbers_of (splits_of txns.now.entries)) ≡ true }
+    ensures { result ≡ same_number line.now (view_of txns.now.entries free.now) }
+{
+    if line.number.is_empty() {
+        return false;
+    }
+    match find_num(txns, free.split) {
+        Some(num) => num.as_str() == line.number.as_str(),
+        None => false,
+    }
 }
 
 /// The number text of the transaction that has the split; `None` where none has it.

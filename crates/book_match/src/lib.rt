@@ -10,6 +10,7 @@ mod kept;
 mod nearest;
 mod order;
 mod proposal;
+mod rank;
 mod views;
 
 pub use free::Free;

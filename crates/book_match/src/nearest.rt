@@ -1,7 +1,6 @@
-ghost use Rattle.std.specs.Prelude.{◌≡◌, Some, filter};
+ghost use Rattle.std.specs.Prelude.{◌≡◌, Some};
 ghost use Rattle.std.specs.Option.{option_copied};
-ghost use Rattle.book_match.specs.Proposal.{choice, distance, is_candidate, is_nearer, nearer};
-ghost use Rattle.book_match.specs.Proposal.{nearest as nearest_of, same_number};
+ghost use Rattle.book_match.specs.Proposal.{choice, distance, is_candidate, is_nearer, nearer, same_number};
 ghost use Rattle.book_match.specs.Taken.{left};
 
 use crate::{LineView, SplitView};
@@ -75,17 +74,6 @@ pub(crate) fn nearest<'a>(
         if taken.contains(&split.split) {
             continue;
         }
-        best = nearer(line, best, split);
-    }
-    best
-}
-
-/// The split that is nearest to the line; `None` where there is no split.
-pub(crate) fn least<'a>(line: &LineView, splits: &'a [SplitView]) -> Option<&'a SplitView>
-    ensures { option_copied result ≡ nearest_of line.now splits.now }
-{
-    let mut best = None;
-    for split in splits {
         best = nearer(line, best, split);
     }
     best

@@ -66,8 +66,9 @@ abbrev pub by_day : List (ℤ × MarkedSplit) → List (ℤ × MarkedSplit)
 by_day [] = []
 by_day (row ∷ more) = with_dated row (by_day more)
 
--- The splits that a reconciliation marks: the account's cleared splits on or before the day, in the order of its
--- register, which is by day, on one day by transaction, and in one transaction by place.
+-- The splits that a reconciliation marks: the account's cleared splits on or before the day. Where the transactions
+-- rise by number, as in a table, they stand in the order of its register: by day, on one day by transaction, and in
+-- one transaction by place.
 abbrev pub splits_to_mark : ℕ → ℤ → List (ℕ × Txn) → List MarkedSplit
 splits_to_mark account day transactions =
     map (λ row. row.1) (by_day (flat_map (λ entry. dated_splits account entry.1) (until day transactions)))

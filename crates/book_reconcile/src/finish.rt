@@ -1,8 +1,8 @@
 ghost use Rattle.std.specs.Prelude.{◌≡◌, ◌≢◌, ◌++◌, ◌≤◌, pos, ◌+ℤ◌, length, IfErr, IfOk, OnOk, map};
 ghost use Rattle.std.specs.List.{flat_map};
-ghost use Rattle.book_splits.specs.Balance.{splits_of, total};
+ghost use Rattle.book_splits.specs.Balance.{IsWithin, splits_of, total};
 ghost use Rattle.book_reconcile.specs.Reconciliation.{FinishesBy, by_day, dated_splits, difference, finish, until};
-ghost use Rattle.book_reconcile.specs.Reconciliation.{splits_to_mark};
+ghost use Rattle.book_reconcile.specs.Reconciliation.{opening as opening_of, splits_to_mark};
 ghost use Rattle.book_reconcile.specs.declared.finish.FinishError.TheVariants.{Difference};
 
 use crate::sums::{cleared_balance, has_mark, reconciled_balance};
@@ -13,8 +13,8 @@ use std::alloc::Global;
 /// Why a reconciliation isn't finished.
 #[derive(Clone, Copy, Debug, PartialEq, Eq)]
 pub enum FinishError {
-    /// The closing balance is so much above what is reconciled and cleared, in smallest units of the account's
-    /// commodity; below it for a negative number.
+    /// The closing balance is so much above what is reconciled and, on or before the day, cleared, in smallest units
+    /// of the account's commodity; below it for a negative number.
     Difference { by: i128 },
     OutOfMemory,
 }
@@ -25,7 +25,18 @@ pub fn difference(txns: &Txns, account: u64, day: Day, closing: i64) -> i128
     requires few { length (splits_of txns.now.entries) ≤ 1_000_000 }
     ensures { result ≡ difference account day closing txns.now.entries }
 {
-    i128::from(closing) - reconciled_balance(txns, account) - cleared_balance(txns, account, day)
+    let opening = reconciled_balance(txns, account);
+    difference_from(txns, account, day, closing, opening)
+}
+
+/// The same, where the sum of the account's reconciled splits is known.
+fn difference_from(txns: &Txns, account: u64, day: Day, closing: i64, opening: i128) -> i128
+    requires few { length (splits_of txns.now.entries) ≤ 1_000_000 }
+    requires opening { opening ≡ opening_of account txns.now.entries }
+    requires within { IsWithin 1_000_000 opening }
+    ensures { result ≡ difference account day closing txns.now.entries }
+{
+    i128::from(closing) - opening - cleared_balance(txns, account, day)
 }
 
 /// The record of a reconciliation of the account at the day with the closing balance, in smallest units: its opening
@@ -43,8 +54,8 @@ pub fn plan_finish(
     ensures closes { IfOk result (λ recon.
         recon.opening +ℤ total (map (λ split. split.quantity) recon.marked) ≡ recon.closing) }
 {
-    check_difference(txns, account, day, closing)?;
     let opening = reconciled_balance(txns, account);
+    check_difference(txns, account, day, closing, opening)?;
     let Ok(marked) = marked_splits(alloc, txns, account, day) else {
         return Err(FinishError::OutOfMemory);
     };
@@ -57,14 +68,22 @@ pub fn plan_finish(
     })
 }
 
-/// There is no difference.
-fn check_difference(txns: &Txns, account: u64, day: Day, closing: i64) -> Result<(), FinishError>
-    requires { length (splits_of txns.now.entries) ≤ 1_000_000 }
+/// There is no difference, where the sum of the account's reconciled splits is known.
+fn check_difference(
+    txns: &Txns,
+    account: u64,
+    day: Day,
+    closing: i64,
+    opening: i128,
+) -> Result<(), FinishError>
+    requires few { length (splits_of txns.now.entries) ≤ 1_000_000 }
+    requires opening { opening ≡ opening_of account txns.now.entries }
+    requires within { IsWithin 1_000_000 opening }
     ensures none { OnOk result (difference account day closing txns.now.entries ≡ pos 0) }
     ensures by { IfErr result (λ error. (error ≡ Difference (difference account day closing txns.now.entries))
         × (difference account day closing txns.now.entries ≢ pos 0)) }
 {
-    let by = difference(txns, account, day, closing);
+    let by = difference_from(txns, account, day, closing, opening);
     if by != 0 {
         return Err(FinishError::Difference { by });
     }

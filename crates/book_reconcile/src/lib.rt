@@ -1,7 +1,7 @@
 //! Reconciling an account with a bank statement (GnuCash Manual, reconciling): the splits that are marked cleared on or
-//! before the statement's day become reconciled, where they account for its closing balance. `difference` tells how
-//! much is missing, `plan_finish` makes the record of a reconciliation that is allowed, and `intact` tells whether a
-//! book still has the splits of a record as they were then.
+//! before the statement's day are to become reconciled, where they account for its closing balance. `difference` tells
+//! how much is missing. `plan_finish` makes the record that names the cleared splits; who applies it marks them.
+//! `intact` tells whether a book still has the splits of a record as they were then.
 #![tactic(auto)]
 
 mod finish;

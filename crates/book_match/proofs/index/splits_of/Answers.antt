@@ -1,6 +1,6 @@
 use Rattle.std.proofs.Common.{◌≡◌, ℤ, FitsSigned, not, rules, subst, ◌∙◌, to_z, of_z, w64}
 use Rattle.std.proofs.lemmas.Int.{to_z-of_z}
-use Rattle.book_match.specs.AmountIndex.{IsCut, is_past_amount, is_under_amount}
+use Rattle.book_match.specs.Cut.{IsCut, is_past_amount, is_under_amount}
 use Rattle.book_match.proofs.IndexLemmas.{amount-is, amount-within}
 use Rattle.book_match.proofs.index.splits_of.Goals as goal
 

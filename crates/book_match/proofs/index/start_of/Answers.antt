@@ -1,6 +1,6 @@
 use Rattle.std.proofs.Common.{Bool, List, arith, rules}
 use Rattle.std.proofs.lemmas.List.Sorted.{IsPartitionPoint-from_clause}
-use Rattle.book_match.specs.AmountIndex.{is_under_amount}
+use Rattle.book_match.specs.Cut.{is_under_amount}
 use Rattle.book_match.specs.declared.free.Free.{Free}
 use Rattle.book_match.proofs.IndexLemmas.{cut-from, parted-under}
 use Rattle.book_match.proofs.index.start_of.Goals as goal

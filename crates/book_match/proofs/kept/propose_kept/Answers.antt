@@ -5,9 +5,9 @@ use Rattle.std.specs.BTreeMap.{is_at}
 use Rattle.std.specs.BTreeSet.{contains}
 use Rattle.std.specs.Ordering.{nat_cmp}
 use Rattle.book_commodity.proofs.ListLemmas.{mapped_none, mapped_some}
-use Rattle.book_match.specs.Kept.{is_free, view_of, views_on}
+use Rattle.book_match.specs.Kept.{view_of, views_on}
 use Rattle.book_match.specs.Proposal.{choice, left_by, nearest, pairs_of}
-use Rattle.book_match.specs.Taken.{left}
+use Rattle.book_match.specs.Taken.{is_left, left}
 use Rattle.book_match.specs.declared.views.LineView.{LineView}
 use Rattle.book_match.specs.declared.views.Matched.{Matched}
 use Rattle.book_match.specs.declared.views.SplitView.{SplitView}
@@ -36,8 +36,8 @@ loop-line-preserved-in_default c =
     let found : option_map number (choice c.args.window item.now before) ≡ None =
     sym (choice-kept c.args.window c.args.account item.now c.loop-line.taken es ts)
     ∙ ap (λ l. option_map number (nearest item.now (map (view_of ts)
-    (filter (is_free c.args.window item.now c.loop-line.taken) l)))) (sym c.entries_for-entries.ensures)
-    ∙ sym c.in_ok-split.ensures ∙ c.in_default.is in
+    (filter (is_left c.loop-line.taken) l)))) (sym c.entries_near-entries.ensures)
+    ∙ sym c.split_for.ensures ∙ c.in_default.is in
     let none = mapped_none number (choice c.args.window item.now before) found in
     ap (λ l. c.loop-line.pairs ++ l)
     (sym (none-here seen c.args.window items c.loop-line.line-index item before c.loop-line-test.true c.line-item.is
@@ -59,8 +59,8 @@ loop-line-preserved c =
     let found : option_map number (choice c.args.window item.now before) ≡ Some c.in-Some.split =
     sym (choice-kept c.args.window c.args.account item.now c.loop-line.taken es ts)
     ∙ ap (λ l. option_map number (nearest item.now (map (view_of ts)
-    (filter (is_free c.args.window item.now c.loop-line.taken) l)))) (sym c.entries_for-entries.ensures)
-    ∙ sym c.in_ok-split.ensures ∙ c.in-Some.is in
+    (filter (is_left c.loop-line.taken) l)))) (sym c.entries_near-entries.ensures)
+    ∙ sym c.split_for.ensures ∙ c.in-Some.is in
     let chosen = mapped_some number (choice c.args.window item.now before) c.in-Some.split found in
     let rest : List SplitView → List Matched =
     λ splits. pairs_of c.args.window (map seen (drop (i + 1) items)) splits in

@@ -1,5 +1,6 @@
 use Rattle.std.proofs.Common.{◌≡◌, List, ap, sym, ◌∙◌, subst}
-use Rattle.book_match.specs.AmountIndex.{Index, IsCut, Rises, is_there, precedes, with_free}
+use Rattle.book_match.specs.AmountIndex.{Index, Rises, is_there, precedes, with_free}
+use Rattle.book_match.specs.Cut.{IsCut}
 use Rattle.book_match.specs.declared.free.Free.{Free}
 use Rattle.book_match.proofs.IndexLemmas.{insert-is, rises-with}
 use Rattle.book_match.proofs.index.AmountIndex.put.Goals as goal

@@ -1,6 +1,7 @@
 use Rattle.std.proofs.Common.{◌≡◌, ◌<◌, true, List, length, get_or, ap, sym, ◌∙◌, subst, arith}
 use Rattle.std.proofs.lemmas.List.{get_or_default}
-use Rattle.book_match.specs.AmountIndex.{Index, IsCut, Rises, is_same, is_there, precedes, without_free}
+use Rattle.book_match.specs.AmountIndex.{Index, Rises, is_same, is_there, precedes, without_free}
+use Rattle.book_match.specs.Cut.{IsCut}
 use Rattle.book_match.specs.declared.free.Free.{Free}
 use Rattle.book_match.proofs.IndexLemmas.{none-without, not-there, remove-is, rises-without, there}
 use Rattle.book_match.proofs.index.AmountIndex.take.Goals as goal
