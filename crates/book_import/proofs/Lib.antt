@@ -1,0 +1,4 @@
+pub mod ImportLaws
+pub mod KeyLemmas
+pub mod StepLemmas
+pub mod Worked

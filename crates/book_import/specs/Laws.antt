@@ -1,0 +1,40 @@
+-- What holds of every import: which numbers it draws, which keys are in the book after it, and when it adds nothing.
+use Rattle.std.specs.Prelude.{◌≡◌, ℕ, ◌+◌, ◌≤◌, Bool, true, List, [], ◌∷◌, ⊤, length, IsSome}
+use Rattle.std.specs.List.{flat_map, list_all, list_any}
+use Rattle.book_statement.specs.Keys.{keys_of}
+use Rattle.book_statement.specs.declared.held.Held.{Held}
+use Rattle.book_statement.specs.declared.line.Line.{Line}
+use Rattle.book_statement.specs.declared.line_key.LineKey.{LineKey}
+use Rattle.book_sound.specs.LineRules.{is_same_key}
+use Rattle.book_import.specs.Import.{Bound, has_key, held_of, nothing_added, number_among}
+use Rattle.book_import.specs.declared.added.Additions.{Additions}
+
+-- The numbers of the entries rise, from a first one on, and are below a next one.
+abbrev pub AreDrawn : {T : Type 0} → ℕ → ℕ → List (ℕ × T) → Type 0
+AreDrawn from next [] = from ≤ next
+AreDrawn from next (entry ∷ more) = (from ≤ entry.0) × AreDrawn (entry.0 + 1) next more
+
+-- The keys of the lines of a file.
+abbrev pub keys_in : List Bound → List LineKey
+keys_in file = flat_map (λ bound. keys_of bound.account bound.statement.lines) file
+
+-- Whether a key is one of some keys.
+abbrev pub is_among : LineKey → List LineKey → Bool
+is_among key keys = list_any (λ other. is_same_key key other) keys
+
+-- How many lines a file has.
+abbrev pub count_lines : List Bound → ℕ
+count_lines [] = 0
+count_lines (bound ∷ more) = length bound.statement.lines + count_lines more
+
+-- All of a file is in a book: of each statement an equal one, and of each line one that has its key.
+abbrev pub AreThere : List (ℕ × Held) → List (ℕ × Line) → List Bound → Type 0
+AreThere statements lines [] = ⊤
+AreThere statements lines (bound ∷ more) =
+    IsSome (number_among (held_of bound) statements)
+    × (list_all (λ key. has_key key lines) (keys_of bound.account bound.statement.lines) ≡ true)
+    × AreThere statements lines more
+
+-- Nothing is added, and so many lines were seen.
+abbrev pub only_seen : ℕ → ℕ → Additions
+only_seen seen next = record (nothing_added next) { seen = seen }
