@@ -16,10 +16,10 @@ use Rattle.book_statement.specs.declared.statement_line.StatementLine.{Statement
 use Rattle.book_sound.specs.LineRules.{is_same_key, key_of_line}
 use Rattle.book_import.specs.Import.{Bound, has_key, held_of, imported, new_line, nothing_added, number_among, with_held}
 use Rattle.book_import.specs.Import.{with_line, with_lines, with_statement, with_statements}
-use Rattle.book_import.specs.Laws.{AreDrawn, AreThere, count_lines, is_among, keys_in, only_seen}
+use Rattle.book_import.specs.Laws.{AddsKeys, AreDrawn, AreThere, HasDrawn, count_lines, is_among, keys_in, only_seen}
 use Rattle.book_import.specs.Steps.{AreKeysOf}
 use Rattle.book_import.specs.declared.added.Additions.{Additions}
-use Rattle.book_import.proofs.StepLemmas.{keys-are, keys-long}
+use Rattle.book_import.proofs.StepLemmas.{keys-are}
 
 -- ---- numbers
 
@@ -34,10 +34,6 @@ drawn-later :
     → AreDrawn from (next + 1) entries
 drawn-later from next [] drawn = omega (arith, drawn)
 drawn-later from next (entry ∷ more) drawn = (drawn.0, drawn-later (entry.0 + 1) next more drawn.1)
-
--- The numbers of what is added.
-abbrev pub HasDrawn : ℕ → Additions → Type 0
-HasDrawn from added = AreDrawn from added.next added.statements × AreDrawn from added.next added.lines
 
 line-drawn :
     (from : ℕ) (lines : List (ℕ × Line)) (statement : ℕ) (key_ : LineKey) (body : StatementLine) (added : Additions)
@@ -289,3 +285,23 @@ pub imported-nothing :
     → AreThere statements lines file → imported statements lines file next ≡ only_seen (count_lines file) next
 imported-nothing statements lines file next there =
     statements-seen statements lines file 0 next there ∙ ap (λ n. only_seen n next) (omega arith)
+
+-- ---- as an import says it
+
+pub drawn-by :
+    (statements : List (ℕ × Held)) (lines : List (ℕ × Line)) (file : List Bound) (next : ℕ) (added : Additions)
+    → added ≡ imported statements lines file next → HasDrawn next added
+drawn-by statements lines file next added is =
+    subst (HasDrawn next) (sym is) (imported-drawn statements lines file next)
+
+pub keys-by :
+    (statements : List (ℕ × Held)) (lines : List (ℕ × Line)) (file : List Bound) (next : ℕ) (added : Additions)
+    → added ≡ imported statements lines file next → AddsKeys lines file added
+keys-by statements lines file next added is =
+    subst (AddsKeys lines file) (sym is) (λ k. imported-keys k statements lines file next)
+
+pub nothing-by :
+    (statements : List (ℕ × Held)) (lines : List (ℕ × Line)) (file : List Bound) (next : ℕ) (added : Additions)
+    → added ≡ imported statements lines file next → AreThere statements lines file
+    → added ≡ only_seen (count_lines file) next
+nothing-by statements lines file next added is there = is ∙ imported-nothing statements lines file next there

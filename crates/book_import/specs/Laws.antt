@@ -1,5 +1,5 @@
 -- What holds of every import: which numbers it draws, which keys are in the book after it, and when it adds nothing.
-use Rattle.std.specs.Prelude.{◌≡◌, ℕ, ◌+◌, ◌≤◌, Bool, true, List, [], ◌∷◌, ⊤, length, IsSome}
+use Rattle.std.specs.Prelude.{◌≡◌, ℕ, ◌+◌, ◌≤◌, Bool, true, ◌||◌, List, [], ◌∷◌, ◌++◌, ⊤, length, IsSome}
 use Rattle.std.specs.List.{flat_map, list_all, list_any}
 use Rattle.book_statement.specs.Keys.{keys_of}
 use Rattle.book_statement.specs.declared.held.Held.{Held}
@@ -14,6 +14,10 @@ abbrev pub AreDrawn : {T : Type 0} → ℕ → ℕ → List (ℕ × T) → Type 
 AreDrawn from next [] = from ≤ next
 AreDrawn from next (entry ∷ more) = (from ≤ entry.0) × AreDrawn (entry.0 + 1) next more
 
+-- The numbers of what is added, and the next number after them.
+abbrev pub HasDrawn : ℕ → Additions → Type 0
+HasDrawn from added = AreDrawn from added.next added.statements × AreDrawn from added.next added.lines
+
 -- The keys of the lines of a file.
 abbrev pub keys_in : List Bound → List LineKey
 keys_in file = flat_map (λ bound. keys_of bound.account bound.statement.lines) file
@@ -21,6 +25,11 @@ keys_in file = flat_map (λ bound. keys_of bound.account bound.statement.lines) 
 -- Whether a key is one of some keys.
 abbrev pub is_among : LineKey → List LineKey → Bool
 is_among key keys = list_any (λ other. is_same_key key other) keys
+
+-- After an import the keys of the book's lines are those that were there, and those of the file.
+abbrev pub AddsKeys : List (ℕ × Line) → List Bound → Additions → Type 0
+AddsKeys lines file added =
+    (key : LineKey) → has_key key (lines ++ added.lines) ≡ (has_key key lines || is_among key (keys_in file))
 
 -- How many lines a file has.
 abbrev pub count_lines : List Bound → ℕ

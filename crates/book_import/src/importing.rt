@@ -2,6 +2,7 @@ ghost use Rattle.std.specs.Prelude.{◌≡◌, ◌+◌, IfOk, ◌++◌, unwrap_o
 ghost use Rattle.book_statement.specs.declared.held.Held.{Held as KeptStatement};
 ghost use Rattle.book_import.specs.Import.{imported, number_among, new_line, held_of};
 ghost use Rattle.book_import.specs.Import.{with_held, with_line, with_lines, with_statement, with_statements};
+ghost use Rattle.book_import.specs.Laws.{AddsKeys, AreThere, HasDrawn, count_lines, only_seen};
 ghost use Rattle.book_import.specs.Steps.{AreKeysOf, Takes};
 ghost use Rattle.book_statement.specs.Keys.{key as key_at, same_text};
 ghost use Rattle.book_sound.specs.StatementRules.{is_same_statement};
@@ -21,7 +22,12 @@ pub fn import_statements<'a>(
     file: &'a [Bound<'a>],
     next: u64,
 ) -> Result<Additions, OutOfMemory>
-    ensures { IfOk result (λ added. added ≡ imported statements.now.entries lines.now.entries file.now next) }
+    ensures added { IfOk result (λ added. added
+        ≡ imported statements.now.entries lines.now.entries file.now next) }
+    ensures drawn { IfOk result (HasDrawn next) }
+    ensures keys { IfOk result (AddsKeys lines.now.entries file.now) }
+    ensures nothing { IfOk result (λ added. AreThere statements.now.entries lines.now.entries file.now
+        → added ≡ only_seen (count_lines file.now) next) }
 {
     let known = KnownKeys::of(alloc, lines)?;
     let mut importing = Importing {
@@ -86,7 +92,7 @@ impl<'a> Importing<'a> {
     }
 
     /// The number of the statement that is equal in all fields: one of these, or one that was added.
-    #[tactic(auto, using(crate::proofs::StepLemmas::number-append))]
+    #[tactic(auto, using(crate::proofs::StepLemmas::number_append))]
     fn number_there(&self, statements: &[(u64, Held)], held: &Held) -> Option<u64>
         ensures { result ≡ number_among held.now (statements.now ++ self.now.added.statements) }
     {
