@@ -1,7 +1,7 @@
 -- What holds of every import: its numbers, the keys after it, and when it adds nothing.
-use Rattle.std.proofs.Common.{◌≡◌, ℕ, ◌+◌, ◌<◌, ◌≤◌, ◌||◌, Bool, true, false, cond, List, [], ◌∷◌, ◌++◌, length, Option}
-use Rattle.std.proofs.Common.{Some, None, unwrap_or, refl, sym, ap, subst, ◌∙◌, arith, append_assoc, ◌&&◌, IsSome, ◌==◌}
-use Rattle.std.specs.List.{flat_map, list_all, list_any}
+use Rattle.std.proofs.Common.{◌≡◌, ℕ, ◌+◌, ◌||◌, Bool, true, false, cond, List, [], ◌∷◌, ◌++◌, length, Option}
+use Rattle.std.proofs.Common.{Some, None, unwrap_or, refl, sym, ap, subst, ◌∙◌, arith, append_assoc, IsSome, ◌==◌}
+use Rattle.std.specs.List.{list_all}
 use Rattle.std.specs.Ordering.{int_eq}
 use Rattle.std.proofs.lemmas.Bool.{and_parts}
 use Rattle.std.proofs.lemmas.Bool.Decides.{Decides-int_eq, nat_tests}
@@ -103,8 +103,13 @@ same-means one other e =
     ∙ ap (λ x. record other { account = one.account; day = x }) ((Decides-int_eq other.day one.day).0 q.0)
     ∙ ap (λ x. record other { account = one.account; day = one.day; amount = x })
     ((Decides-int_eq other.amount one.amount).0 r.0)
-    ∙ ap (λ x. record one { kind = x; ref_own = other.ref_own; ref_bank = other.ref_bank; text = other.text;
-      ordinal = other.ordinal }) ((bytes_eq-Decides other.kind one.kind).0 s.0)
+    ∙ ap (λ x. record one {
+      kind = x;
+      ref_own = other.ref_own;
+      ref_bank = other.ref_bank;
+      text = other.text;
+      ordinal = other.ordinal;
+    }) ((bytes_eq-Decides other.kind one.kind).0 s.0)
     ∙ ap (λ x. record one { ref_own = x; ref_bank = other.ref_bank; text = other.text; ordinal = other.ordinal })
     ((bytes_eq-Decides other.ref_own one.ref_own).0 t.0)
     ∙ ap (λ x. record one { ref_bank = x; text = other.text; ordinal = other.ordinal })

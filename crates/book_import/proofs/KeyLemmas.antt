@@ -1,12 +1,11 @@
 -- The keys that are known, against the lines that have them.
-use Rattle.std.proofs.Common.{◌≡◌, ◌==◌, Ordering, ℕ, ℤ, ◌+◌, ◌<◌, Bool, true, false, cond, List, [], ◌∷◌, ◌++◌, length, not}
-use Rattle.std.proofs.Common.{take, get_or, refl, sym, ap, ◌∙◌}
+use Rattle.std.proofs.Common.{◌≡◌, ◌==◌, ℕ, ℤ, Bool, true, false, cond, List, [], ◌∷◌, ◌++◌, not}
+use Rattle.std.proofs.Common.{refl, sym, ap, ◌∙◌}
 use Rattle.std.specs.Prelude.{◌&&◌, ◌||◌}
 use Rattle.std.specs.Cmp.{tied_then, unsigned_tied}
 use Rattle.std.specs.List.{list_any}
 use Rattle.std.specs.Ordering.{int_eq, is_eq, nat_cmp, ordering_then}
 use Rattle.std.proofs.lemmas.List.Folds.{list_any-append}
-use Rattle.book_commodity.proofs.ListLemmas.{take-item}
 use Rattle.book_statement.specs.Keys.{has_parts, key, same_text}
 use Rattle.book_statement.specs.declared.line.Line.{Line}
 use Rattle.book_statement.specs.declared.line_key.LineKey.{LineKey}

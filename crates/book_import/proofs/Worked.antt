@@ -1,14 +1,11 @@
 -- Imports whose additions are known, computed from the definition.
-use Rattle.std.proofs.Common.{◌≡◌, ℕ, ℤ, pos, negsuc, List, [], ◌∷◌, ◌++◌, Some, None, true, codes, refl}
+use Rattle.std.proofs.Common.{◌≡◌, ℕ, ℤ, pos, negsuc, List, [], ◌∷◌, Some, true, codes, refl}
 use Rattle.book_statement.specs.Keys.{keys_of}
-use Rattle.book_statement.specs.declared.held.Held.{Held}
 use Rattle.book_statement.specs.declared.line.Line.{Line}
 use Rattle.book_statement.specs.declared.line_state.LineState.{LineState}
 use Rattle.book_statement.specs.declared.line_state.LineState.TheVariants.{Open, Dismissed}
-use Rattle.book_statement.specs.declared.statement.Statement.{Statement}
 use Rattle.book_statement.specs.declared.statement_line.StatementLine.{StatementLine}
 use Rattle.book_import.specs.Import.{Bound, held_of, imported}
-use Rattle.book_import.specs.declared.added.Additions.{Additions}
 
 -- a line without value day of its own, category and parts
 abbrev line_of : ℤ → ℤ → List ℕ → List ℕ → List ℕ → List ℕ → StatementLine
@@ -82,11 +79,11 @@ again = refl
 -- two equal lines in one statement are two lines, with the ordinals 0 and 1
 twins : imported ((6, held_of january) ∷ []) ((7, kept 6 0 rent Dismissed) ∷ (8, kept 6 0 refund Open) ∷ [])
     (february ∷ []) 12 ≡ record {
-  statements = (12, held_of february) ∷ [];
-  lines = (13, kept 12 0 coffee Open) ∷ (14, kept 12 1 coffee Open) ∷ [];
-  seen = 0;
-  next = 15;
-}
+      statements = (12, held_of february) ∷ [];
+      lines = (13, kept 12 0 coffee Open) ∷ (14, kept 12 1 coffee Open) ∷ [];
+      seen = 0;
+      next = 15;
+    }
 unfolding keys_of
 twins = refl
 
@@ -134,11 +131,11 @@ named = refl
 -- reader gives two, these are two statements, and each names its own lines
 paged : imported [] [] (statement_of (pos 100000) (pos 80000) (pos 19753) (rent ∷ [])
     ∷ statement_of (pos 80000) (pos 85000) (pos 19753) (refund ∷ []) ∷ []) 6 ≡ record {
-  statements = (6, held_of (statement_of (pos 100000) (pos 80000) (pos 19753) []))
-      ∷ (8, held_of (statement_of (pos 80000) (pos 85000) (pos 19753) [])) ∷ [];
-  lines = (7, kept 6 0 rent Open) ∷ (9, kept 8 0 refund Open) ∷ [];
-  seen = 0;
-  next = 10;
-}
+      statements = (6, held_of (statement_of (pos 100000) (pos 80000) (pos 19753) []))
+          ∷ (8, held_of (statement_of (pos 80000) (pos 85000) (pos 19753) [])) ∷ [];
+      lines = (7, kept 6 0 rent Open) ∷ (9, kept 8 0 refund Open) ∷ [];
+      seen = 0;
+      next = 10;
+    }
 unfolding keys_of
 paged = refl

@@ -54,7 +54,11 @@ struct Importing<'a> {
 
 impl<'a> Importing<'a> {
     /// Adds the statements of a file, in their order.
-    fn add_statements(&mut self, statements: &[(u64, Held)], file: &'a [Bound<'a>]) -> Result<(), OutOfMemory>
+    fn add_statements(
+        &mut self,
+        statements: &[(u64, Held)],
+        file: &'a [Bound<'a>],
+    ) -> Result<(), OutOfMemory>
         ensures { IfOk result (λ _. Takes (λ lines. with_statements statements.now lines file.now) self.old self.new) }
     {
         for bound in file {
@@ -64,16 +68,29 @@ impl<'a> Importing<'a> {
     }
 
     /// Adds a statement, where no equal one is there, and then its lines.
-    fn add_statement(&mut self, statements: &[(u64, Held)], bound: &'a Bound<'a>) -> Result<(), OutOfMemory>
+    fn add_statement(
+        &mut self,
+        statements: &[(u64, Held)],
+        bound: &'a Bound<'a>,
+    ) -> Result<(), OutOfMemory>
         ensures { IfOk result (λ _. Takes (λ lines. with_statement statements.now lines bound.now) self.old self.new) }
     {
         let keys = keys_of(self.alloc, bound.account, bound.statement)?;
         let number = self.statement_number(statements, bound)?;
-        self.add_lines(number, bound.account, keys.as_slice(), bound.statement.lines.as_slice())
+        self.add_lines(
+            number,
+            bound.account,
+            keys.as_slice(),
+            bound.statement.lines.as_slice(),
+        )
     }
 
     /// The number of the statement, which is added where no equal one is there.
-    fn statement_number(&mut self, statements: &[(u64, Held)], bound: &Bound) -> Result<u64, OutOfMemory>
+    fn statement_number(
+        &mut self,
+        statements: &[(u64, Held)],
+        bound: &Bound,
+    ) -> Result<u64, OutOfMemory>
         ensures number { IfOk result (λ number. number
             ≡ unwrap_or (number_among (held_of bound.now) (statements.now ++ self.old.added.statements))
             self.old.added.next) }
@@ -120,7 +137,12 @@ impl<'a> Importing<'a> {
     }
 
     /// Adds a line of the statement of this number where no line has its key, and counts it as seen where one has.
-    fn add_line(&mut self, statement: u64, key: &LineKey, body: &'a StatementLine) -> Result<(), OutOfMemory>
+    fn add_line(
+        &mut self,
+        statement: u64,
+        key: &LineKey,
+        body: &'a StatementLine,
+    ) -> Result<(), OutOfMemory>
         requires { key.now ≡ key_at key.now.account body.now key.now.ordinal }
         ensures { IfOk result (λ _. Takes (λ lines. with_line lines statement key.now body.now) self.old self.new) }
     {

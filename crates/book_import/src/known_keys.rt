@@ -13,11 +13,7 @@ use std::collections::BTreeSet;
 use std::marker::Model;
 
 /// A key of a line: its account; its day, amount, type, references and text; its ordinal.
-type KeyParts<'a> = (
-    u64,
-    (i32, i64, &'a str, &'a str, &'a str, &'a str),
-    u64,
-);
+type KeyParts<'a> = (u64, (i32, i64, &'a str, &'a str, &'a str, &'a str), u64);
 
 /// The keys of lines that are known while a file is imported: those of the book's lines, and of the lines that were
 /// added. Whether one is there is found in a few comparisons.

@@ -1,5 +1,5 @@
 -- The line is new: it is added, and its key is known.
-use Rattle.std.proofs.Common.{◌≡◌, ◌++◌, true, arith, ap, ◌∙◌}
+use Rattle.std.proofs.Common.{◌≡◌, ◌++◌, true, arith, ap}
 use Rattle.std.proofs.lemmas.Bool.Decides.{nat_tests}
 use Rattle.book_sound.specs.LineRules.{key_of_line}
 use Rattle.book_import.proofs.StepLemmas.{line-added, line-known}

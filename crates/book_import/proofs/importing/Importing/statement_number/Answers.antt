@@ -1,5 +1,5 @@
 -- An equal statement is there, or this one is added.
-use Rattle.std.proofs.Common.{◌≡◌, ◌++◌, ap, ◌∙◌}
+use Rattle.std.proofs.Common.{◌++◌, ap, ◌∙◌}
 use Rattle.book_import.specs.Import.{held_of, number_among}
 use Rattle.book_import.proofs.StepLemmas.{held-added, held-there, number-is, number-none}
 use Rattle.book_import.proofs.importing.Importing.statement_number.Goals as goal

@@ -1,5 +1,5 @@
 -- The keys of the lines so far are known.
-use Rattle.std.proofs.Common.{◌≡◌, [], take}
+use Rattle.std.proofs.Common.{[], take}
 use Rattle.book_import.specs.KnownKeys.{HasKeys}
 use Rattle.book_import.proofs.known_keys.KnownKeys.add_all.Given as goal
 

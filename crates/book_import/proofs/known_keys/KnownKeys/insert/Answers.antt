@@ -1,5 +1,4 @@
 -- The key was new where no line had it, and is known afterwards.
-use Rattle.std.proofs.Common.{◌≡◌}
 use Rattle.book_import.proofs.KeyLemmas.{ArePartsOf, grows-by, new-where}
 use Rattle.book_import.proofs.known_keys.KnownKeys.insert.Goals as goal
 
@@ -18,7 +17,7 @@ returns-clause-new c =
       ordinal = c.parts_of.ensures.ordinal;
     } in
     λ lines has. new-where c.args.self.now c.self.inside.keys.keys lines c.parts_of.result c.args.account
-        c.args.body.now c.args.ordinal c.in_ok-is_new.is_new c.self.view_is c.in_ok-is_new.ensures.added of has
+    c.args.body.now c.args.ordinal c.in_ok-is_new.is_new c.self.view_is c.in_ok-is_new.ensures.added of has
 
 pub returns-clause-grows : goal.returns-clause-grows
 returns-clause-grows c =
@@ -35,5 +34,5 @@ returns-clause-grows c =
       ordinal = c.parts_of.ensures.ordinal;
     } in
     λ lines number line is has. grows-by c.args.self.now c.self.inside.keys.keys c.insert.new.self.keys lines number
-        line c.parts_of.result c.args.account c.args.body.now c.args.ordinal c.self.view_is
-        c.in_ok-is_new.ensures.updates.0 of is has
+    line c.parts_of.result c.args.account c.args.body.now c.args.ordinal c.self.view_is
+    c.in_ok-is_new.ensures.updates.0 of is has
