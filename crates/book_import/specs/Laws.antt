@@ -1,11 +1,11 @@
 -- What holds of every import: which numbers it draws, which keys are in the book after it, and when it adds nothing.
-use Rattle.std.specs.Prelude.{◌≡◌, ℕ, ◌+◌, ◌≤◌, Bool, true, ◌||◌, List, [], ◌∷◌, ◌++◌, ⊤, length, IsSome}
+use Rattle.std.specs.Prelude.{◌≡◌, ℕ, ◌+◌, ◌≤◌, Bool, true, false, ◌||◌, List, [], ◌∷◌, ◌++◌, ⊤, length, None, IsSome}
 use Rattle.std.specs.List.{flat_map, list_all, list_any}
 use Rattle.book_statement.specs.Keys.{keys_of}
 use Rattle.book_statement.specs.declared.held.Held.{Held}
 use Rattle.book_statement.specs.declared.line.Line.{Line}
 use Rattle.book_statement.specs.declared.line_key.LineKey.{LineKey}
-use Rattle.book_sound.specs.LineRules.{is_same_key}
+use Rattle.book_sound.specs.LineRules.{is_same_key, key_of_line}
 use Rattle.book_import.specs.Import.{Bound, has_key, held_of, nothing_added, number_among}
 use Rattle.book_import.specs.declared.added.Additions.{Additions}
 
@@ -30,6 +30,18 @@ is_among key keys = list_any (λ other. is_same_key key other) keys
 abbrev pub AddsKeys : List (ℕ × Line) → List Bound → Additions → Type 0
 AddsKeys lines file added =
     (key : LineKey) → has_key key (lines ++ added.lines) ≡ (has_key key lines || is_among key (keys_in file))
+
+-- Each of these entries passes a test against the entries of a table and those before it.
+abbrev pub AreApart : {T : Type 0} → (List (ℕ × T) → T → Type 0) → List (ℕ × T) → List (ℕ × T) → Type 0
+AreApart apart before [] = ⊤
+AreApart apart before (entry ∷ more) = apart before entry.1 × AreApart apart (before ++ entry ∷ []) more
+
+-- What is added was not there: no statement is equal to one of the book or to another that is added, and no line has
+-- the key of one of the book or of another that is added.
+abbrev pub AreNew : List (ℕ × Held) → List (ℕ × Line) → Additions → Type 0
+AreNew statements lines added =
+    AreApart (λ before held. number_among held before ≡ None) statements added.statements
+    × AreApart (λ before line. has_key (key_of_line line) before ≡ false) lines added.lines
 
 -- How many lines a file has.
 abbrev pub count_lines : List Bound → ℕ

@@ -1,7 +1,7 @@
 -- What is added is that of the definition, and the laws of every import hold of it.
 use Rattle.std.proofs.Common.{◌≡◌, refl}
 use Rattle.book_import.specs.Import.{imported}
-use Rattle.book_import.proofs.ImportLaws.{drawn-by, keys-by, nothing-by}
+use Rattle.book_import.proofs.ImportLaws.{drawn-by, keys-by, new-by, nothing-by}
 use Rattle.book_import.proofs.StepLemmas.{import-done}
 use Rattle.book_import.proofs.importing.import_statements.Goals as goal
 
@@ -17,6 +17,7 @@ returns c =
     record {
       added = is;
       drawn = drawn-by statements lines file c.args.next c.add_statements.new.self.added is;
+      new = new-by statements lines file c.args.next c.add_statements.new.self.added is;
       keys = keys-by statements lines file c.args.next c.add_statements.new.self.added is;
       nothing = nothing-by statements lines file c.args.next c.add_statements.new.self.added is;
     }
