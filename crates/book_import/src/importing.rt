@@ -188,12 +188,12 @@ fn number_among(statement: &Held, statements: &[(u64, Held)]) -> Option<u64>
 fn is_same_statement(statement: &Held, other: &Held) -> bool
     ensures { result ≡ is_same_statement statement.now other.now }
 {
-    other.account == statement.account
+    other.day == statement.day
+        && other.account == statement.account
         && is_same_text(&other.account_text, &statement.account_text)
         && is_same_text(&other.number, &statement.number)
         && other.opening == statement.opening
         && other.closing == statement.closing
-        && other.day == statement.day
         && other.ties == statement.ties
 }
 
