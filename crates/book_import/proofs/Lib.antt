@@ -1,4 +1,5 @@
 pub mod ImportLaws
 pub mod KeyLemmas
+pub mod NameLemmas
 pub mod StepLemmas
 pub mod Worked

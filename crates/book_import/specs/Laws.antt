@@ -1,11 +1,12 @@
 -- What holds of every import: which numbers it draws, which keys are in the book after it, and when it adds nothing.
 use Rattle.std.specs.Prelude.{◌≡◌, ℕ, ◌+◌, ◌≤◌, Bool, true, false, ◌||◌, List, [], ◌∷◌, ◌++◌, ⊤, length, None, IsSome}
-use Rattle.std.specs.List.{flat_map, list_all, list_any}
+use Rattle.std.specs.List.{AllByRecursion, flat_map, list_all, list_any}
 use Rattle.book_statement.specs.Keys.{keys_of}
 use Rattle.book_statement.specs.declared.held.Held.{Held}
 use Rattle.book_statement.specs.declared.line.Line.{Line}
 use Rattle.book_statement.specs.declared.line_key.LineKey.{LineKey}
 use Rattle.book_sound.specs.LineRules.{is_same_key, key_of_line}
+use Rattle.book_sound.specs.Tests.{is_live}
 use Rattle.book_import.specs.Import.{Bound, has_key, held_of, nothing_added, number_among}
 use Rattle.book_import.specs.declared.added.Additions.{Additions}
 
@@ -42,6 +43,11 @@ abbrev pub AreNew : List (ℕ × Held) → List (ℕ × Line) → Additions → 
 AreNew statements lines added =
     AreApart (λ before held. number_among held before ≡ None) statements added.statements
     × AreApart (λ before line. has_key (key_of_line line) before ≡ false) lines added.lines
+
+-- Each line that is added names a statement that is in the book, or is added.
+abbrev pub AreNamed : List (ℕ × Held) → Additions → Type 0
+AreNamed statements added =
+    AllByRecursion (λ entry. is_live (statements ++ added.statements) entry.1.statement ≡ true) added.lines
 
 -- How many lines a file has.
 abbrev pub count_lines : List Bound → ℕ

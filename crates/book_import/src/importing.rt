@@ -2,7 +2,7 @@ ghost use Rattle.std.specs.Prelude.{◌≡◌, ◌+◌, IfOk, ◌++◌, unwrap_o
 ghost use Rattle.book_statement.specs.declared.held.Held.{Held as KeptStatement};
 ghost use Rattle.book_import.specs.Import.{imported, number_among, new_line, held_of};
 ghost use Rattle.book_import.specs.Import.{with_held, with_line, with_lines, with_statement, with_statements};
-ghost use Rattle.book_import.specs.Laws.{AddsKeys, AreNew, AreThere, HasDrawn, count_lines, only_seen};
+ghost use Rattle.book_import.specs.Laws.{AddsKeys, AreNamed, AreNew, AreThere, HasDrawn, count_lines, only_seen};
 ghost use Rattle.book_import.specs.Steps.{AreKeysOf, Takes};
 ghost use Rattle.book_statement.specs.Keys.{key as key_at, same_text};
 ghost use Rattle.book_sound.specs.StatementRules.{is_same_statement};
@@ -26,6 +26,7 @@ pub fn import_statements<'a>(
         ≡ imported statements.now.entries lines.now.entries file.now next) }
     ensures drawn { IfOk result (HasDrawn next) }
     ensures new { IfOk result (AreNew statements.now.entries lines.now.entries) }
+    ensures named { IfOk result (AreNamed statements.now.entries) }
     ensures keys { IfOk result (AddsKeys lines.now.entries file.now) }
     ensures nothing { IfOk result (λ added. AreThere statements.now.entries lines.now.entries file.now
         → added ≡ only_seen (count_lines file.now) next) }

@@ -2,6 +2,7 @@
 use Rattle.std.proofs.Common.{◌≡◌, refl}
 use Rattle.book_import.specs.Import.{imported}
 use Rattle.book_import.proofs.ImportLaws.{drawn-by, keys-by, new-by, nothing-by}
+use Rattle.book_import.proofs.NameLemmas.{named-by}
 use Rattle.book_import.proofs.StepLemmas.{import-done}
 use Rattle.book_import.proofs.importing.import_statements.Goals as goal
 
@@ -18,6 +19,7 @@ returns c =
       added = is;
       drawn = drawn-by statements lines file c.args.next c.add_statements.new.self.added is;
       new = new-by statements lines file c.args.next c.add_statements.new.self.added is;
+      named = named-by statements lines file c.args.next c.add_statements.new.self.added is;
       keys = keys-by statements lines file c.args.next c.add_statements.new.self.added is;
       nothing = nothing-by statements lines file c.args.next c.add_statements.new.self.added is;
     }
