@@ -1,3 +1,4 @@
+pub mod FileLemmas
 pub mod ImportLaws
 pub mod KeyLemmas
 pub mod NameLemmas
