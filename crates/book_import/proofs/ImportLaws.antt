@@ -1,4 +1,4 @@
--- What holds of every import: its numbers, the keys after it, and when it adds nothing.
+-- Which keys are there after an import, and when it adds nothing.
 use Rattle.std.proofs.Common.{◌≡◌, ℕ, ◌+◌, ◌||◌, Bool, true, false, cond, List, [], ◌∷◌, ◌++◌, length, Option}
 use Rattle.std.proofs.Common.{Some, None, unwrap_or, refl, sym, ap, subst, ◌∙◌, arith, append_assoc, IsSome, ◌==◌}
 use Rattle.std.specs.List.{list_all}
@@ -16,74 +16,10 @@ use Rattle.book_statement.specs.declared.statement_line.StatementLine.{Statement
 use Rattle.book_sound.specs.LineRules.{is_same_key, key_of_line}
 use Rattle.book_import.specs.Import.{Bound, has_key, held_of, imported, new_line, nothing_added, number_among, with_held}
 use Rattle.book_import.specs.Import.{with_line, with_lines, with_statement, with_statements}
-use Rattle.book_import.specs.Laws.{AddsKeys, AreApart, AreDrawn, AreNew, AreThere, HasDrawn, count_lines, is_among, keys_in, only_seen}
+use Rattle.book_import.specs.Laws.{AddsKeys, AreThere, count_lines, is_among, keys_in, only_seen}
 use Rattle.book_import.specs.Steps.{AreKeysOf}
 use Rattle.book_import.specs.declared.added.Additions.{Additions}
-use Rattle.book_import.proofs.StepLemmas.{key-own, keys-are}
-
--- ---- numbers
-
-drawn-push :
-    {T : Type 0} (from next : ℕ) (entries : List (ℕ × T)) (value : T) → AreDrawn from next entries
-    → AreDrawn from (next + 1) (entries ++ (next, value) ∷ [])
-drawn-push from next [] value drawn = (drawn, omega arith)
-drawn-push from next (entry ∷ more) value drawn = (drawn.0, drawn-push (entry.0 + 1) next more value drawn.1)
-
-drawn-later :
-    {T : Type 0} (from next : ℕ) (entries : List (ℕ × T)) → AreDrawn from next entries
-    → AreDrawn from (next + 1) entries
-drawn-later from next [] drawn = omega (arith, drawn)
-drawn-later from next (entry ∷ more) drawn = (drawn.0, drawn-later (entry.0 + 1) next more drawn.1)
-
-line-drawn :
-    (from : ℕ) (lines : List (ℕ × Line)) (statement : ℕ) (key_ : LineKey) (body : StatementLine) (added : Additions)
-    → HasDrawn from added → HasDrawn from (with_line lines statement key_ body added)
-line-drawn from lines statement key_ body added drawn = go (has_key key_ (lines ++ added.lines))
-  where
-    go : (known : Bool) → HasDrawn from (cond known (record added { seen = added.seen + 1 }) (record added {
-      lines = added.lines ++ (added.next, new_line statement key_ body) ∷ [];
-      next = added.next + 1;
-    }))
-    go true = drawn
-    go false = (
-      drawn-later from added.next added.statements drawn.0,
-      drawn-push from added.next added.lines (new_line statement key_ body) drawn.1,
-    )
-
-lines-drawn :
-    (from : ℕ) (lines : List (ℕ × Line)) (statement : ℕ) (keys : List LineKey) (bodies : List StatementLine)
-    (added : Additions) → HasDrawn from added → HasDrawn from (with_lines lines statement keys bodies added)
-lines-drawn from lines statement [] bodies added drawn = drawn
-lines-drawn from lines statement (key_ ∷ keys) [] added drawn = drawn
-lines-drawn from lines statement (key_ ∷ keys) (body ∷ bodies) added drawn =
-    lines-drawn from lines statement keys bodies (with_line lines statement key_ body added)
-    (line-drawn from lines statement key_ body added drawn)
-
-held-drawn :
-    (from : ℕ) (there : Option ℕ) (held : Held) (added : Additions) → HasDrawn from added
-    → HasDrawn from (with_held there held added)
-held-drawn from (Some number) held added drawn = drawn
-held-drawn from None held added drawn =
-    (drawn-push from added.next added.statements held drawn.0, drawn-later from added.next added.lines drawn.1)
-
-statements-drawn :
-    (from : ℕ) (statements : List (ℕ × Held)) (lines : List (ℕ × Line)) (file : List Bound) (added : Additions)
-    → HasDrawn from added → HasDrawn from (with_statements statements lines file added)
-statements-drawn from statements lines [] added drawn = drawn
-statements-drawn from statements lines (bound ∷ more) added drawn =
-    statements-drawn from statements lines more (with_statement statements lines bound added)
-    (lines-drawn from lines
-    (unwrap_or (number_among (held_of bound) (statements ++ added.statements)) added.next)
-    (keys_of bound.account bound.statement.lines) bound.statement.lines
-    (with_held (number_among (held_of bound) (statements ++ added.statements)) (held_of bound) added)
-    (held-drawn from (number_among (held_of bound) (statements ++ added.statements)) (held_of bound) added drawn))
-
--- the numbers of an import rise, from the next number on
-pub imported-drawn :
-    (statements : List (ℕ × Held)) (lines : List (ℕ × Line)) (file : List Bound) (next : ℕ)
-    → HasDrawn next (imported statements lines file next)
-imported-drawn statements lines file next =
-    statements-drawn next statements lines file (nothing_added next) (omega arith, omega arith)
+use Rattle.book_import.proofs.StepLemmas.{keys-are}
 
 -- ---- keys
 
@@ -237,76 +173,6 @@ either-order k statements with_one with_other lines one other n m n' m' =
     ∙ sym (imported-keys k with_other (lines ++ (imported statements lines other n').lines) one m'
     ∙ ap (λ b. b || is_among k (keys_in one)) (imported-keys k statements lines other n'))
 
--- ---- what is added was not there
-
-apart-push :
-    {T : Type 0} (apart : List (ℕ × T) → T → Type 0) (before entries : List (ℕ × T)) (entry : ℕ × T)
-    → AreApart apart before entries → apart (before ++ entries) entry.1
-    → AreApart apart before (entries ++ entry ∷ [])
-apart-push {T} apart before [] entry are new =
-    (subst (λ (es : List (ℕ × T)). apart es entry.1) (append-nil before) new, tt)
-apart-push {T} apart before (first ∷ more) entry are new = (
-  are.0,
-  apart-push apart (before ++ first ∷ []) more entry are.1
-      (subst (λ (es : List (ℕ × T)). apart es entry.1) (sym (append_assoc before (first ∷ []) more)) new),
-)
-
-line-new :
-    (statements : List (ℕ × Held)) (lines : List (ℕ × Line)) (statement : ℕ) (key_ : LineKey) (body : StatementLine)
-    (added : Additions) → key_ ≡ key key_.account body key_.ordinal → AreNew statements lines added
-    → AreNew statements lines (with_line lines statement key_ body added)
-line-new statements lines statement key_ body added own are = go (has_key key_ (lines ++ added.lines)) refl
-  where
-    go : (known : Bool) → has_key key_ (lines ++ added.lines) ≡ known
-        → AreNew statements lines (cond known (record added { seen = added.seen + 1 }) (record added {
-          lines = added.lines ++ (added.next, new_line statement key_ body) ∷ [];
-          next = added.next + 1;
-        }))
-    go true e = are
-    go false e = (
-      are.0,
-      apart-push (λ before line. has_key (key_of_line line) before ≡ false) lines added.lines
-          (added.next, new_line statement key_ body) are.1
-          (ap (λ k. has_key k (lines ++ added.lines)) (sym own) ∙ e),
-    )
-
-lines-new :
-    (statements : List (ℕ × Held)) (lines : List (ℕ × Line)) (statement account : ℕ) (keys : List LineKey)
-    (bodies : List StatementLine) (added : Additions) → AreKeysOf account keys bodies
-    → AreNew statements lines added → AreNew statements lines (with_lines lines statement keys bodies added)
-lines-new statements lines statement account [] [] added of are = are
-lines-new statements lines statement account [] (body ∷ bodies) added of are = absurd of
-lines-new statements lines statement account (key_ ∷ keys) [] added of are = absurd of
-lines-new statements lines statement account (key_ ∷ keys) (body ∷ bodies) added of are =
-    lines-new statements lines statement account keys bodies (with_line lines statement key_ body added) of.1
-    (line-new statements lines statement key_ body added (key-own account key_ body of.0) are)
-
-held-new :
-    (statements : List (ℕ × Held)) (lines : List (ℕ × Line)) (held : Held) (added : Additions)
-    → AreNew statements lines added
-    → AreNew statements lines (with_held (number_among held (statements ++ added.statements)) held added)
-held-new statements lines held added are = go (number_among held (statements ++ added.statements)) refl
-  where
-    go : (there : Option ℕ) → number_among held (statements ++ added.statements) ≡ there
-        → AreNew statements lines (with_held there held added)
-    go (Some number) e = are
-    go None e = (
-      apart-push (λ before other. number_among other before ≡ None) statements added.statements (added.next, held)
-          are.0 e,
-      are.1,
-    )
-
-statements-new :
-    (statements : List (ℕ × Held)) (lines : List (ℕ × Line)) (file : List Bound) (added : Additions)
-    → AreNew statements lines added → AreNew statements lines (with_statements statements lines file added)
-statements-new statements lines [] added are = are
-statements-new statements lines (bound ∷ more) added are =
-    let there = number_among (held_of bound) (statements ++ added.statements) in
-    statements-new statements lines more (with_statement statements lines bound added)
-    (lines-new statements lines (unwrap_or there added.next) bound.account
-    (keys_of bound.account bound.statement.lines) bound.statement.lines (with_held there (held_of bound) added)
-    (keys-are bound.account bound.statement.lines) (held-new statements lines (held_of bound) added are))
-
 -- ---- nothing new
 
 line-seen :
@@ -363,12 +229,6 @@ imported-nothing statements lines file next there =
 
 -- ---- as an import says it
 
-pub drawn-by :
-    (statements : List (ℕ × Held)) (lines : List (ℕ × Line)) (file : List Bound) (next : ℕ) (added : Additions)
-    → added ≡ imported statements lines file next → HasDrawn next added
-drawn-by statements lines file next added is =
-    subst (HasDrawn next) (sym is) (imported-drawn statements lines file next)
-
 pub keys-by :
     (statements : List (ℕ × Held)) (lines : List (ℕ × Line)) (file : List Bound) (next : ℕ) (added : Additions)
     → added ≡ imported statements lines file next → AddsKeys lines file added
@@ -380,9 +240,3 @@ pub nothing-by :
     → added ≡ imported statements lines file next → AreThere statements lines file
     → added ≡ only_seen (count_lines file) next
 nothing-by statements lines file next added is there = is ∙ imported-nothing statements lines file next there
-
-pub new-by :
-    (statements : List (ℕ × Held)) (lines : List (ℕ × Line)) (file : List Bound) (next : ℕ) (added : Additions)
-    → added ≡ imported statements lines file next → AreNew statements lines added
-new-by statements lines file next added is =
-    subst (AreNew statements lines) (sym is) (statements-new statements lines file (nothing_added next) (tt, tt))

@@ -1,8 +1,10 @@
 -- What is added is that of the definition, and the laws of every import hold of it.
 use Rattle.std.proofs.Common.{◌≡◌, refl}
 use Rattle.book_import.specs.Import.{imported}
-use Rattle.book_import.proofs.ImportLaws.{drawn-by, keys-by, new-by, nothing-by}
+use Rattle.book_import.proofs.DrawnLaws.{drawn-by}
+use Rattle.book_import.proofs.ImportLaws.{keys-by, nothing-by}
 use Rattle.book_import.proofs.NameLemmas.{named-by}
+use Rattle.book_import.proofs.NewLaws.{new-by}
 use Rattle.book_import.proofs.StepLemmas.{import-done}
 use Rattle.book_import.proofs.importing.import_statements.Goals as goal
 
