@@ -1,0 +1,5 @@
+pub mod Edits
+pub mod Import
+pub mod KnownKeys
+pub mod Laws
+pub mod Steps
