@@ -1,4 +1,5 @@
 use book_commodity::{Day, Many, Text};
+use book_statement::{Held, Line};
 
 /// What one whole unit of a commodity is worth: num / denom whole units of a currency.
 #[derive(Clone, Copy, Debug, PartialEq, Eq)]
@@ -12,6 +13,20 @@ pub struct Ratio {
 pub struct DueDay {
     pub schedule: u64,
     pub day: Day,
+}
+
+/// A line of a bank statement, with its number.
+#[derive(Drop)]
+pub struct LineShown {
+    pub id: u64,
+    pub line: Line,
+}
+
+/// A bank statement without its lines, with its number.
+#[derive(Drop)]
+pub struct HeldShown {
+    pub id: u64,
+    pub held: Held,
 }
 
 /// What an accepted command is answered, by the command's word.
@@ -84,6 +99,29 @@ pub enum Answer {
     /// The numbers of the new transactions, in order of their schedules and days.
     ScheduleRun {
         transactions: Many<u64>,
+    },
+    Bind,
+    /// The numbers of the statements and of the lines that were added, in the file's order, and how many of its lines
+    /// were in the book already, or earlier in the file.
+    Import {
+        statements: Many<u64>,
+        lines: Many<u64>,
+        seen: u64,
+    },
+    /// The number of the new transaction, and those of its splits by place.
+    LineAdd {
+        transaction: u64,
+        splits: Many<u64>,
+    },
+    LineDismiss,
+    LineReopen,
+    /// The lines of the account, by number.
+    Lines {
+        lines: Many<LineShown>,
+    },
+    /// The statements of the account, by number.
+    Statements {
+        statements: Many<HeldShown>,
     },
     /// The days that are due, in order of their schedules and days.
     Due {

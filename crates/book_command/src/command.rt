@@ -2,6 +2,7 @@ use book_accounts::Account;
 use book_commodity::{Commodity, Day, Many, Text};
 use book_prices::Price;
 use book_schedule::{End, Recurrence};
+use book_statement::Binding;
 
 /// What one line asks, and at which version, where that is given.
 #[derive(Drop)]
@@ -27,6 +28,14 @@ pub enum What {
     },
     /// A report on the present book.
     Report(Report),
+    /// The lines of the account's bank statements.
+    Lines {
+        account: u64,
+    },
+    /// The account's bank statements.
+    Statements {
+        account: u64,
+    },
     /// Which days of the schedules are due up to the day.
     Due {
         upto: Day,
@@ -139,6 +148,51 @@ pub enum Update {
         upto: Day,
         schedule: Option<u64>,
     },
+    /// The account text of the binding stands for its account from now on, also where it stood for another.
+    Bind {
+        binding: Binding,
+    },
+    /// The statements of a file that are not in the book, and their lines that are not, are added. They go to the
+    /// account, or where none is given, to those that their account texts stand for.
+    Import {
+        format: Format,
+        text: Text,
+        account: Option<u64>,
+    },
+    /// A transaction is posted for the open line of this number, on its day and with its amount, and the line is
+    /// matched with it. Where no description is given it is the line's text.
+    LineAdd {
+        line: u64,
+        others: Many<GivenOther>,
+        description: Option<Text>,
+    },
+    /// The open line of this number is dismissed.
+    LineDismiss {
+        line: u64,
+    },
+    /// The line of this number is open again.
+    LineReopen {
+        line: u64,
+    },
+}
+
+/// The format of a statement file. A QIF file names no currency, so the commodity in which it is comes with it; the
+/// name says whether the month or the day stands first in its dates.
+#[derive(Clone, Copy, Debug, PartialEq, Eq)]
+pub enum Format {
+    Mt940,
+    Bai2,
+    QifMonthFirst { currency: u64 },
+    QifDayFirst { currency: u64 },
+}
+
+/// What stands against a line of a statement in the transaction that is posted for it: an account, and a value in
+/// smallest units of its commodity.
+#[derive(Drop)]
+pub struct GivenOther {
+    pub account: u64,
+    pub value: i64,
+    pub memo: Text,
 }
 
 /// What an account is to have from now on; what isn't given stays as it is.

@@ -6,7 +6,7 @@ use std::alloc::AllocError;
 
 /// Why a command was not accepted: a rule that it breaks; the keeper of the rows failed, and its count of faults rose
 /// in that call; or out of memory. Nothing was changed.
-#[derive(Clone, Copy, Debug, PartialEq, Eq)]
+#[derive(Drop)]
 pub enum Refusal {
     Broken(Rule),
     Keeper,

@@ -1,11 +1,12 @@
 ghost use Rattle.std.specs.Prelude.{◌≡◌};
 
 use book_accounts::TreeRule;
-use book_commodity::{Counted, Kind};
+use book_commodity::{Counted, Kind, Text};
 use book_splits::TxnRule;
+use book_statement::StatementFault;
 
 /// A rule of the book that a command would break.
-#[derive(Clone, Copy, Debug, PartialEq, Eq)]
+#[derive(Drop)]
 pub enum Rule {
     /// The command is for another version than this one, which is the present one.
     Stale { now: u64 },
@@ -41,6 +42,12 @@ pub enum Rule {
     Unbalanced { sum: i128 },
     /// This split is reconciled with a statement, and would be removed, or have another account or quantity.
     Reconciled { split: u64 },
+    /// The statement file is broken at a line of it.
+    BadStatement { fault: StatementFault },
+    /// No account is given, and this account text of a statement stands for none.
+    Unbound { text: Text },
+    /// This line is not open, or it is matched with the split.
+    LineTaken { line: u64 },
     /// A number of a price is not 1 to 10^9, or its commodity and its currency are one.
     PriceShape,
     /// The first day of a period comes after its last.
