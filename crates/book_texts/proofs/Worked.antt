@@ -2,11 +2,18 @@
 use Rattle.std.proofs.Common.{◌≡◌, [], ◌∷◌, ◌++◌, Some, None, codes, refl, pos, negsuc}
 use Rattle.std.specs.Fmt.{digits}
 use Rattle.serde_json.proofs.OnLiterals.{serde_json_on_literals}
-use Rattle.book_command.specs.declared.answer.Answer.TheVariants.{Edit, Price, Redo, Sheet, Status}
-use Rattle.book_command.specs.declared.rule.Rule.TheVariants.{NothingToRedo, Reconciled, Unknown}
+use Rattle.book_command.specs.declared.answer.Answer.TheVariants.{Edit, Import, Lines, Price, Redo, Sheet}
+use Rattle.book_command.specs.declared.answer.Answer.TheVariants.{Statements, Status}
+use Rattle.book_command.specs.declared.rule.Rule.TheVariants.{BadStatement, NothingToRedo, Reconciled, Unbound}
+use Rattle.book_command.specs.declared.rule.Rule.TheVariants.{Unknown}
 use Rattle.book_command.specs.declared.wire_error.WireError.TheVariants.{NotCommand}
+use Rattle.book_commodity.specs.Day.{day_of_month, day_text, last_up_to, month_of, year_of}
 use Rattle.book_commodity.specs.declared.counted.Counted.TheVariants.{Numbers}
 use Rattle.book_commodity.specs.declared.kind.Kind.TheVariants.{Reconciliation}
+use Rattle.book_statement.specs.declared.bad.Bad.TheVariants.{ControlTotal, Count, CutOff}
+use Rattle.book_statement.specs.declared.count_of.CountOf.TheVariants.{AccountRecords}
+use Rattle.book_statement.specs.declared.level.Level.TheVariants.{Group}
+use Rattle.book_statement.specs.declared.line_state.LineState.TheVariants.{Matched}
 use Rattle.book_texts.specs.AnswerText.{answer_bytes}
 use Rattle.book_texts.specs.RefusedText.{fault_bytes, too_long_bytes}
 use Rattle.book_texts.specs.RuleText.{rule_bytes}
@@ -76,3 +83,84 @@ paid_status_bytes = refl
 nothing_undone_bytes : rule_bytes NothingToRedo 5 ≡ codes "{\"broken\":\"NothingToRedo\",\"version\":5}"
 unfolding digits serde_json_on_literals
 nothing_undone_bytes = refl
+
+-- a line of a statement, on the last day of the book, matched with a split
+lines_bytes : answer_bytes (Lines
+    (record {
+      id = 7;
+      line = record {
+        account = 3;
+        statement = 6;
+        ordinal = 0;
+        body = record {
+          day = pos 84005;
+          value_day = pos 84005;
+          amount = negsuc 19999;
+          kind = codes "NTRF";
+          ref_own = codes "RENT";
+          ref_bank = codes "B77";
+          text = codes "January rent";
+          category = [];
+          parts = record { category = codes "Home"; memo = []; amount = negsuc 19999 } ∷ [];
+        };
+        state = Matched 10;
+      };
+    }
+    ∷ []))
+    5
+    ≡ codes "{\"lines\":[{\"amount\":-20000,\"category\":\"\",\"day\":\"2199-12-31\",\"id\":7,"
+    ++ codes "\"kind\":\"NTRF\",\"ordinal\":0,\"parts\":[[\"Home\",\"\",-20000]],\"ref_bank\":\"B77\","
+    ++ codes "\"ref_own\":\"RENT\",\"split\":10,\"state\":\"matched\",\"statement\":6,"
+    ++ codes "\"text\":\"January rent\",\"value_day\":\"2199-12-31\"}],\"ok\":\"lines\",\"version\":5}"
+unfolding digits word_text serde_json_on_literals day_text year_of month_of day_of_month last_up_to
+lines_bytes = refl
+
+-- what a statement does not say is null
+statements_bytes : answer_bytes (Statements
+    (record {
+      id = 6;
+      held = record {
+        account = 3;
+        account_text = codes "ACC10";
+        number = codes "185";
+        opening = Some (pos 13479);
+        closing = None;
+        day = pos 84005;
+        ties = None;
+      };
+    }
+    ∷ []))
+    23
+    ≡ codes "{\"ok\":\"statements\",\"statements\":[{\"account_text\":\"ACC10\",\"closing\":null,"
+    ++ codes "\"day\":\"2199-12-31\",\"id\":6,\"number\":\"185\",\"opening\":13479,\"ties\":null}],"
+    ++ codes "\"version\":23}"
+unfolding digits word_text serde_json_on_literals day_text year_of month_of day_of_month last_up_to
+statements_bytes = refl
+
+import_bytes : answer_bytes (Import (6 ∷ []) (7 ∷ 8 ∷ []) 2) 4
+    ≡ codes "{\"lines\":[7,8],\"ok\":\"import\",\"seen\":2,\"statements\":[6],\"version\":4}"
+unfolding digits word_text serde_json_on_literals
+import_bytes = refl
+
+control_total_bytes : rule_bytes
+    (BadStatement (record { line = 7; bad = ControlTotal Group (pos 1040001) (pos 1040000) })) 3
+    ≡ codes "{\"bad\":\"ControlTotal\",\"broken\":\"BadStatement\",\"level\":\"Group\",\"line\":7,"
+    ++ codes "\"reckoned\":\"1040000\",\"said\":\"1040001\",\"version\":3}"
+unfolding digits serde_json_on_literals
+control_total_bytes = refl
+
+count_bytes : rule_bytes (BadStatement (record { line = 14; bad = Count AccountRecords (pos 13) (pos 12) })) 14
+    ≡ codes "{\"bad\":\"Count\",\"broken\":\"BadStatement\",\"line\":14,\"reckoned\":\"12\","
+    ++ codes "\"said\":\"13\",\"version\":14,\"what\":\"AccountRecords\"}"
+unfolding digits serde_json_on_literals
+count_bytes = refl
+
+cut_off_bytes : rule_bytes (BadStatement (record { line = 11; bad = CutOff })) 3
+    ≡ codes "{\"bad\":\"CutOff\",\"broken\":\"BadStatement\",\"line\":11,\"version\":3}"
+unfolding digits serde_json_on_literals
+cut_off_bytes = refl
+
+unbound_bytes : rule_bytes (Unbound (codes "NL01")) 2
+    ≡ codes "{\"broken\":\"Unbound\",\"text\":\"NL01\",\"version\":2}"
+unfolding digits serde_json_on_literals
+unbound_bytes = refl

@@ -11,7 +11,8 @@ use Rattle.book_command.specs.declared.answer.LineShown.{LineShown}
 use Rattle.book_command.specs.declared.word.Word.TheVariants.{Bind, Import, LineAdd, LineDismiss, LineReopen, Lines}
 use Rattle.book_command.specs.declared.word.Word.TheVariants.{Statements}
 use Rattle.book_texts.specs.Fields.{answered, with_all}
-use Rattle.book_texts.specs.Shown.{day_data, list_data, number_data, option_data, signed_data}
+use Rattle.book_texts.specs.Shown.{day_data, list_data, list-plain, number_data, option_data, option-plain}
+use Rattle.book_texts.specs.Shown.{signed_data, signed-plain}
 
 -- `bind` has no field of its own.
 abbrev pub bind : ℕ → Members
@@ -48,7 +49,7 @@ part_data part =
 
 -- No number of a part has a fraction.
 pub part-plain : (part : Part) → has_float (part_data part) ≡ false
-part-plain part = ?
+part-plain part = rw (signed-plain part.amount) refl
 
 -- What the file says of a line.
 abbrev pub body_members : StatementLine → List (List ℕ × Data)
@@ -93,7 +94,13 @@ line_data shown = object (line_members shown)
 
 -- No number of a line has a fraction.
 pub line-plain : (shown : LineShown) → has_float (line_data shown) ≡ false
-line-plain shown = ?
+line-plain shown =
+    rw (
+      signed-plain shown.line.body.amount,
+      list-plain part_data part-plain shown.line.body.parts,
+      option-plain number_data (λ n. refl) (matched_split shown.line.state),
+    )
+    refl
 
 -- `lines`: the lines of the account.
 abbrev pub lines : List LineShown → ℕ → Members
@@ -119,7 +126,13 @@ held_data shown = object (held_members shown)
 
 -- No number of a statement has a fraction.
 pub held-plain : (shown : HeldShown) → has_float (held_data shown) ≡ false
-held-plain shown = ?
+held-plain shown =
+    rw (
+      option-plain signed_data signed-plain shown.held.closing,
+      option-plain signed_data signed-plain shown.held.opening,
+      option-plain boolean (λ truth. refl) shown.held.ties,
+    )
+    refl
 
 -- `statements`: the statements of the account.
 abbrev pub statements : List HeldShown → ℕ → Members
