@@ -2,21 +2,27 @@
 use Rattle.std.proofs.Common.{◌≡◌, [], ◌∷◌, ◌++◌, Some, None, codes, refl, pos, negsuc}
 use Rattle.std.specs.Fmt.{digits}
 use Rattle.serde_json.proofs.OnLiterals.{serde_json_on_literals}
+use Rattle.serde_json.specs.Data.{Data, array, item, member, negative, no_items, no_members, null, number, object}
+use Rattle.serde_json.specs.Data.{string, unsigned}
+use Rattle.serde_json.specs.Find.{get_member}
+use Rattle.book_command.specs.declared.answer.HeldShown.{HeldShown}
+use Rattle.book_command.specs.declared.answer.LineShown.{LineShown}
 use Rattle.book_command.specs.declared.answer.Answer.TheVariants.{Edit, Import, Lines, Price, Redo, Sheet}
 use Rattle.book_command.specs.declared.answer.Answer.TheVariants.{Statements, Status}
 use Rattle.book_command.specs.declared.rule.Rule.TheVariants.{BadStatement, NothingToRedo, Reconciled, Unbound}
 use Rattle.book_command.specs.declared.rule.Rule.TheVariants.{Unknown}
 use Rattle.book_command.specs.declared.wire_error.WireError.TheVariants.{NotCommand}
-use Rattle.book_commodity.specs.Day.{day_of_month, day_text, last_up_to, month_of, year_of}
+use Rattle.book_commodity.specs.Day.{day_text}
 use Rattle.book_commodity.specs.declared.counted.Counted.TheVariants.{Numbers}
 use Rattle.book_commodity.specs.declared.kind.Kind.TheVariants.{Reconciliation}
 use Rattle.book_statement.specs.declared.bad.Bad.TheVariants.{ControlTotal, Count, CutOff}
 use Rattle.book_statement.specs.declared.count_of.CountOf.TheVariants.{AccountRecords}
 use Rattle.book_statement.specs.declared.level.Level.TheVariants.{Group}
-use Rattle.book_statement.specs.declared.line_state.LineState.TheVariants.{Matched}
+use Rattle.book_statement.specs.declared.line_state.LineState.TheVariants.{Dismissed, Matched}
 use Rattle.book_texts.specs.AnswerText.{answer_bytes}
 use Rattle.book_texts.specs.RefusedText.{fault_bytes, too_long_bytes}
 use Rattle.book_texts.specs.RuleText.{rule_bytes}
+use Rattle.book_texts.specs.Statements.{held_data, line_data, line_members}
 use Rattle.book_texts.specs.Words.{kind_word, limit_word, word_text}
 
 -- the number stands before the kind, in byte order
@@ -84,17 +90,17 @@ nothing_undone_bytes : rule_bytes NothingToRedo 5 ≡ codes "{\"broken\":\"Nothi
 unfolding digits serde_json_on_literals
 nothing_undone_bytes = refl
 
--- a line of a statement, on the last day of the book, matched with a split
-lines_bytes : answer_bytes (Lines
-    (record {
+abbrev rent : LineShown
+rent =
+    record {
       id = 7;
       line = record {
         account = 3;
         statement = 6;
         ordinal = 0;
         body = record {
-          day = pos 84005;
-          value_day = pos 84005;
+          day = pos 19727;
+          value_day = pos 19728;
           amount = negsuc 19999;
           kind = codes "NTRF";
           ref_own = codes "RENT";
@@ -106,18 +112,42 @@ lines_bytes : answer_bytes (Lines
         state = Matched 10;
       };
     }
-    ∷ []))
-    5
-    ≡ codes "{\"lines\":[{\"amount\":-20000,\"category\":\"\",\"day\":\"2199-12-31\",\"id\":7,"
-    ++ codes "\"kind\":\"NTRF\",\"ordinal\":0,\"parts\":[[\"Home\",\"\",-20000]],\"ref_bank\":\"B77\","
-    ++ codes "\"ref_own\":\"RENT\",\"split\":10,\"state\":\"matched\",\"statement\":6,"
-    ++ codes "\"text\":\"January rent\",\"value_day\":\"2199-12-31\"}],\"ok\":\"lines\",\"version\":5}"
-unfolding digits word_text serde_json_on_literals day_text year_of month_of day_of_month last_up_to
-lines_bytes = refl
 
--- what a statement does not say is null
-statements_bytes : answer_bytes (Statements
-    (record {
+abbrev rent_part : Data
+rent_part =
+    array (item (string (codes "Home"))
+    (item (string []) (item (number (negative (negsuc 19999))) no_items)))
+
+-- a line that is matched with a split, its members in byte order
+rent_shown : line_data rent ≡ object
+    (member (codes "amount") (number (negative (negsuc 19999)))
+    (member (codes "category") (string [])
+    (member (codes "day") (string (day_text (pos 19727)))
+    (member (codes "id") (number (unsigned 7))
+    (member (codes "kind") (string (codes "NTRF"))
+    (member (codes "ordinal") (number (unsigned 0))
+    (member (codes "parts") (array (item rent_part no_items))
+    (member (codes "ref_bank") (string (codes "B77"))
+    (member (codes "ref_own") (string (codes "RENT"))
+    (member (codes "split") (number (unsigned 10))
+    (member (codes "state") (string (codes "matched"))
+    (member (codes "statement") (number (unsigned 6))
+    (member (codes "text") (string (codes "January rent"))
+    (member (codes "value_day") (string (day_text (pos 19728)))
+    no_members))))))))))))))
+rent_shown = refl
+
+abbrev dismissed : LineShown
+dismissed = record rent { line = record (rent.line) { state = Dismissed } }
+
+-- a line that is dismissed is matched with no split
+dismissed_shown : (get_member (codes "state") (line_members dismissed) ≡ Some (string (codes "dismissed")))
+    × (get_member (codes "split") (line_members dismissed) ≡ Some null)
+dismissed_shown = (refl, refl)
+
+abbrev january : HeldShown
+january =
+    record {
       id = 6;
       held = record {
         account = 3;
@@ -125,16 +155,30 @@ statements_bytes : answer_bytes (Statements
         number = codes "185";
         opening = Some (pos 13479);
         closing = None;
-        day = pos 84005;
+        day = pos 19753;
         ties = None;
       };
     }
-    ∷ []))
-    23
-    ≡ codes "{\"ok\":\"statements\",\"statements\":[{\"account_text\":\"ACC10\",\"closing\":null,"
-    ++ codes "\"day\":\"2199-12-31\",\"id\":6,\"number\":\"185\",\"opening\":13479,\"ties\":null}],"
-    ++ codes "\"version\":23}"
-unfolding digits word_text serde_json_on_literals day_text year_of month_of day_of_month last_up_to
+
+-- what a statement does not say is null
+january_shown : held_data january ≡ object
+    (member (codes "account_text") (string (codes "ACC10"))
+    (member (codes "closing") null
+    (member (codes "day") (string (day_text (pos 19753)))
+    (member (codes "id") (number (unsigned 6))
+    (member (codes "number") (string (codes "185"))
+    (member (codes "opening") (number (unsigned 13479))
+    (member (codes "ties") null
+    no_members)))))))
+january_shown = refl
+
+lines_bytes : answer_bytes (Lines []) 9 ≡ codes "{\"lines\":[],\"ok\":\"lines\",\"version\":9}"
+unfolding digits word_text serde_json_on_literals
+lines_bytes = refl
+
+statements_bytes : answer_bytes (Statements []) 26
+    ≡ codes "{\"ok\":\"statements\",\"statements\":[],\"version\":26}"
+unfolding digits word_text serde_json_on_literals
 statements_bytes = refl
 
 import_bytes : answer_bytes (Import (6 ∷ []) (7 ∷ 8 ∷ []) 2) 4

@@ -45,25 +45,25 @@ pub(crate) fn line_add(
 /// The answer of `lines`.
 pub(crate) fn listed_lines(
     alloc: Global,
-    lines: &Many<LineShown>,
+    shown: &Many<LineShown>,
     version: u64,
 ) -> Result<Fields, AllocError>
-    ensures { IfOk result (λ fields. members_of fields ≡ lines lines.now version) }
+    ensures { IfOk result (λ fields. members_of fields ≡ lines shown.now version) }
 {
     let fields = Fields::answered(alloc, Word::Lines, version)?;
-    Ok(fields.with("lines", lines)?)
+    Ok(fields.with("lines", shown)?)
 }
 
 /// The answer of `statements`.
 pub(crate) fn listed_statements(
     alloc: Global,
-    statements: &Many<HeldShown>,
+    shown: &Many<HeldShown>,
     version: u64,
 ) -> Result<Fields, AllocError>
-    ensures { IfOk result (λ fields. members_of fields ≡ statements statements.now version) }
+    ensures { IfOk result (λ fields. members_of fields ≡ statements shown.now version) }
 {
     let fields = Fields::answered(alloc, Word::Statements, version)?;
-    Ok(fields.with("statements", statements)?)
+    Ok(fields.with("statements", shown)?)
 }
 
 /// A line of a statement, by its members.
