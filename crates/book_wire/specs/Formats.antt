@@ -23,7 +23,7 @@ format_form = among formats
 -- A format whose files name their currency themselves, so that none may be given.
 abbrev pub without_currency : Format → Reader Format
 without_currency named = do
-  none ← absent {ℕ} (codes "currency")
+  none ← absent {X = ℕ} (codes "currency")
   gives named
 
 -- The format that a word stands for; a QIF file names no currency, so it must be given.
