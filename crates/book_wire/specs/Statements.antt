@@ -1,6 +1,5 @@
 -- The members of the commands on bank statements and their lines, in the order in which they are read.
 use Rattle.std.specs.Prelude.{codes}
-use Rattle.book_statement.specs.declared.binding.Binding.{Binding}
 use Rattle.book_json.specs.Members.{Reader, needed, optional, text, gives, ◌>>=◌}
 use Rattle.book_json.specs.Forms.{whole, whole_signed, text_form, list, inner}
 use Rattle.book_command.specs.declared.command.GivenOther.{GivenOther}
