@@ -4,18 +4,27 @@ use Rattle.std.specs.Prelude.{bytes_eq}
 use Rattle.serde_json.proofs.OnLiterals.{serde_json_on_literals}
 use Rattle.serde_json.specs.Data.{object, string}
 use Rattle.book_commodity.specs.OneLine.{is_one_line}
+use Rattle.book_statement.specs.declared.bad.Bad.{Bad}
+use Rattle.book_statement.specs.declared.bad.Bad.TheVariants.{NoStatement, FieldOrder, RecordOrder, FieldForm}
+use Rattle.book_statement.specs.declared.bad.Bad.TheVariants.{DateForm, AmountForm, TooManyDecimals}
+use Rattle.book_statement.specs.declared.bad.Bad.TheVariants.{UnknownCurrency, CurrencyDiffers, PageOrder, Version}
+use Rattle.book_statement.specs.declared.bad.Bad.TheVariants.{GroupStatus, BalanceMismatch, ControlTotal, Count}
+use Rattle.book_statement.specs.declared.bad.Bad.TheVariants.{SplitSum, CutOff, TooMany}
 use Rattle.book_command.specs.declared.answer.Answer.{Answer}
 use Rattle.book_command.specs.declared.answer.Answer.TheVariants.{AccountAdd, AccountDrop, AccountEdit}
 use Rattle.book_command.specs.declared.answer.Answer.TheVariants.{BookCurrency, CommodityAdd, Post, Edit, Drop}
 use Rattle.book_command.specs.declared.answer.Answer.TheVariants.{PriceSet, PriceDrop, Price, Undo, Redo, Status}
 use Rattle.book_command.specs.declared.answer.Answer.TheVariants.{Register, Trial, Sheet, Income, Lots, Gains}
 use Rattle.book_command.specs.declared.answer.Answer.TheVariants.{ScheduleAdd, ScheduleDrop, ScheduleRun, Due}
+use Rattle.book_command.specs.declared.answer.Answer.TheVariants.{Bind, Import, LineAdd, LineDismiss, LineReopen}
+use Rattle.book_command.specs.declared.answer.Answer.TheVariants.{Lines, Statements}
 use Rattle.book_command.specs.declared.rule.Rule.{Rule}
 use Rattle.book_command.specs.declared.rule.Rule.TheVariants.{Basis, BasisShape, Cycle, FractionShape, InUse, Limit}
 use Rattle.book_command.specs.declared.rule.Rule.TheVariants.{NameTaken, NotEmpty, ParentKind, Placeholder, Root}
 use Rattle.book_command.specs.declared.rule.Rule.TheVariants.{Reconciled, SplitCount, Stale, Unbalanced, Unknown}
 use Rattle.book_command.specs.declared.rule.Rule.TheVariants.{NothingToRedo, NothingToUndo, ValueNotQuantity}
 use Rattle.book_command.specs.declared.rule.Rule.TheVariants.{DayRange, PriceShape, RecurrenceShape, WrongCurrency}
+use Rattle.book_command.specs.declared.rule.Rule.TheVariants.{BadStatement, LineTaken, Unbound}
 use Rattle.book_command.specs.declared.wire_error.WireError.{WireError}
 use Rattle.book_command.specs.declared.wire_error.WireError.TheVariants.{NotJson, NotCommand, NotBuilt, OutOfMemory}
 use Rattle.book_json.proofs.OneLine.{compact_text-one_line}
@@ -78,10 +87,40 @@ answer-letter (Gains gain) version = refl
 answer-letter (ScheduleAdd number) version = refl
 answer-letter ScheduleDrop version = refl
 answer-letter (ScheduleRun transactions) version = refl
+answer-letter Bind version = refl
+answer-letter (Import statements lines seen) version = refl
+answer-letter (LineAdd transaction splits) version = refl
+answer-letter LineDismiss version = refl
+answer-letter LineReopen version = refl
+answer-letter (Lines lines) version = refl
+answer-letter (Statements statements) version = refl
 answer-letter (Due days) version = refl
 answer-letter Undo version = refl
 answer-letter Redo version = refl
 answer-letter (Status accounts later lines past recons splits transactions) version = refl
+
+-- what is wrong with a statement file stands first, and brings its own fields
+bad-letter : (line version : ℕ) (bad : Bad)
+    → (get_or (rule_bytes (BadStatement (record { line = line; bad = bad })) version) 2 0 == 114) ≡ false
+unfolding serde_json_on_literals
+bad-letter line version NoStatement = refl
+bad-letter line version FieldOrder = refl
+bad-letter line version RecordOrder = refl
+bad-letter line version FieldForm = refl
+bad-letter line version DateForm = refl
+bad-letter line version AmountForm = refl
+bad-letter line version TooManyDecimals = refl
+bad-letter line version UnknownCurrency = refl
+bad-letter line version CurrencyDiffers = refl
+bad-letter line version PageOrder = refl
+bad-letter line version Version = refl
+bad-letter line version GroupStatus = refl
+bad-letter line version (BalanceMismatch said reckoned) = refl
+bad-letter line version (ControlTotal level said reckoned) = refl
+bad-letter line version (Count what said reckoned) = refl
+bad-letter line version (SplitSum said reckoned) = refl
+bad-letter line version CutOff = refl
+bad-letter line version TooMany = refl
 
 rule-letter : (rule : Rule) (version : ℕ) → (get_or (rule_bytes rule version) 2 0 == 114) ≡ false
 unfolding serde_json_on_literals
@@ -102,6 +141,9 @@ rule-letter (Basis account) version = refl
 rule-letter (ValueNotQuantity place) version = refl
 rule-letter (Unbalanced sum) version = refl
 rule-letter (Reconciled split) version = refl
+rule-letter (BadStatement fault) version = bad-letter fault.line version fault.bad
+rule-letter (Unbound text) version = refl
+rule-letter (LineTaken line) version = refl
 rule-letter PriceShape version = refl
 rule-letter DayRange version = refl
 rule-letter (RecurrenceShape place) version = refl

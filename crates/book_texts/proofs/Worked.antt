@@ -2,14 +2,27 @@
 use Rattle.std.proofs.Common.{◌≡◌, [], ◌∷◌, ◌++◌, Some, None, codes, refl, pos, negsuc}
 use Rattle.std.specs.Fmt.{digits}
 use Rattle.serde_json.proofs.OnLiterals.{serde_json_on_literals}
-use Rattle.book_command.specs.declared.answer.Answer.TheVariants.{Edit, Price, Redo, Sheet, Status}
-use Rattle.book_command.specs.declared.rule.Rule.TheVariants.{NothingToRedo, Reconciled, Unknown}
+use Rattle.serde_json.specs.Data.{Data, array, item, member, negative, no_items, no_members, null, number, object}
+use Rattle.serde_json.specs.Data.{string, unsigned}
+use Rattle.serde_json.specs.Find.{get_member}
+use Rattle.book_command.specs.declared.answer.HeldShown.{HeldShown}
+use Rattle.book_command.specs.declared.answer.LineShown.{LineShown}
+use Rattle.book_command.specs.declared.answer.Answer.TheVariants.{Edit, Import, Lines, Price, Redo, Sheet}
+use Rattle.book_command.specs.declared.answer.Answer.TheVariants.{Statements, Status}
+use Rattle.book_command.specs.declared.rule.Rule.TheVariants.{BadStatement, NothingToRedo, Reconciled, Unbound}
+use Rattle.book_command.specs.declared.rule.Rule.TheVariants.{Unknown}
 use Rattle.book_command.specs.declared.wire_error.WireError.TheVariants.{NotCommand}
+use Rattle.book_commodity.specs.Day.{day_text}
 use Rattle.book_commodity.specs.declared.counted.Counted.TheVariants.{Numbers}
 use Rattle.book_commodity.specs.declared.kind.Kind.TheVariants.{Reconciliation}
+use Rattle.book_statement.specs.declared.bad.Bad.TheVariants.{ControlTotal, Count, CutOff}
+use Rattle.book_statement.specs.declared.count_of.CountOf.TheVariants.{AccountRecords}
+use Rattle.book_statement.specs.declared.level.Level.TheVariants.{Group}
+use Rattle.book_statement.specs.declared.line_state.LineState.TheVariants.{Dismissed, Matched}
 use Rattle.book_texts.specs.AnswerText.{answer_bytes}
 use Rattle.book_texts.specs.RefusedText.{fault_bytes, too_long_bytes}
 use Rattle.book_texts.specs.RuleText.{rule_bytes}
+use Rattle.book_texts.specs.Statements.{held_data, line_data, line_members}
 use Rattle.book_texts.specs.Words.{kind_word, limit_word, word_text}
 
 -- the number stands before the kind, in byte order
@@ -76,3 +89,122 @@ paid_status_bytes = refl
 nothing_undone_bytes : rule_bytes NothingToRedo 5 ≡ codes "{\"broken\":\"NothingToRedo\",\"version\":5}"
 unfolding digits serde_json_on_literals
 nothing_undone_bytes = refl
+
+abbrev rent : LineShown
+rent =
+    record {
+      id = 7;
+      line = record {
+        account = 3;
+        statement = 6;
+        ordinal = 0;
+        body = record {
+          day = pos 19727;
+          value_day = pos 19728;
+          amount = negsuc 19999;
+          kind = codes "NTRF";
+          ref_own = codes "RENT";
+          ref_bank = codes "B77";
+          text = codes "January rent";
+          category = [];
+          parts = record { category = codes "Home"; memo = []; amount = negsuc 19999 } ∷ [];
+        };
+        state = Matched 10;
+      };
+    }
+
+abbrev rent_part : Data
+rent_part =
+    array (item (string (codes "Home"))
+    (item (string []) (item (number (negative (negsuc 19999))) no_items)))
+
+-- a line that is matched with a split, its members in byte order
+rent_shown : line_data rent ≡ object
+    (member (codes "amount") (number (negative (negsuc 19999)))
+    (member (codes "category") (string [])
+    (member (codes "day") (string (day_text (pos 19727)))
+    (member (codes "id") (number (unsigned 7))
+    (member (codes "kind") (string (codes "NTRF"))
+    (member (codes "ordinal") (number (unsigned 0))
+    (member (codes "parts") (array (item rent_part no_items))
+    (member (codes "ref_bank") (string (codes "B77"))
+    (member (codes "ref_own") (string (codes "RENT"))
+    (member (codes "split") (number (unsigned 10))
+    (member (codes "state") (string (codes "matched"))
+    (member (codes "statement") (number (unsigned 6))
+    (member (codes "text") (string (codes "January rent"))
+    (member (codes "value_day") (string (day_text (pos 19728)))
+    no_members))))))))))))))
+rent_shown = refl
+
+abbrev dismissed : LineShown
+dismissed = record rent { line = record (rent.line) { state = Dismissed } }
+
+-- a line that is dismissed is matched with no split
+dismissed_shown : (get_member (codes "state") (line_members dismissed) ≡ Some (string (codes "dismissed")))
+    × (get_member (codes "split") (line_members dismissed) ≡ Some null)
+dismissed_shown = (refl, refl)
+
+abbrev january : HeldShown
+january =
+    record {
+      id = 6;
+      held = record {
+        account = 3;
+        account_text = codes "ACC10";
+        number = codes "185";
+        opening = Some (pos 13479);
+        closing = None;
+        day = pos 19753;
+        ties = None;
+      };
+    }
+
+-- what a statement does not say is null
+january_shown : held_data january ≡ object
+    (member (codes "account_text") (string (codes "ACC10"))
+    (member (codes "closing") null
+    (member (codes "day") (string (day_text (pos 19753)))
+    (member (codes "id") (number (unsigned 6))
+    (member (codes "number") (string (codes "185"))
+    (member (codes "opening") (number (unsigned 13479))
+    (member (codes "ties") null
+    no_members)))))))
+january_shown = refl
+
+lines_bytes : answer_bytes (Lines []) 9 ≡ codes "{\"lines\":[],\"ok\":\"lines\",\"version\":9}"
+unfolding digits word_text serde_json_on_literals
+lines_bytes = refl
+
+statements_bytes : answer_bytes (Statements []) 26
+    ≡ codes "{\"ok\":\"statements\",\"statements\":[],\"version\":26}"
+unfolding digits word_text serde_json_on_literals
+statements_bytes = refl
+
+import_bytes : answer_bytes (Import (6 ∷ []) (7 ∷ 8 ∷ []) 2) 4
+    ≡ codes "{\"lines\":[7,8],\"ok\":\"import\",\"seen\":2,\"statements\":[6],\"version\":4}"
+unfolding digits word_text serde_json_on_literals
+import_bytes = refl
+
+control_total_bytes : rule_bytes
+    (BadStatement (record { line = 7; bad = ControlTotal Group (pos 1040001) (pos 1040000) })) 3
+    ≡ codes "{\"bad\":\"ControlTotal\",\"broken\":\"BadStatement\",\"level\":\"Group\",\"line\":7,"
+    ++ codes "\"reckoned\":\"1040000\",\"said\":\"1040001\",\"version\":3}"
+unfolding digits serde_json_on_literals
+control_total_bytes = refl
+
+count_bytes : rule_bytes (BadStatement (record { line = 14; bad = Count AccountRecords (pos 13) (pos 12) })) 14
+    ≡ codes "{\"bad\":\"Count\",\"broken\":\"BadStatement\",\"line\":14,\"reckoned\":\"12\","
+    ++ codes "\"said\":\"13\",\"version\":14,\"what\":\"AccountRecords\"}"
+unfolding digits serde_json_on_literals
+count_bytes = refl
+
+cut_off_bytes : rule_bytes (BadStatement (record { line = 11; bad = CutOff })) 3
+    ≡ codes "{\"bad\":\"CutOff\",\"broken\":\"BadStatement\",\"line\":11,\"version\":3}"
+unfolding digits serde_json_on_literals
+cut_off_bytes = refl
+
+unbound_bytes : rule_bytes (Unbound (codes "NL01")) 2
+    ≡ codes "{\"broken\":\"Unbound\",\"text\":\"NL01\",\"version\":2}"
+unfolding digits serde_json_on_literals
+unbound_bytes = refl

@@ -8,6 +8,8 @@ use Rattle.book_command.specs.declared.answer.Answer.TheVariants.{PriceSet, Pric
 use Rattle.book_command.specs.declared.answer.Answer.TheVariants.{Register, Trial, Sheet, Income, Lots, Gains}
 use Rattle.book_command.specs.declared.word.Word.TheVariants as word
 use Rattle.book_command.specs.declared.answer.Answer.TheVariants.{ScheduleAdd, ScheduleDrop, ScheduleRun, Due}
+use Rattle.book_command.specs.declared.answer.Answer.TheVariants.{Bind, Import, LineAdd, LineDismiss, LineReopen}
+use Rattle.book_command.specs.declared.answer.Answer.TheVariants.{Lines, Statements}
 use Rattle.book_texts.specs.Accounts.{account_add, account_edit, account_drop}
 use Rattle.book_texts.specs.Commodities.{book_currency, commodity_add}
 use Rattle.book_texts.specs.Fields.{line_of}
@@ -16,6 +18,7 @@ use Rattle.book_texts.specs.Posting.{post, edit, drop}
 use Rattle.book_texts.specs.Prices.{price_set, price_drop, price}
 use Rattle.book_texts.specs.Reports.{gains, report}
 use Rattle.book_texts.specs.Schedules.{schedule_add, schedule_drop, schedule_run, due}
+use Rattle.book_texts.specs.Statements.{bind, import, line_add, line_dismiss, line_reopen, lines, statements}
 
 -- The answer of each command, with the version after it.
 abbrev pub answer_members : Answer → ℕ → Members
@@ -39,6 +42,13 @@ answer_members (Income text) = report word.Income text
 answer_members (ScheduleAdd number) = schedule_add number
 answer_members ScheduleDrop = schedule_drop
 answer_members (ScheduleRun transactions) = schedule_run transactions
+answer_members Bind = bind
+answer_members (Import added new_lines seen) = import added new_lines seen
+answer_members (LineAdd transaction splits) = line_add transaction splits
+answer_members LineDismiss = line_dismiss
+answer_members LineReopen = line_reopen
+answer_members (Lines shown) = lines shown
+answer_members (Statements shown) = statements shown
 answer_members (Due days) = due days
 answer_members Undo = undo
 answer_members Redo = redo

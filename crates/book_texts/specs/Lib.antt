@@ -10,4 +10,6 @@ pub mod Reports
 pub mod RuleText
 pub mod Schedules
 pub mod Shown
+pub mod StatementFaults
+pub mod Statements
 pub mod Words

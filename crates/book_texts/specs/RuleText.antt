@@ -1,6 +1,6 @@
 -- The line that answers a command which would break a rule.
 use Rattle.std.specs.Prelude.{ℕ, List, [], ◌∷◌, codes}
-use Rattle.serde_json.specs.Data.{Data, Members}
+use Rattle.serde_json.specs.Data.{Data, Members, string}
 use Rattle.book_commodity.specs.declared.kind.Kind.{Kind}
 use Rattle.book_command.specs.declared.rule.Rule.{Rule}
 use Rattle.book_command.specs.declared.rule.Rule.TheVariants.{Stale, Unknown, NameTaken, Cycle, ParentKind, Root}
@@ -8,9 +8,10 @@ use Rattle.book_command.specs.declared.rule.Rule.TheVariants.{Placeholder, NotEm
 use Rattle.book_command.specs.declared.rule.Rule.TheVariants.{BasisShape, SplitCount, WrongCurrency, Basis}
 use Rattle.book_command.specs.declared.rule.Rule.TheVariants.{ValueNotQuantity, Unbalanced, Reconciled, PriceShape}
 use Rattle.book_command.specs.declared.rule.Rule.TheVariants.{DayRange, RecurrenceShape, NothingToUndo}
-use Rattle.book_command.specs.declared.rule.Rule.TheVariants.{NothingToRedo, Limit}
+use Rattle.book_command.specs.declared.rule.Rule.TheVariants.{NothingToRedo, Limit, BadStatement, Unbound, LineTaken}
 use Rattle.book_texts.specs.Fields.{broken, line_of}
 use Rattle.book_texts.specs.Shown.{number_data, sum_data}
+use Rattle.book_texts.specs.StatementFaults.{bad_statement}
 use Rattle.book_texts.specs.Words.{kind_data, limit_data}
 
 -- A thing by its kind and its number.
@@ -37,6 +38,9 @@ rule_members (Basis account) = broken (codes "Basis") ((codes "account", number_
 rule_members (ValueNotQuantity place) = broken (codes "ValueNotQuantity") ((codes "place", number_data place) ∷ [])
 rule_members (Unbalanced sum) = broken (codes "Unbalanced") ((codes "sum", sum_data sum) ∷ [])
 rule_members (Reconciled split) = broken (codes "Reconciled") ((codes "split", number_data split) ∷ [])
+rule_members (BadStatement fault) = bad_statement fault
+rule_members (Unbound text) = broken (codes "Unbound") ((codes "text", string text) ∷ [])
+rule_members (LineTaken line) = broken (codes "LineTaken") ((codes "line", number_data line) ∷ [])
 rule_members PriceShape = broken (codes "PriceShape") []
 rule_members DayRange = broken (codes "DayRange") []
 rule_members (RecurrenceShape place) = broken (codes "RecurrenceShape") ((codes "place", number_data place) ∷ [])

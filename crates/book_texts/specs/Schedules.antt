@@ -1,12 +1,11 @@
 -- The answers of the commands on schedules, each with the version after it.
 use Rattle.std.specs.Prelude.{◌≡◌, ℕ, List, [], ◌∷◌, codes, false, refl}
-use Rattle.book_commodity.specs.Day.{day_text}
-use Rattle.serde_json.specs.Data.{Data, Members, array, item, no_items, string}
+use Rattle.serde_json.specs.Data.{Data, Members, array, item, no_items}
 use Rattle.serde_json.specs.Written.{has_float}
 use Rattle.book_command.specs.declared.answer.DueDay.{DueDay}
 use Rattle.book_command.specs.declared.word.Word.TheVariants.{ScheduleAdd, ScheduleDrop, ScheduleRun, Due}
 use Rattle.book_texts.specs.Fields.{answered}
-use Rattle.book_texts.specs.Shown.{list_data, number_data}
+use Rattle.book_texts.specs.Shown.{day_data, list_data, number_data}
 
 -- `schedule_add`: the number of the new schedule.
 abbrev pub schedule_add : ℕ → ℕ → Members
@@ -22,7 +21,7 @@ schedule_run transactions = answered ScheduleRun ((codes "transactions", list_da
 
 -- A day that is due: the number of its schedule, and the text of the day.
 abbrev pub due_data : DueDay → Data
-due_data due = array (item (number_data due.schedule) (item (string (day_text due.day)) no_items))
+due_data due = array (item (number_data due.schedule) (item (day_data due.day) no_items))
 
 -- No number of it has a fraction.
 pub due-plain : (due : DueDay) → has_float (due_data due) ≡ false

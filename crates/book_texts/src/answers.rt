@@ -10,6 +10,7 @@ use crate::posting::{edit, post};
 use crate::prices::{price, price_set};
 use crate::reports::{gains, report};
 use crate::schedules::{due, schedule_add, schedule_run};
+use crate::statements::{import, line_add, listed_lines, listed_statements};
 use book_command::{Answer, Word};
 use book_commodity::{Bytes, OutOfMemory};
 use std::alloc::{AllocError, Global};
@@ -54,6 +55,20 @@ fn answer_fields(alloc: Global, answer: &Answer, version: u64) -> Result<Fields,
         Answer::ScheduleAdd { schedule } => schedule_add(alloc, *schedule, version),
         Answer::ScheduleDrop => Fields::answered(alloc, Word::ScheduleDrop, version),
         Answer::ScheduleRun { transactions } => schedule_run(alloc, transactions, version),
+        Answer::Bind => Fields::answered(alloc, Word::Bind, version),
+        Answer::Import {
+            statements,
+            lines,
+            seen,
+        } => import(alloc, statements, lines, *seen, version),
+        Answer::LineAdd {
+            transaction,
+            splits,
+        } => line_add(alloc, *transaction, splits, version),
+        Answer::LineDismiss => Fields::answered(alloc, Word::LineDismiss, version),
+        Answer::LineReopen => Fields::answered(alloc, Word::LineReopen, version),
+        Answer::Lines { lines } => listed_lines(alloc, lines, version),
+        Answer::Statements { statements } => listed_statements(alloc, statements, version),
         Answer::Due { due: days } => due(alloc, days, version),
         Answer::Undo => Fields::answered(alloc, Word::Undo, version),
         Answer::Redo => Fields::answered(alloc, Word::Redo, version),

@@ -20,14 +20,14 @@ pub struct Fields {
 
 impl Fields {
     ghost use Rattle.std.specs.Prelude.{◌≡◌, [], false, IfOk};
-    ghost use Rattle.serde_json.specs.Data.{put as with_member, no_members, string};
+    ghost use Rattle.serde_json.specs.Data.{put as with_member, no_members, object, string};
     ghost use Rattle.serde_json.specs.View.{view};
     ghost use Rattle.serde_json.specs.Written.{has_float};
     ghost use Rattle.book_texts.specs.Fields.{answered as answered_members, broken as broken_members};
     ghost use Rattle.book_texts.specs.Fields.{refused as refused_members, line_of, members_of};
 
     /// No member yet.
-    fn new(alloc: Global) -> Fields
+    pub fn new(alloc: Global) -> Fields
         ensures { members_of result ≡ no_members }
     {
         Fields {
@@ -84,6 +84,14 @@ impl Fields {
         let Fields { alloc, mut members } = self;
         put(&mut members, alloc, name, value)?;
         Ok(Fields { alloc, members })
+    }
+
+    /// The members as one object.
+    pub fn into_value(self) -> Value
+        ensures { view result ≡ object (members_of self) }
+    {
+        let Fields { alloc: _, members } = self;
+        Value::Object(members)
     }
 
     /// The line of the members, without its line feed. The only error is out of memory.

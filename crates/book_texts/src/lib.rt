@@ -15,6 +15,8 @@ mod reports;
 mod rules;
 mod schedules;
 mod shown;
+mod statement_faults;
+mod statements;
 mod words;
 
 pub use answers::answer_text;

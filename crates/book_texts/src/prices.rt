@@ -24,19 +24,16 @@ pub(crate) fn price(alloc: Global, rate: &Option<Ratio>, version: u64) -> Result
     Ok(fields.with("rate", rate)?)
 }
 
-/// A rate as its two numbers; null where there is none.
-impl Shown for Option<Ratio> {
+/// A rate as its two numbers.
+impl Shown for Ratio {
     ghost shown = { rate_data };
 
     ghost plain = { rate-plain };
 
     fn value(&self, alloc: Global) -> Result<Value, AllocError> {
-        let Some(rate) = self else {
-            return Ok(Value::Null);
-        };
         let mut numbers = Vec::new(alloc);
-        numbers.push(Value::from(rate.num))?;
-        numbers.push(Value::from(rate.denom))?;
+        numbers.push(Value::from(self.num))?;
+        numbers.push(Value::from(self.denom))?;
         Ok(Value::Array(numbers))
     }
 }

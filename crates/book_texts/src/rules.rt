@@ -4,6 +4,7 @@ ghost use Rattle.book_texts.specs.RuleText.{named_by, rule_bytes, rule_members};
 
 use crate::fields::Fields;
 use crate::shown::Shown;
+use crate::statement_faults::bad_statement;
 use book_command::Rule;
 use book_commodity::{Bytes, Counted, Kind, OutOfMemory};
 use std::alloc::{AllocError, Global};
@@ -13,48 +14,45 @@ use std::alloc::{AllocError, Global};
 pub fn rule_text(alloc: Global, rule: &Rule, version: u64) -> Result<Bytes, OutOfMemory>
     ensures { IfOk result (λ text. text ≡ rule_bytes rule.now version) }
 {
-    rule_fields(alloc, *rule, version)?.line()
+    rule_fields(alloc, rule, version)?.line()
 }
 
-fn rule_fields(alloc: Global, rule: Rule, version: u64) -> Result<Fields, AllocError>
-    ensures { IfOk result (λ fields. members_of fields ≡ rule_members rule version) }
+fn rule_fields(alloc: Global, rule: &Rule, version: u64) -> Result<Fields, AllocError>
+    ensures { IfOk result (λ fields. members_of fields ≡ rule_members rule.now version) }
 {
     match rule {
-        Rule::Stale { now } => one(alloc, "Stale", "now", &now, version),
-        Rule::Unknown { kind, id } => kind_and_id(alloc, "Unknown", kind, id, version),
-        Rule::NameTaken { id } => one(alloc, "NameTaken", "id", &id, version),
+        Rule::Stale { now } => one(alloc, "Stale", "now", now, version),
+        Rule::Unknown { kind, id } => kind_and_id(alloc, "Unknown", *kind, *id, version),
+        Rule::NameTaken { id } => one(alloc, "NameTaken", "id", id, version),
         Rule::Cycle => Fields::broken(alloc, "Cycle", version),
         Rule::ParentKind => Fields::broken(alloc, "ParentKind", version),
         Rule::Root => Fields::broken(alloc, "Root", version),
-        Rule::Placeholder { account } => one(alloc, "Placeholder", "account", &account, version),
-        Rule::NotEmpty { account } => one(alloc, "NotEmpty", "account", &account, version),
-        Rule::InUse { kind, id } => kind_and_id(alloc, "InUse", kind, id, version),
+        Rule::Placeholder { account } => one(alloc, "Placeholder", "account", account, version),
+        Rule::NotEmpty { account } => one(alloc, "NotEmpty", "account", account, version),
+        Rule::InUse { kind, id } => kind_and_id(alloc, "InUse", *kind, *id, version),
         Rule::FractionShape => Fields::broken(alloc, "FractionShape", version),
         Rule::BasisShape => Fields::broken(alloc, "BasisShape", version),
-        Rule::SplitCount { count } => one(alloc, "SplitCount", "count", &count, version),
+        Rule::SplitCount { count } => one(alloc, "SplitCount", "count", count, version),
         Rule::WrongCurrency { commodity } => one(
             alloc,
             "WrongCurrency",
             "commodity",
-            &commodity,
+            commodity,
             version,
         ),
-        Rule::Basis { account } => one(alloc, "Basis", "account", &account, version),
-        Rule::ValueNotQuantity { place } => one(
-            alloc,
-            "ValueNotQuantity",
-            "place",
-            &place,
-            version,
-        ),
-        Rule::Unbalanced { sum } => one(alloc, "Unbalanced", "sum", &sum, version),
-        Rule::Reconciled { split } => one(alloc, "Reconciled", "split", &split, version),
+        Rule::Basis { account } => one(alloc, "Basis", "account", account, version),
+        Rule::ValueNotQuantity { place } => one(alloc, "ValueNotQuantity", "place", place, version),
+        Rule::Unbalanced { sum } => one(alloc, "Unbalanced", "sum", sum, version),
+        Rule::Reconciled { split } => one(alloc, "Reconciled", "split", split, version),
+        Rule::BadStatement { fault } => bad_statement(alloc, *fault, version),
+        Rule::Unbound { text } => one(alloc, "Unbound", "text", text, version),
+        Rule::LineTaken { line } => one(alloc, "LineTaken", "line", line, version),
         Rule::PriceShape => Fields::broken(alloc, "PriceShape", version),
         Rule::DayRange => Fields::broken(alloc, "DayRange", version),
-        Rule::RecurrenceShape { place } => one(alloc, "RecurrenceShape", "place", &place, version),
+        Rule::RecurrenceShape { place } => one(alloc, "RecurrenceShape", "place", place, version),
         Rule::NothingToUndo => Fields::broken(alloc, "NothingToUndo", version),
         Rule::NothingToRedo => Fields::broken(alloc, "NothingToRedo", version),
-        Rule::Limit { which, at } => limit(alloc, which, at, version),
+        Rule::Limit { which, at } => limit(alloc, *which, *at, version),
     }
 }
 

@@ -1,12 +1,11 @@
-ghost use Rattle.std.specs.Prelude.{◌≡◌, IfOk, string_bytes};
-ghost use Rattle.book_commodity.specs.Day.{day_text};
+ghost use Rattle.std.specs.Prelude.{◌≡◌, IfOk};
 ghost use Rattle.book_texts.specs.Fields.{members_of};
 ghost use Rattle.book_texts.specs.Schedules.{due, due_data, due-plain, schedule_add, schedule_run};
 
 use crate::fields::Fields;
 use crate::shown::Shown;
 use book_command::{DueDay, Word};
-use book_commodity::{Day, Many};
+use book_commodity::Many;
 use serde_json::Value;
 use std::alloc::{AllocError, Global};
 
@@ -47,18 +46,7 @@ impl Shown for DueDay {
     fn value(&self, alloc: Global) -> Result<Value, AllocError> {
         let mut pair = Vec::new(alloc);
         pair.push(Value::from(self.schedule))?;
-        pair.push(Value::String(day_string(alloc, self.day)?))?;
+        pair.push(self.day.value(alloc)?)?;
         Ok(Value::Array(pair))
     }
-}
-
-/// The text of a day.
-fn day_string(alloc: Global, day: Day) -> Result<String, AllocError>
-    ensures { IfOk result (λ text. string_bytes text ≡ day_text day) }
-{
-    let bytes = Vec::from_slice(alloc, &day.text())?;
-    let Ok(text) = String::from_utf8(bytes) else {
-        unreachable!()
-    };
-    Ok(text)
 }

@@ -3,10 +3,13 @@ use Rattle.std.proofs.Common.{◌≡◌, [], Some, None, Ok, Err, codes, false, 
 use Rattle.serde_json.specs.Data.{Members, null, number, string, array, object, no_items, no_members, member, unsigned}
 use Rattle.book_command.specs.declared.command.Update.TheVariants as update
 use Rattle.book_command.specs.declared.command.What.TheVariants.{Redo, Update}
+use Rattle.book_command.specs.declared.command.Format.TheVariants.{QifDayFirst}
 use Rattle.book_wire.specs.Asked.{Asks, NotCommand, NotBuilt, asked_of_data}
 use Rattle.book_wire.specs.Commands.{word_form}
+use Rattle.book_wire.specs.Formats.{format_form}
 use Rattle.book_wire.specs.Posting.{split, kept_split}
-use Rattle.book_json.specs.Members.{complete, ends, flag, needed, optional, text}
+use Rattle.book_wire.specs.Statements.{other}
+use Rattle.book_json.specs.Members.{absent, complete, ends, flag, needed, optional, text}
 use Rattle.book_json.specs.Forms.{whole, whole_signed}
 
 no_object : asked_of_data (array no_items) ≡ NotCommand []
@@ -64,3 +67,74 @@ number_in_an_edit : complete kept_split numbered
     ≡ Ok (record { account = 3; value = pos 1; quantity = pos 1; memo = []; action = []; id = Some 2 })
 unfolding needed optional text ends split kept_split whole whole_signed
 number_in_an_edit = refl
+
+-- of a statement file the text is read first, and its currency last
+text_first : asked_of_data
+    (object
+    (member (codes "currency") null
+    (member (codes "do") (string (codes "import")) (member (codes "format") (string (codes "mt940")) no_members))))
+    ≡ NotCommand (codes "text")
+unfolding needed optional word_form format_form
+text_first = refl
+
+-- files of MT940 name their currency themselves
+currency_of_mt940 : asked_of_data
+    (object
+    (member (codes "currency") (number (unsigned 1))
+    (member (codes "do") (string (codes "import"))
+    (member (codes "format") (string (codes "mt940")) (member (codes "text") (string []) no_members)))))
+    ≡ NotCommand (codes "currency")
+unfolding needed optional absent word_form format_form whole
+currency_of_mt940 = refl
+
+no_currency_of_qif : asked_of_data
+    (object
+    (member (codes "do") (string (codes "import"))
+    (member (codes "format") (string (codes "qif-md")) (member (codes "text") (string []) no_members))))
+    ≡ NotCommand (codes "currency")
+unfolding needed optional word_form format_form whole
+no_currency_of_qif = refl
+
+currency_of_qif : asked_of_data
+    (object
+    (member (codes "currency") (number (unsigned 1))
+    (member (codes "do") (string (codes "import"))
+    (member (codes "format") (string (codes "qif-dm")) (member (codes "text") (string []) no_members)))))
+    ≡ Asks (record { at = None; what = Update (update.Import (QifDayFirst 1) [] None) })
+unfolding needed optional ends word_form format_form whole
+currency_of_qif = refl
+
+no_such_format : asked_of_data
+    (object
+    (member (codes "do") (string (codes "import")) (member (codes "format") (string (codes "qif")) no_members)))
+    ≡ NotCommand (codes "format")
+unfolding needed optional word_form format_form
+no_such_format = refl
+
+-- a description that is given empty is another than none
+empty_description : asked_of_data
+    (object
+    (member (codes "description") (string [])
+    (member (codes "do") (string (codes "line_add"))
+    (member (codes "line") (number (unsigned 5)) (member (codes "others") (array no_items) no_members)))))
+    ≡ Asks (record { at = None; what = Update (update.LineAdd 5 [] (Some [])) })
+unfolding needed optional ends word_form whole
+empty_description = refl
+
+no_description : asked_of_data
+    (object
+    (member (codes "do") (string (codes "line_add"))
+    (member (codes "line") (number (unsigned 5)) (member (codes "others") (array no_items) no_members))))
+    ≡ Asks (record { at = None; what = Update (update.LineAdd 5 [] None) })
+unfolding needed optional ends word_form whole
+no_description = refl
+
+abbrev with_quantity : Members
+with_quantity =
+    member (codes "account") (number (unsigned 3))
+    (member (codes "quantity") (number (unsigned 1)) (member (codes "value") (number (unsigned 2)) no_members))
+
+-- what stands against a line has no quantity
+quantity_against_a_line : complete other with_quantity ≡ Err (codes "quantity")
+unfolding needed text optional ends other whole whole_signed
+quantity_against_a_line = refl

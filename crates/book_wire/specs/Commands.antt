@@ -17,16 +17,19 @@ use Rattle.book_wire.specs.Posting.{posting_members}
 use Rattle.book_wire.specs.Prices.{price_members}
 use Rattle.book_wire.specs.Reports.{report_members}
 use Rattle.book_wire.specs.Schedules.{schedule_members}
+use Rattle.book_wire.specs.Statements.{statement_members}
 use Rattle.book_wire.specs.declared.accounts.AccountCommand.TheVariants.{AccountAdd, AccountEdit, AccountDrop}
 use Rattle.book_wire.specs.declared.commands.Built.{Built}
 use Rattle.book_wire.specs.declared.commands.Built.TheVariants.{Commodities, Accounts, Posting, Prices, Reports, History}
-use Rattle.book_wire.specs.declared.commands.Built.TheVariants.{Schedules}
+use Rattle.book_wire.specs.declared.commands.Built.TheVariants.{Schedules, BankStatements}
 use Rattle.book_wire.specs.declared.commodities.CommodityCommand.TheVariants.{BookCurrency, CommodityAdd}
 use Rattle.book_wire.specs.declared.history.HistoryCommand.TheVariants.{Undo, Redo, Status}
 use Rattle.book_wire.specs.declared.posting.PostingCommand.TheVariants.{Post, Edit, Drop}
 use Rattle.book_wire.specs.declared.prices.PriceCommand.TheVariants.{Price, PriceDrop, PriceSet}
 use Rattle.book_wire.specs.declared.reports.ReportCommand.TheVariants.{Register, Trial, Sheet, Income, Lots, Gains}
 use Rattle.book_wire.specs.declared.schedules.ScheduleCommand.TheVariants.{ScheduleAdd, ScheduleDrop, ScheduleRun, Due}
+use Rattle.book_wire.specs.declared.statements.StatementCommand.TheVariants.{Bind, Import, LineAdd, LineDismiss}
+use Rattle.book_wire.specs.declared.statements.StatementCommand.TheVariants.{LineReopen, Lines, Statements}
 
 -- The text of a command's word.
 unfoldable pub word_form : Form Word
@@ -55,6 +58,13 @@ built_of word.ScheduleAdd = Some (Schedules ScheduleAdd)
 built_of word.ScheduleDrop = Some (Schedules ScheduleDrop)
 built_of word.ScheduleRun = Some (Schedules ScheduleRun)
 built_of word.Due = Some (Schedules Due)
+built_of word.Bind = Some (BankStatements Bind)
+built_of word.Import = Some (BankStatements Import)
+built_of word.LineAdd = Some (BankStatements LineAdd)
+built_of word.LineDismiss = Some (BankStatements LineDismiss)
+built_of word.LineReopen = Some (BankStatements LineReopen)
+built_of word.Lines = Some (BankStatements Lines)
+built_of word.Statements = Some (BankStatements Statements)
 built_of word.Undo = Some (History Undo)
 built_of word.Redo = Some (History Redo)
 built_of word.Status = Some (History Status)
@@ -80,6 +90,7 @@ what_of (Posting command) = changing (posting_members command)
 what_of (Prices command) = price_members command
 what_of (Reports command) = reporting (report_members command)
 what_of (Schedules command) = schedule_members command
+what_of (BankStatements command) = statement_members command
 what_of (History command) = gives (history_asked command)
 
 -- A command, read to the end of its line: the version that it is for may be given, and is read before its own members.

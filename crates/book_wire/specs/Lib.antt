@@ -2,6 +2,7 @@ pub mod Accounts
 pub mod Asked
 pub mod Commands
 pub mod Commodities
+pub mod Formats
 pub mod History
 pub mod Kinds
 pub mod Posting
@@ -9,3 +10,4 @@ pub mod Prices
 pub mod Reports
 pub mod Recurrences
 pub mod Schedules
+pub mod Statements

@@ -10,7 +10,10 @@ use crate::posting::PostingCommand::{self, Drop, Edit, Post};
 use crate::prices::PriceCommand::{self, Price, PriceDrop, PriceSet};
 use crate::reports::ReportCommand::{self, Gains, Income, Lots, Register, Sheet, Trial};
 use crate::schedules::ScheduleCommand::{self, Due, ScheduleAdd, ScheduleDrop, ScheduleRun};
-use Built::{Accounts, Commodities, History, Posting, Prices, Reports, Schedules};
+use crate::statements::StatementCommand::{
+    self, Bind, Import, LineAdd, LineDismiss, LineReopen, Lines, Statements,
+};
+use Built::{Accounts, BankStatements, Commodities, History, Posting, Prices, Reports, Schedules};
 use book_command::{Command, What, Word, words};
 use book_json::{Fault, Reading};
 
@@ -23,6 +26,7 @@ pub(crate) enum Built {
     Prices(PriceCommand),
     Reports(ReportCommand),
     Schedules(ScheduleCommand),
+    BankStatements(StatementCommand),
     History(HistoryCommand),
 }
 
@@ -60,6 +64,13 @@ pub(crate) fn built_of(word: Word) -> Option<Built>
         Word::ScheduleDrop => Some(Schedules(ScheduleDrop)),
         Word::ScheduleRun => Some(Schedules(ScheduleRun)),
         Word::Due => Some(Schedules(Due)),
+        Word::Bind => Some(BankStatements(Bind)),
+        Word::Import => Some(BankStatements(Import)),
+        Word::LineAdd => Some(BankStatements(LineAdd)),
+        Word::LineDismiss => Some(BankStatements(LineDismiss)),
+        Word::LineReopen => Some(BankStatements(LineReopen)),
+        Word::Lines => Some(BankStatements(Lines)),
+        Word::Statements => Some(BankStatements(Statements)),
         Word::Undo => Some(History(Undo)),
         Word::Redo => Some(History(Redo)),
         Word::Status => Some(History(Status)),
@@ -87,6 +98,7 @@ fn what_of(built: Built, members: &mut Reading) -> Result<What, Fault>
         Prices(command) => return command.read(members),
         Reports(command) => return Ok(What::Report(command.read(members)?)),
         Schedules(command) => return command.read(members),
+        BankStatements(command) => return command.read(members),
         History(command) => return Ok(command.what()),
     };
     Ok(What::Update(update))

@@ -6,6 +6,7 @@
 mod accounts;
 mod commands;
 mod commodities;
+mod formats;
 mod history;
 mod kinds;
 mod line;
@@ -14,6 +15,7 @@ mod prices;
 mod recurrences;
 mod reports;
 mod schedules;
+mod statements;
 
 pub use book_command::WireError;
 pub use book_lines::{KEEPER, MEMORY};

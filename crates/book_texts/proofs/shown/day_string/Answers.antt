@@ -4,7 +4,7 @@ use Rattle.std.proofs.lemmas.Str.{IsUtf8-from_ascii}
 use Rattle.book_commodity.specs.Day.{IsDay, day_text}
 use Rattle.book_commodity.proofs.DayTextLemmas.{day_text_bytes}
 use Rattle.book_texts.proofs.DayLemmas.{day_bytes_are_ascii}
-use Rattle.book_texts.proofs.schedules.day_string.Goals as goal
+use Rattle.book_texts.proofs.shown.day_string.Goals as goal
 
 pub unreachable-requires : goal.unreachable-requires
 unreachable-requires c =
