@@ -1,7 +1,7 @@
 -- The edit that puts a transaction and matches a line with its first split is exact for a sound book, and leads to the
 -- book in which both are.
-use Rattle.std.proofs.Common.{◌≡◌, ◌≢◌, ℕ, ◌+◌, nat_lt, List, [], ◌∷◌, Option, Some, None, option_map, sym, ap, subst}
-use Rattle.std.proofs.Common.{◌∙◌}
+use Rattle.std.proofs.Common.{◌≡◌, ◌≢◌, ℕ, ◌+◌, nat_lt, false, List, [], ◌∷◌, Option, Some, None, option_map, sym, ap}
+use Rattle.std.proofs.Common.{subst, ◌∙◌}
 use Rattle.book_commodity.specs.Rules.{broken_where}
 use Rattle.book_commodity.specs.Table.{value_of}
 use Rattle.book_commodity.proofs.DrawnLemmas.{drawn_free}
@@ -41,7 +41,9 @@ pub matching_changes :
     (number : ℕ) (transaction : Txn) (n : ℕ) (line : Line)
     → is_nothing (matching_edit number transaction n line) ≡ false
 matching_changes number transaction n line =
-    something_of_some (parts number transaction n line) (λ none. absurd cc)
+    let first = Put number (thing.Txn transaction) in
+    let second = Put n (thing.Line (matched_with (number + 1) line)) in
+    something_of_some (first ∷ second ∷ []) (λ none. absurd cc)
 
 -- nothing stands under a number that isn't drawn yet
 none_there : (found : Option Txn) (y : Thing) → found ≡ None → option_map (λ t. thing.Txn t) found ≢ Some y
