@@ -2,7 +2,7 @@
 use Rattle.std.proofs.Common.{◌≡◌, ℕ, ◌+◌, List, [], ◌∷◌, ◌++◌, length, map, Option, Some, None, Result, ap, subst}
 use Rattle.std.proofs.Common.{◌∙◌, arith}
 use Rattle.std.proofs.lemmas.List.{map-append}
-use Rattle.book_commodity.specs.Rules.{ReportsFirst, first_broken}
+use Rattle.book_commodity.specs.Rules.{first_broken}
 use Rattle.book_commodity.specs.Table.{value_of}
 use Rattle.book_commodity.proofs.RuleLemmas.{first-here, first-past}
 use Rattle.book_splits.specs.declared.split.Split.{Split}
@@ -25,13 +25,6 @@ use Rattle.book_step.specs.declared.step.Step.{Step}
 use Rattle.book_step.proofs.ExactLines.{matching_leads}
 use Rattle.book_step.proofs.OutcomeLemmas.{broken-changing, past-changing}
 use Rattle.book_step.proofs.PostingLemmas.{new_splits-push}
-
--- what is reported of the rules behind one that is kept is reported of all
-pub reports-later :
-    {T : Type 0} (rule : Option Rule) (more : List (Option Rule)) (result : Result T Rule)
-    → first_broken (rule ∷ []) ≡ None → ReportsFirst more result → ReportsFirst (rule ∷ more) result
-reports-later None more result e h = h
-reports-later (Some rule) more result e h = absurd cc
 
 -- What the command comes to in a commodity and with a transaction.
 abbrev pub add_in : State → ℕ → Line → List GivenOther → ℕ → Txn → Outcome

@@ -3,8 +3,8 @@
 use Rattle.std.proofs.Common.{◌≡◌, ◌≢◌, ℕ, ◌<◌, ◌≤◌, nat_eq, true, false, Option, Some, None, IsTrue, refl, sym, ap}
 use Rattle.std.proofs.Common.{subst, ◌∙◌, eq-eqb, arith}
 use Rattle.std.specs.Option.{option_eq}
-use Rattle.std.proofs.lemmas.Bool.{and_from, eqb-false}
-use Rattle.std.proofs.lemmas.Bool.Decides.{Decides-int_eq}
+use Rattle.std.proofs.lemmas.Bool.{and_from}
+use Rattle.std.proofs.lemmas.Bool.Decides.{Decides-int_eq, nat_tests}
 use Rattle.book_commodity.specs.Table.{value_of, with_entry}
 use Rattle.book_splits.specs.Balance.{splits_of}
 use Rattle.book_splits.specs.declared.split.Split.{Split}
@@ -34,7 +34,9 @@ not_shared :
     (number : ℕ) (state : LineState) → state ≢ Matched number
     → option_eq nat_eq (matched_split state) (Some number) ≡ false
 not_shared number Open other = refl
-not_shared number (Matched m) other = eqb-false m number (λ same. other (ap (λ (k : ℕ). Matched k) same))
+not_shared number (Matched m) other =
+    let apart : m ≢ number = λ same. other (ap (λ (k : ℕ). Matched k) same) in
+    grind (arith, nat_tests, apart)
 not_shared number Dismissed other = refl
 
 pub matched-sound :

@@ -64,12 +64,7 @@ fn line_add_of(
 }
 
 /// The transaction breaks no rule: it is put under the next number, and the open line is matched with its first split.
-fn post_for(
-    present: &Present,
-    number: u64,
-    line: &Line,
-    transaction: Txn,
-) -> Result<Step, Refusal>
+fn post_for(present: &Present, number: u64, line: &Line, transaction: Txn) -> Result<Step, Refusal>
     requires there { value_of number present.now.book.lines ≡ Some line.now }
     requires is_open { line.now.state ≡ State.Open }
     requires few { length transaction.splits ≤ 500 }
