@@ -9,6 +9,7 @@ use Rattle.book_accounts.specs.declared.account.Account.{Account}
 use Rattle.book_schedule.specs.declared.recurrence.Recurrence.{Recurrence}
 use Rattle.book_splits.specs.declared.transaction.Txn.{Txn}
 use Rattle.book_prices.specs.declared.price.Price.{Price}
+use Rattle.book_statement.specs.declared.line.Line.{Line}
 use Rattle.book_undo.specs.Book.{Book, with_currency, with_thing, without_thing}
 use Rattle.book_undo.specs.Edit.{edited}
 use Rattle.book_undo.specs.declared.edit.Edit as edits
@@ -19,6 +20,8 @@ use Rattle.book_step.specs.Accounts.{stays, with_given}
 use Rattle.book_step.specs.AnswerBalances.{PutsAnswered, PutsUnder, balances_at, balances_of, with_balances}
 use Rattle.book_step.specs.AnswerBalances.{without_balances}
 use Rattle.book_step.specs.Commodities as commodities
+use Rattle.book_step.specs.LineAdding.{book_matched, commodity_of, given_rules, line_add_at, line_transaction}
+use Rattle.book_step.specs.LineAdding.{matched_answer}
 use Rattle.book_step.specs.Outcome.{Outcome, Broken, Done, but_balances, changed, changing, leaving, numbers}
 use Rattle.book_step.specs.Outcome.{unless_broken}
 use Rattle.book_step.specs.Posting.{new_transaction, post_answer, post_rules}
@@ -45,6 +48,8 @@ use Rattle.book_command.specs.declared.command.Update.TheVariants.{BookCurrency,
 use Rattle.book_command.specs.declared.command.Update.TheVariants.{AccountEdit, AccountDrop, Drop, Edit, Post}
 use Rattle.book_command.specs.declared.command.Update.TheVariants.{PriceDrop, PriceSet, ScheduleAdd, ScheduleDrop}
 use Rattle.book_command.specs.declared.command.Update.TheVariants.{ScheduleRun}
+use Rattle.book_command.specs.declared.command.Update.TheVariants.{LineAdd}
+use Rattle.book_command.specs.declared.command.GivenOther.{GivenOther}
 use Rattle.book_command.specs.declared.command.GivenSchedule.{GivenSchedule}
 use Rattle.book_command.specs.declared.command.GivenTxn.{GivenTxn}
 use Rattle.book_command.specs.declared.rule.Rule.{Rule}
@@ -183,6 +188,19 @@ ran_answered state rules (run ∷ more) new reply e =
     (book_ran state.book state.next runs) (schedule_runs.drawn_by runs)
     (answer.ScheduleRun (map (λ (entry : ℕ × Txn). entry.0) (made_by state.next runs))) new reply tt e
 
+added_answered :
+    (state : State) (n : ℕ) (others : List GivenOther) (description : Option (List ℕ)) (found : Option Line)
+    (new : State) (reply : Answer)
+    → line_add_at state n others description found ≡ Done new reply → HasBalances state new reply
+added_answered state n others description None new reply e = absurd cc
+added_answered state n others description (Some line) new reply e =
+    let book = state.book in
+    let commodity = commodity_of (value_of line.account book.accounts) in
+    let transaction = line_transaction state.next commodity line others description in
+    changing_answered state (given_rules book.accounts n line commodity others ++ post_rules book transaction)
+    (book_matched book state.next transaction n line) (1 + length transaction.splits)
+    (matched_answer state.next transaction) new reply tt e
+
 answered : (state : State) (update : Update) (new : State) (reply : Answer) → outcome state update ≡ Done new reply
     → HasBalances state new reply
 answered state (BookCurrency commodity) new reply e =
@@ -221,6 +239,8 @@ answered state (ScheduleDrop n) new reply e =
     (without_thing kind.Schedule n state.book) 0 answer.ScheduleDrop new reply tt e
 answered state (ScheduleRun upto only) new reply e =
     ran_answered state (asked_rules state upto only) (runs_of upto (asked only state.book.schedules)) new reply e
+answered state (LineAdd n others description) new reply e =
+    added_answered state n others description (value_of n state.book.lines) new reply e
 
 -- ---- answers with and without balances
 filled : (old new : State) (whole : Answer) → HasBalances old new whole → with_balances new.book whole ≡ whole
@@ -244,6 +264,13 @@ filled old new (answer.Gains gain) has = refl
 filled old new (answer.ScheduleAdd n) has = refl
 filled old new answer.ScheduleDrop has = refl
 filled old new (answer.ScheduleRun ns) has = refl
+filled old new answer.Bind has = refl
+filled old new (answer.Import statements lines seen) has = refl
+filled old new (answer.LineAdd n splits) has = refl
+filled old new answer.LineDismiss has = refl
+filled old new answer.LineReopen has = refl
+filled old new (answer.Lines lines) has = refl
+filled old new (answer.Statements statements) has = refl
 filled old new (answer.Due days) has = refl
 filled old new answer.Undo has = refl
 filled old new answer.Redo has = refl
@@ -270,6 +297,13 @@ filled_again book (answer.Gains gain) = refl
 filled_again book (answer.ScheduleAdd n) = refl
 filled_again book answer.ScheduleDrop = refl
 filled_again book (answer.ScheduleRun ns) = refl
+filled_again book answer.Bind = refl
+filled_again book (answer.Import statements lines seen) = refl
+filled_again book (answer.LineAdd n splits) = refl
+filled_again book answer.LineDismiss = refl
+filled_again book answer.LineReopen = refl
+filled_again book (answer.Lines lines) = refl
+filled_again book (answer.Statements statements) = refl
 filled_again book (answer.Due days) = refl
 filled_again book answer.Undo = refl
 filled_again book answer.Redo = refl
@@ -327,6 +361,13 @@ puts_whole state new change (answer.Gains gain) is book has = tt
 puts_whole state new change (answer.ScheduleAdd n) is book has = tt
 puts_whole state new change answer.ScheduleDrop is book has = tt
 puts_whole state new change (answer.ScheduleRun ns) is book has = tt
+puts_whole state new change answer.Bind is book has = tt
+puts_whole state new change (answer.Import statements lines seen) is book has = tt
+puts_whole state new change (answer.LineAdd n splits) is book has = tt
+puts_whole state new change answer.LineDismiss is book has = tt
+puts_whole state new change answer.LineReopen is book has = tt
+puts_whole state new change (answer.Lines lines) is book has = tt
+puts_whole state new change (answer.Statements statements) is book has = tt
 puts_whole state new change (answer.Due days) is book has = tt
 puts_whole state new change answer.Undo is book has = tt
 puts_whole state new change answer.Redo is book has = tt

@@ -5,7 +5,10 @@ pub mod EditedSplitLemmas
 pub mod EditedSplits
 pub mod EditingLemmas
 pub mod ExactLemmas
+pub mod ExactLines
 pub mod ExactRuns
+pub mod LineAddingLemmas
+pub mod LineLemmas
 pub mod OutcomeLemmas
 pub mod PostingLemmas
 pub mod PriceLemmas
@@ -15,6 +18,7 @@ pub mod ScheduleLemmas
 pub mod SoundAccounts
 pub mod SoundCommodities
 pub mod SoundEditing
+pub mod SoundLineAdding
 pub mod SoundOutcome
 pub mod SoundPosting
 pub mod SoundPrices

@@ -41,7 +41,7 @@ post_keeps : (book : Book) (new : Txn) → AllKept (post_rules book new) → Kee
 post_keeps book new kept = record { check = kept.0; few = kept.1.0; few_splits = kept.1.1.0 }
 
 -- the splits of a post draw their numbers from one on,
-new_above :
+pub new_above :
     (below number : ℕ) (given : List GivenSplit) → below < number
     → All (λ (m : ℕ). below < m) (numbers_of (new_splits number given))
 new_above below number [] lt = All-nil (λ (m : ℕ). below < m)
@@ -59,7 +59,7 @@ new_below number next (first ∷ more) le =
     (new_below (number + 1) next more (omega (arith, le)))
 
 -- each another one,
-new_once : (number : ℕ) (given : List GivenSplit) → are_once (numbers_of (new_splits number given)) ≡ true
+pub new_once : (number : ℕ) (given : List GivenSplit) → are_once (numbers_of (new_splits number given)) ≡ true
 new_once number [] = refl
 new_once number (first ∷ more) =
     let apart = not_greater number (numbers_of (new_splits (number + 1) more))
@@ -67,7 +67,7 @@ new_once number (first ∷ more) =
     and_from _ _ (not_from_false _ apart) (new_once (number + 1) more)
 
 -- and are new
-new_marks :
+pub new_marks :
     (number : ℕ) (given : List GivenSplit) → list_all is_unmarked (new_splits number given) ≡ true
 new_marks number [] = refl
 new_marks number (first ∷ more) = new_marks (number + 1) more

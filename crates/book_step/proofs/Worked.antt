@@ -7,10 +7,13 @@ use Rattle.book_accounts.specs.declared.kind.AccountKind.{AccountKind}
 use Rattle.book_accounts.specs.declared.kind.AccountKind.TheVariants.{Bank, Income, Stock}
 use Rattle.book_splits.specs.declared.split.Mark.{Mark}
 use Rattle.book_splits.specs.declared.split.Mark.TheVariants.{New, Reconciled}
+use Rattle.book_splits.specs.declared.split.Mark.TheVariants.{Cleared}
 use Rattle.book_splits.specs.declared.split.Split.{Split}
+use Rattle.book_splits.specs.declared.transaction.Txn.{Txn}
 use Rattle.book_statement.specs.declared.line.Line.{Line}
 use Rattle.book_statement.specs.declared.line_state.LineState.{LineState}
 use Rattle.book_statement.specs.declared.line_state.LineState.TheVariants.{Dismissed, Matched}
+use Rattle.book_statement.specs.declared.line_state.LineState.TheVariants.{Open}
 use Rattle.book_undo.specs.Book.{Book}
 use Rattle.book_step.specs.Editing.{reconciled}
 use Rattle.book_step.specs.Outcome.{Outcome, Broken, Done}
@@ -19,10 +22,12 @@ use Rattle.book_step.specs.Step.{outcome, stale}
 use Rattle.book_command.specs.declared.answer.Answer.{Answer}
 use Rattle.book_command.specs.declared.answer.Answer.TheVariants as answer
 use Rattle.book_command.specs.declared.command.GivenAccount.{GivenAccount}
+use Rattle.book_command.specs.declared.command.GivenOther.{GivenOther}
 use Rattle.book_command.specs.declared.command.GivenSplit.{GivenSplit}
 use Rattle.book_command.specs.declared.command.Update.{Update}
 use Rattle.book_command.specs.declared.command.Update.TheVariants.{BookCurrency, CommodityAdd, AccountAdd}
 use Rattle.book_command.specs.declared.command.Update.TheVariants.{AccountEdit, AccountDrop, Post, Edit, Drop}
+use Rattle.book_command.specs.declared.command.Update.TheVariants.{LineAdd}
 use Rattle.book_command.specs.declared.rule.Rule.{Rule}
 use Rattle.book_command.specs.declared.rule.Rule.TheVariants.{Stale, NameTaken, Root, Cycle, SplitCount, Unbalanced}
 use Rattle.book_command.specs.declared.rule.Rule.TheVariants.{Limit, Unknown}
@@ -287,3 +292,116 @@ line_kept :
     (given_anew (given_with (Some 6) 3 (pos 250000) ∷ given_with None 4 (negsuc 249999) ∷ [])))
     ≡ (8, matched (Matched 6)) ∷ []
 line_kept = refl
+
+-- ---- a transaction for a line
+
+-- the state after some changes, with line 8 of account 3 and with 10 as the next number
+abbrev for_line : LineState → List Update → State
+for_line state before =
+    let old = run fresh_state before in
+    record { book = lined state old.book; next = 10; version = old.version }
+
+abbrev other : ℕ → ℤ → GivenOther
+other account value = record { account = account; value = value; memo = codes "May" }
+
+abbrev added : LineState → List Update → List GivenOther → Outcome
+added state before others = outcome (for_line state before) (LineAdd 8 others None)
+
+abbrev transactions_of : Outcome → List (ℕ × Txn)
+transactions_of (Broken rule) = []
+transactions_of (Done state answer) = state.book.transactions
+
+abbrev pay : List GivenOther
+pay = other 4 (negsuc 199999) ∷ other 4 (negsuc 49999) ∷ []
+
+line_added : reply (added Open two_accounts pay) ≡ Answered (answer.LineAdd 10 (11 ∷ 12 ∷ 13 ∷ [])) 3
+line_added = refl
+
+-- the line is matched with the first split,
+line_of_added : lines_of (added Open two_accounts pay) ≡ (8, matched (Matched 11)) ∷ []
+line_of_added = refl
+
+-- which is cleared; the others are new
+abbrev made_of : List ℕ → List (ℕ × Txn)
+made_of description = (
+  10,
+  record {
+    currency = 1;
+    day = pos 19728;
+    num = [];
+    description = description;
+    splits = record {
+      id = 11;
+      account = 3;
+      memo = [];
+      action = [];
+      mark = Cleared;
+      recon = None;
+      value = pos 250000;
+      quantity = pos 250000;
+    } ∷ record {
+      id = 12;
+      account = 4;
+      memo = codes "May";
+      action = [];
+      mark = New;
+      recon = None;
+      value = negsuc 199999;
+      quantity = negsuc 199999;
+    } ∷ record {
+      id = 13;
+      account = 4;
+      memo = codes "May";
+      action = [];
+      mark = New;
+      recon = None;
+      value = negsuc 49999;
+      quantity = negsuc 49999;
+    } ∷ [];
+  },
+) ∷ []
+
+transaction_of_added : transactions_of (added Open two_accounts pay) ≡ made_of (codes "Pay")
+transaction_of_added = refl
+
+-- an empty description that is given stays empty
+described_empty :
+    transactions_of (outcome (for_line Open two_accounts) (LineAdd 8 pay (Some []))) ≡ made_of []
+described_empty = refl
+
+-- a line that is matched is taken, which is asked before the accounts
+line_taken : reply (added (Matched 6) paid_book (other 9 (negsuc 249999) ∷ [])) ≡ Refused (rule.LineTaken 8)
+line_taken = refl
+
+line_dismissed_before : reply (added Dismissed two_accounts pay) ≡ Refused (rule.LineTaken 8)
+line_dismissed_before = refl
+
+no_line : reply (outcome (for_line Open two_accounts) (LineAdd 7 pay None)) ≡ Refused (Unknown kind.Line 7)
+no_line = refl
+
+-- a security account of commodity 5 is account 6
+abbrev with_shares : List Update
+with_shares = account (codes "Bank") Bank None ∷ account (codes "Salary") Income None ∷ acme
+    ∷ AccountAdd (record {
+      name = codes "Broker";
+      kind = Stock;
+      commodity = 5;
+      parent = Some 2;
+      code = [];
+      note = [];
+      hidden = false;
+      placeholder = false;
+      basis = Some 1;
+    }) ∷ []
+
+other_commodity : reply (added Open with_shares (other 4 (pos 0) ∷ other 6 (negsuc 249999) ∷ []))
+    ≡ Refused (rule.WrongCurrency 5)
+other_commodity = refl
+
+-- all accounts are asked for before the commodity of one is
+no_account : reply (added Open with_shares (other 6 (negsuc 249999) ∷ other 9 (pos 0) ∷ []))
+    ≡ Refused (Unknown kind.Account 9)
+no_account = refl
+
+line_unbalanced : reply (added Open two_accounts (other 4 (negsuc 249998) ∷ [])) ≡ Refused (Unbalanced (pos 1))
+line_unbalanced = refl

@@ -4,6 +4,7 @@ pub mod Commodities
 pub mod DueDays
 pub mod Editing
 pub mod InUse
+pub mod LineAdding
 pub mod Outcome
 pub mod Posting
 pub mod Prices

@@ -13,6 +13,7 @@ mod due_schedules;
 mod edited_splits;
 mod editing;
 mod in_use;
+mod line_adding;
 mod posting;
 mod present;
 mod prices;
@@ -22,8 +23,8 @@ mod schedules;
 mod step;
 
 pub use book_command::{
-    Answer, Command, DueDay, GivenAccount, GivenSchedule, GivenSplit, GivenTxn, Refusal, Rule,
-    Update, What,
+    Answer, Command, DueDay, GivenAccount, GivenOther, GivenSchedule, GivenSplit, GivenTxn,
+    Refusal, Rule, Update, What,
 };
 pub use due_schedules::due_answer;
 pub use prices::rate_answer;

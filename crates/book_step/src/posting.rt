@@ -82,7 +82,7 @@ pub(crate) fn new_split(number: u64, given: GivenSplit) -> Split
 }
 
 /// A post of the transaction keeps its rules.
-fn check_post(present: &Present, transaction: &Txn) -> Result<(), Rule>
+pub(crate) fn check_post(present: &Present, transaction: &Txn) -> Result<(), Rule>
     ensures rules { ReportsFirst (post_rules present.now.book transaction.now) result }
     ensures few { OnOk result (length transaction.now.splits ≤ 500) }
 {
