@@ -9,6 +9,9 @@ use Rattle.book_accounts.specs.declared.account.Account.{Account}
 use Rattle.book_schedule.specs.declared.recurrence.Recurrence.{Recurrence}
 use Rattle.book_splits.specs.declared.transaction.Txn.{Txn}
 use Rattle.book_prices.specs.declared.price.Price.{Price}
+use Rattle.book_statement.specs.declared.binding.Binding.{Binding}
+use Rattle.book_statement.specs.declared.line.Line.{Line}
+use Rattle.book_statement.specs.declared.line_state.LineState.TheVariants.{Open, Dismissed}
 use Rattle.book_undo.specs.Book.{Book, with_currency, with_thing, without_thing}
 use Rattle.book_undo.specs.Edit.{edited}
 use Rattle.book_undo.specs.declared.edit.Edit as edits
@@ -18,6 +21,9 @@ use Rattle.book_step.specs.Accounts.{account_drop_of, account_edit_at, add_rules
 use Rattle.book_step.specs.Accounts.{stays, with_given}
 use Rattle.book_step.specs.AnswerBalances.{PutsAnswered, PutsUnder, balances_at, balances_of, with_balances}
 use Rattle.book_step.specs.AnswerBalances.{without_balances}
+use Rattle.book_step.specs.BankLines.{in_state, is_open, line_dismiss_at, line_reopen_at, line_taken}
+use Rattle.book_step.specs.Bindings as bindings
+use Rattle.book_step.specs.Bindings.{account_rules, bind_at, binding_of}
 use Rattle.book_step.specs.Commodities as commodities
 use Rattle.book_step.specs.Outcome.{Outcome, Broken, Done, but_balances, changed, changing, leaving, numbers}
 use Rattle.book_step.specs.Outcome.{unless_broken}
@@ -45,6 +51,7 @@ use Rattle.book_command.specs.declared.command.Update.TheVariants.{BookCurrency,
 use Rattle.book_command.specs.declared.command.Update.TheVariants.{AccountEdit, AccountDrop, Drop, Edit, Post}
 use Rattle.book_command.specs.declared.command.Update.TheVariants.{PriceDrop, PriceSet, ScheduleAdd, ScheduleDrop}
 use Rattle.book_command.specs.declared.command.Update.TheVariants.{ScheduleRun}
+use Rattle.book_command.specs.declared.command.Update.TheVariants.{Bind, LineDismiss, LineReopen}
 use Rattle.book_command.specs.declared.command.GivenSchedule.{GivenSchedule}
 use Rattle.book_command.specs.declared.command.GivenTxn.{GivenTxn}
 use Rattle.book_command.specs.declared.rule.Rule.{Rule}
@@ -183,6 +190,32 @@ ran_answered state rules (run ∷ more) new reply e =
     (book_ran state.book state.next runs) (schedule_runs.drawn_by runs)
     (answer.ScheduleRun (map (λ (entry : ℕ × Txn). entry.0) (made_by state.next runs))) new reply tt e
 
+bound_answered :
+    (state : State) (binding : Binding) (found : Option (ℕ × Binding)) (new : State) (reply : Answer)
+    → bind_at state binding found ≡ Done new reply → HasBalances state new reply
+bound_answered state binding None new reply e =
+    changing_answered state (bindings.new_rules state.book binding.account)
+    (with_thing state.next (thing.Binding binding) state.book) 1 answer.Bind new reply tt e
+bound_answered state binding (Some old) new reply e =
+    either_answered (old.1.account == binding.account) state (account_rules state.book.accounts binding.account)
+    (with_thing old.0 (thing.Binding binding) state.book) answer.Bind new reply (λ s. tt) e
+
+dismissed_answered :
+    (state : State) (n : ℕ) (found : Option Line) (new : State) (reply : Answer)
+    → line_dismiss_at state n found ≡ Done new reply → HasBalances state new reply
+dismissed_answered state n None new reply e = absurd cc
+dismissed_answered state n (Some line) new reply e =
+    changing_answered state (line_taken n line ∷ [])
+    (with_thing n (thing.Line (in_state line Dismissed)) state.book) 0 answer.LineDismiss new reply tt e
+
+reopened_answered :
+    (state : State) (n : ℕ) (found : Option Line) (new : State) (reply : Answer)
+    → line_reopen_at state n found ≡ Done new reply → HasBalances state new reply
+reopened_answered state n None new reply e = absurd cc
+reopened_answered state n (Some line) new reply e =
+    either_answered (is_open line.state) state [] (with_thing n (thing.Line (in_state line Open)) state.book)
+    answer.LineReopen new reply (λ s. tt) e
+
 answered : (state : State) (update : Update) (new : State) (reply : Answer) → outcome state update ≡ Done new reply
     → HasBalances state new reply
 answered state (BookCurrency commodity) new reply e =
@@ -221,6 +254,10 @@ answered state (ScheduleDrop n) new reply e =
     (without_thing kind.Schedule n state.book) 0 answer.ScheduleDrop new reply tt e
 answered state (ScheduleRun upto only) new reply e =
     ran_answered state (asked_rules state upto only) (runs_of upto (asked only state.book.schedules)) new reply e
+answered state (Bind binding) new reply e =
+    bound_answered state binding (binding_of binding.text state.book.bindings) new reply e
+answered state (LineDismiss n) new reply e = dismissed_answered state n (value_of n state.book.lines) new reply e
+answered state (LineReopen n) new reply e = reopened_answered state n (value_of n state.book.lines) new reply e
 
 -- ---- answers with and without balances
 filled : (old new : State) (whole : Answer) → HasBalances old new whole → with_balances new.book whole ≡ whole
@@ -244,6 +281,13 @@ filled old new (answer.Gains gain) has = refl
 filled old new (answer.ScheduleAdd n) has = refl
 filled old new answer.ScheduleDrop has = refl
 filled old new (answer.ScheduleRun ns) has = refl
+filled old new answer.Bind has = refl
+filled old new (answer.Import statements lines seen) has = refl
+filled old new (answer.LineAdd transaction splits) has = refl
+filled old new answer.LineDismiss has = refl
+filled old new answer.LineReopen has = refl
+filled old new (answer.Lines lines) has = refl
+filled old new (answer.Statements statements) has = refl
 filled old new (answer.Due days) has = refl
 filled old new answer.Undo has = refl
 filled old new answer.Redo has = refl
@@ -270,6 +314,13 @@ filled_again book (answer.Gains gain) = refl
 filled_again book (answer.ScheduleAdd n) = refl
 filled_again book answer.ScheduleDrop = refl
 filled_again book (answer.ScheduleRun ns) = refl
+filled_again book answer.Bind = refl
+filled_again book (answer.Import statements lines seen) = refl
+filled_again book (answer.LineAdd transaction splits) = refl
+filled_again book answer.LineDismiss = refl
+filled_again book answer.LineReopen = refl
+filled_again book (answer.Lines lines) = refl
+filled_again book (answer.Statements statements) = refl
 filled_again book (answer.Due days) = refl
 filled_again book answer.Undo = refl
 filled_again book answer.Redo = refl
@@ -327,6 +378,13 @@ puts_whole state new change (answer.Gains gain) is book has = tt
 puts_whole state new change (answer.ScheduleAdd n) is book has = tt
 puts_whole state new change answer.ScheduleDrop is book has = tt
 puts_whole state new change (answer.ScheduleRun ns) is book has = tt
+puts_whole state new change answer.Bind is book has = tt
+puts_whole state new change (answer.Import statements lines seen) is book has = tt
+puts_whole state new change (answer.LineAdd transaction splits) is book has = tt
+puts_whole state new change answer.LineDismiss is book has = tt
+puts_whole state new change answer.LineReopen is book has = tt
+puts_whole state new change (answer.Lines lines) is book has = tt
+puts_whole state new change (answer.Statements statements) is book has = tt
 puts_whole state new change (answer.Due days) is book has = tt
 puts_whole state new change answer.Undo is book has = tt
 puts_whole state new change answer.Redo is book has = tt
