@@ -70,12 +70,13 @@ fn add_line(
 ) -> Result<(), OutOfMemory>
     ensures { IfOk result (λ _. shown.new ≡ shown.old ++ lines_of account ((number, line.now) ∷ [])) }
 {
-    if line.account == account {
-        shown.push(LineShown {
-            id: number,
-            line: line.copy()?,
-        })?;
+    if line.account != account {
+        return Ok(());
     }
+    shown.push(LineShown {
+        id: number,
+        line: line.copy()?,
+    })?;
     Ok(())
 }
 
@@ -103,11 +104,12 @@ fn add_statement(
 ) -> Result<(), OutOfMemory>
     ensures { IfOk result (λ _. shown.new ≡ shown.old ++ statements_of account ((number, held.now) ∷ [])) }
 {
-    if held.account == account {
-        shown.push(HeldShown {
-            id: number,
-            held: held.copy()?,
-        })?;
+    if held.account != account {
+        return Ok(());
     }
+    shown.push(HeldShown {
+        id: number,
+        held: held.copy()?,
+    })?;
     Ok(())
 }

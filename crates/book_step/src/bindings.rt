@@ -1,6 +1,7 @@
 ghost use Rattle.std.specs.Prelude.{◌≡◌, ◌++◌, [], ◌∷◌, None, Some, option_map};
 ghost use Rattle.book_commodity.specs.Rules.{ReportsFirst};
 ghost use Rattle.book_commodity.specs.Table.{value_of};
+ghost use Rattle.book_statement.specs.Keys.{same_text};
 ghost use Rattle.book_step.specs.Bindings.{account_rules, bind, bind_at, binding_of, binding_to, new_rules};
 ghost use Rattle.book_step.specs.Bindings.{too_many_bindings};
 ghost use Rattle.book_step.specs.Outcome.{StepsTo};
@@ -31,11 +32,18 @@ fn binding_of(bindings: &Table<Binding>, text: &str) -> Option<(u64, u64)>
 {
     for place in 0..bindings.len() {
         let binding = bindings.value_at(place);
-        if binding.text.as_str() == text {
+        if has_text(binding, text) {
             return Some((bindings.number_at(place), binding.account));
         }
     }
     None
+}
+
+/// Whether the binding is of this account text.
+fn has_text(binding: &Binding, text: &str) -> bool
+    ensures { result ≡ same_text binding.now.text text.now }
+{
+    binding.text.as_str() == text
 }
 
 /// The binding stands in the book, under the next number.
