@@ -35,13 +35,23 @@ found_there {T} test (first ∷ es) x r e =
 some_is : {X : Type 0} (one other : X) → Some one ≡ Some other → one ≡ other
 some_is one other e = cc
 
+-- A number with the account of the binding under it.
+abbrev pub said_of : ℕ × Binding → ℕ × ℕ
+said_of entry = (entry.0, entry.1.account)
+
+abbrev said_as : ℕ → ℕ → ℕ × ℕ
+said_as n account = (n, account)
+
+abbrev bound_under : ℕ → Binding → ℕ × Binding
+bound_under n binding = (n, binding)
+
 -- the binding at a place has the text, and none before it has
 pub bound_here :
     (text : List ℕ) (bindings : List (ℕ × Binding)) (i n : ℕ) (x : Binding)
     → binding_of text (drop i bindings) ≡ binding_of text bindings
     → option_map (λ e. e.1) (slice_get bindings i) ≡ Some x → same_text x.text text ≡ true
     → option_map (λ e. e.0) (slice_get bindings i) ≡ Some n
-    → Some (n, x.account) ≡ option_map (λ e. (e.0, e.1.account)) (binding_of text bindings)
+    → Some (said_as n x.account) ≡ option_map said_of (binding_of text bindings)
 bound_here text bindings i n x still value has number =
     let r = mapped_some (λ (e : ℕ × Binding). e.1) (slice_get bindings i) x value in
     let under = some_is r.0.0 n (sym (ap (option_map (λ (e : ℕ × Binding). e.0)) r.1) ∙ number) in
@@ -49,8 +59,8 @@ bound_here text bindings i n x still value has number =
     let found : binding_of text (drop i bindings) ≡ Some r.0 =
     ap (binding_of text) (drop_at bindings i r.0 r.1)
     ∙ ap (λ (t : Bool). if t then Some r.0 else rest) (ap (λ (b : Binding). same_text b.text text) r.2 ∙ has) in
-    sym (ap (option_map (λ (e : ℕ × Binding). (e.0, e.1.account))) (sym still ∙ found)
-    ∙ ap (λ (k : ℕ). Some (k, r.0.1.account)) under ∙ ap (λ (b : Binding). Some (n, b.account)) r.2)
+    sym (ap (option_map said_of) (sym still ∙ found)
+    ∙ ap (λ (k : ℕ). Some (said_as k r.0.1.account)) under ∙ ap (λ (b : Binding). Some (said_as n b.account)) r.2)
 
 -- it has another text
 pub bound_past :
@@ -69,22 +79,22 @@ bound_past text bindings i x still value other =
 
 entry_is :
     (text : List ℕ) (n account : ℕ) (e : ℕ × Binding) → same_text e.1.text text ≡ true
-    → (e.0, e.1.account) ≡ (n, account) → e ≡ (n, binding_to text account)
+    → said_of e ≡ said_as n account → e ≡ bound_under n (binding_to text account)
 entry_is text n account e passes parts =
     let number : e.0 ≡ n = ap (λ (p : ℕ × ℕ). p.0) parts in
     let stands : e.1.account ≡ account = ap (λ (p : ℕ × ℕ). p.1) parts in
-    ap (λ (k : ℕ). (k, e.1)) number
-    ∙ ap (λ (t : List ℕ). (n, binding_to t e.1.account)) (texts.same_text e.1.text text (sym passes))
-    ∙ ap (λ (a : ℕ). (n, binding_to text a)) stands
+    ap (λ (k : ℕ). bound_under k e.1) number
+    ∙ ap (λ (t : List ℕ). bound_under n (binding_to t e.1.account)) (texts.same_text e.1.text text (sym passes))
+    ∙ ap (λ (a : ℕ). bound_under n (binding_to text a)) stands
 
 -- it binds the text to the account that is said, under the number that is said
 pub bound_as :
     (text : List ℕ) (bindings : List (ℕ × Binding)) (n account : ℕ) → Rises bindings
-    → Some (n, account) ≡ option_map (λ e. (e.0, e.1.account)) (binding_of text bindings)
-    → (binding_of text bindings ≡ Some (n, binding_to text account))
+    → Some (said_as n account) ≡ option_map said_of (binding_of text bindings)
+    → (binding_of text bindings ≡ Some (bound_under n (binding_to text account)))
     × (value_of n bindings ≡ Some (binding_to text account))
 bound_as text bindings n account r said =
-    let m = mapped_some (λ (e : ℕ × Binding). (e.0, e.1.account)) (binding_of text bindings) (n, account) (sym said) in
+    let m = mapped_some said_of (binding_of text bindings) (said_as n account) (sym said) in
     let there = found_there (λ (e : ℕ × Binding). same_text e.1.text text) bindings m.0 r m.1 in
     let same = entry_is text n account m.0 there.1 m.2 in
     (m.1 ∙ ap (λ (e : ℕ × Binding). Some e) same,

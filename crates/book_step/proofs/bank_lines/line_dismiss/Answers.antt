@@ -18,10 +18,10 @@ pub changing-requires-clause-exact : goal.changing-requires-clause-exact
 changing-requires-clause-exact c sound =
     let state = c.args.present.now in
     let line = c.in_ok-line.line.now in
-    let open = only_kept (not (is_open line.state)) (LineTaken c.args.number) c.in_ok-check_open.ensures in
+    let stays = only_kept (not (is_open line.state)) (LineTaken c.args.number) c.in_ok-check_open.ensures in
     subst (λ (e : Edit). IsExact state.book e) (sym c.in_ok-edit.ensures)
     (other_state state c.args.number line Dismissed sound c.in_ok-line.ensures.there
-    (λ same. absurd (let both = ap not same ∙ open in cc)))
+    (λ same. absurd (let both = ap not same ∙ stays in cc)))
 
 pub returns : goal.returns
 returns c =
