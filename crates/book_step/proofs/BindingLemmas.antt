@@ -96,6 +96,7 @@ pub bound_as :
 bound_as text bindings n account r said =
     let m = mapped_some said_of (binding_of text bindings) (said_as n account) (sym said) in
     let there = found_there (λ (e : ℕ × Binding). same_text e.1.text text) bindings m.0 r m.1 in
-    let same = entry_is text n account m.0 there.1 m.2 in
-    (m.1 ∙ ap (λ (e : ℕ × Binding). Some e) same,
-    subst (λ (e : ℕ × Binding). value_of e.0 bindings ≡ Some e.1) same there.0)
+    let same = entry_is text n account m.0 there.1 m.2 in (
+      m.1 ∙ ap (λ (e : ℕ × Binding). Some e) same,
+      subst (λ (e : ℕ × Binding). value_of e.0 bindings ≡ Some e.1) same there.0,
+    )

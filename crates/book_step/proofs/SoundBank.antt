@@ -79,8 +79,11 @@ bind_at-sound state binding (Some old) new answered there is e =
     (binding_replaced book old.0 old.1 binding found.0
     (sym (texts.same_text old.1.text binding.text (sym found.1)))
     (account_kept book.accounts binding.account change.kept)
-    (omega (arith, is.book.bindings.few,
-    length_changed old.0 binding old.1 book.bindings is.book.bindings.rise found.0))
+    (omega (
+      arith,
+      is.book.bindings.few,
+      length_changed old.0 binding old.1 book.bindings is.book.bindings.rise found.0,
+    ))
     is.book)
     (binding_drawn book old.0 (state.next + 0) binding (omega (arith, own)) drawn))
     e
