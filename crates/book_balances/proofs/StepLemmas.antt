@@ -6,6 +6,9 @@ use Rattle.book_accounts.specs.declared.account.Account.{Account}
 use Rattle.book_prices.specs.declared.price.Price.{Price}
 use Rattle.book_schedule.specs.declared.recurrence.Recurrence.{Recurrence}
 use Rattle.book_splits.specs.declared.transaction.Txn.{Txn}
+use Rattle.book_statement.specs.declared.binding.Binding.{Binding}
+use Rattle.book_statement.specs.declared.line.Line.{Line}
+use Rattle.book_statement.specs.declared.line_state.LineState.TheVariants.{Open, Dismissed}
 use Rattle.book_undo.specs.Book.{Book, with_currency, with_thing, without_thing}
 use Rattle.book_undo.specs.declared.thing.Thing.TheVariants as thing
 use Rattle.book_undo.specs.declared.thing.ThingKind.TheVariants as kind
@@ -19,9 +22,13 @@ use Rattle.book_command.specs.declared.command.Update.TheVariants.{BookCurrency,
 use Rattle.book_command.specs.declared.command.Update.TheVariants.{AccountEdit, AccountDrop, Drop, Edit, Post}
 use Rattle.book_command.specs.declared.command.Update.TheVariants.{PriceDrop, PriceSet, ScheduleAdd, ScheduleDrop}
 use Rattle.book_command.specs.declared.command.Update.TheVariants.{ScheduleRun}
+use Rattle.book_command.specs.declared.command.Update.TheVariants.{Bind, LineDismiss, LineReopen}
 use Rattle.book_command.specs.declared.rule.Rule.{Rule}
 use Rattle.book_step.specs.Accounts.{account_drop_of, account_edit_at, add_rules, drop_rules, edit_rules}
 use Rattle.book_step.specs.Accounts.{stays, with_given}
+use Rattle.book_step.specs.BankLines.{in_state, is_open, line_dismiss_at, line_reopen_at, line_taken}
+use Rattle.book_step.specs.Bindings as bindings
+use Rattle.book_step.specs.Bindings.{account_rules, bind_at, binding_of}
 use Rattle.book_step.specs.Commodities as commodities
 use Rattle.book_step.specs.Editing as editing
 use Rattle.book_step.specs.Editing.{book_with, book_without, drop_at, drawn_by, edit_answer, edit_at}
@@ -131,6 +138,32 @@ run_moves state rules (run ∷ more) new reply e =
     (book_ran state.book state.next runs) (schedule_runs.drawn_by runs)
     (answer.ScheduleRun (map (λ (entry : ℕ × Txn). entry.0) (made_by state.next runs))) new reply e
 
+bind_moves :
+    (state : State) (binding : Binding) (found : Option (ℕ × Binding)) (new : State) (reply : Answer)
+    → bind_at state binding found ≡ Done new reply → Moves state new
+bind_moves state binding None new reply e =
+    changing_moves state (bindings.new_rules state.book binding.account)
+    (with_thing state.next (thing.Binding binding) state.book) 1 answer.Bind new reply e
+bind_moves state binding (Some old) new reply e =
+    either_moves (old.1.account == binding.account) state (account_rules state.book.accounts binding.account)
+    (with_thing old.0 (thing.Binding binding) state.book) 0 answer.Bind answer.Bind new reply e
+
+dismiss_moves :
+    (state : State) (n : ℕ) (found : Option Line) (new : State) (reply : Answer)
+    → line_dismiss_at state n found ≡ Done new reply → Moves state new
+dismiss_moves state n None new reply e = absurd cc
+dismiss_moves state n (Some line) new reply e =
+    changing_moves state (line_taken n line ∷ [])
+    (with_thing n (thing.Line (in_state line Dismissed)) state.book) 0 answer.LineDismiss new reply e
+
+reopen_moves :
+    (state : State) (n : ℕ) (found : Option Line) (new : State) (reply : Answer)
+    → line_reopen_at state n found ≡ Done new reply → Moves state new
+reopen_moves state n None new reply e = absurd cc
+reopen_moves state n (Some line) new reply e =
+    either_moves (is_open line.state) state [] (with_thing n (thing.Line (in_state line Open)) state.book) 0
+    answer.LineReopen answer.LineReopen new reply e
+
 -- A change that is done leaves the state as it is, or raises its version by one, and the next number does not fall.
 pub outcome_moves :
     (state : State) (update : Update) (new : State) (reply : Answer) → outcome state update ≡ Done new reply
@@ -168,3 +201,7 @@ outcome_moves state (ScheduleDrop n) new reply e =
     answer.ScheduleDrop new reply e
 outcome_moves state (ScheduleRun upto only) new reply e =
     run_moves state (asked_rules state upto only) (runs_of upto (asked only state.book.schedules)) new reply e
+outcome_moves state (Bind binding) new reply e =
+    bind_moves state binding (binding_of binding.text state.book.bindings) new reply e
+outcome_moves state (LineDismiss n) new reply e = dismiss_moves state n (value_of n state.book.lines) new reply e
+outcome_moves state (LineReopen n) new reply e = reopen_moves state n (value_of n state.book.lines) new reply e

@@ -1,3 +1,4 @@
+pub mod AskLemmas
 pub mod ChangedLemmas
 pub mod DueLemmas
 pub mod LotsLemmas

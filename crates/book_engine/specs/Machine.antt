@@ -8,8 +8,10 @@ use Rattle.book_command.specs.declared.answer.Answer.TheVariants as answer
 use Rattle.book_command.specs.declared.command.Command.{Command}
 use Rattle.book_command.specs.declared.command.What.{What}
 use Rattle.book_command.specs.declared.command.What.TheVariants.{Update, Undo, Redo, Price, Report, Due, Status}
+use Rattle.book_command.specs.declared.command.What.TheVariants.{Lines, Statements}
 use Rattle.book_command.specs.declared.rule.Rule.{Rule}
 use Rattle.book_command.specs.declared.rule.Rule.TheVariants.{NothingToUndo, NothingToRedo}
+use Rattle.book_step.specs.BankLines.{account_asked, lines_of, statements_of}
 use Rattle.book_step.specs.Outcome.{Outcome, numbers}
 use Rattle.book_step.specs.Outcome as outcome
 use Rattle.book_command.specs.Rates.{rate_on}
@@ -116,6 +118,11 @@ reply machine (Price commodity currency day) =
     (answer.Price (rate_on machine.book.prices commodity currency day))
 reply machine (Report report) =
     asked machine (report_rules machine.book report) (report_answer machine.book report)
+reply machine (Lines account) =
+    asked machine (account_asked machine.book account) (answer.Lines (lines_of account machine.book.lines))
+reply machine (Statements account) =
+    asked machine (account_asked machine.book account)
+    (answer.Statements (statements_of account machine.book.statements))
 reply machine (Due upto) =
     asked machine (day_rules upto machine.book.schedules) (answer.Due (due_of machine.book upto))
 reply machine Status = Done machine (status machine)

@@ -5,8 +5,11 @@ ghost use Rattle.book_undo.specs.EditRules.{IsAllowed};
 ghost use Rattle.book_undo.specs.Inverse.{LeadsBack};
 ghost use Rattle.book_step.specs.Outcome.{numbers};
 ghost use Rattle.book_step.specs.Step.{outcome};
+ghost use Rattle.book_step.specs.BankLines.{account_asked, lines_of, statements_of};
 ghost use Rattle.book_step.specs.Schedules.{Finds, day_rules, due_of};
 ghost use Rattle.book_command.specs.declared.answer.Answer.TheVariants.{Due as DueAnswer};
+ghost use Rattle.book_command.specs.declared.answer.Answer.TheVariants.{Lines as LinesAnswer};
+ghost use Rattle.book_command.specs.declared.answer.Answer.TheVariants.{Statements as StatementsAnswer};
 ghost use Rattle.book_command.specs.declared.command.What.TheVariants.{Redo as AskRedo, Undo as AskUndo};
 ghost use Rattle.book_opening.specs.State.{state_of};
 ghost use Rattle.book_report_answers.specs.Reports.{report_answer as report_answer_of, report_rules};
@@ -26,7 +29,8 @@ use book_ledger::Registers;
 use book_opening::Saved;
 use book_report_answers::report_answer;
 use book_step::{
-    Answer, Command, Refusal, Rule, Step, Update, check_version, due_answer, rate_answer,
+    Answer, Command, Refusal, Rule, Step, Update, check_version, due_answer, lines_answer,
+    rate_answer, statements_answer,
 };
 use book_turns::{Turn, Way, row_changes};
 use book_undo::Edit;
@@ -81,6 +85,8 @@ fn plan_at(
             Err(rule) => Err(Refusal::Broken(rule)),
         },
         What::Report(report) => plan_report(alloc, state, registers, saved, &report),
+        What::Lines { account } => plan_lines(alloc, state, account),
+        What::Statements { account } => plan_statements(alloc, state, account),
         What::Due { upto } => plan_due(alloc, state, upto),
         What::Status => Ok(plan_stay(alloc, state, status(state))),
     }
@@ -118,6 +124,30 @@ fn plan_due(alloc: Global, state: &Saved, upto: Day) -> Result<Plan, Refusal>
         (λ plan. plan ≡ stay_plan (state_of state.now) (DueAnswer (due_of (state_of state.now).book upto))) result }
 {
     match due_answer(alloc, &state.plain, upto) {
+        Ok(answer) => Ok(plan_stay(alloc, state, answer)),
+        Err(refusal) => Err(refusal),
+    }
+}
+
+/// The plan of the question for the lines of an account. It leaves the state as it is.
+fn plan_lines(alloc: Global, state: &Saved, account: u64) -> Result<Plan, Refusal>
+    ensures { Finds (account_asked (state_of state.now).book account)
+        (λ plan. plan ≡ stay_plan (state_of state.now)
+        (LinesAnswer (lines_of account (state_of state.now).book.lines))) result }
+{
+    match lines_answer(alloc, &state.plain, account) {
+        Ok(answer) => Ok(plan_stay(alloc, state, answer)),
+        Err(refusal) => Err(refusal),
+    }
+}
+
+/// The plan of the question for the statements of an account. It leaves the state as it is.
+fn plan_statements(alloc: Global, state: &Saved, account: u64) -> Result<Plan, Refusal>
+    ensures { Finds (account_asked (state_of state.now).book account)
+        (λ plan. plan ≡ stay_plan (state_of state.now)
+        (StatementsAnswer (statements_of account (state_of state.now).book.statements))) result }
+{
+    match statements_answer(alloc, &state.plain, account) {
         Ok(answer) => Ok(plan_stay(alloc, state, answer)),
         Err(refusal) => Err(refusal),
     }

@@ -10,6 +10,8 @@ use Rattle.book_schedule.specs.declared.recurrence.Recurrence.{Recurrence}
 use Rattle.book_splits.specs.declared.transaction.Txn.{Txn}
 use Rattle.book_prices.specs.declared.price.Price.{Price}
 use Rattle.book_statement.specs.declared.line.Line.{Line}
+use Rattle.book_statement.specs.declared.binding.Binding.{Binding}
+use Rattle.book_statement.specs.declared.line_state.LineState.TheVariants.{Open, Dismissed}
 use Rattle.book_undo.specs.Book.{Book, with_currency, with_thing, without_thing}
 use Rattle.book_undo.specs.Edit.{edited}
 use Rattle.book_undo.specs.declared.edit.Edit as edits
@@ -19,6 +21,9 @@ use Rattle.book_step.specs.Accounts.{account_drop_of, account_edit_at, add_rules
 use Rattle.book_step.specs.Accounts.{stays, with_given}
 use Rattle.book_step.specs.AnswerBalances.{PutsAnswered, PutsUnder, balances_at, balances_of, with_balances}
 use Rattle.book_step.specs.AnswerBalances.{without_balances}
+use Rattle.book_step.specs.BankLines.{in_state, is_open, line_dismiss_at, line_reopen_at, line_taken}
+use Rattle.book_step.specs.Bindings as bindings
+use Rattle.book_step.specs.Bindings.{account_rules, bind_at, binding_of}
 use Rattle.book_step.specs.Commodities as commodities
 use Rattle.book_step.specs.LineAdding.{book_matched, commodity_of, given_rules, line_add_at, line_transaction}
 use Rattle.book_step.specs.LineAdding.{matched_answer}
@@ -50,6 +55,7 @@ use Rattle.book_command.specs.declared.command.Update.TheVariants.{PriceDrop, Pr
 use Rattle.book_command.specs.declared.command.Update.TheVariants.{ScheduleRun}
 use Rattle.book_command.specs.declared.command.Update.TheVariants.{LineAdd}
 use Rattle.book_command.specs.declared.command.GivenOther.{GivenOther}
+use Rattle.book_command.specs.declared.command.Update.TheVariants.{Bind, LineDismiss, LineReopen}
 use Rattle.book_command.specs.declared.command.GivenSchedule.{GivenSchedule}
 use Rattle.book_command.specs.declared.command.GivenTxn.{GivenTxn}
 use Rattle.book_command.specs.declared.rule.Rule.{Rule}
@@ -201,6 +207,32 @@ added_answered state n others description (Some line) new reply e =
     (book_matched book state.next transaction n line) (1 + length transaction.splits)
     (matched_answer state.next transaction) new reply tt e
 
+bound_answered :
+    (state : State) (binding : Binding) (found : Option (ℕ × Binding)) (new : State) (reply : Answer)
+    → bind_at state binding found ≡ Done new reply → HasBalances state new reply
+bound_answered state binding None new reply e =
+    changing_answered state (bindings.new_rules state.book binding.account)
+    (with_thing state.next (thing.Binding binding) state.book) 1 answer.Bind new reply tt e
+bound_answered state binding (Some old) new reply e =
+    either_answered (old.1.account == binding.account) state (account_rules state.book.accounts binding.account)
+    (with_thing old.0 (thing.Binding binding) state.book) answer.Bind new reply (λ s. tt) e
+
+dismissed_answered :
+    (state : State) (n : ℕ) (found : Option Line) (new : State) (reply : Answer)
+    → line_dismiss_at state n found ≡ Done new reply → HasBalances state new reply
+dismissed_answered state n None new reply e = absurd cc
+dismissed_answered state n (Some line) new reply e =
+    changing_answered state (line_taken n line ∷ [])
+    (with_thing n (thing.Line (in_state line Dismissed)) state.book) 0 answer.LineDismiss new reply tt e
+
+reopened_answered :
+    (state : State) (n : ℕ) (found : Option Line) (new : State) (reply : Answer)
+    → line_reopen_at state n found ≡ Done new reply → HasBalances state new reply
+reopened_answered state n None new reply e = absurd cc
+reopened_answered state n (Some line) new reply e =
+    either_answered (is_open line.state) state [] (with_thing n (thing.Line (in_state line Open)) state.book)
+    answer.LineReopen new reply (λ s. tt) e
+
 answered : (state : State) (update : Update) (new : State) (reply : Answer) → outcome state update ≡ Done new reply
     → HasBalances state new reply
 answered state (BookCurrency commodity) new reply e =
@@ -241,6 +273,10 @@ answered state (ScheduleRun upto only) new reply e =
     ran_answered state (asked_rules state upto only) (runs_of upto (asked only state.book.schedules)) new reply e
 answered state (LineAdd n others description) new reply e =
     added_answered state n others description (value_of n state.book.lines) new reply e
+answered state (Bind binding) new reply e =
+    bound_answered state binding (binding_of binding.text state.book.bindings) new reply e
+answered state (LineDismiss n) new reply e = dismissed_answered state n (value_of n state.book.lines) new reply e
+answered state (LineReopen n) new reply e = reopened_answered state n (value_of n state.book.lines) new reply e
 
 -- ---- answers with and without balances
 filled : (old new : State) (whole : Answer) → HasBalances old new whole → with_balances new.book whole ≡ whole

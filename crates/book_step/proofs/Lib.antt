@@ -1,9 +1,11 @@
 pub mod AccountEditLemmas
 pub mod AnswerLemmas
+pub mod BindingLemmas
 pub mod DueDayLemmas
 pub mod EditedSplitLemmas
 pub mod EditedSplits
 pub mod EditingLemmas
+pub mod ExactBank
 pub mod ExactLemmas
 pub mod ExactLines
 pub mod ExactRuns
@@ -16,6 +18,7 @@ pub mod RunLemmas
 pub mod RunWalkLemmas
 pub mod ScheduleLemmas
 pub mod SoundAccounts
+pub mod SoundBank
 pub mod SoundCommodities
 pub mod SoundEditing
 pub mod SoundLineAdding

@@ -28,11 +28,13 @@ use Rattle.book_command.specs.declared.command.Update.TheVariants.{AccountDrop, 
 use Rattle.book_command.specs.declared.command.Update.TheVariants.{PriceDrop, PriceSet, ScheduleAdd, ScheduleDrop}
 use Rattle.book_command.specs.declared.command.Update.TheVariants.{ScheduleRun}
 use Rattle.book_command.specs.declared.command.Update.TheVariants.{LineAdd}
+use Rattle.book_command.specs.declared.command.Update.TheVariants.{Bind, LineDismiss, LineReopen}
 use Rattle.book_step.specs.Outcome.{Done}
 use Rattle.book_step.specs.Soundness.{IsSound}
 use Rattle.book_step.specs.State.{State, fresh_state, fresh_book, euro, root}
 use Rattle.book_step.specs.Step.{outcome}
 use Rattle.book_step.proofs.SoundAccounts.{account_add-sound, account_drop-sound, account_edit-sound}
+use Rattle.book_step.proofs.SoundBank.{bind-sound, line_dismiss-sound, line_reopen-sound}
 use Rattle.book_step.proofs.SoundCommodities.{book_currency-sound, commodity_add-sound}
 use Rattle.book_step.proofs.SoundEditing.{drop_transaction-sound, edit_transaction-sound}
 use Rattle.book_step.proofs.SoundLineAdding.{line_add-sound}
@@ -64,6 +66,9 @@ outcome-sound state (ScheduleDrop schedule) new answered is e = schedule_drop-so
 outcome-sound state (ScheduleRun upto only) new answered is e = schedule_run-sound state upto only new answered is e
 outcome-sound state (LineAdd n others description) new answered is e =
     line_add-sound state n others description new answered is e
+outcome-sound state (Bind binding) new answered is e = bind-sound state binding new answered is e
+outcome-sound state (LineDismiss line) new answered is e = line_dismiss-sound state line new answered is e
+outcome-sound state (LineReopen line) new answered is e = line_reopen-sound state line new answered is e
 
 -- ---- the fresh state
 

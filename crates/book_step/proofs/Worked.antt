@@ -12,9 +12,10 @@ use Rattle.book_splits.specs.declared.split.Split.{Split}
 use Rattle.book_splits.specs.declared.transaction.Txn.{Txn}
 use Rattle.book_statement.specs.declared.line.Line.{Line}
 use Rattle.book_statement.specs.declared.line_state.LineState.{LineState}
-use Rattle.book_statement.specs.declared.line_state.LineState.TheVariants.{Dismissed, Matched}
-use Rattle.book_statement.specs.declared.line_state.LineState.TheVariants.{Open}
+use Rattle.book_statement.specs.declared.binding.Binding.{Binding}
+use Rattle.book_statement.specs.declared.line_state.LineState.TheVariants.{Dismissed, Matched, Open}
 use Rattle.book_undo.specs.Book.{Book}
+use Rattle.book_step.specs.BankLines as shown
 use Rattle.book_step.specs.Editing.{reconciled}
 use Rattle.book_step.specs.Outcome.{Outcome, Broken, Done}
 use Rattle.book_step.specs.State.{State, fresh_state}
@@ -28,6 +29,7 @@ use Rattle.book_command.specs.declared.command.Update.{Update}
 use Rattle.book_command.specs.declared.command.Update.TheVariants.{BookCurrency, CommodityAdd, AccountAdd}
 use Rattle.book_command.specs.declared.command.Update.TheVariants.{AccountEdit, AccountDrop, Post, Edit, Drop}
 use Rattle.book_command.specs.declared.command.Update.TheVariants.{LineAdd}
+use Rattle.book_command.specs.declared.command.Update.TheVariants.{Bind, LineDismiss, LineReopen}
 use Rattle.book_command.specs.declared.rule.Rule.{Rule}
 use Rattle.book_command.specs.declared.rule.Rule.TheVariants.{Stale, NameTaken, Root, Cycle, SplitCount, Unbalanced}
 use Rattle.book_command.specs.declared.rule.Rule.TheVariants.{Limit, Unknown}
@@ -405,3 +407,66 @@ no_account = refl
 
 line_unbalanced : reply (added Open two_accounts (other 4 (negsuc 249998) ∷ [])) ≡ Refused (Unbalanced (pos 1))
 line_unbalanced = refl
+
+-- ---- bindings, and the states of a line
+
+abbrev bound : ℕ → Update
+bound number = Bind (record { text = codes "NL01BANK0123456789"; account = number })
+
+bind_new : last two_accounts (bound 3) ≡ Answered answer.Bind 3
+bind_new = refl
+
+abbrev bound_book : List Update
+bound_book = account (codes "Bank") Bank None ∷ account (codes "Salary") Income None ∷ bound 3 ∷ []
+
+abbrev bindings_after : List Update → Update → List (ℕ × Binding)
+bindings_after before update = (after (run fresh_state before) (outcome (run fresh_state before) update)).book.bindings
+
+-- a text that is bound already keeps its number
+bind_again : bindings_after bound_book (bound 4)
+    ≡ (5, record { text = codes "NL01BANK0123456789"; account = 4 }) ∷ []
+bind_again = refl
+
+bind_other : bindings_after bound_book (Bind (record { text = codes "NL02"; account = 3 }))
+    ≡ (5, record { text = codes "NL01BANK0123456789"; account = 3 }) ∷ (6, record { text = codes "NL02"; account = 3 })
+    ∷ []
+bind_other = refl
+
+bind_as_before : last bound_book (bound 3) ≡ Answered answer.Bind 3
+bind_as_before = refl
+
+bind_placeholder : last bound_book (bound 2) ≡ Refused (rule.Placeholder 2)
+bind_placeholder = refl
+
+bind_unknown : last bound_book (bound 9) ≡ Refused (Unknown kind.Account 9)
+bind_unknown = refl
+
+-- a line that is matched isn't dismissed, and is open after it is reopened
+matched_stays : reply (last_lined two_accounts (LineDismiss 8)) ≡ Refused (rule.LineTaken 8)
+matched_stays = refl
+
+line_reopened : lines_of (last_lined two_accounts (LineReopen 8)) ≡ (8, matched Open) ∷ []
+line_reopened = refl
+
+abbrev last_open : Update → Outcome
+last_open update = outcome (with_line Open (run fresh_state two_accounts)) update
+
+open_dismissed : lines_of (last_open (LineDismiss 8)) ≡ (8, matched Dismissed) ∷ []
+open_dismissed = refl
+
+open_as_before : reply (last_open (LineReopen 8)) ≡ Answered answer.LineReopen 2
+open_as_before = refl
+
+no_line_to_dismiss : reply (last_open (LineDismiss 9)) ≡ Refused (Unknown kind.Line 9)
+no_line_to_dismiss = refl
+
+no_line_to_reopen : reply (last_open (LineReopen 9)) ≡ Refused (Unknown kind.Line 9)
+no_line_to_reopen = refl
+
+-- ---- the questions for lines
+
+lines_shown : shown.lines_of 3 ((8, matched Open) ∷ []) ≡ record { id = 8; line = matched Open } ∷ []
+lines_shown = refl
+
+no_lines_shown : shown.lines_of 4 ((8, matched Open) ∷ []) ≡ []
+no_lines_shown = refl

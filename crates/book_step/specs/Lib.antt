@@ -1,5 +1,7 @@
 pub mod Accounts
 pub mod AnswerBalances
+pub mod BankLines
+pub mod Bindings
 pub mod Commodities
 pub mod DueDays
 pub mod Editing

@@ -3,6 +3,8 @@
 use Rattle.std.specs.Prelude.{ℕ, ◌==◌, not, Option, Some, None}
 use Rattle.book_commodity.specs.Rules.{broken_where}
 use Rattle.book_step.specs.Accounts.{account_add, account_edit, account_drop}
+use Rattle.book_step.specs.BankLines.{line_dismiss, line_reopen}
+use Rattle.book_step.specs.Bindings.{bind}
 use Rattle.book_step.specs.Commodities.{book_currency, commodity_add}
 use Rattle.book_step.specs.Editing.{drop_transaction, edit_transaction}
 use Rattle.book_step.specs.LineAdding.{line_add}
@@ -18,6 +20,7 @@ use Rattle.book_command.specs.declared.command.Update.TheVariants.{AccountEdit, 
 use Rattle.book_command.specs.declared.command.Update.TheVariants.{PriceSet, PriceDrop, ScheduleAdd, ScheduleDrop}
 use Rattle.book_command.specs.declared.command.Update.TheVariants.{ScheduleRun}
 use Rattle.book_command.specs.declared.command.Update.TheVariants.{LineAdd}
+use Rattle.book_command.specs.declared.command.Update.TheVariants.{Bind, LineDismiss, LineReopen}
 use Rattle.book_command.specs.declared.rule.Rule.{Rule}
 use Rattle.book_command.specs.declared.rule.Rule.TheVariants.{Stale}
 
@@ -42,3 +45,6 @@ outcome state (ScheduleAdd given) = schedule_add state given
 outcome state (ScheduleDrop number) = schedule_drop state number
 outcome state (ScheduleRun upto schedule) = schedule_run state upto schedule
 outcome state (LineAdd line others description) = line_add state line others description
+outcome state (Bind binding) = bind state binding
+outcome state (LineDismiss line) = line_dismiss state line
+outcome state (LineReopen line) = line_reopen state line

@@ -13,7 +13,7 @@ use crate::{Answer, Refusal, Rule, Step};
 use book_accounts::{Account, AccountKind, Tree};
 use book_commodity::{Commodities, Counted, Kind};
 use book_splits::has_splits;
-use book_undo::{Edit, Thing, ThingKind};
+use book_undo::{Edit, Plain, Thing, ThingKind};
 
 const MAX_ACCOUNTS: usize = 10_000;
 
@@ -66,6 +66,15 @@ fn check_new(present: &Present, account: &Account) -> Result<(), Rule>
     check_given(present, account.parent)?;
     check_given_commodity(&plain.commodities, account.basis)?;
     plain.accounts.check_add(account)?;
+    check_basis_and_count(plain, account)
+}
+
+/// The basis of the account fits its kind, and the book has room for one account more.
+fn check_basis_and_count(plain: &Plain, account: &Account) -> Result<(), Rule>
+    ensures { ReportsFirst
+        (basis_shape plain.now.commodities.entries account.now ∷ too_many_accounts plain.now.accounts.entries ∷ [])
+        result }
+{
     check_basis(&plain.commodities, account)?;
     check_count(&plain.accounts)
 }

@@ -1,12 +1,16 @@
 //! The step that each change of a book takes. In `specs/` stands what such a command comes to, family by family, and
 //! the state that it is asked in; `step_of` reports what it comes to in a book, and changes nothing. `check_version`
 //! asks of any command whether it is for the present version. `rate_answer` answers what a commodity is worth on a
-//! day, and `due_answer` which days of the schedules are due. The types of commands, answers and rules come from
-//! `book_command`. Public are these, `Step`, `step_of`, `rate_answer`, `due_answer` and `check_version`.
+//! day, `due_answer` which days of the schedules are due, and `lines_answer` and `statements_answer` what the bank
+//! statements of an account are. The types of commands, answers and rules come from `book_command`. Public are these,
+//! `Step`, `step_of`, `check_version` and the four functions that answer.
 #![tactic(auto)]
 
 mod account_edit;
 mod accounts;
+mod bank_lines;
+mod bank_questions;
+mod bindings;
 mod commodities;
 mod dismissing;
 mod due_schedules;
@@ -22,9 +26,10 @@ mod schedule_runs;
 mod schedules;
 mod step;
 
+pub use bank_questions::{lines_answer, statements_answer};
 pub use book_command::{
     Answer, Command, DueDay, GivenAccount, GivenOther, GivenSchedule, GivenSplit, GivenTxn,
-    Refusal, Rule, Update, What,
+    HeldShown, LineShown, Refusal, Rule, Update, What,
 };
 pub use due_schedules::due_answer;
 pub use prices::rate_answer;

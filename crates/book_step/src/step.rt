@@ -9,6 +9,8 @@ ghost use Rattle.book_step.specs.Step.{outcome, stale};
 
 use crate::account_edit::account_edit;
 use crate::accounts::{account_add, account_drop};
+use crate::bank_lines::{line_dismiss, line_reopen};
+use crate::bindings::bind;
 use crate::commodities::{book_currency, commodity_add};
 use crate::editing::{drop, edit};
 use crate::line_adding::line_add;
@@ -114,6 +116,9 @@ pub fn step_of(
             others,
             description,
         } => line_add(present, line, others, description),
+        Update::Bind { binding } => bind(present, binding),
+        Update::LineDismiss { line } => line_dismiss(present, line),
+        Update::LineReopen { line } => line_reopen(present, line),
     }
 }
 

@@ -5,9 +5,11 @@ use Rattle.book_command.specs.declared.command.What.{What}
 use Rattle.book_command.specs.declared.rule.Rule.{Rule}
 use Rattle.book_command.specs.Rates.{rate_on}
 use Rattle.book_opening.specs.State.{state_of}
+use Rattle.book_step.specs.BankLines.{account_asked, lines_of, statements_of}
 use Rattle.book_engine.specs.Books.{machine_of}
 use Rattle.book_engine.specs.Machine.{Done, reply, unless_broken}
 use Rattle.book_engine.specs.Planned.{IsPlanTo, IsRefusal, Planned}
+use Rattle.book_engine.proofs.AskLemmas.{found-planned, found-refused}
 use Rattle.book_engine.proofs.DueLemmas.{due-planned, due-refused}
 use Rattle.book_engine.proofs.PlanLemmas.{is_stay_plan}
 use Rattle.book_engine.proofs.planning.plan_at.Goals as goal
@@ -45,3 +47,37 @@ returns-in-Due-clause-refused c =
     let state = state_of c.args.state.now in
     subst (λ (w : What). IfErr c.plan_due.result (IsRefusal (reply (machine_of state) w))) (sym c.in-Due.is)
     (due-refused state c.in-Due.upto c.plan_due.result c.plan_due.ensures)
+
+pub returns-in-Lines-clause-planned : goal.returns-in-Lines-clause-planned
+returns-in-Lines-clause-planned c =
+    let state = state_of c.args.state.now in
+    let account = c.in-Lines.account in
+    subst (λ (w : What). IfOk c.plan_lines.result (IsPlanTo state c.args.saved (reply (machine_of state) w)))
+    (sym c.in-Lines.is)
+    (found-planned state c.args.saved (account_asked state.book account)
+    (answer.Lines (lines_of account state.book.lines)) c.plan_lines.result c.requires.whole c.plan_lines.ensures)
+
+pub returns-in-Lines-clause-refused : goal.returns-in-Lines-clause-refused
+returns-in-Lines-clause-refused c =
+    let state = state_of c.args.state.now in
+    let account = c.in-Lines.account in
+    subst (λ (w : What). IfErr c.plan_lines.result (IsRefusal (reply (machine_of state) w))) (sym c.in-Lines.is)
+    (found-refused state (account_asked state.book account) (answer.Lines (lines_of account state.book.lines))
+    c.plan_lines.result c.plan_lines.ensures)
+
+pub returns-in-Statements-clause-planned : goal.returns-in-Statements-clause-planned
+returns-in-Statements-clause-planned c =
+    let state = state_of c.args.state.now in
+    let account = c.in-Statements.account in
+    subst (λ (w : What). IfOk c.plan_statements.result (IsPlanTo state c.args.saved (reply (machine_of state) w)))
+    (sym c.in-Statements.is)
+    (found-planned state c.args.saved (account_asked state.book account)
+    (answer.Statements (statements_of account state.book.statements)) c.plan_statements.result c.requires.whole c.plan_statements.ensures)
+
+pub returns-in-Statements-clause-refused : goal.returns-in-Statements-clause-refused
+returns-in-Statements-clause-refused c =
+    let state = state_of c.args.state.now in
+    let account = c.in-Statements.account in
+    subst (λ (w : What). IfErr c.plan_statements.result (IsRefusal (reply (machine_of state) w))) (sym c.in-Statements.is)
+    (found-refused state (account_asked state.book account) (answer.Statements (statements_of account state.book.statements))
+    c.plan_statements.result c.plan_statements.ensures)
