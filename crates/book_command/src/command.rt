@@ -148,31 +148,12 @@ pub enum Update {
         upto: Day,
         schedule: Option<u64>,
     },
-    /// The account text of the binding stands for its account from now on, also where it stood for another.
-    Bind {
-        binding: Binding,
-    },
     /// The statements of a file that are not in the book, and their lines that are not, are added. They go to the
     /// account, or where none is given, to those that their account texts stand for.
     Import {
         format: Format,
         text: Text,
         account: Option<u64>,
-    },
-    /// A transaction is posted for the open line of this number, on its day and with its amount, and the line is
-    /// matched with it. Where no description is given it is the line's text.
-    LineAdd {
-        line: u64,
-        others: Many<GivenOther>,
-        description: Option<Text>,
-    },
-    /// The open line of this number is dismissed.
-    LineDismiss {
-        line: u64,
-    },
-    /// The line of this number is open again.
-    LineReopen {
-        line: u64,
     },
 }
 
