@@ -3,6 +3,7 @@ pub mod AnswerBalances
 pub mod Commodities
 pub mod DueDays
 pub mod Editing
+pub mod Importing
 pub mod InUse
 pub mod Outcome
 pub mod Posting

@@ -5,6 +5,7 @@ use Rattle.book_commodity.specs.Rules.{broken_where}
 use Rattle.book_step.specs.Accounts.{account_add, account_edit, account_drop}
 use Rattle.book_step.specs.Commodities.{book_currency, commodity_add}
 use Rattle.book_step.specs.Editing.{drop_transaction, edit_transaction}
+use Rattle.book_step.specs.Importing.{import_file}
 use Rattle.book_step.specs.Outcome.{Outcome}
 use Rattle.book_step.specs.Posting.{post}
 use Rattle.book_step.specs.Prices.{price_drop, price_set}
@@ -16,6 +17,7 @@ use Rattle.book_command.specs.declared.command.Update.TheVariants.{BookCurrency,
 use Rattle.book_command.specs.declared.command.Update.TheVariants.{AccountEdit, AccountDrop, Post, Edit, Drop}
 use Rattle.book_command.specs.declared.command.Update.TheVariants.{PriceSet, PriceDrop, ScheduleAdd, ScheduleDrop}
 use Rattle.book_command.specs.declared.command.Update.TheVariants.{ScheduleRun}
+use Rattle.book_command.specs.declared.command.Update.TheVariants.{Import}
 use Rattle.book_command.specs.declared.rule.Rule.{Rule}
 use Rattle.book_command.specs.declared.rule.Rule.TheVariants.{Stale}
 
@@ -39,3 +41,4 @@ outcome state (PriceDrop number) = price_drop state number
 outcome state (ScheduleAdd given) = schedule_add state given
 outcome state (ScheduleDrop number) = schedule_drop state number
 outcome state (ScheduleRun upto schedule) = schedule_run state upto schedule
+outcome state (Import format text account) = import_file state format text account

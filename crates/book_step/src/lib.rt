@@ -7,11 +7,13 @@
 
 mod account_edit;
 mod accounts;
+mod bound_statements;
 mod commodities;
 mod dismissing;
 mod due_schedules;
 mod edited_splits;
 mod editing;
+mod importing;
 mod in_use;
 mod posting;
 mod present;
@@ -19,6 +21,7 @@ mod prices;
 mod same_transaction;
 mod schedule_runs;
 mod schedules;
+mod statement_files;
 mod step;
 
 pub use book_command::{

@@ -11,6 +11,7 @@ use crate::account_edit::account_edit;
 use crate::accounts::{account_add, account_drop};
 use crate::commodities::{book_currency, commodity_add};
 use crate::editing::{drop, edit};
+use crate::importing::import_file;
 use crate::posting::post;
 use crate::present::Present;
 use crate::prices::{price_drop, price_set};
@@ -108,6 +109,11 @@ pub fn step_of(
         Update::ScheduleAdd { given } => schedule_add(present, given),
         Update::ScheduleDrop { schedule } => schedule_drop(present, schedule),
         Update::ScheduleRun { upto, schedule } => schedule_run(present, upto, schedule),
+        Update::Import {
+            format,
+            text,
+            account,
+        } => import_file(present, format, text, account),
     }
 }
 
