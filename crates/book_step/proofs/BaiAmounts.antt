@@ -1,5 +1,5 @@
 -- The lines that a BAI2 file says have amounts that a book may hold.
-use Rattle.std.proofs.Common.{◌≡◌, ℕ, nat_le, Bool, true, false, ◌&&◌, ℤ, pos, neg_ℤ, List, [], ◌∷◌, length, Option}
+use Rattle.std.proofs.Common.{◌≡◌, ℕ, nat_le, Bool, true, false, ◌&&◌, ℤ, pos, neg_ℤ, List, [], ◌∷◌, ◌++◌, length, Option}
 use Rattle.std.proofs.Common.{if◌then◌else◌, Some, None, Ok, refl, sym, subst, slice_index, ◌==◌}
 use Rattle.book_splits.specs.Check.{is_over_limit}
 use Rattle.book_commodity.specs.declared.commodity.Commodity.{Commodity}
@@ -7,6 +7,7 @@ use Rattle.book_statement.specs.Checks.{first_fault}
 use Rattle.book_statement.specs.Numbers.{number}
 use Rattle.book_statement.specs.Texts.{lines_of}
 use Rattle.book_statement.specs.declared.statement.Statement.{Statement}
+use Rattle.book_statement.specs.declared.level.Level.TheVariants.{Account}
 use Rattle.bai2_read.specs.Amounts.{amount, is_credit, is_debit, is_given, is_signed, line_amount, signed_number}
 use Rattle.bai2_read.specs.Amounts.{without_sign}
 use Rattle.bai2_read.specs.Details.{detail_amount, is_type, lines_of_detail, lines_with}
@@ -17,6 +18,7 @@ use Rattle.bai2_read.specs.Reading.{end_place, places, reading}
 use Rattle.bai2_read.specs.Records.{Record}
 use Rattle.bai2_read.specs.Said as said
 use Rattle.bai2_read.specs.Said.{lines_in, lines_on, statements_at, statements_of}
+use Rattle.bai2_read.specs.Statements.{statement_with}
 use Rattle.bai2_read.specs.declared.kind.Kind.{Kind}
 use Rattle.bai2_read.specs.declared.kind.Kind.TheVariants.{Blank, FileHeader, GroupHeader, AccountHeader, Detail}
 use Rattle.bai2_read.specs.declared.kind.Kind.TheVariants.{AccountTrailer, Continuation, GroupTrailer, FileTrailer}
@@ -91,14 +93,15 @@ records-within day records =
     records (λ r. kind-within day r.kind r.body r.text)
 
 statement-within : (before : List Record) (r : Record) → AllWithin (statements_at before r)
-unfolding Rattle.bai2_read.specs.Statements.statement_with
+unfolding statement_with
 statement-within before r = go (is_account_trailer r.kind)
   where
     go : (complete : Bool) → AllWithin (if complete
-        then Rattle.bai2_read.specs.Statements.statement_with (said.number_of before) (said.day_of before)
-        (said.currency_of before) (said.account_of before) (said.lines_of before) ∷ []
+        then
+        statement_with (said.number_of before) (said.day_of before) (said.currency_of before) (said.account_of before)
+        (said.lines_of before) ∷ []
         else [])
-    go true = (records-within (said.day_of before) (said.section _ before), tt)
+    go true = (records-within (said.day_of before) (said.section Account before), tt)
     go false = tt
 
 pub bai2-within :
@@ -107,6 +110,7 @@ pub bai2-within :
 bai2-within known text statements is =
     let lines = lines_of text in
     let records = records_of lines in
-    let done = no-fault _ (statements_of records) statements is in
+    let whole = places known records ++ end_place (length lines) (said.last_kind records) ∷ [] in
+    let done = no-fault (first_fault whole) (statements_of records) statements is in
     subst AllWithin done.1
     (each-behind (λ (s : Statement). AreWithin s.lines) statements_at [] records statement-within)
