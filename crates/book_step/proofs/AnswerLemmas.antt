@@ -1,6 +1,6 @@
 -- The answer to a command is what a step answers, with the balances of the book that the step leads to.
 use Rattle.std.proofs.Common.{◌≡◌, ℕ, ◌+◌, ◌==◌, ℤ, Bool, true, false, if◌then◌else◌, List, []}
-use Rattle.std.proofs.Common.{◌∷◌, ◌++◌, length, map, Option, Some, None, refl, sym, ap, subst, ◌∙◌}
+use Rattle.std.proofs.Common.{◌∷◌, ◌++◌, length, map, Result, Ok, Err, Option, Some, None, refl, sym, ap, subst, ◌∙◌}
 use Rattle.std.specs.Prelude.{⊤}
 use Rattle.book_commodity.specs.Rules.{first_broken}
 use Rattle.book_commodity.specs.Table.{Rises, value_of, with_entry}
@@ -9,6 +9,9 @@ use Rattle.book_accounts.specs.declared.account.Account.{Account}
 use Rattle.book_schedule.specs.declared.recurrence.Recurrence.{Recurrence}
 use Rattle.book_splits.specs.declared.transaction.Txn.{Txn}
 use Rattle.book_prices.specs.declared.price.Price.{Price}
+use Rattle.book_statement.specs.declared.fault.StatementFault.{StatementFault}
+use Rattle.book_statement.specs.declared.statement.Statement.{Statement}
+use Rattle.book_import.specs.declared.added.Additions.{Additions}
 use Rattle.book_undo.specs.Book.{Book, with_currency, with_thing, without_thing}
 use Rattle.book_undo.specs.Edit.{edited}
 use Rattle.book_undo.specs.declared.edit.Edit as edits
@@ -19,6 +22,9 @@ use Rattle.book_step.specs.Accounts.{stays, with_given}
 use Rattle.book_step.specs.AnswerBalances.{PutsAnswered, PutsUnder, balances_at, balances_of, with_balances}
 use Rattle.book_step.specs.AnswerBalances.{without_balances}
 use Rattle.book_step.specs.Commodities as commodities
+use Rattle.book_step.specs.Importing as importing
+use Rattle.book_step.specs.Importing.{added_by, adds_nothing, file_rules, given_rules, import_answer, import_said}
+use Rattle.book_step.specs.Importing.{room_rules, said}
 use Rattle.book_step.specs.Outcome.{Outcome, Broken, Done, but_balances, changed, changing, leaving, numbers}
 use Rattle.book_step.specs.Outcome.{unless_broken}
 use Rattle.book_step.specs.Posting.{new_transaction, post_answer, post_rules}
@@ -45,9 +51,11 @@ use Rattle.book_command.specs.declared.command.Update.TheVariants.{BookCurrency,
 use Rattle.book_command.specs.declared.command.Update.TheVariants.{AccountEdit, AccountDrop, Drop, Edit, Post}
 use Rattle.book_command.specs.declared.command.Update.TheVariants.{PriceDrop, PriceSet, ScheduleAdd, ScheduleDrop}
 use Rattle.book_command.specs.declared.command.Update.TheVariants.{ScheduleRun}
+use Rattle.book_command.specs.declared.command.Update.TheVariants.{Import}
 use Rattle.book_command.specs.declared.command.GivenSchedule.{GivenSchedule}
 use Rattle.book_command.specs.declared.command.GivenTxn.{GivenTxn}
 use Rattle.book_command.specs.declared.rule.Rule.{Rule}
+use Rattle.book_command.specs.declared.rule.Rule.TheVariants.{BadStatement}
 
 -- What an answer with balances says of the states before and after it: a transaction was put under its number, and the
 -- balances are those after it.
@@ -183,6 +191,32 @@ ran_answered state rules (run ∷ more) new reply e =
     (book_ran state.book state.next runs) (schedule_runs.drawn_by runs)
     (answer.ScheduleRun (map (λ (entry : ℕ × Txn). entry.0) (made_by state.next runs))) new reply tt e
 
+added_answered :
+    (nothing : Bool) (state : State) (rules : List (Option Rule)) (added : Additions) (new : State) (reply : Answer)
+    → (if nothing then leaving state rules (import_answer added)
+    else changing state rules (importing.book_with state.book added) (importing.drawn_by added) (import_answer added))
+    ≡ Done new reply → HasBalances state new reply
+added_answered true state rules added new reply e =
+    leaving_answered state rules (import_answer added) new reply tt e
+added_answered false state rules added new reply e =
+    changing_answered state rules (importing.book_with state.book added) (importing.drawn_by added) (import_answer added) new
+    reply tt e
+
+imported_answered :
+    (state : State) (rules : List (Option Rule)) (given : Option ℕ) (says : Result (List Statement) StatementFault)
+    (new : State) (reply : Answer) → import_said state rules given says ≡ Done new reply
+    → HasBalances state new reply
+imported_answered state rules given (Err fault) new reply e = go (first_broken rules) e
+  where
+    go : (broken : Option Rule) → unless_broken broken (Broken (BadStatement fault)) ≡ Done new reply
+        → HasBalances state new reply
+    go None e = absurd cc
+    go (Some rule) e = absurd cc
+imported_answered state rules given (Ok statements) new reply e =
+    let added = added_by state given statements in
+    added_answered (adds_nothing added) state
+    ((rules ++ file_rules state.book given statements) ++ room_rules state.book added) added new reply e
+
 answered : (state : State) (update : Update) (new : State) (reply : Answer) → outcome state update ≡ Done new reply
     → HasBalances state new reply
 answered state (BookCurrency commodity) new reply e =
@@ -221,6 +255,9 @@ answered state (ScheduleDrop n) new reply e =
     (without_thing kind.Schedule n state.book) 0 answer.ScheduleDrop new reply tt e
 answered state (ScheduleRun upto only) new reply e =
     ran_answered state (asked_rules state upto only) (runs_of upto (asked only state.book.schedules)) new reply e
+answered state (Import format text account) new reply e =
+    imported_answered state (given_rules state.book format account) account (said state.book.commodities text format)
+    new reply e
 
 -- ---- answers with and without balances
 filled : (old new : State) (whole : Answer) → HasBalances old new whole → with_balances new.book whole ≡ whole
@@ -244,6 +281,13 @@ filled old new (answer.Gains gain) has = refl
 filled old new (answer.ScheduleAdd n) has = refl
 filled old new answer.ScheduleDrop has = refl
 filled old new (answer.ScheduleRun ns) has = refl
+filled old new answer.Bind has = refl
+filled old new (answer.Import statements lines seen) has = refl
+filled old new (answer.LineAdd n splits) has = refl
+filled old new answer.LineDismiss has = refl
+filled old new answer.LineReopen has = refl
+filled old new (answer.Lines lines) has = refl
+filled old new (answer.Statements statements) has = refl
 filled old new (answer.Due days) has = refl
 filled old new answer.Undo has = refl
 filled old new answer.Redo has = refl
@@ -270,6 +314,13 @@ filled_again book (answer.Gains gain) = refl
 filled_again book (answer.ScheduleAdd n) = refl
 filled_again book answer.ScheduleDrop = refl
 filled_again book (answer.ScheduleRun ns) = refl
+filled_again book answer.Bind = refl
+filled_again book (answer.Import statements lines seen) = refl
+filled_again book (answer.LineAdd n splits) = refl
+filled_again book answer.LineDismiss = refl
+filled_again book answer.LineReopen = refl
+filled_again book (answer.Lines lines) = refl
+filled_again book (answer.Statements statements) = refl
 filled_again book (answer.Due days) = refl
 filled_again book answer.Undo = refl
 filled_again book answer.Redo = refl
@@ -327,6 +378,13 @@ puts_whole state new change (answer.Gains gain) is book has = tt
 puts_whole state new change (answer.ScheduleAdd n) is book has = tt
 puts_whole state new change answer.ScheduleDrop is book has = tt
 puts_whole state new change (answer.ScheduleRun ns) is book has = tt
+puts_whole state new change answer.Bind is book has = tt
+puts_whole state new change (answer.Import statements lines seen) is book has = tt
+puts_whole state new change (answer.LineAdd n splits) is book has = tt
+puts_whole state new change answer.LineDismiss is book has = tt
+puts_whole state new change answer.LineReopen is book has = tt
+puts_whole state new change (answer.Lines lines) is book has = tt
+puts_whole state new change (answer.Statements statements) is book has = tt
 puts_whole state new change (answer.Due days) is book has = tt
 puts_whole state new change answer.Undo is book has = tt
 puts_whole state new change answer.Redo is book has = tt

@@ -27,6 +27,7 @@ use Rattle.book_command.specs.declared.command.Update.TheVariants.{BookCurrency,
 use Rattle.book_command.specs.declared.command.Update.TheVariants.{AccountDrop, Drop, Edit, Post}
 use Rattle.book_command.specs.declared.command.Update.TheVariants.{PriceDrop, PriceSet, ScheduleAdd, ScheduleDrop}
 use Rattle.book_command.specs.declared.command.Update.TheVariants.{ScheduleRun}
+use Rattle.book_command.specs.declared.command.Update.TheVariants.{Import}
 use Rattle.book_step.specs.Outcome.{Done}
 use Rattle.book_step.specs.Soundness.{IsSound}
 use Rattle.book_step.specs.State.{State, fresh_state, fresh_book, euro, root}
@@ -34,6 +35,7 @@ use Rattle.book_step.specs.Step.{outcome}
 use Rattle.book_step.proofs.SoundAccounts.{account_add-sound, account_drop-sound, account_edit-sound}
 use Rattle.book_step.proofs.SoundCommodities.{book_currency-sound, commodity_add-sound}
 use Rattle.book_step.proofs.SoundEditing.{drop_transaction-sound, edit_transaction-sound}
+use Rattle.book_step.proofs.SoundImport.{import_file-sound}
 use Rattle.book_step.proofs.SoundPosting.{post-sound}
 use Rattle.book_step.proofs.SoundPrices.{price_drop-sound, price_set-sound}
 use Rattle.book_step.proofs.SoundRuns.{schedule_run-sound}
@@ -60,6 +62,8 @@ outcome-sound state (PriceDrop price) new answered is e = price_drop-sound state
 outcome-sound state (ScheduleAdd given) new answered is e = schedule_add-sound state given new answered is e
 outcome-sound state (ScheduleDrop schedule) new answered is e = schedule_drop-sound state schedule new answered is e
 outcome-sound state (ScheduleRun upto only) new answered is e = schedule_run-sound state upto only new answered is e
+outcome-sound state (Import format text account) new answered is e =
+    import_file-sound state format text account new answered is e
 
 -- ---- the fresh state
 
