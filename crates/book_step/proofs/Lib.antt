@@ -10,6 +10,7 @@ pub mod ExactLemmas
 pub mod ExactRuns
 pub mod FormatAmounts
 pub mod ImportLemmas
+pub mod ImportWalkLemmas
 pub mod Mt940Amounts
 pub mod OutcomeLemmas
 pub mod PostingLemmas

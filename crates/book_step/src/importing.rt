@@ -2,8 +2,8 @@ ghost use Rattle.std.specs.Prelude.{◌≡◌, [], ◌∷◌, None, IfOk, List, 
 ghost use Rattle.book_commodity.specs.Rules.{ReportsFirst, first_broken};
 ghost use Rattle.book_command.specs.declared.rule.Rule.{Rule as BrokenRule};
 ghost use Rattle.book_import.specs.Laws.{HasDrawn};
-ghost use Rattle.book_step.specs.Importing.{currency_given, given_rules, import_answer, import_edit, import_file};
-ghost use Rattle.book_step.specs.Importing.{import_of, import_statements, room_rules};
+ghost use Rattle.book_step.specs.Importing.{adds_nothing, currency_given, given_rules, import_answer, import_edit};
+ghost use Rattle.book_step.specs.Importing.{import_file, import_of, import_statements, room_rules};
 ghost use Rattle.book_step.specs.Importing.{too_many_lines, too_many_statements, whole_edit, wrong_given_currency};
 ghost use Rattle.book_step.specs.Outcome.{StepsTo};
 
@@ -107,12 +107,19 @@ fn add(present: &Present, added: Additions) -> Result<Step, Refusal>
 {
     check_room(present, &added)?;
     let answer = import_answer(present.alloc, &added)?;
-    if added.statements.is_empty() && added.lines.is_empty() {
+    if adds_nothing(&added) {
         return Ok(Step::leaving(present, answer));
     }
     let drawn = added.statements.len() as u64 + added.lines.len() as u64;
     let edit = import_edit(present.alloc, added)?;
     Step::changing(present, drawn, edit, answer)
+}
+
+/// Whether nothing is added.
+fn adds_nothing(added: &Additions) -> bool
+    ensures { result ≡ adds_nothing added.now }
+{
+    added.statements.is_empty() && added.lines.is_empty()
 }
 
 /// The book has room for what is added.
