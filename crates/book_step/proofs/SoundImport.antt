@@ -8,13 +8,14 @@ use Rattle.std.proofs.lemmas.Bool.{not-true}
 use Rattle.std.proofs.lemmas.Bool.Decides.{nat_tests}
 use Rattle.std.proofs.lemmas.List.{append-nil}
 use Rattle.std.proofs.lemmas.List.Elements.{All-head, All-tail}
-use Rattle.book_commodity.specs.Rules.{AllKept, IsSoundTable}
+use Rattle.book_commodity.specs.Rules.{AllKept, IsSoundTable, broken_where, first_broken}
 use Rattle.book_commodity.specs.Table.{Rises, value_of, with_entry}
 use Rattle.book_commodity.specs.declared.commodity.Commodity.{Commodity}
 use Rattle.book_commodity.proofs.DrawnLemmas.{Stays, all_with, drawn_before, with_last}
 use Rattle.book_commodity.proofs.RuleLemmas.{kept_back, kept_front, not-broken}
 use Rattle.book_accounts.specs.declared.account.Account.{Account}
 use Rattle.book_splits.specs.declared.transaction.Txn.{Txn}
+use Rattle.book_statement.specs.Keys.{same_text}
 use Rattle.book_statement.specs.declared.binding.Binding.{Binding}
 use Rattle.book_statement.specs.declared.fault.StatementFault.{StatementFault}
 use Rattle.book_statement.specs.declared.held.Held.{Held}
@@ -39,16 +40,17 @@ use Rattle.book_undo.specs.Book.{Book}
 use Rattle.book_command.specs.declared.answer.Answer.{Answer}
 use Rattle.book_command.specs.declared.command.Format.{Format}
 use Rattle.book_command.specs.declared.rule.Rule.{Rule}
+use Rattle.book_command.specs.declared.rule.Rule.TheVariants.{BadStatement}
 use Rattle.book_step.specs.Importing.{account_rules, added_by, adds_nothing, book_with, bound_account, bound_to, drawn_by}
 use Rattle.book_step.specs.Importing.{file_rules, given_rules, goes_to, import_answer, import_file, import_of}
 use Rattle.book_step.specs.Importing.{import_said, import_statements, room_rules, said, statement_rules as rules_of}
-use Rattle.book_step.specs.Outcome.{Done}
+use Rattle.book_step.specs.Outcome.{Broken, Done}
 use Rattle.book_step.specs.Soundness.{AreDrawn, IsSound, IsSoundBook}
 use Rattle.book_step.specs.State.{State}
 use Rattle.book_step.proofs.FormatAmounts.{read-within}
 use Rattle.book_step.proofs.ImportLemmas.{AreFit, IsFit, SuitFile, imported-counted, imported-fits}
 use Rattle.book_step.proofs.ReadAmounts.{AllWithin, AreWithin}
-use Rattle.book_step.proofs.SoundOutcome.{either_sound, sound_after}
+use Rattle.book_step.proofs.SoundOutcome.{either_sound, sound_after, unless_done}
 
 -- ---- entries behind others
 
@@ -223,7 +225,7 @@ book-drawn book next added drawn are =
 -- ---- the accounts of the statements
 
 live-known :
-    {T : Type 0} (found : Option T) (rule : Rule) → (Rattle.book_commodity.specs.Rules.broken_where (is_none found) rule) ≡ None
+    {T : Type 0} (found : Option T) (rule : Rule) → broken_where (is_none found) rule ≡ None
     → is_some found ≡ true
 live-known None rule none = absurd cc
 live-known (Some x) rule none = refl
@@ -247,10 +249,10 @@ bound-live :
     (book : Book) (text : List ℕ) (account : ℕ) → IsSoundBook book → bound_account book.bindings text ≡ Some account
     → is_live book.accounts account ≡ true
 bound-live book text account is found =
-    go (find (λ (e : ℕ × Binding). Rattle.book_statement.specs.Keys.same_text e.1.text text) book.bindings) refl found
+    go (find (λ (e : ℕ × Binding). same_text e.1.text text) book.bindings) refl found
   where
     go : (entry : Option (ℕ × Binding))
-        → find (λ (e : ℕ × Binding). Rattle.book_statement.specs.Keys.same_text e.1.text text) book.bindings ≡ entry
+        → find (λ (e : ℕ × Binding). same_text e.1.text text) book.bindings ≡ entry
         → option_map (λ (e : ℕ × Binding). e.1.account) entry ≡ Some account → is_live book.accounts account ≡ true
     go None there is_account = absurd cc
     go (Some entry) there is_account =
@@ -260,7 +262,7 @@ bound-live book text account is found =
         (λ k binding stands. takes-live (value_of binding.account book.accounts) (is.bindings.keep.each k binding stands).1.0) in
         subst (λ (n : ℕ). is_live book.accounts n ≡ true) same
         (find-holds (λ (e : ℕ × Binding). is_live book.accounts e.1.account ≡ true)
-        (λ (e : ℕ × Binding). Rattle.book_statement.specs.Keys.same_text e.1.text text) book.bindings entry all there)
+        (λ (e : ℕ × Binding). same_text e.1.text text) book.bindings entry all there)
 
 -- the account that a statement goes to is one of the book's, where no rule is broken
 one-live :
@@ -324,7 +326,7 @@ said-sound :
     → IsSound state → import_said state (given_rules state.book format given) given said ≡ Done new answered
     → IsSound new
 said-sound state format given (Err fault) new answered within is e =
-    absurd (let none = (Rattle.book_step.proofs.SoundOutcome.unless_done _ _ new answered e).1 in cc)
+    absurd (let none = (unless_done (first_broken (given_rules state.book format given)) (Broken (BadStatement fault)) new answered e).1 in cc)
 said-sound state format given (Ok statements) new answered within is e =
     let book = state.book in
     let asked = given_rules book format given in
