@@ -1,6 +1,6 @@
 -- An import leads from a sound state to a sound one: what is added keeps the rules of the book.
-use Rattle.std.proofs.Common.{◌≡◌, ℕ, ◌+◌, ◌<◌, ◌≤◌, ◌==◌, Bool, true, false, cond, if◌then◌else◌, All, List, [], ◌∷◌}
-use Rattle.std.proofs.Common.{◌++◌, find, flat_map, is_none, is_some, length, map, not, option_map, Option, Some, None}
+use Rattle.std.proofs.Common.{◌≡◌, ℕ, ◌+◌, ◌<◌, ◌≤◌, ◌==◌, Bool, true, false, cond, All, List, [], ◌∷◌}
+use Rattle.std.proofs.Common.{◌++◌, ◌||◌, find, is_none, is_some, length, map, not, option_map, Option, Some, None}
 use Rattle.std.proofs.Common.{Ok, Err, Result, unwrap_or, refl, sym, ap, subst, ◌∙◌, append_assoc, arith}
 use Rattle.std.specs.List.{AllByRecursion, list_any}
 use Rattle.std.proofs.Math.ListN.{length-append}
@@ -59,7 +59,7 @@ none-found test [] none = refl
 none-found {X} test (x ∷ xs) none = go (test x) (list_any test xs) (find test xs) (none-found test xs) none
   where
     go : (here rest : Bool) (found : Option X) → (rest ≡ false → found ≡ None)
-        → (if here then true else rest) ≡ false → cond here (Some x) found ≡ None
+        → (here || rest) ≡ false → cond here (Some x) found ≡ None
     go true rest found more none = absurd cc
     go false rest found more none = more none
 
@@ -92,7 +92,7 @@ stays-front es more = record { each = λ n x there. value-front n x es more ther
 
 -- ---- numbers
 
-below-next :
+pub below-next :
     {T : Type 0} (n : ℕ) (v : T) (es : List (ℕ × T)) → All (λ (e : ℕ × T). e.0 < n) es
     → All (λ (e : ℕ × T). e.0 < n + 1) (es ++ (n, v) ∷ [])
 below-next {T} n v es below =
