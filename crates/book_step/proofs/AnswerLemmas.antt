@@ -1,6 +1,6 @@
 -- The answer to a command is what a step answers, with the balances of the book that the step leads to.
 use Rattle.std.proofs.Common.{◌≡◌, ℕ, ◌+◌, ◌==◌, ℤ, Bool, true, false, if◌then◌else◌, List, []}
-use Rattle.std.proofs.Common.{◌∷◌, ◌++◌, length, map, Option, Some, None, refl, sym, ap, subst, ◌∙◌}
+use Rattle.std.proofs.Common.{◌∷◌, ◌++◌, length, map, Result, Ok, Err, Option, Some, None, refl, sym, ap, subst, ◌∙◌}
 use Rattle.std.specs.Prelude.{⊤}
 use Rattle.book_commodity.specs.Rules.{first_broken}
 use Rattle.book_commodity.specs.Table.{Rises, value_of, with_entry}
@@ -12,6 +12,9 @@ use Rattle.book_prices.specs.declared.price.Price.{Price}
 use Rattle.book_statement.specs.declared.line.Line.{Line}
 use Rattle.book_statement.specs.declared.binding.Binding.{Binding}
 use Rattle.book_statement.specs.declared.line_state.LineState.TheVariants.{Open, Dismissed}
+use Rattle.book_statement.specs.declared.fault.StatementFault.{StatementFault}
+use Rattle.book_statement.specs.declared.statement.Statement.{Statement}
+use Rattle.book_import.specs.declared.added.Additions.{Additions}
 use Rattle.book_undo.specs.Book.{Book, with_currency, with_thing, without_thing}
 use Rattle.book_undo.specs.Edit.{edited}
 use Rattle.book_undo.specs.declared.edit.Edit as edits
@@ -27,6 +30,9 @@ use Rattle.book_step.specs.Bindings.{account_rules, bind_at, binding_of}
 use Rattle.book_step.specs.Commodities as commodities
 use Rattle.book_step.specs.LineAdding.{book_matched, commodity_of, given_rules, line_add_at, line_transaction}
 use Rattle.book_step.specs.LineAdding.{matched_answer}
+use Rattle.book_step.specs.Importing as importing
+use Rattle.book_step.specs.Importing.{added_by, adds_nothing, file_rules, import_answer, import_said}
+use Rattle.book_step.specs.Importing.{room_rules, said}
 use Rattle.book_step.specs.Outcome.{Outcome, Broken, Done, but_balances, changed, changing, leaving, numbers}
 use Rattle.book_step.specs.Outcome.{unless_broken}
 use Rattle.book_step.specs.Posting.{new_transaction, post_answer, post_rules}
@@ -56,9 +62,11 @@ use Rattle.book_command.specs.declared.command.Update.TheVariants.{ScheduleRun}
 use Rattle.book_command.specs.declared.command.Update.TheVariants.{LineAdd}
 use Rattle.book_command.specs.declared.command.GivenOther.{GivenOther}
 use Rattle.book_command.specs.declared.command.Update.TheVariants.{Bind, LineDismiss, LineReopen}
+use Rattle.book_command.specs.declared.command.Update.TheVariants.{Import}
 use Rattle.book_command.specs.declared.command.GivenSchedule.{GivenSchedule}
 use Rattle.book_command.specs.declared.command.GivenTxn.{GivenTxn}
 use Rattle.book_command.specs.declared.rule.Rule.{Rule}
+use Rattle.book_command.specs.declared.rule.Rule.TheVariants.{BadStatement}
 
 -- What an answer with balances says of the states before and after it: a transaction was put under its number, and the
 -- balances are those after it.
@@ -233,6 +241,32 @@ reopened_answered state n (Some line) new reply e =
     either_answered (is_open line.state) state [] (with_thing n (thing.Line (in_state line Open)) state.book)
     answer.LineReopen new reply (λ s. tt) e
 
+adding_answered :
+    (nothing : Bool) (state : State) (rules : List (Option Rule)) (added : Additions) (new : State) (reply : Answer)
+    → (if nothing then leaving state rules (import_answer added)
+    else changing state rules (importing.book_with state.book added) (importing.drawn_by added) (import_answer added))
+    ≡ Done new reply → HasBalances state new reply
+adding_answered true state rules added new reply e =
+    leaving_answered state rules (import_answer added) new reply tt e
+adding_answered false state rules added new reply e =
+    changing_answered state rules (importing.book_with state.book added) (importing.drawn_by added) (import_answer added) new
+    reply tt e
+
+imported_answered :
+    (state : State) (rules : List (Option Rule)) (given : Option ℕ) (says : Result (List Statement) StatementFault)
+    (new : State) (reply : Answer) → import_said state rules given says ≡ Done new reply
+    → HasBalances state new reply
+imported_answered state rules given (Err fault) new reply e = go (first_broken rules) e
+  where
+    go : (broken : Option Rule) → unless_broken broken (Broken (BadStatement fault)) ≡ Done new reply
+        → HasBalances state new reply
+    go None e = absurd cc
+    go (Some rule) e = absurd cc
+imported_answered state rules given (Ok statements) new reply e =
+    let added = added_by state given statements in
+    adding_answered (adds_nothing added) state
+    ((rules ++ file_rules state.book given statements) ++ room_rules state.book added) added new reply e
+
 answered : (state : State) (update : Update) (new : State) (reply : Answer) → outcome state update ≡ Done new reply
     → HasBalances state new reply
 answered state (BookCurrency commodity) new reply e =
@@ -277,6 +311,9 @@ answered state (Bind binding) new reply e =
     bound_answered state binding (binding_of binding.text state.book.bindings) new reply e
 answered state (LineDismiss n) new reply e = dismissed_answered state n (value_of n state.book.lines) new reply e
 answered state (LineReopen n) new reply e = reopened_answered state n (value_of n state.book.lines) new reply e
+answered state (Import format text account) new reply e =
+    imported_answered state (importing.given_rules state.book format account) account (said state.book.commodities text format)
+    new reply e
 
 -- ---- answers with and without balances
 filled : (old new : State) (whole : Answer) → HasBalances old new whole → with_balances new.book whole ≡ whole

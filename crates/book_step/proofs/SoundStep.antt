@@ -29,6 +29,7 @@ use Rattle.book_command.specs.declared.command.Update.TheVariants.{PriceDrop, Pr
 use Rattle.book_command.specs.declared.command.Update.TheVariants.{ScheduleRun}
 use Rattle.book_command.specs.declared.command.Update.TheVariants.{LineAdd}
 use Rattle.book_command.specs.declared.command.Update.TheVariants.{Bind, LineDismiss, LineReopen}
+use Rattle.book_command.specs.declared.command.Update.TheVariants.{Import}
 use Rattle.book_step.specs.Outcome.{Done}
 use Rattle.book_step.specs.Soundness.{IsSound}
 use Rattle.book_step.specs.State.{State, fresh_state, fresh_book, euro, root}
@@ -38,6 +39,7 @@ use Rattle.book_step.proofs.SoundBank.{bind-sound, line_dismiss-sound, line_reop
 use Rattle.book_step.proofs.SoundCommodities.{book_currency-sound, commodity_add-sound}
 use Rattle.book_step.proofs.SoundEditing.{drop_transaction-sound, edit_transaction-sound}
 use Rattle.book_step.proofs.SoundLineAdding.{line_add-sound}
+use Rattle.book_step.proofs.SoundImport.{import_file-sound}
 use Rattle.book_step.proofs.SoundPosting.{post-sound}
 use Rattle.book_step.proofs.SoundPrices.{price_drop-sound, price_set-sound}
 use Rattle.book_step.proofs.SoundRuns.{schedule_run-sound}
@@ -69,6 +71,9 @@ outcome-sound state (LineAdd n others description) new answered is e =
 outcome-sound state (Bind binding) new answered is e = bind-sound state binding new answered is e
 outcome-sound state (LineDismiss line) new answered is e = line_dismiss-sound state line new answered is e
 outcome-sound state (LineReopen line) new answered is e = line_reopen-sound state line new answered is e
+
+outcome-sound state (Import format text account) new answered is e =
+    import_file-sound state format text account new answered is e
 
 -- ---- the fresh state
 

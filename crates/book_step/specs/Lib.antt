@@ -5,6 +5,7 @@ pub mod Bindings
 pub mod Commodities
 pub mod DueDays
 pub mod Editing
+pub mod Importing
 pub mod InUse
 pub mod LineAdding
 pub mod Outcome

@@ -8,6 +8,7 @@ use Rattle.book_step.specs.Bindings.{bind}
 use Rattle.book_step.specs.Commodities.{book_currency, commodity_add}
 use Rattle.book_step.specs.Editing.{drop_transaction, edit_transaction}
 use Rattle.book_step.specs.LineAdding.{line_add}
+use Rattle.book_step.specs.Importing.{import_file}
 use Rattle.book_step.specs.Outcome.{Outcome}
 use Rattle.book_step.specs.Posting.{post}
 use Rattle.book_step.specs.Prices.{price_drop, price_set}
@@ -21,6 +22,7 @@ use Rattle.book_command.specs.declared.command.Update.TheVariants.{PriceSet, Pri
 use Rattle.book_command.specs.declared.command.Update.TheVariants.{ScheduleRun}
 use Rattle.book_command.specs.declared.command.Update.TheVariants.{LineAdd}
 use Rattle.book_command.specs.declared.command.Update.TheVariants.{Bind, LineDismiss, LineReopen}
+use Rattle.book_command.specs.declared.command.Update.TheVariants.{Import}
 use Rattle.book_command.specs.declared.rule.Rule.{Rule}
 use Rattle.book_command.specs.declared.rule.Rule.TheVariants.{Stale}
 
@@ -48,3 +50,4 @@ outcome state (LineAdd line others description) = line_add state line others des
 outcome state (Bind binding) = bind state binding
 outcome state (LineDismiss line) = line_dismiss state line
 outcome state (LineReopen line) = line_reopen state line
+outcome state (Import format text account) = import_file state format text account

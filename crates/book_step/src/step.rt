@@ -14,6 +14,7 @@ use crate::bindings::bind;
 use crate::commodities::{book_currency, commodity_add};
 use crate::editing::{drop, edit};
 use crate::line_adding::line_add;
+use crate::importing::import_file;
 use crate::posting::post;
 use crate::present::Present;
 use crate::prices::{price_drop, price_set};
@@ -119,6 +120,11 @@ pub fn step_of(
         Update::Bind { binding } => bind(present, binding),
         Update::LineDismiss { line } => line_dismiss(present, line),
         Update::LineReopen { line } => line_reopen(present, line),
+        Update::Import {
+            format,
+            text,
+            account,
+        } => import_file(present, format, text, account),
     }
 }
 
