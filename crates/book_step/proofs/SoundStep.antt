@@ -71,7 +71,6 @@ outcome-sound state (LineAdd n others description) new answered is e =
 outcome-sound state (Bind binding) new answered is e = bind-sound state binding new answered is e
 outcome-sound state (LineDismiss line) new answered is e = line_dismiss-sound state line new answered is e
 outcome-sound state (LineReopen line) new answered is e = line_reopen-sound state line new answered is e
-
 outcome-sound state (Import format text account) new answered is e =
     import_file-sound state format text account new answered is e
 
