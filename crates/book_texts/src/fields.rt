@@ -10,7 +10,7 @@ use serde_json::value::Map;
 use serde_json::{Value, put};
 use std::alloc::{AllocError, Global};
 
-/// The members of an answer that is being made, none of which is a number with a fraction.
+/// The members of an answer, or of an object in one, that is being made; no number in them has a fraction.
 #[derive(Drop)]
 pub struct Fields {
     alloc: Global,
