@@ -82,4 +82,5 @@ returns-in-Statements-clause-refused c =
     subst (λ (w : What). IfErr c.plan_statements.result (IsRefusal (reply (machine_of state) w)))
     (sym c.in-Statements.is)
     (found-refused state (account_asked state.book account)
-    (answer.Statements (statements_of account state.book.statements)) c.plan_statements.result c.plan_statements.ensures)
+    (answer.Statements (statements_of account state.book.statements)) c.plan_statements.result
+    c.plan_statements.ensures)
