@@ -1,7 +1,8 @@
 ghost use Rattle.std.specs.Prelude.{◌≡◌, ◌++◌, [], ◌∷◌, IfOk};
 ghost use Rattle.book_commodity.specs.Rules.{ReportsFirst};
 ghost use Rattle.book_undo.specs.Book.{book_of};
-ghost use Rattle.book_command.specs.declared.answer.Answer.TheVariants.{Lines as LinesAnswer, Statements as StatementsAnswer};
+ghost use Rattle.book_command.specs.declared.answer.Answer.TheVariants.{Lines as LinesAnswer};
+ghost use Rattle.book_command.specs.declared.answer.Answer.TheVariants.{Statements as StatementsAnswer};
 ghost use Rattle.book_step.specs.BankLines.{account_asked, lines_of, statements_of};
 ghost use Rattle.book_step.specs.Schedules.{Finds};
 

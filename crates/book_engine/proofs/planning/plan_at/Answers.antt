@@ -72,12 +72,15 @@ returns-in-Statements-clause-planned c =
     subst (λ (w : What). IfOk c.plan_statements.result (IsPlanTo state c.args.saved (reply (machine_of state) w)))
     (sym c.in-Statements.is)
     (found-planned state c.args.saved (account_asked state.book account)
-    (answer.Statements (statements_of account state.book.statements)) c.plan_statements.result c.requires.whole c.plan_statements.ensures)
+    (answer.Statements (statements_of account state.book.statements)) c.plan_statements.result c.requires.whole
+    c.plan_statements.ensures)
 
 pub returns-in-Statements-clause-refused : goal.returns-in-Statements-clause-refused
 returns-in-Statements-clause-refused c =
     let state = state_of c.args.state.now in
     let account = c.in-Statements.account in
-    subst (λ (w : What). IfErr c.plan_statements.result (IsRefusal (reply (machine_of state) w))) (sym c.in-Statements.is)
-    (found-refused state (account_asked state.book account) (answer.Statements (statements_of account state.book.statements))
-    c.plan_statements.result c.plan_statements.ensures)
+    subst (λ (w : What). IfErr c.plan_statements.result (IsRefusal (reply (machine_of state) w)))
+    (sym c.in-Statements.is)
+    (found-refused state (account_asked state.book account)
+    (answer.Statements (statements_of account state.book.statements)) c.plan_statements.result
+    c.plan_statements.ensures)
