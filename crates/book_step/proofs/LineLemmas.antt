@@ -1,7 +1,7 @@
 -- A line of a sound book that becomes matched with a split which fits it, and which no other line has, keeps the book
 -- sound; and no line has a split whose number isn't drawn yet.
-use Rattle.std.proofs.Common.{◌≡◌, ◌≢◌, ℕ, ◌<◌, ◌≤◌, nat_eq, true, false, Option, Some, None, IsTrue, refl, sym, ap}
-use Rattle.std.proofs.Common.{subst, ◌∙◌, eq-eqb, arith}
+use Rattle.std.proofs.Common.{◌≡◌, ◌≢◌, ℕ, ◌<◌, ◌≤◌, nat_eq, false, Option, Some, None, IsTrue, refl, ap, subst, ◌∙◌}
+use Rattle.std.proofs.Common.{eq-eqb, arith}
 use Rattle.std.specs.Option.{option_eq}
 use Rattle.std.proofs.lemmas.Bool.{and_from}
 use Rattle.std.proofs.lemmas.Bool.Decides.{Decides-int_eq, nat_tests}

@@ -1,7 +1,7 @@
 -- The command on a line leads from sound states to sound states: its transaction keeps the rules of transactions, and
 -- the line fits its first split, which no other line has.
-use Rattle.std.proofs.Common.{◌≡◌, ℕ, ◌+◌, ◌<◌, ◌≤◌, true, Bool, All, cond, List, [], ◌∷◌, ◌++◌, length, map, Option}
-use Rattle.std.proofs.Common.{Some, None, is_none, refl, ap, ◌∙◌, eq-eqb, arith}
+use Rattle.std.proofs.Common.{◌≡◌, ℕ, ◌+◌, ◌<◌, ◌≤◌, true, Bool, All, cond, List, ◌++◌, length, map, Option, Some}
+use Rattle.std.proofs.Common.{None, is_none, refl, ap, ◌∙◌, eq-eqb, arith}
 use Rattle.std.proofs.lemmas.Bool.{and_from, not-true, not_from_false}
 use Rattle.std.proofs.lemmas.Bool.Decides.{nat_tests}
 use Rattle.std.proofs.lemmas.List.Elements.{All-cons}
@@ -13,10 +13,9 @@ use Rattle.book_commodity.proofs.RuleLemmas.{kept_back, not-broken}
 use Rattle.book_splits.specs.Check.{txn_rules}
 use Rattle.book_splits.specs.TransactionRules.{are_once, numbers_of}
 use Rattle.book_splits.specs.declared.split.Split.{Split}
-use Rattle.book_splits.specs.declared.transaction.Txn.{Txn}
 use Rattle.book_statement.specs.declared.line.Line.{Line}
 use Rattle.book_undo.specs.Book.{Book}
-use Rattle.book_sound.specs.LineRules.{split_among, split_at}
+use Rattle.book_sound.specs.LineRules.{split_among}
 use Rattle.book_sound.proofs.BookFrames.{transaction_put}
 use Rattle.book_sound.proofs.DrawnChanges.{line_drawn}
 use Rattle.book_sound.proofs.DrawnFrames.{drawn_later, transaction_drawn}
@@ -26,7 +25,6 @@ use Rattle.book_sound.proofs.TransactionFrames.{drawn_from}
 use Rattle.book_command.specs.Lifted.{of_txn_rule}
 use Rattle.book_command.specs.declared.answer.Answer.{Answer}
 use Rattle.book_command.specs.declared.command.GivenOther.{GivenOther}
-use Rattle.book_command.specs.declared.command.GivenSplit.{GivenSplit}
 use Rattle.book_step.specs.LineAdding.{book_matched, commodity_of, given_rules, given_split, line_add, line_add_at}
 use Rattle.book_step.specs.LineAdding.{line_add_of, line_splits, line_transaction, matched_answer, matched_with}
 use Rattle.book_step.specs.LineAdding.{own_split}

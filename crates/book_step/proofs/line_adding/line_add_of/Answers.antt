@@ -14,14 +14,14 @@ returns-in_err-check_given c =
     let number = c.args.number in
     let line = c.args.line.now in
     let commodity = c.commodity_of-commodity.result in
+    let is = c.commodity_of-commodity.ensures in
     let rule = c.in_err-check_given.field-0.0 in
     let broken = subst (λ (others : List GivenOther).
     first_broken (given_rules state.book.accounts number line commodity others) ≡ Some rule)
     c.as_slice.ensures c.in_err-check_given.ensures in
     refused state (line_add_of state number line c.args.others c.args.description) rule c.from_residual.result
     c.from_residual.ensures.1
-    (line_add-misgiven state number line c.args.others c.args.description commodity rule c.commodity_of-commodity.ensures
-    broken)
+    (line_add-misgiven state number line c.args.others c.args.description commodity rule is broken)
 
 pub returns-in_err-check_post : goal.returns-in_err-check_post
 returns-in_err-check_post c =

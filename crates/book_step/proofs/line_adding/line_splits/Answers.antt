@@ -4,7 +4,7 @@ use Rattle.std.proofs.lemmas.Iterator.Adapters.{YieldsList-from_vec}
 use Rattle.std.proofs.lemmas.Iterator.Consumers.{YieldsList-end}
 use Rattle.book_splits.specs.declared.split.Split.{Split}
 use Rattle.book_command.specs.declared.command.GivenOther.{GivenOther}
-use Rattle.book_step.specs.LineAdding.{given_split, line_splits}
+use Rattle.book_step.specs.LineAdding.{line_splits}
 use Rattle.book_step.specs.Posting.{new_split}
 use Rattle.book_step.proofs.LineAddingLemmas.{line_splits-push}
 use Rattle.book_step.proofs.line_adding.line_splits.Goals as goal

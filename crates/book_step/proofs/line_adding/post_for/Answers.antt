@@ -1,4 +1,4 @@
-use Rattle.std.proofs.Common.{◌≡◌, ℕ, ◌+◌, List, map, sym, ap, subst, ◌∙◌}
+use Rattle.std.proofs.Common.{ℕ, ◌+◌, List, map, sym, ap, subst, ◌∙◌}
 use Rattle.book_splits.specs.declared.split.Split.{Split}
 use Rattle.book_undo.specs.Edit.{is_nothing}
 use Rattle.book_undo.specs.Exact.{IsExact}
