@@ -68,7 +68,7 @@ IsWhole-unasked answers before after a room InputLimit p h =
       few = p.few;
       wrote = Wrote-nil a.written;
       clause = (
-        omega (arith, h, size_is room p.read p.room_is),
+        omega (arith, h, p.few, size_is room p.read p.room_is),
         refl,
         record { same_machine = refl; same_faults = refl },
       );

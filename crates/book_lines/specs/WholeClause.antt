@@ -23,7 +23,8 @@ pub record IsUnasked {S : Type 0} (old new : Moment S) : Type 0 where
   pub same_faults : new.faults ≡ old.faults
 
 -- By the end: `read` is what was read of the input, `left` what it has left now, `text` what was written. At Done the
--- text is the answer to the whole input, and at OutputFault a front part of it and not all.
+-- text is the answer to the whole input, and at OutputFault a front part of it and not all. At InputLimit one byte past
+-- 8 MiB was read.
 abbrev pub WholeClause :
     {S : Type 0} → AnswerRelation S → Moment S → List ℕ → List ℕ → List ℕ → Moment S → RunEnd → Type 0
 WholeClause answers old read left text new Done =
@@ -31,7 +32,8 @@ WholeClause answers old read left text new Done =
 WholeClause answers old read left text new OutputFault =
     (length read ≤ 2 ^ 23) × (left ≡ []) × (more : List ℕ) × (0 < length more)
     × IsOneAnswer answers old read (text ++ more) new
-WholeClause answers old read left text new InputLimit = (2 ^ 23 < length read) × (text ≡ []) × IsUnasked old new
+WholeClause answers old read left text new InputLimit =
+    (length read ≡ 2 ^ 23 + 1) × (text ≡ []) × IsUnasked old new
 WholeClause answers old read left text new InputFault = (length read ≤ 2 ^ 23) × (text ≡ []) × IsUnasked old new
 
 -- A whole input was answered. There are the bytes that the input had left, as far as it reports them: what was read, at
