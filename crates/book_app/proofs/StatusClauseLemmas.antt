@@ -19,7 +19,7 @@ use Rattle.book_app.specs.Machine.{answers, import_answers}
 use Rattle.book_app.specs.Numbers.{status_of, status_shown, status_unopened}
 use Rattle.book_app.specs.StatusClause.{IsBookRun, IsLineRun, IsSession, IsUntouched, Keeping, NowOpensTo, OpenedTo}
 use Rattle.book_app.specs.StatusClause.{HasBookPath, HoldsAsBefore, ImportClause, IsImported, IsImportRun, IsShownAs}
-use Rattle.book_app.specs.StatusClause.{IsStreamRun, SampleClause, StatusClause, WorkClause}
+use Rattle.book_app.specs.StatusClause.{IsStreamRun, SampleClause, StatusClause, WorkClause, over}
 use Rattle.book_app.specs.Words.{Work, Lines, Import, Sample, named_number}
 use Rattle.book_app.specs.declared.words.ImportWords.{ImportWords}
 use Rattle.book_app.specs.declared.status.Status.{Status}
@@ -75,6 +75,14 @@ run_of_lines keeping first last faults input_before input_after output_before ou
           (sym run.status_is)
           (session_clause keeping output_before output_after run.bytes run.read run.left run.text run.ended session);
     }
+
+-- a keeper that was not asked after its book was opened holds the rows that it held before
+pub same_rows :
+    {K : Type 0} (sure : K → Bool) (holds : K → List Row → Type 0) (faults : K → ℕ) (old mid new : K) → new ≡ mid
+    → (IsTrue (sure mid) → (rows : List Row) → holds old rows → holds mid rows)
+    → HoldsAsBefore (over sure holds faults old new)
+same_rows sure holds faults old mid new same rows =
+    subst (λ k. IsTrue (sure k) → (rows : List Row) → holds old rows → holds k rows) (sym same) rows
 
 import_clause :
     (words : ImportWords) (keeping : Keeping) (before after : List ℕ → Type 0) (read left text : List ℕ)

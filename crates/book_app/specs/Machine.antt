@@ -47,7 +47,7 @@ answers old line mark text new =
     Answers Replies too_long_bytes (λ before after. after ≡ before) Changes old line mark text new
 
 -- The command of an import: the format and the account that the words name, and this text.
-abbrev pub import_of_text : ImportWords → List ℕ → Command
+unfoldable pub import_of_text : ImportWords → List ℕ → Command
 import_of_text words text = record {
   at = None;
   what = what.Update (update.Import words.format text words.account);

@@ -27,6 +27,7 @@ pub struct Importer {
 }
 
 /// The command of an import of this text.
+#[tactic(auto, unfolding(crate::specs::Machine::import_of_text))]
 fn import_command(words: ImportWords, text: Text) -> Command
     ensures { result ≡ import_of_text words text }
 {
