@@ -161,8 +161,7 @@ pub fn named_import(words: &[Text]) -> Option<ImportWords>
 {
     match words {
         [word, book, format, account, currency]
-            if word.as_str() == "import" && names_book(book.as_str()) =>
-        {
+            if word.as_str() == "import" && names_book(book.as_str()) => {
             let account = number_of(account.as_str());
             let currency = number_of(currency.as_str());
             import_of(format.as_str(), account, currency)

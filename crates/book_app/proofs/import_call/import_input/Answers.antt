@@ -1,6 +1,5 @@
 use Rattle.std.proofs.Common.{ℕ, List}
 use Rattle.book_lines.specs.Marks.{Mark}
-use Rattle.book_lines.specs.RunClause.{at}
 use Rattle.book_lines.proofs.WholeLemmas.{MapsFrom, IsWhole-map}
 use Rattle.book_engine.specs.Books.{machine_kept}
 use Rattle.book_app.specs.Machine.{import_answers}
