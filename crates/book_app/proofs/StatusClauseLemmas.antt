@@ -104,8 +104,8 @@ pub run_of_import :
     → IsImportRun words (at first output_before faults) input_before input_after
     (at last output_after keeping.faults_after) status
     → IsBookRun (Import words) keeping input_before input_after output_before output_after status
-run_of_import words keeping first last faults input_before input_after output_before output_after status same opened kept
-    limit fault run =
+run_of_import words keeping first last faults input_before input_after output_before output_after status same opened
+    kept limit fault run =
     let whole = run.whole in
     let imported : IsImported words keeping output_before output_after whole.read whole.left whole.text run.ended =
     record {

@@ -160,8 +160,8 @@ WorkClause (Sample number) keeping before after bytes read left text status =
 -- read, at most one byte past the limit, and then what it has left now. There is the text that the output gained, as
 -- far as it reports it. Of these holds what belongs to the status and to the work that the words ask for.
 pub record IsBookRun
-    (work : Work) (keeping : Keeping) (input_before input_after : Option (List ℕ)) (output_before output_after : List ℕ → Type 0)
-    (status : Status) : Type 0 where
+    (work : Work) (keeping : Keeping) (input_before input_after : Option (List ℕ))
+    (output_before output_after : List ℕ → Type 0) (status : Status) : Type 0 where
   pub bytes : List ℕ
   pub read : List ℕ
   pub left : List ℕ

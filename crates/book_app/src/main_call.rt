@@ -116,10 +116,10 @@ fn run_over_input<K: Keeper, S: Source, O: Sink>(
 
 /// Does what the words ask. `run BOOK` opens the keeper at BOOK and answers the lines of the input, from the state as
 /// which its rows open on. `import BOOK FORMAT ACCOUNT CURRENCY` opens it too, and answers the whole input, of at most
-/// 8 MiB, as the import of one statement file. `sample NUMBER` writes the last two answers to the lines of the sample of
-/// NUMBER, from a new book in memory on; it leaves the keeper and the input as they were, and ends by Done, Memory or
-/// OutputFault. Usage comes exactly where the words are not these; Memory where it is out of memory before the input is
-/// read, or at any time in a sample; KeeperFault where the keeper failed before that, and its count of faults rose;
+/// 8 MiB, as the import of one statement file. `sample NUMBER` writes the last two answers to the lines of the sample
+/// of NUMBER, from a new book in memory on; it leaves the keeper and the input as they were, and ends by Done, Memory
+/// or OutputFault. Usage comes exactly where the words are not these; Memory where it is out of memory before the input
+/// is read, or at any time in a sample; KeeperFault where the keeper failed before that, and its count of faults rose;
 /// BadRows and UnsoundBook where the rows are no rows of a sound book; over such rows `run` and `import` end by one of
 /// these five alone. InputFault and OutputFault come exactly where the input or the output failed in this call.
 pub fn book_main<K: Keeper, S: Source, O: Sink>(

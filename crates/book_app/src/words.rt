@@ -154,8 +154,8 @@ fn import_of(word: &str, account: Option<u64>, currency: Option<u64>) -> Option<
     }
 }
 
-/// The import that the words name, where they are `import`, the name of a book, a format, and the numerals of an account
-/// and of a currency that goes with the format.
+/// The import that the words name, where they are `import`, the name of a book, a format, and the numerals of an
+/// account and of a currency that goes with the format.
 pub fn named_import(words: &[Text]) -> Option<ImportWords>
     ensures { result ≡ named_import words.now }
 {
@@ -170,8 +170,8 @@ pub fn named_import(words: &[Text]) -> Option<ImportWords>
     }
 }
 
-/// The book that the words name, where they are `run` and the name of a book, which is not empty and does not begin with
-/// a hyphen, or those of an import.
+/// The book that the words name, where they are `run` and the name of a book, which is not empty and does not begin
+/// with a hyphen, or those of an import.
 pub fn named_book(words: &[Text]) -> Option<&str>
     ensures { option_map (λ book. book.now) result ≡ named_book words.now }
 {
