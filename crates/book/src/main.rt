@@ -9,7 +9,7 @@ ghost use Rattle.std.specs.Prelude.{◌≡◌, ◌≢◌, ◌↔◌, IfOk, Match
 ghost use Rattle.std.specs.IoError.{error_kind};
 ghost use Rattle.book_keeper.specs.Faults.{Rose};
 ghost use Rattle.book_app.specs.StatusClause.{HasBookPath, IsStreamRun};
-ghost use Rattle.book_app.specs.Words.{AreNoWords, given_number};
+ghost use Rattle.book_app.specs.Words.{AreNoWords, given_work};
 ghost use Rattle.book_sqlite.specs.KeeperInSqlite.{HoldsRows, is_sure};
 ghost use Rattle.book.specs.FileRun.{over_file};
 
@@ -35,7 +35,7 @@ fn run_in<T: Start>(
     words: io::Result<Vec<Text>>,
     start: T,
 ) -> (Ended, FileKeeper<T>)
-    ensures run { IsStreamRun (given_number (λ given. given.items) words)
+    ensures run { IsStreamRun (given_work (λ given. given.items) words)
         (over_file (image_at T.Start) (is_sure over_files) (HoldsRows over_files) (λ keeper. keeper.faults) result.1)
         result.0.status }
     ensures usage { (result.0.status ≡ Status.Usage) ↔ MatchResult words

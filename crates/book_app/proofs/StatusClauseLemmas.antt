@@ -14,11 +14,14 @@ use Rattle.book_engine.specs.Opens.{Bad, Opening, Opens, Unsound}
 use Rattle.book_engine.specs.Standing.{Stands}
 use Rattle.book_engine.specs.declared.fault.OpenError.{OpenError}
 use Rattle.book_engine.specs.declared.fault.OpenError.TheVariants as error
-use Rattle.book_app.specs.Machine.{answers}
+use Rattle.book_lines.specs.WholeClause.{WholeClause}
+use Rattle.book_app.specs.Machine.{answers, import_answers}
 use Rattle.book_app.specs.Numbers.{status_of, status_shown, status_unopened}
 use Rattle.book_app.specs.StatusClause.{IsBookRun, IsLineRun, IsSession, IsUntouched, Keeping, NowOpensTo, OpenedTo}
-use Rattle.book_app.specs.StatusClause.{HasBookPath, IsShownAs, IsStreamRun, SampleClause, StatusClause, WordsClause}
-use Rattle.book_app.specs.Words.{named_number}
+use Rattle.book_app.specs.StatusClause.{HasBookPath, HoldsAsBefore, ImportClause, IsImported, IsImportRun, IsShownAs}
+use Rattle.book_app.specs.StatusClause.{IsStreamRun, SampleClause, StatusClause, WorkClause, over}
+use Rattle.book_app.specs.Words.{Work, Lines, Import, Sample, named_number}
+use Rattle.book_app.specs.declared.words.ImportWords.{ImportWords}
 use Rattle.book_app.specs.declared.status.Status.{Status}
 use Rattle.book_app.specs.declared.status.Status.TheVariants.{Done, Usage, Memory, InputFault}
 use Rattle.book_app.specs.declared.status.Status.TheVariants.{OutputFault, KeeperFault, BadRows, UnsoundBook}
@@ -45,7 +48,7 @@ pub run_of_lines :
     → OpenedTo keeping (Opens first) → NowOpensTo keeping last
     → IsLineRun (at first output_before faults) input_before input_after (at last output_after keeping.faults_after)
     status
-    → IsBookRun None keeping input_before input_after output_before output_after status
+    → IsBookRun Lines keeping input_before input_after output_before output_after status
 run_of_lines keeping first last faults input_before input_after output_before output_after status same opened kept run =
     let session : IsSession keeping output_before output_after run.bytes run.read run.left run.text run.ended =
     record {
@@ -73,12 +76,71 @@ run_of_lines keeping first last faults input_before input_after output_before ou
           (session_clause keeping output_before output_after run.bytes run.read run.left run.text run.ended session);
     }
 
--- where nothing was touched, what belongs to the status holds of no bytes and no text
+-- a keeper that was not asked after its book was opened holds the rows that it held before
+pub same_rows :
+    {K : Type 0} (sure : K → Bool) (holds : K → List Row → Type 0) (faults : K → ℕ) (old mid new : K) → new ≡ mid
+    → (IsTrue (sure mid) → (rows : List Row) → holds old rows → holds mid rows)
+    → HoldsAsBefore (over sure holds faults old new)
+same_rows sure holds faults old mid new same rows =
+    subst (λ k. IsTrue (sure k) → (rows : List Row) → holds old rows → holds k rows) (sym same) rows
+
+import_clause :
+    (words : ImportWords) (keeping : Keeping) (before after : List ℕ → Type 0) (read left text : List ℕ)
+    (ended : RunEnd) (status : Status) → status ≡ status_of ended
+    → (status ≡ InputLimit → HoldsAsBefore keeping) → (status ≡ InputFault → HoldsAsBefore keeping)
+    → IsImported words keeping before after read left text ended
+    → ImportClause words keeping before after read left text (status_of ended)
+import_clause words keeping before after read left text end.Done status is limit fault h = h
+import_clause words keeping before after read left text end.OutputFault status is limit fault h = h
+import_clause words keeping before after read left text end.InputLimit status is limit fault h = (h, limit is)
+import_clause words keeping before after read left text end.InputFault status is limit fault h = (h, fault is)
+
+-- an import of the input, into the state as which the rows opened, is the program's work
+pub run_of_import :
+    (words : ImportWords) (keeping : Keeping) (first last : Machine) (faults : ℕ)
+    (input_before input_after : Option (List ℕ)) (output_before output_after : List ℕ → Type 0) (status : Status)
+    → faults ≡ keeping.faults_before → OpenedTo keeping (Opens first) → NowOpensTo keeping last
+    → (status ≡ InputLimit → HoldsAsBefore keeping) → (status ≡ InputFault → HoldsAsBefore keeping)
+    → IsImportRun words (at first output_before faults) input_before input_after
+    (at last output_after keeping.faults_after) status
+    → IsBookRun (Import words) keeping input_before input_after output_before output_after status
+run_of_import words keeping first last faults input_before input_after output_before output_after status same opened
+    kept limit fault run =
+    let whole = run.whole in
+    let imported : IsImported words keeping output_before output_after whole.read whole.left whole.text run.ended =
+    record {
+      first = first;
+      last = last;
+      opened = opened;
+      asked = subst
+          (λ (n : ℕ). WholeClause (import_answers words) (at first output_before n) whole.read whole.left whole.text
+          (at last output_after keeping.faults_after) run.ended) same whole.clause;
+      kept = kept;
+    } in
+    record {
+      bytes = whole.bytes;
+      read = whole.read;
+      left = whole.left;
+      text = whole.text;
+      bytes_are = whole.bytes_are;
+      left_are = whole.left_are;
+      parts = whole.parts;
+      few = omega (arith, whole.few);
+      wrote = whole.wrote;
+      clause =
+          subst
+          (λ (s : Status). ImportClause words keeping output_before output_after whole.read whole.left whole.text s)
+          (sym run.status_is)
+          (import_clause words keeping output_before output_after whole.read whole.left whole.text run.ended status
+          run.status_is limit fault imported);
+    }
+
+-- where nothing was touched, what belongs to the work and the status holds of no bytes and no text
 pub run_of_nothing :
-    (keeping : Keeping) (input : Option (List ℕ)) (output : List ℕ → Type 0) (status : Status)
-    → ((bytes : List ℕ) → StatusClause keeping output output bytes [] bytes [] status)
-    → IsBookRun None keeping input input output output status
-run_of_nothing keeping input output status holds = let bytes = Are-some input in record {
+    (work : Work) (keeping : Keeping) (input : Option (List ℕ)) (output : List ℕ → Type 0) (status : Status)
+    → ((bytes : List ℕ) → WorkClause work keeping output output bytes [] bytes [] status)
+    → IsBookRun work keeping input input output output status
+run_of_nothing work keeping input output status holds = let bytes = Are-some input in record {
   bytes = bytes.0;
   read = [];
   left = bytes.0;
@@ -107,16 +169,27 @@ unopened_clause keeping output bytes (error.BadRows kind id) rows opened = (unto
 unopened_clause keeping output bytes (error.UnsoundBook kind id) rows opened = (untouched keeping rows, opened)
 unopened_clause keeping output bytes error.OutOfMemory rows opened = untouched keeping rows
 
+-- where no book was opened for an import
+pub unopened_import :
+    (words : ImportWords) (keeping : Keeping) (output : List ℕ → Type 0) (bytes : List ℕ) (why : OpenError)
+    → (IsTrue keeping.sure → (rows : List Row) → keeping.held rows → keeping.holds rows)
+    → (IsTrue keeping.sure → (rows : List Row) → keeping.held rows → Opened rows (Err why))
+    → ImportClause words keeping output output [] bytes [] (status_unopened why)
+unopened_import words keeping output bytes error.Keeper rows opened = untouched keeping rows
+unopened_import words keeping output bytes (error.BadRows kind id) rows opened = (untouched keeping rows, opened)
+unopened_import words keeping output bytes (error.UnsoundBook kind id) rows opened = (untouched keeping rows, opened)
+unopened_import words keeping output bytes error.OutOfMemory rows opened = untouched keeping rows
+
 -- where the words could not be read
 pub run_without_words :
     (keeping : Keeping) (input : Option (List ℕ)) (output : List ℕ → Type 0) (status : Status)
     → (IsTrue keeping.sure → (rows : List Row) → keeping.held rows → keeping.holds rows)
-    → (status ≢ Usage → status ≡ Memory) → IsBookRun None keeping input input output output status
+    → (status ≢ Usage → status ≡ Memory) → IsBookRun Lines keeping input input output output status
 run_without_words keeping input output Usage rows is =
-    run_of_nothing keeping input output Usage (λ bytes. untouched keeping rows)
+    run_of_nothing Lines keeping input output Usage (λ bytes. untouched keeping rows)
 run_without_words keeping input output other rows is =
-    subst (λ (s : Status). IsBookRun None keeping input input output output s) (sym (is (λ same. cc)))
-    (run_of_nothing keeping input output Memory (λ bytes. untouched keeping rows))
+    subst (λ (s : Status). IsBookRun Lines keeping input input output output s) (sym (is (λ same. cc)))
+    (run_of_nothing Lines keeping input output Memory (λ bytes. untouched keeping rows))
 
 shown_clause :
     (number : ℕ) (text : List ℕ) (end : SampleEnd) → ShownClause answers fresh (sample_text number) text end
@@ -163,13 +236,13 @@ path_of_sample words path number (UnsoundBook kind id) is =
 
 -- a sample leaves the input and the keeper as they are
 pub run_of_sample :
-    (named : Option ℕ) (number : ℕ) (keeping : Keeping) (input : Option (List ℕ)) (before after : List ℕ → Type 0)
+    (work : Work) (number : ℕ) (keeping : Keeping) (input : Option (List ℕ)) (before after : List ℕ → Type 0)
     (status : Status) → (IsTrue keeping.sure → (rows : List Row) → keeping.held rows → keeping.holds rows)
-    → Some number ≡ named → IsShownAs number before after status
-    → IsBookRun named keeping input input before after status
-run_of_sample named number keeping input before after status rows is run =
+    → Sample number ≡ work → IsShownAs number before after status
+    → IsBookRun work keeping input input before after status
+run_of_sample work number keeping input before after status rows is run =
     let bytes = Are-some input in
-    subst (λ n. IsBookRun n keeping input input before after status) is
+    subst (λ (w : Work). IsBookRun w keeping input input before after status) is
     (record {
       bytes = bytes.0;
       read = [];
@@ -248,21 +321,57 @@ module _ (keeping : Keeping) (held : List Row → Type 0)
   status_held before after bytes read left text (UnsoundBook kind id) h =
       (untouched_held read text h.0, opened_held (Unsound (row_key kind id)) h.1)
 
-  words_held :
-      (named : Option ℕ) (before after : List ℕ → Type 0) (bytes read left text : List ℕ) (status : Status)
-      → WordsClause named keeping before after bytes read left text status
-      → WordsClause named (with_held keeping held) before after bytes read left text status
-  words_held None before after bytes read left text status h = status_held before after bytes read left text status h
-  words_held (Some number) before after bytes read left text status h = (
+  imported_held :
+      (words : ImportWords) (before after : List ℕ → Type 0) (read left text : List ℕ) (ended : RunEnd)
+      → IsImported words keeping before after read left text ended
+      → IsImported words (with_held keeping held) before after read left text ended
+  imported_held words before after read left text ended it = record {
+    first = it.first;
+    last = it.last;
+    opened = opened_held (Opens it.first) it.opened;
+    asked = it.asked;
+    kept = it.kept;
+  }
+
+  rows_held : HoldsAsBefore keeping → HoldsAsBefore (with_held keeping held)
+  rows_held same still rows h = same still rows (holds still rows h)
+
+  import_held :
+      (words : ImportWords) (before after : List ℕ → Type 0) (read left text : List ℕ) (status : Status)
+      → ImportClause words keeping before after read left text status
+      → ImportClause words (with_held keeping held) before after read left text status
+  import_held words before after read left text Done h = imported_held words before after read left text end.Done h
+  import_held words before after read left text OutputFault h =
+      imported_held words before after read left text end.OutputFault h
+  import_held words before after read left text InputLimit h =
+      (imported_held words before after read left text end.InputLimit h.0, rows_held h.1)
+  import_held words before after read left text InputFault h =
+      (imported_held words before after read left text end.InputFault h.0, rows_held h.1)
+  import_held words before after read left text Usage h = untouched_held read text h
+  import_held words before after read left text Memory h = untouched_held read text h
+  import_held words before after read left text KeeperFault h = untouched_held read text h
+  import_held words before after read left text (BadRows kind id) h =
+      (untouched_held read text h.0, opened_held (Bad (row_key kind id)) h.1)
+  import_held words before after read left text (UnsoundBook kind id) h =
+      (untouched_held read text h.0, opened_held (Unsound (row_key kind id)) h.1)
+
+  work_held :
+      (work : Work) (before after : List ℕ → Type 0) (bytes read left text : List ℕ) (status : Status)
+      → WorkClause work keeping before after bytes read left text status
+      → WorkClause work (with_held keeping held) before after bytes read left text status
+  work_held Lines before after bytes read left text status h = status_held before after bytes read left text status h
+  work_held (Import words) before after bytes read left text status h =
+      import_held words before after read left text status h
+  work_held (Sample number) before after bytes read left text status h = (
     record { input = h.0.input; rows = λ still rows it. h.0.rows still rows (holds still rows it) },
     h.1,
   )
 
   book_run_held :
-      (named : Option ℕ) (input_before input_after : Option (List ℕ)) (before after : List ℕ → Type 0) (status : Status)
-      → IsBookRun named keeping input_before input_after before after status
-      → IsBookRun named (with_held keeping held) input_before input_after before after status
-  book_run_held named input_before input_after before after status it = record {
+      (work : Work) (input_before input_after : Option (List ℕ)) (before after : List ℕ → Type 0) (status : Status)
+      → IsBookRun work keeping input_before input_after before after status
+      → IsBookRun work (with_held keeping held) input_before input_after before after status
+  book_run_held work input_before input_after before after status it = record {
     bytes = it.bytes;
     read = it.read;
     left = it.left;
@@ -272,40 +381,40 @@ module _ (keeping : Keeping) (held : List Row → Type 0)
     parts = it.parts;
     few = it.few;
     wrote = it.wrote;
-    clause = words_held named before after it.bytes it.read it.left it.text status it.clause;
+    clause = work_held work before after it.bytes it.read it.left it.text status it.clause;
   }
 
   pub stream_run_held :
-      (named : Option ℕ) (status : Status) → IsStreamRun named keeping status
-      → IsStreamRun named (with_held keeping held) status
-  stream_run_held named status it = record {
+      (work : Work) (status : Status) → IsStreamRun work keeping status
+      → IsStreamRun work (with_held keeping held) status
+  stream_run_held work status it = record {
     input_before = it.input_before;
     input_after = it.input_after;
     output_before = it.output_before;
     output_after = it.output_after;
     is_unknown = it.is_unknown;
-    run = book_run_held named it.input_before it.input_after _ _ status it.run;
+    run = book_run_held work it.input_before it.input_after _ _ status it.run;
   }
 
 -- a run, seen with other rows that the keeper held before, if it held these, and with the count of faults that it had
 pub stream_run_seen :
-    (keeping : Keeping) (held : List Row → Type 0) (faults : ℕ) (named : Option ℕ) (status : Status)
+    (keeping : Keeping) (held : List Row → Type 0) (faults : ℕ) (work : Work) (status : Status)
     → keeping.faults_before ≡ faults → (IsTrue keeping.sure → (rows : List Row) → held rows → keeping.held rows)
-    → IsStreamRun named keeping status
-    → IsStreamRun named (record {
+    → IsStreamRun work keeping status
+    → IsStreamRun work (record {
       sure = keeping.sure;
       held = held;
       holds = keeping.holds;
       faults_before = faults;
       faults_after = keeping.faults_after;
     }) status
-stream_run_seen keeping held faults named status same holds run =
+stream_run_seen keeping held faults work status same holds run =
     subst
-    (λ (n : ℕ). IsStreamRun named (record {
+    (λ (n : ℕ). IsStreamRun work (record {
       sure = keeping.sure;
       held = held;
       holds = keeping.holds;
       faults_before = n;
       faults_after = keeping.faults_after;
     }) status)
-    same (stream_run_held keeping held holds named status run)
+    same (stream_run_held keeping held holds work status run)

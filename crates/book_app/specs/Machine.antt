@@ -1,14 +1,18 @@
--- How the machine of whole books answers a line: computed afresh from the machine before it.
-use Rattle.std.specs.Prelude.{◌≡◌, ℕ, List, Some}
+-- How the machine of whole books answers a line, and a statement file: computed afresh from the machine before it.
+use Rattle.std.specs.Prelude.{◌≡◌, ℕ, List, None, Some}
 use Rattle.book_command.specs.declared.command.Command.{Command}
+use Rattle.book_command.specs.declared.command.Update.TheVariants as update
+use Rattle.book_command.specs.declared.command.What.TheVariants as what
 use Rattle.book_command.specs.declared.wire_error.WireError.TheVariants as fault
-use Rattle.book_lines.specs.Marks.{Mark}
+use Rattle.book_lines.specs.Marks.{Mark, Answered, Memory, Keeper, memory_answer, keeper_answer}
 use Rattle.book_lines.specs.Transcript.{Answers}
 use Rattle.book_engine.specs.Acting.{IsChange}
 use Rattle.book_engine.specs.Machine.{Broken, Done, Machine, Reply, step}
 use Rattle.book_texts.specs.AnswerText.{answer_bytes}
 use Rattle.book_texts.specs.RefusedText.{fault_bytes, too_long_bytes}
 use Rattle.book_texts.specs.RuleText.{rule_bytes}
+use Rattle.book_statement.specs.Texts.{text_of_bytes}
+use Rattle.book_app.specs.declared.words.ImportWords.{ImportWords}
 use Rattle.book_wire.specs.Asked.{Asked, Asks, NotJson, NotCommand, NotBuilt, LineAsks}
 
 -- A reply as text: a broken rule with the version, which leaves the machine; or the answer with the version after.
@@ -41,3 +45,22 @@ pub record Changes (old : Machine) (bytes : List ℕ) : Type 0 where
 abbrev pub answers : Machine → List ℕ → Mark → List ℕ → Machine → Type 0
 answers old line mark text new =
     Answers Replies too_long_bytes (λ before after. after ≡ before) Changes old line mark text new
+
+-- The command of an import: the format and the account that the words name, and this text.
+unfoldable pub import_of_text : ImportWords → List ℕ → Command
+import_of_text words text = record {
+  at = None;
+  what = what.Update (update.Import words.format text words.account);
+}
+
+-- The command of an import of a file of these bytes.
+abbrev pub import_command : ImportWords → List ℕ → Command
+import_command words bytes = import_of_text words (text_of_bytes bytes)
+
+-- The machine answers the bytes of a statement file as the mark says: as its import, or that there was no memory, or
+-- that the keeper failed to keep the change which the import makes. The last two leave the machine.
+abbrev pub import_answers : ImportWords → Machine → List ℕ → Mark → List ℕ → Machine → Type 0
+import_answers words old bytes Answered text new = IsOutcome (step old (import_command words bytes)) old text new
+import_answers words old bytes Memory text new = (text ≡ memory_answer) × (new ≡ old)
+import_answers words old bytes Keeper text new =
+    (text ≡ keeper_answer) × (new ≡ old) × IsChange old (step old (import_command words bytes))

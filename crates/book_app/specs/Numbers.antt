@@ -1,4 +1,4 @@
--- The numbers and messages of the statuses, and the statuses of a run of lines.
+-- The numbers and messages of the statuses, and the statuses of runs.
 use Rattle.std.specs.Prelude.{ℕ, List, [], codes}
 use Rattle.book_lines.specs.declared.running.RunEnd.{RunEnd}
 use Rattle.book_lines.specs.declared.running.RunEnd.TheVariants as end
@@ -25,7 +25,7 @@ number_of InputLimit = 9
 -- The line that the program prints on standard error; at Done it prints none.
 abbrev pub message_of : Status → List ℕ
 message_of Done = []
-message_of Usage = codes "usage: book run BOOK | sample NUMBER"
+message_of Usage = codes "usage: book run BOOK | import BOOK FORMAT ACCOUNT CURRENCY | sample NUMBER"
 message_of Memory = codes "book: out of memory"
 message_of InputFault = codes "book: the input failed"
 message_of OutputFault = codes "book: the output failed"
@@ -34,7 +34,7 @@ message_of (BadRows kind id) = codes "book: the book is damaged"
 message_of (UnsoundBook kind id) = codes "book: the book is damaged"
 message_of InputLimit = codes "book: the input is too long"
 
--- The status of a run of lines that has ended so.
+-- The status of a run of lines, or of an import, that has ended so.
 abbrev pub status_of : RunEnd → Status
 status_of end.Done = Done
 status_of end.InputLimit = InputLimit

@@ -4,6 +4,7 @@ use Rattle.std.specs.Prelude.{length}
 use Rattle.book_keeper.specs.Stream.{Are, Wrote}
 use Rattle.book_keeper.specs.declared.row.Row.{Row}
 use Rattle.book_lines.specs.RunClause.{Moment, at, RunClause}
+use Rattle.book_lines.specs.WholeClause.{IsWhole, WholeClause}
 use Rattle.book_lines.specs.declared.running.RunEnd.{RunEnd}
 use Rattle.book_lines.specs.declared.running.RunEnd.TheVariants as end
 use Rattle.book_engine.specs.Machine.{Machine, fresh}
@@ -11,11 +12,12 @@ use Rattle.book_engine.specs.Opening.{row_key}
 use Rattle.book_engine.specs.declared.fault.OpenError.{OpenError}
 use Rattle.book_engine.specs.declared.fault.OpenError.TheVariants as error
 use Rattle.book_engine.specs.Opens.{Bad, Opening, Opens, OpensTo, Unsound}
-use Rattle.book_app.specs.Machine.{answers}
+use Rattle.book_app.specs.Machine.{answers, import_answers}
 use Rattle.book_app.specs.Numbers.{status_of}
 use Rattle.book_sample.specs.Sample.{sample_text}
 use Rattle.book_sample.specs.Shown.{AreLastAnswers}
-use Rattle.book_app.specs.Words.{named_book, named_number}
+use Rattle.book_app.specs.Words.{Work, Lines, Import, Sample, named_book, named_number}
+use Rattle.book_app.specs.declared.words.ImportWords.{ImportWords}
 use Rattle.book_app.specs.declared.status.Status.{Status}
 use Rattle.book_app.specs.declared.status.Status.TheVariants.{Done, Usage, Memory, InputFault, OutputFault, KeeperFault}
 use Rattle.book_app.specs.declared.status.Status.TheVariants.{BadRows, UnsoundBook, InputLimit}
@@ -46,11 +48,15 @@ OpenedTo keeping opening = IsTrue keeping.sure → (rows : List Row) → keeping
 abbrev pub NowOpensTo : Keeping → Machine → Type 0
 NowOpensTo keeping machine = IsTrue keeping.sure → (rows : List Row) × keeping.holds rows × OpensTo rows (Opens machine)
 
+-- A keeper that still knows its rows holds those that it held before.
+abbrev pub HoldsAsBefore : Keeping → Type 0
+HoldsAsBefore keeping = IsTrue keeping.sure → (rows : List Row) → keeping.held rows → keeping.holds rows
+
 -- Nothing was read, nothing written, and the keeper's rows are as they were.
 pub record IsUntouched (keeping : Keeping) (read text : List ℕ) : Type 0 where
   pub input : read ≡ []
   pub output : text ≡ []
-  pub rows : IsTrue keeping.sure → (rows : List Row) → keeping.held rows → keeping.holds rows
+  pub rows : HoldsAsBefore keeping
 
 -- Lines were answered from the machine as which the keeper's rows opened, and its rows open as the last one.
 pub record IsSession (keeping : Keeping) (output_before output_after : List ℕ → Type 0)
@@ -85,7 +91,39 @@ StatusClause keeping before after bytes read left text (UnsoundBook kind id) =
 -- Nothing was read, and the keeper's rows are as they were.
 pub record IsLeft (keeping : Keeping) (read : List ℕ) : Type 0 where
   pub input : read ≡ []
-  pub rows : IsTrue keeping.sure → (rows : List Row) → keeping.held rows → keeping.holds rows
+  pub rows : HoldsAsBefore keeping
+
+-- The input was imported as one statement file into the machine as which the keeper's rows opened, and its rows open as
+-- the last one.
+pub record IsImported (import : ImportWords) (keeping : Keeping) (output_before output_after : List ℕ → Type 0)
+    (read left text : List ℕ) (ended : RunEnd) : Type 0 where
+  pub first : Machine
+  pub last : Machine
+  pub opened : OpenedTo keeping (Opens first)
+  pub asked : WholeClause (import_answers import) (at first output_before keeping.faults_before) read left text
+      (at last output_after keeping.faults_after) ended
+  pub kept : NowOpensTo keeping last
+
+-- With the words of `import`, by the status: at Done `text` is the one answer to the whole input, of at most 8 MiB; at
+-- OutputFault a front part of it and not all. At each other status nothing was written, and the keeper's rows are as
+-- they were; at InputLimit one byte past 8 MiB was read.
+abbrev pub ImportClause :
+    ImportWords → Keeping → (List ℕ → Type 0) → (List ℕ → Type 0) → List ℕ → List ℕ → List ℕ → Status → Type 0
+ImportClause import keeping before after read left text Done =
+    IsImported import keeping before after read left text end.Done
+ImportClause import keeping before after read left text OutputFault =
+    IsImported import keeping before after read left text end.OutputFault
+ImportClause import keeping before after read left text InputLimit =
+    IsImported import keeping before after read left text end.InputLimit × HoldsAsBefore keeping
+ImportClause import keeping before after read left text InputFault =
+    IsImported import keeping before after read left text end.InputFault × HoldsAsBefore keeping
+ImportClause import keeping before after read left text Usage = IsUntouched keeping read text
+ImportClause import keeping before after read left text Memory = IsUntouched keeping read text
+ImportClause import keeping before after read left text KeeperFault = IsUntouched keeping read text
+ImportClause import keeping before after read left text (BadRows kind id) =
+    IsUntouched keeping read text × OpenedTo keeping (Bad (row_key kind id))
+ImportClause import keeping before after read left text (UnsoundBook kind id) =
+    IsUntouched keeping read text × OpenedTo keeping (Unsound (row_key kind id))
 
 -- With the words of `sample`, by the status: at Done `text` is the last two answers to all lines of the sample, which
 -- the machine answers itself from the fresh one on; at OutputFault a front part of them and not all. There are no other
@@ -108,20 +146,22 @@ pub record IsShownAs (number : ℕ) (output_before output_after : List ℕ → T
   pub wrote : Wrote output_before output_after text
   pub clause : SampleClause number text status
 
--- By the number that the words of `sample` name, and without one by the status alone.
-abbrev pub WordsClause :
-    Option ℕ → Keeping → (List ℕ → Type 0) → (List ℕ → Type 0) → List ℕ → List ℕ → List ℕ → List ℕ → Status → Type 0
-WordsClause None keeping before after bytes read left text status =
+-- By the work that the words ask for, and by the status.
+abbrev pub WorkClause :
+    Work → Keeping → (List ℕ → Type 0) → (List ℕ → Type 0) → List ℕ → List ℕ → List ℕ → List ℕ → Status → Type 0
+WorkClause Lines keeping before after bytes read left text status =
     StatusClause keeping before after bytes read left text status
-WordsClause (Some number) keeping before after bytes read left text status =
+WorkClause (Import import) keeping before after bytes read left text status =
+    ImportClause import keeping before after read left text status
+WorkClause (Sample number) keeping before after bytes read left text status =
     IsLeft keeping read × SampleClause number text status
 
 -- A run of the program over a keeper. There are the bytes that the input had left, as far as it reports them: what was
 -- read, at most one byte past the limit, and then what it has left now. There is the text that the output gained, as
--- far as it reports it. Of these holds what belongs to the status and to the number that the words of `sample` name.
+-- far as it reports it. Of these holds what belongs to the status and to the work that the words ask for.
 pub record IsBookRun
-    (named : Option ℕ) (keeping : Keeping) (input_before input_after : Option (List ℕ)) (output_before output_after : List ℕ → Type 0)
-    (status : Status) : Type 0 where
+    (work : Work) (keeping : Keeping) (input_before input_after : Option (List ℕ))
+    (output_before output_after : List ℕ → Type 0) (status : Status) : Type 0 where
   pub bytes : List ℕ
   pub read : List ℕ
   pub left : List ℕ
@@ -131,7 +171,7 @@ pub record IsBookRun
   pub parts : bytes ≡ read ++ left
   pub few : length read ≤ 2 ^ 33 + 1
   pub wrote : Wrote output_before output_after text
-  pub clause : WordsClause named keeping output_before output_after bytes read left text status
+  pub clause : WorkClause work keeping output_before output_after bytes read left text status
 
 -- A writer may hold these bytes: it is known to hold exactly these, or nothing is known of it.
 abbrev pub may_be : Bool → Option (List ℕ) → List ℕ → Type 0
@@ -139,13 +179,13 @@ may_be unknown known bytes = unknown ≡ false → known ≡ Some bytes
 
 -- A run of the program over streams of which nothing is said: there is something that the input had left before and
 -- has left now, and something that the output held and holds.
-pub record IsStreamRun (named : Option ℕ) (keeping : Keeping) (status : Status) : Type 0 where
+pub record IsStreamRun (work : Work) (keeping : Keeping) (status : Status) : Type 0 where
   pub input_before : Option (List ℕ)
   pub input_after : Option (List ℕ)
   pub output_before : Option (List ℕ)
   pub output_after : Option (List ℕ)
   pub is_unknown : Bool
-  pub run : IsBookRun named keeping input_before input_after (may_be false output_before) (may_be is_unknown output_after)
+  pub run : IsBookRun work keeping input_before input_after (may_be false output_before) (may_be is_unknown output_after)
       status
 
 -- A run of lines from a machine to a machine: the same, and it ends neither by Usage nor before the first line.
@@ -164,6 +204,15 @@ pub record IsLineRun
   pub ended : RunEnd
   pub status_is : status ≡ status_of ended
   pub clause : RunClause answers before bytes read left text after ended
+
+-- The input was imported as one statement file, from a machine to a machine, and it ends neither by Usage nor before
+-- the input was read.
+pub record IsImportRun
+    (import : ImportWords) (before : Moment Machine) (input_before input_after : Option (List ℕ))
+    (after : Moment Machine) (status : Status) : Type 0 where
+  pub ended : RunEnd
+  pub status_is : status ≡ status_of ended
+  pub whole : IsWhole (import_answers import) input_before input_after before after ended
 
 -- The keeper's path is the book that the words name, once it was opened: at each status but these three, where the
 -- words are not those of a sample.

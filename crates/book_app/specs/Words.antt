@@ -1,20 +1,18 @@
 -- The words that a run of the program is given.
 use Rattle.std.specs.Prelude.{◌≡◌, ℕ, ◌^◌, nat_lt, Bool, false, not, ◌&&◌, ◌||◌, ◌==◌, if◌then◌else◌, List, [], ◌∷◌, length}
-use Rattle.std.specs.Prelude.{Option, Some, None, Result, Ok, Err, codes}
+use Rattle.std.specs.Prelude.{Option, Some, None, option_map, Result, Ok, Err, codes}
 use Rattle.std.specs.Char.{is_ascii_digit}
 use Rattle.std.specs.List.{list_all}
 use Rattle.std.specs.Str.{bytes_eq}
 use Rattle.std.specs.Str.Parse.{digits_value}
+use Rattle.book_command.specs.declared.command.Format.{Format}
+use Rattle.book_command.specs.declared.command.Format.TheVariants as kind
+use Rattle.book_app.specs.declared.words.ImportWords.{ImportWords}
 
 -- A word names a book where it is not empty and does not begin with a hyphen.
 abbrev pub is_book : List ℕ → Bool
 is_book [] = false
 is_book (byte ∷ more) = not (byte == 45)
-
--- The book that the words name, where they are `run` and the name of a book.
-abbrev pub named_book : List (List ℕ) → Option (List ℕ)
-named_book (word ∷ book ∷ []) = if bytes_eq word (codes "run") && is_book book then Some book else None
-named_book _ = None
 
 -- A word has decimal digits alone, at least one.
 abbrev pub has_digits : List ℕ → Bool
@@ -38,6 +36,48 @@ abbrev pub number_of : List ℕ → Option ℕ
 number_of word =
     if is_numeral word && nat_lt (digits_value 10 word) (2 ^ 62) then Some (digits_value 10 word) else None
 
+-- The format of a bank's file that names its currencies itself.
+abbrev pub bank_format : List ℕ → Option Format
+bank_format word =
+    if bytes_eq word (codes "mt940") then Some kind.Mt940
+    else (if bytes_eq word (codes "bai2") then Some kind.Bai2 else None)
+
+-- The format of a QIF file whose amounts are in this currency: the month or the day stands first in its dates.
+abbrev pub qif_format : List ℕ → ℕ → Option Format
+qif_format word currency =
+    if bytes_eq word (codes "qif-md") then Some (kind.QifMonthFirst currency)
+    else (if bytes_eq word (codes "qif-dm") then Some (kind.QifDayFirst currency) else None)
+
+-- The format that a word names with the number of a currency, which is 0 but for QIF.
+abbrev pub format_of : List ℕ → ℕ → Option Format
+format_of word currency = if currency == 0 then bank_format word else qif_format word currency
+
+-- The account of this number; 0 names none, and the bindings then say which accounts are meant.
+abbrev pub account_of : ℕ → Option ℕ
+account_of number = if number == 0 then None else Some number
+
+-- An import of the format that the word names with these numbers of an account and a currency, if there are such.
+abbrev pub import_of : List ℕ → Option ℕ → Option ℕ → Option ImportWords
+import_of word None currency = None
+import_of word (Some account) None = None
+import_of word (Some account) (Some currency) =
+    option_map (λ format. record { format = format; account = account_of account }) (format_of word currency)
+
+-- The import that the words name, where they are `import`, the name of a book, a format, and the numerals of an account
+-- and of a currency that goes with the format.
+abbrev pub named_import : List (List ℕ) → Option ImportWords
+named_import (word ∷ book ∷ format ∷ account ∷ currency ∷ []) =
+    if bytes_eq word (codes "import") && is_book book then import_of format (number_of account) (number_of currency)
+    else None
+named_import _ = None
+
+-- The book that the words name, where they are `run` and the name of a book, or those of an import.
+abbrev pub named_book : List (List ℕ) → Option (List ℕ)
+named_book (word ∷ book ∷ []) = if bytes_eq word (codes "run") && is_book book then Some book else None
+named_book (word ∷ book ∷ format ∷ account ∷ currency ∷ []) =
+    option_map (λ import. book) (named_import (word ∷ book ∷ format ∷ account ∷ currency ∷ []))
+named_book _ = None
+
 -- The number that the words name, where they are `sample` and such a numeral.
 abbrev pub named_number : List (List ℕ) → Option ℕ
 named_number (word ∷ number ∷ []) = if bytes_eq word (codes "sample") then number_of number else None
@@ -48,7 +88,24 @@ pub record AreNoWords (words : List (List ℕ)) : Type 0 where
   pub no_book : named_book words ≡ None
   pub no_number : named_number words ≡ None
 
--- The number that the words name, where they could be read.
-abbrev pub given_number : {T E : Type 0} → (T → List (List ℕ)) → Result T E → Option ℕ
-given_number words (Ok given) = named_number (words given)
-given_number words (Err error) = None
+-- What the words ask for: that the lines of the input are answered, that the input is imported, or that the sample of a
+-- number is shown.
+pub data Work : Type 0 where
+  Lines : Work
+  Import : ImportWords → Work
+  Sample : ℕ → Work
+
+-- The work of words that name these, if any.
+abbrev pub work_named : Option ImportWords → Option ℕ → Work
+work_named import (Some number) = Sample number
+work_named (Some import) None = Import import
+work_named None None = Lines
+
+-- The work of the words. Those that are not of the grammar ask for lines, of which none is read.
+abbrev pub work_of : List (List ℕ) → Work
+work_of words = work_named (named_import words) (named_number words)
+
+-- The work of the words, where they could be read.
+abbrev pub given_work : {T E : Type 0} → (T → List (List ℕ)) → Result T E → Work
+given_work words (Ok given) = work_of (words given)
+given_work words (Err error) = Lines

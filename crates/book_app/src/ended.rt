@@ -6,7 +6,7 @@ ghost use Rattle.book_keeper.specs.OverStd.{left_of, sink_over, source_faults, s
 ghost use Rattle.book_keeper.specs.Written.{may_hold};
 ghost use Rattle.book_app.specs.Numbers.{number_of};
 ghost use Rattle.book_app.specs.StatusClause.{HasBookPath, IsBookRun, over};
-ghost use Rattle.book_app.specs.Words.{AreNoWords, given_number, named_number};
+ghost use Rattle.book_app.specs.Words.{AreNoWords, given_work, work_of};
 
 use crate::main_call::book_main;
 use crate::status::Status;
@@ -34,7 +34,7 @@ pub struct Ran<I, O> {
 }
 
 /// Does what the words ask over any reader and writer of std, as `book_main` does over the source and the sink that
-/// join them: the answers of the lines that the reader has left are added to what the writer holds.
+/// join them: the answers to what the reader has left are added to what the writer holds.
 pub fn run_over<K: Keeper, I: Read, O: Write>(
     alloc: Global,
     words: &[Text],
@@ -42,7 +42,7 @@ pub fn run_over<K: Keeper, I: Read, O: Write>(
     reader: I,
     writer: O,
 ) -> Ran<I, O>
-    ensures run { IsBookRun (named_number words.now) (over K.sure K.holds K.faults keeper.old keeper.new)
+    ensures run { IsBookRun (work_of words.now) (over K.sure K.holds K.faults keeper.old keeper.new)
         (I.remaining reader) (left_of I.remaining result.input)
         (may_hold O.contents (sink_over writer)) (may_hold O.contents result.output) result.ended.status }
     ensures path { HasBookPath words.now (K.path_given keeper.new) result.ended.status }
@@ -74,7 +74,7 @@ pub(crate) fn run_words<K: Keeper, I: Read, O: Write>(
     reader: I,
     writer: O,
 ) -> Ran<I, O>
-    ensures run { IsBookRun (given_number (λ given. given.items) words)
+    ensures run { IsBookRun (given_work (λ given. given.items) words)
         (over K.sure K.holds K.faults keeper.old keeper.new) (I.remaining reader) (left_of I.remaining result.input)
         (may_hold O.contents (sink_over writer)) (may_hold O.contents result.output) result.ended.status }
     ensures usage { (result.ended.status ≡ Status.Usage) ↔ MatchResult words

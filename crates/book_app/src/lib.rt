@@ -2,13 +2,17 @@
 //! go: `book_main` takes the words, opens the keeper, reads the input to its end, and says how it ended. Its clause
 //! `run` is the whole promise of a run: what was written is what the machine of whole books answers to the lines that were
 //! read, from the state as which the keeper's rows opened on, and the rows that the keeper then holds open as the last
-//! state. With the words of `sample` it is the last two answers to the lines of `sample_lines`. `run_over` says the
-//! same over any reader and writer of std. `run_program` does so over a program's
-//! standard streams, the words that `words_of` reads, and the keeper that it is given. `Ended` is what the program's `main` answers.
+//! state. With the words of `import` it is the machine's answer to the import of the whole input; with those of
+//! `sample` the last two answers to the lines of `sample_lines`. `run_over` says the same over any reader and writer of
+//! std. `run_program` does so over a program's standard streams, the words that `words_of` reads, and the keeper that it
+//! is given. `Ended` is what the program's `main` answers.
 #![tactic(auto)]
 
 mod ended;
+mod import_call;
+mod importer;
 mod main_call;
+mod opening;
 mod program;
 mod reply;
 mod sample;
@@ -25,4 +29,4 @@ pub use main_call::{book_main, run_lines};
 pub use program::{run_program, words_of};
 pub use reply::Answering;
 pub use status::Status;
-pub use words::{named_book, named_number};
+pub use words::{ImportWords, named_book, named_import, named_number};

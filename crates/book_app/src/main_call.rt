@@ -1,23 +1,22 @@
-ghost use Rattle.std.specs.Prelude.{◌≡◌, ◌≢◌, ◌↔◌, None, List, IfOk, IsTrue};
+ghost use Rattle.std.specs.Prelude.{◌≡◌, ◌≢◌, ◌↔◌, None, IsTrue};
 ghost use Rattle.book_keeper.specs.Faults.{Rose};
-ghost use Rattle.book_keeper.specs.declared.row.Row.{Row};
 ghost use Rattle.book_lines.specs.RunClause.{at};
 ghost use Rattle.book_engine.specs.Books.{machine_kept};
-ghost use Rattle.book_engine.specs.Opening.{HasOpenCause, Opened};
 ghost use Rattle.book_engine.specs.Standing.{Stands};
-ghost use Rattle.book_app.specs.StatusClause.{HasBookPath, IsBookRun, IsLineRun, IsOpenedAt, IsShownAs, over};
+ghost use Rattle.book_app.specs.StatusClause.{HasBookPath, IsBookRun, IsLineRun, IsShownAs, over};
 ghost use Rattle.book_app.specs.Later.{IsLater};
-ghost use Rattle.book_app.specs.Words.{AreNoWords, named_book, named_number};
+ghost use Rattle.book_app.specs.Words.{AreNoWords, Lines, named_book, named_import, work_named, work_of};
 
+use crate::import_call::run_import;
+use crate::opening::{open_book, room_after};
 use crate::reply::Answering;
 use crate::sample::show_in_memory;
 use crate::status::{Status, status_after, status_shown, status_unopened};
-use crate::words::{named_book, named_number};
-use book_commodity::{OutOfMemory, Text};
-use book_engine::{Engine, OpenError};
-use book_keeper::{KeepError, Keeper, Sink, Source};
+use crate::words::{named_book, named_import, named_number};
+use book_commodity::Text;
+use book_engine::Engine;
+use book_keeper::{Keeper, Sink, Source};
 use book_lines::{LineRoom, run};
-use book_words::part;
 use std::alloc::Global;
 
 /// Answers the lines of the input on the output, from the engine's state on, and keeps each change by the keeper,
@@ -45,31 +44,8 @@ pub fn run_lines<K: Keeper, S: Source, O: Sink>(
     status_after(run::<Answering, K, Engine, S, O>(alloc, engine, keeper, input, output, room))
 }
 
-/// The engine with the book that the keeper has at this path.
-/// Keeper: the keeper failed, and its count of faults rose. The others are those of `Engine::open`.
-fn open_book<K: Keeper>(alloc: Global, keeper: &mut K, book: &str) -> Result<Engine, OpenError>
-    ensures sure { IsTrue (K.sure keeper.new) → IsTrue (K.sure keeper.old) }
-    ensures rows { IsTrue (K.sure keeper.new) → (rows : List Row) → K.holds keeper.old rows → K.holds keeper.new rows }
-    ensures opened { IsTrue (K.sure keeper.new) → (rows : List Row) → K.holds keeper.old rows → Opened rows result }
-    ensures stands { IfOk result (λ engine. Stands K.sure K.holds keeper.new engine) }
-    ensures path { IsOpenedAt book.now (K.path_given keeper.new) result }
-    ensures cause { HasOpenCause (K.faults keeper.old) (K.faults keeper.new) result }
-{
-    match keeper.open(book) {
-        Ok(()) => Engine::open(alloc, keeper),
-        Err(KeepError::Failed) => Err(OpenError::Keeper),
-        Err(KeepError::OutOfMemory) => Err(OpenError::OutOfMemory),
-    }
-}
-
-/// The room for lines, once `clap` has parted the words, which are of the grammar.
-fn room_after(alloc: Global, words: &[Text]) -> Result<LineRoom, OutOfMemory> {
-    part(alloc, words)?;
-    LineRoom::new(alloc)
-}
-
 /// Opens the keeper at the book that the words name, and answers the lines of the input, from the state as which its
-/// rows open on. The words name no number.
+/// rows open on. The words are not those of `import` or `sample`.
 fn run_book<K: Keeper, S: Source, O: Sink>(
     alloc: Global,
     words: &[Text],
@@ -77,7 +53,7 @@ fn run_book<K: Keeper, S: Source, O: Sink>(
     input: &mut S,
     output: &mut O,
 ) -> Status
-    ensures run { IsBookRun None (over K.sure K.holds K.faults keeper.old keeper.new) (S.left input.old)
+    ensures run { IsBookRun Lines (over K.sure K.holds K.faults keeper.old keeper.new) (S.left input.old)
         (S.left input.new) (O.written output.old) (O.written output.new) result }
     ensures path { HasBookPath words.now (K.path_given keeper.new) result }
     ensures sure { IsTrue (K.sure keeper.new) → IsTrue (K.sure keeper.old) }
@@ -112,13 +88,40 @@ fn run_sample<O: Sink>(alloc: Global, words: &[Text], number: u64, output: &mut 
     status_shown(show_in_memory(alloc, number, output, &mut room))
 }
 
+/// Answers the lines of the input, or imports it, as words ask that are not those of `sample`.
+fn run_over_input<K: Keeper, S: Source, O: Sink>(
+    alloc: Global,
+    words: &[Text],
+    keeper: &mut K,
+    input: &mut S,
+    output: &mut O,
+) -> Status
+    ensures run { IsBookRun (work_named (named_import words.now) None)
+        (over K.sure K.holds K.faults keeper.old keeper.new)
+        (S.left input.old) (S.left input.new) (O.written output.old) (O.written output.new) result }
+    ensures path { HasBookPath words.now (K.path_given keeper.new) result }
+    ensures sure { IsTrue (K.sure keeper.new) → IsTrue (K.sure keeper.old) }
+    ensures usage { (result ≡ Status.Usage) ↔ (named_book words.now ≡ None) }
+    ensures keeper_fault { result ≡ Status.KeeperFault → Rose (K.faults keeper.old) (K.faults keeper.new) }
+    ensures input_fault { result ≡ Status.InputFault → Rose (S.faults input.old) (S.faults input.new) }
+    ensures no_input_fault { result ≢ Status.InputFault → S.faults input.new ≡ S.faults input.old }
+    ensures output_fault { result ≡ Status.OutputFault → Rose (O.faults output.old) (O.faults output.new) }
+    ensures no_output_fault { result ≢ Status.OutputFault → O.faults output.new ≡ O.faults output.old }
+{
+    match named_import(words) {
+        Some(import) => run_import(alloc, words, import, keeper, input, output),
+        None => run_book(alloc, words, keeper, input, output),
+    }
+}
+
 /// Does what the words ask. `run BOOK` opens the keeper at BOOK and answers the lines of the input, from the state as
-/// which its rows open on. `sample NUMBER` writes the last two answers to the lines of the sample of NUMBER, from a new
-/// book in memory on; it leaves the keeper and the input as they were, and ends by Done, Memory or OutputFault. Usage
-/// comes exactly where the words are not these; Memory where it is out of memory before the first line, or at any time
-/// in a sample; KeeperFault where the keeper failed before the first line, and its count of faults rose; BadRows and
-/// UnsoundBook where the rows are no rows of a sound book; over such rows a run ends by one of these five alone.
-/// InputFault and OutputFault come exactly where the input or the output failed in this call.
+/// which its rows open on. `import BOOK FORMAT ACCOUNT CURRENCY` opens it too, and answers the whole input, of at most
+/// 8 MiB, as the import of one statement file. `sample NUMBER` writes the last two answers to the lines of the sample
+/// of NUMBER, from a new book in memory on; it leaves the keeper and the input as they were, and ends by Done, Memory
+/// or OutputFault. Usage comes exactly where the words are not these; Memory where it is out of memory before the input
+/// is read, or at any time in a sample; KeeperFault where the keeper failed before that, and its count of faults rose;
+/// BadRows and UnsoundBook where the rows are no rows of a sound book; over such rows `run` and `import` end by one of
+/// these five alone. InputFault and OutputFault come exactly where the input or the output failed in this call.
 pub fn book_main<K: Keeper, S: Source, O: Sink>(
     alloc: Global,
     words: &[Text],
@@ -126,7 +129,7 @@ pub fn book_main<K: Keeper, S: Source, O: Sink>(
     input: &mut S,
     output: &mut O,
 ) -> Status
-    ensures run { IsBookRun (named_number words.now) (over K.sure K.holds K.faults keeper.old keeper.new)
+    ensures run { IsBookRun (work_of words.now) (over K.sure K.holds K.faults keeper.old keeper.new)
         (S.left input.old) (S.left input.new) (O.written output.old) (O.written output.new) result }
     ensures path { HasBookPath words.now (K.path_given keeper.new) result }
     ensures sure { IsTrue (K.sure keeper.new) → IsTrue (K.sure keeper.old) }
@@ -139,6 +142,6 @@ pub fn book_main<K: Keeper, S: Source, O: Sink>(
 {
     match named_number(words) {
         Some(number) => run_sample(alloc, words, number, output),
-        None => run_book(alloc, words, keeper, input, output),
+        None => run_over_input(alloc, words, keeper, input, output),
     }
 }

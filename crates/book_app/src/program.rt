@@ -2,7 +2,7 @@ ghost use Rattle.std.specs.Prelude.{◌≡◌, ◌≢◌, ◌↔◌, IfOk, IsTru
 ghost use Rattle.std.specs.IoError.{error_kind};
 ghost use Rattle.book_keeper.specs.Faults.{Rose};
 ghost use Rattle.book_app.specs.StatusClause.{HasBookPath, IsStreamRun, over};
-ghost use Rattle.book_app.specs.Words.{AreNoWords, given_number};
+ghost use Rattle.book_app.specs.Words.{AreNoWords, given_work};
 
 use crate::ended::{Ended, run_words};
 use crate::status::Status;
@@ -13,7 +13,7 @@ use std::io::{ErrorKind, Input, Print};
 use std::{env, io};
 
 /// Does what the program's words ask, over this keeper and the program's standard streams. Std says nothing of what a
-/// host's streams hold, so the lines that were read and the text that was written are some lines and some text; of
+/// host's streams hold, so the bytes that were read and the text that was written are some bytes and some text; of
 /// them and of the keeper's rows holds what `book_main` promises. Where the words could not be read it ends by Usage
 /// if one of them is not UTF-8, else by Memory.
 pub fn run_program<R: Input + Print + AllocGlobal, K: Keeper>(
@@ -21,7 +21,7 @@ pub fn run_program<R: Input + Print + AllocGlobal, K: Keeper>(
     words: io::Result<Vec<Text>>,
     keeper: &mut K,
 ) -> Ended
-    ensures run { IsStreamRun (given_number (λ given. given.items) words)
+    ensures run { IsStreamRun (given_work (λ given. given.items) words)
         (over K.sure K.holds K.faults keeper.old keeper.new) result.status }
     ensures usage { (result.status ≡ Status.Usage) ↔ MatchResult words
         (λ given. AreNoWords given.items) (λ error. error_kind error ≡ ErrorKind.InvalidData) }

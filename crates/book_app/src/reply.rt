@@ -66,7 +66,7 @@ fn finished<K: Keeper>(
 
 /// The text of a command's outcome.
 /// Keeper: the command changes the state, and the keeper failed to keep the change.
-fn reply<K: Keeper>(
+pub fn reply<K: Keeper>(
     alloc: Global,
     engine: &mut Engine,
     keeper: &mut K,

@@ -12,19 +12,19 @@ pub enum Status {
     Done,
     /// The words are not those of a command of the program.
     Usage,
-    /// It was out of memory before the first line; for a sample, at any time.
+    /// It was out of memory before the input was read; for a sample, at any time.
     Memory,
     /// The input failed.
     InputFault,
     /// The output failed.
     OutputFault,
-    /// The keeper failed before the first line.
+    /// The keeper failed before the input was read.
     KeeperFault,
     /// The keeper holds rows that are no rows of a book: this key is the first whose row can't be read or is missing.
     BadRows { kind: u8, id: u64 },
     /// The keeper holds the rows of a book that is not sound: this key is the first that breaks a rule.
     UnsoundBook { kind: u8, id: u64 },
-    /// A byte follows 1,000,000 lines or 2^33 bytes.
+    /// A byte follows 1,000,000 lines or 2^33 bytes; for an import, 8 MiB.
     InputLimit,
 }
 
@@ -51,7 +51,9 @@ impl Status {
     {
         match self {
             Status::Done => "",
-            Status::Usage => "usage: book run BOOK | sample NUMBER",
+            Status::Usage => {
+                "usage: book run BOOK | import BOOK FORMAT ACCOUNT CURRENCY | sample NUMBER"
+            }
             Status::Memory => "book: out of memory",
             Status::InputFault => "book: the input failed",
             Status::OutputFault => "book: the output failed",
@@ -62,7 +64,7 @@ impl Status {
     }
 }
 
-/// The status that a run of lines ends with.
+/// The status that a run of lines or an import ends with.
 pub(crate) fn status_after(end: RunEnd) -> Status
     ensures { result ≡ status_of end }
 {

@@ -7,4 +7,5 @@ pub mod LinesLemmas
 pub mod RunClauseLemmas
 pub mod AnswerLemmas
 pub mod CallerLemmas
+pub mod WholeLemmas
 mod Worked

@@ -4,3 +4,4 @@ pub mod Transcript
 pub mod Room
 pub mod RunClause
 pub mod Loop
+pub mod WholeClause

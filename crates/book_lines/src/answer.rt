@@ -12,7 +12,7 @@ use book_keeper::{Failed, Sink, write_all};
 use std::alloc::Global;
 
 /// Has the machine answer the line, by its length alone where it is too long.
-fn ask<W, K, M: Machine<W, K>>(
+pub fn ask<W, K, M: Machine<W, K>>(
     alloc: Global,
     machine: &mut M,
     keeper: &mut K,
@@ -59,7 +59,10 @@ fn write_text<O: Sink>(output: &mut O, answer: Bytes) -> Result<(), Failed>
 }
 
 /// Writes the answer to a line, or why there is none.
-fn write_answer<O: Sink>(output: &mut O, answered: Result<Bytes, Unanswered>) -> Result<(), Failed>
+pub fn write_answer<O: Sink>(
+    output: &mut O,
+    answered: Result<Bytes, Unanswered>,
+) -> Result<(), Failed>
     ensures all { OnOk result (Wrote (O.written output.old) (O.written output.new) (answer_of answered ++ 10 ∷ [])) }
     ensures part { OnErr result
         (WrotePart (O.written output.old) (O.written output.new) (answer_of answered ++ 10 ∷ [])) }

@@ -9,6 +9,7 @@ ghost use Rattle.book_lines.specs.Loop.{HasEnded};
 use crate::answer::answer_line;
 use crate::line::Line;
 use crate::piece::take_piece;
+use crate::reading::read_at_most;
 use crate::room::PIECE;
 use crate::{LineRoom, Machine};
 use book_keeper::{Failed, Sink, Source};
@@ -17,8 +18,8 @@ use std::alloc::Global;
 /// How many bytes a run takes at most: 8 GiB.
 const MAX_BYTES: u64 = 8_589_934_592;
 
-/// How a run ended: the input was read to its end and all was written; a byte follows 1,000,000 lines or 2^33 bytes;
-/// the input failed; the output failed.
+/// How a run ended: the input was read to its end and all was written; a byte follows all that may be taken; the input
+/// failed; the output failed.
 #[derive(Clone, Copy, Debug, PartialEq, Eq)]
 pub enum RunEnd {
     Done,
@@ -42,8 +43,7 @@ fn read_piece<S: Source>(
     ensures unchanged { OnErr result (Keeps (S.left input.old) (S.left input.new)) }
     ensures cause { HasCause (S.faults input.old) (S.faults input.new) result }
 {
-    let wanted = (MAX_BYTES - taken).max(1).min(PIECE as u64);
-    input.read(&mut piece[..wanted as usize])
+    read_at_most(input, (MAX_BYTES - taken).max(1), piece)
 }
 
 /// Answers a rest without line feed at the end of the input: Done, or OutputFault.

@@ -7,23 +7,43 @@ use book_commodity::{OutOfMemory, Text};
 use clap::{Arg, ArgAction, ArgMatches, Command};
 use std::alloc::{AllocError, Global};
 
-/// The name of the one operand that each subcommand has.
+/// The name of the first operand, which each subcommand has: a book or a number.
 const OPERAND: &str = "operand";
 
-/// A subcommand with its operand.
-fn subcommand<'a>(alloc: Global, name: &'a str) -> Result<Command<'a>, AllocError> {
-    let operand = Arg::new(alloc, OPERAND)
-        .required(true)
-        .action(ArgAction::Set);
-    Command::new(alloc, name).arg(operand)
+/// The names of the operands that `import` has behind its book.
+const FORMAT: &str = "format";
+
+const ACCOUNT: &str = "account";
+
+const CURRENCY: &str = "currency";
+
+/// An operand, which is required.
+fn operand<'a>(alloc: Global, name: &'a str) -> Arg<'a> {
+    Arg::new(alloc, name).required(true).action(ArgAction::Set)
 }
 
-/// The program's words: the subcommand `run` with a book, and the subcommand `sample` with a number.
+/// A subcommand with its first operand.
+fn subcommand<'a>(alloc: Global, name: &'a str) -> Result<Command<'a>, AllocError> {
+    Command::new(alloc, name).arg(operand(alloc, OPERAND))
+}
+
+/// The subcommand `import` with its four operands.
+fn import<'a>(alloc: Global) -> Result<Command<'a>, AllocError> {
+    subcommand(alloc, "import")?
+        .arg(operand(alloc, FORMAT))?
+        .arg(operand(alloc, ACCOUNT))?
+        .arg(operand(alloc, CURRENCY))
+}
+
+/// The program's words: the subcommand `run` with a book, the subcommand `import` with a book, a format, an account and
+/// a currency, and the subcommand `sample` with a number.
 fn grammar<'a>(alloc: Global) -> Result<Command<'a>, AllocError> {
     let run = subcommand(alloc, "run")?;
+    let import = import(alloc)?;
     let sample = subcommand(alloc, "sample")?;
     Command::new(alloc, "book")
         .subcommand(run)?
+        .subcommand(import)?
         .subcommand(sample)
 }
 
@@ -37,37 +57,56 @@ fn line_of<'a>(alloc: Global, words: &'a [Text]) -> Result<Vec<&'a str>, AllocEr
     Ok(line)
 }
 
-/// Whether these parts are this subcommand with this operand.
-fn are_parts(parts: &ArgMatches<'_>, name: &str, operand: &str) -> bool {
+/// Whether this is an operand of this name.
+fn is_operand(found: &ArgMatches<'_>, name: &str, operand: &Text) -> bool {
+    found.get_str(name) == Some(operand.as_str())
+}
+
+/// Whether these are a subcommand's operands, the only one or the four of `import`.
+fn are_operands(found: &ArgMatches<'_>, operands: &[Text]) -> bool {
+    match operands {
+        [only] => is_operand(found, OPERAND, only),
+        [book, format, account, currency] => {
+            is_operand(found, OPERAND, book)
+                && is_operand(found, FORMAT, format)
+                && is_operand(found, ACCOUNT, account)
+                && is_operand(found, CURRENCY, currency)
+        }
+        _ => false,
+    }
+}
+
+/// Whether these parts are this subcommand with these operands.
+fn are_parts(parts: &ArgMatches<'_>, name: &str, operands: &[Text]) -> bool {
     match parts.subcommand_matches(name) {
-        Some(found) => found.get_str(OPERAND) == Some(operand),
+        Some(found) => are_operands(found, operands),
         None => false,
     }
 }
 
-/// Whether `clap` finds this subcommand and this operand in the line. Not where it is out of memory.
+/// Whether `clap` finds this subcommand and these operands in the line. Not where it is out of memory.
 fn finds<'a>(
     alloc: Global,
     line: &'a [&'a str],
     name: &str,
-    operand: &str,
+    operands: &[Text],
 ) -> Result<bool, AllocError> {
     let command = grammar(alloc)?;
     match command.try_get_matches_from(line) {
-        Ok(parts) => Ok(are_parts(&parts, name, operand)),
+        Ok(parts) => Ok(are_parts(&parts, name, operands)),
         Err(_error) => Ok(false),
     }
 }
 
-/// Parts the words, which are of the program's grammar: a subcommand and its operand, which is not empty and does not
-/// begin with a hyphen.
+/// Parts the words, which are of the program's grammar: a subcommand and its operands, of which none is empty or begins
+/// with a hyphen.
 /// OutOfMemory: `clap` was out of memory, or found other parts, as it does in other words.
 pub fn part(alloc: Global, words: &[Text]) -> Result<(), OutOfMemory> {
-    let [name, operand] = words else {
+    let [name, operands @ ..] = words else {
         return Err(OutOfMemory);
     };
     let line = line_of(alloc, words)?;
-    if finds(alloc, line.as_slice(), name.as_str(), operand.as_str())? {
+    if finds(alloc, line.as_slice(), name.as_str(), operands)? {
         Ok(())
     } else {
         Err(OutOfMemory)

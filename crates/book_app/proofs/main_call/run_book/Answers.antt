@@ -1,18 +1,19 @@
-use Rattle.std.proofs.Common.{None, sym, subst}
+use Rattle.std.proofs.Common.{sym, subst}
 use Rattle.book_engine.specs.Books.{machine_kept}
 use Rattle.book_app.specs.Numbers.{status_unopened}
 use Rattle.book_app.specs.StatusClause.{IsBookRun, over}
+use Rattle.book_app.specs.Words.{Lines}
 use Rattle.book_app.specs.declared.status.Status.{Status}
 use Rattle.book_app.proofs.StatusClauseLemmas.{run_of_lines, run_of_nothing, unopened_clause, untouched}
 use Rattle.book_app.proofs.main_call.run_book.Goals as goal
 
 pub returns-in_default-clause-run : goal.returns-in_default-clause-run
 returns-in_default-clause-run g c =
-    run_of_nothing _ _ _ _ (λ bytes. untouched _ (λ still rows held. held))
+    run_of_nothing Lines _ _ _ _ (λ bytes. untouched _ (λ still rows held. held))
 
 pub returns-in_default-room_after-clause-run : goal.returns-in_default-room_after-clause-run
 returns-in_default-room_after-clause-run g c =
-    run_of_nothing _ _ _ _ (λ bytes. untouched _ (λ still rows held. held))
+    run_of_nothing Lines _ _ _ _ (λ bytes. untouched _ (λ still rows held. held))
 
 pub returns-in-Ok-open_book-clause-run : goal.returns-in-Ok-open_book-clause-run
 returns-in-Ok-open_book-clause-run g c =
@@ -29,6 +30,6 @@ returns-clause-run g c =
     let keeping = over g.K.Keeper.sure g.K.Keeper.holds g.K.Keeper.faults c.args.keeper.now c.open_book.new.keeper in
     let input = g.S.Source.left c.args.input.now in
     let output = g.O.Sink.written c.args.output.now in
-    subst (λ (s : Status). IsBookRun None keeping input input output output s) (sym c.status_unopened.ensures)
-    (run_of_nothing keeping input output (status_unopened c.in-Err.error)
+    subst (λ (s : Status). IsBookRun Lines keeping input input output output s) (sym c.status_unopened.ensures)
+    (run_of_nothing Lines keeping input output (status_unopened c.in-Err.error)
     (λ bytes. unopened_clause keeping output bytes c.in-Err.error c.open_book.ensures.rows c.in-Err.ensures.opened))

@@ -1,5 +1,5 @@
 use Rattle.book_app.proofs.StatusClauseLemmas.{stands_opened}
-use Rattle.book_app.proofs.main_call.open_book.Goals as goal
+use Rattle.book_app.proofs.opening.open_book.Goals as goal
 
 pub returns-in-Ok-clause-stands : goal.returns-in-Ok-clause-stands
 returns-in-Ok-clause-stands g c =

@@ -1,0 +1,35 @@
+ghost use Rattle.std.specs.Prelude.{List, IfOk, IsTrue};
+ghost use Rattle.book_keeper.specs.declared.row.Row.{Row};
+ghost use Rattle.book_engine.specs.Opening.{HasOpenCause, Opened};
+ghost use Rattle.book_engine.specs.Standing.{Stands};
+ghost use Rattle.book_app.specs.StatusClause.{IsOpenedAt};
+
+use book_commodity::{OutOfMemory, Text};
+use book_engine::{Engine, OpenError};
+use book_keeper::{KeepError, Keeper};
+use book_lines::LineRoom;
+use book_words::part;
+use std::alloc::Global;
+
+/// The engine with the book that the keeper has at this path.
+/// Keeper: the keeper failed, and its count of faults rose. The others are those of `Engine::open`.
+pub fn open_book<K: Keeper>(alloc: Global, keeper: &mut K, book: &str) -> Result<Engine, OpenError>
+    ensures sure { IsTrue (K.sure keeper.new) → IsTrue (K.sure keeper.old) }
+    ensures rows { IsTrue (K.sure keeper.new) → (rows : List Row) → K.holds keeper.old rows → K.holds keeper.new rows }
+    ensures opened { IsTrue (K.sure keeper.new) → (rows : List Row) → K.holds keeper.old rows → Opened rows result }
+    ensures stands { IfOk result (λ engine. Stands K.sure K.holds keeper.new engine) }
+    ensures path { IsOpenedAt book.now (K.path_given keeper.new) result }
+    ensures cause { HasOpenCause (K.faults keeper.old) (K.faults keeper.new) result }
+{
+    match keeper.open(book) {
+        Ok(()) => Engine::open(alloc, keeper),
+        Err(KeepError::Failed) => Err(OpenError::Keeper),
+        Err(KeepError::OutOfMemory) => Err(OpenError::OutOfMemory),
+    }
+}
+
+/// The room for what is read, once `clap` has parted the words, which are of the grammar.
+pub fn room_after(alloc: Global, words: &[Text]) -> Result<LineRoom, OutOfMemory> {
+    part(alloc, words)?;
+    LineRoom::new(alloc)
+}
