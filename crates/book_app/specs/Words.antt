@@ -48,9 +48,15 @@ qif_format word currency =
     if bytes_eq word (codes "qif-md") then Some (kind.QifMonthFirst currency)
     else (if bytes_eq word (codes "qif-dm") then Some (kind.QifDayFirst currency) else None)
 
--- The format that a word names with the number of a currency, which is 0 but for QIF.
+-- The format of QIF, or else that of a bank's file, with which the number of the currency has to be 0.
+abbrev pub format_among : Option Format → List ℕ → ℕ → Option Format
+format_among (Some format) word currency = Some format
+format_among None word currency = if currency == 0 then bank_format word else None
+
+-- The format that a word names with the number of a currency. For QIF it may be any number: the import says whether the
+-- book has such a currency.
 abbrev pub format_of : List ℕ → ℕ → Option Format
-format_of word currency = if currency == 0 then bank_format word else qif_format word currency
+format_of word currency = format_among (qif_format word currency) word currency
 
 -- The account of this number; 0 names none, and the bindings then say which accounts are meant.
 abbrev pub account_of : ℕ → Option ℕ

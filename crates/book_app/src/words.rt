@@ -117,14 +117,14 @@ fn qif_format(word: &str, currency: u64) -> Option<Format>
     }
 }
 
-/// The format that a word names with the number of a currency, which is 0 but for QIF.
+/// The format that a word names with the number of a currency, which is 0 where the file names its currencies itself.
 fn format_of(word: &str, currency: u64) -> Option<Format>
     ensures { result ≡ format_of word.now currency }
 {
-    if currency == 0 {
-        bank_format(word)
-    } else {
-        qif_format(word, currency)
+    match qif_format(word, currency) {
+        Some(format) => Some(format),
+        None if currency == 0 => bank_format(word),
+        None => None,
     }
 }
 
