@@ -107,12 +107,14 @@ line-fits accounts account lines statement key_ body added live is within are =
     go false = record {
       statements = are.statements;
       lines = each-append (λ (e : ℕ × Line). IsFit accounts e.1) added.lines
-          ((added.next, new_line statement key_ body) ∷ []) are.lines
-          (record {
-            account = ap (λ (k : LineKey). is_live accounts k.account) is ∙ live;
-            amount = within;
-            is_open = refl;
-          }, tt);
+          ((added.next, new_line statement key_ body) ∷ []) are.lines (
+            record {
+              account = ap (λ (k : LineKey). is_live accounts k.account) is ∙ live;
+              amount = within;
+              is_open = refl;
+            },
+            tt,
+          );
     }
 
 lines-fit :
