@@ -1,11 +1,11 @@
 -- What an import adds: how many numbers it draws, and that it fits into the book where the statements of the file do.
 use Rattle.std.proofs.Common.{◌≡◌, ℕ, ◌+◌, Bool, true, false, cond, List, [], ◌∷◌, ◌++◌, length, Option, Some, None}
-use Rattle.std.proofs.Common.{unwrap_or, refl, sym, ap, subst, ◌∙◌, arith}
+use Rattle.std.proofs.Common.{unwrap_or, refl, arith}
 use Rattle.std.specs.List.{AllByRecursion}
 use Rattle.std.proofs.Math.ListN.{length-append}
 use Rattle.book_accounts.specs.declared.account.Account.{Account}
 use Rattle.book_splits.specs.Check.{is_over_limit}
-use Rattle.book_statement.specs.Keys.{key, keys_of}
+use Rattle.book_statement.specs.Keys.{keys_of}
 use Rattle.book_statement.specs.declared.held.Held.{Held}
 use Rattle.book_statement.specs.declared.line.Line.{Line}
 use Rattle.book_statement.specs.declared.line_key.LineKey.{LineKey}
@@ -14,11 +14,10 @@ use Rattle.book_statement.specs.declared.statement_line.StatementLine.{Statement
 use Rattle.book_sound.specs.Tests.{is_live}
 use Rattle.book_import.specs.Import.{Bound, has_key, held_of, imported, new_line, nothing_added, number_among, with_held}
 use Rattle.book_import.specs.Import.{with_line, with_lines, with_statement, with_statements}
-use Rattle.book_import.specs.Steps.{AreKeysOf}
 use Rattle.book_import.specs.declared.added.Additions.{Additions}
-use Rattle.book_import.proofs.StepLemmas.{keys-are}
+use Rattle.book_import.proofs.FileLemmas.{FileHas, HasOpen, imported-lines-have, imported-statements-have}
 use Rattle.book_step.specs.Importing.{drawn_by}
-use Rattle.book_step.proofs.ReadAmounts.{AreWithin, each-append}
+use Rattle.book_step.proofs.ReadAmounts.{AreWithin}
 
 -- ---- the numbers that are drawn
 
@@ -91,66 +90,34 @@ abbrev pub SuitFile : List (ℕ × Account) → List Bound → Type 0
 SuitFile accounts file =
     AllByRecursion (λ bound. (is_live accounts bound.account ≡ true) × AreWithin bound.statement.lines) file
 
-line-fits :
-    (accounts : List (ℕ × Account)) (account : ℕ) (lines : List (ℕ × Line)) (statement : ℕ) (key_ : LineKey)
-    (body : StatementLine) (added : Additions) → is_live accounts account ≡ true
-    → key_ ≡ key account body key_.ordinal → is_over_limit body.amount ≡ false → AreFit accounts added
-    → AreFit accounts (with_line lines statement key_ body added)
-line-fits accounts account lines statement key_ body added live is within are =
-    go (has_key key_ (lines ++ added.lines))
-  where
-    go : (known : Bool) → AreFit accounts (cond known (record added { seen = added.seen + 1 }) (record added {
-      lines = added.lines ++ (added.next, new_line statement key_ body) ∷ [];
-      next = added.next + 1;
-    }))
-    go true = record { statements = are.statements; lines = are.lines }
-    go false = record {
-      statements = are.statements;
-      lines = each-append (λ (e : ℕ × Line). IsFit accounts e.1) added.lines
-          ((added.next, new_line statement key_ body) ∷ []) are.lines
-          (record {
-            account = ap (λ (k : LineKey). is_live accounts k.account) is ∙ live;
-            amount = within;
-            is_open = refl;
-          }, tt);
-    }
+bodies-fit :
+    (accounts : List (ℕ × Account)) (account : ℕ) (bodies : List StatementLine) → is_live accounts account ≡ true
+    → AreWithin bodies → AllByRecursion (HasOpen (IsFit accounts) account) bodies
+bodies-fit accounts account [] live within = tt
+bodies-fit accounts account (body ∷ bodies) live within = (
+  λ statement ordinal. record { account = live; amount = within.0; is_open = refl },
+  bodies-fit accounts account bodies live within.1,
+)
 
-lines-fit :
-    (accounts : List (ℕ × Account)) (account : ℕ) (lines : List (ℕ × Line)) (statement : ℕ) (keys : List LineKey)
-    (bodies : List StatementLine) (added : Additions) → is_live accounts account ≡ true
-    → AreKeysOf account keys bodies → AreWithin bodies → AreFit accounts added
-    → AreFit accounts (with_lines lines statement keys bodies added)
-lines-fit accounts account lines statement [] bodies added live of within are = are
-lines-fit accounts account lines statement (key_ ∷ keys) [] added live of within are = are
-lines-fit accounts account lines statement (key_ ∷ keys) (body ∷ bodies) added live of within are =
-    lines-fit accounts account lines statement keys bodies (with_line lines statement key_ body added) live of.1
-    within.1 (line-fits accounts account lines statement key_ body added live of.0 within.0 are)
+file-fits :
+    (accounts : List (ℕ × Account)) (file : List Bound) → SuitFile accounts file → FileHas (IsFit accounts) file
+file-fits accounts [] suits = tt
+file-fits accounts (bound ∷ more) suits = (
+  bodies-fit accounts bound.account bound.statement.lines suits.0.0 suits.0.1,
+  file-fits accounts more suits.1,
+)
 
-held-fits :
-    (accounts : List (ℕ × Account)) (there : Option ℕ) (held : Held) (added : Additions)
-    → is_live accounts held.account ≡ true → AreFit accounts added → AreFit accounts (with_held there held added)
-held-fits accounts (Some number) held added live are = are
-held-fits accounts None held added live are = record {
-  statements = each-append (λ (e : ℕ × Held). is_live accounts e.1.account ≡ true) added.statements
-      ((added.next, held) ∷ []) are.statements (live, tt);
-  lines = are.lines;
-}
-
-statements-fit :
-    (accounts : List (ℕ × Account)) (statements : List (ℕ × Held)) (lines : List (ℕ × Line)) (file : List Bound)
-    (added : Additions) → SuitFile accounts file → AreFit accounts added
-    → AreFit accounts (with_statements statements lines file added)
-statements-fit accounts statements lines [] added suits are = are
-statements-fit accounts statements lines (bound ∷ more) added suits are =
-    let there = number_among (held_of bound) (statements ++ added.statements) in
-    statements-fit accounts statements lines more (with_statement statements lines bound added) suits.1
-    (lines-fit accounts bound.account lines (unwrap_or there added.next)
-    (keys_of bound.account bound.statement.lines) bound.statement.lines (with_held there (held_of bound) added)
-    suits.0.0 (keys-are bound.account bound.statement.lines) suits.0.1
-    (held-fits accounts there (held_of bound) added suits.0.0 are))
+accounts-live :
+    (accounts : List (ℕ × Account)) (file : List Bound) → SuitFile accounts file
+    → AllByRecursion (λ (bound : Bound). is_live accounts bound.account ≡ true) file
+accounts-live accounts [] suits = tt
+accounts-live accounts (bound ∷ more) suits = (suits.0.0, accounts-live accounts more suits.1)
 
 pub imported-fits :
     (accounts : List (ℕ × Account)) (statements : List (ℕ × Held)) (lines : List (ℕ × Line)) (file : List Bound)
     (next : ℕ) → SuitFile accounts file → AreFit accounts (imported statements lines file next)
-imported-fits accounts statements lines file next suits =
-    statements-fit accounts statements lines file (nothing_added next) suits (record { statements = tt; lines = tt })
+imported-fits accounts statements lines file next suits = record {
+  statements = imported-statements-have (λ (held : Held). is_live accounts held.account ≡ true) statements lines file
+      next (accounts-live accounts file suits);
+  lines = imported-lines-have (IsFit accounts) statements lines file next (file-fits accounts file suits);
+}

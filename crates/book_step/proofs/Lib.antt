@@ -39,3 +39,4 @@ pub mod SoundSchedules
 pub mod SoundStep
 pub mod TableWalkLemmas
 pub mod Worked
+pub mod WorkedImport

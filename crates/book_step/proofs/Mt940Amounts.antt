@@ -93,9 +93,10 @@ front-within :
     → AreWithin (lines_in known m.fields) → AllWithin statements
     → AllWithin (in_front (onto known) (alone known) joined m statements)
 front-within known m joined [] own all = (own, tt)
-front-within known m true (s ∷ statements) own all =
-    (each-append (λ (l : StatementLine). is_over_limit l.amount ≡ false) (lines_in known m.fields) s.lines own all.0,
-    all.1)
+front-within known m true (s ∷ statements) own all = (
+  each-append (λ (l : StatementLine). is_over_limit l.amount ≡ false) (lines_in known m.fields) s.lines own all.0,
+  all.1,
+)
 front-within known m false (s ∷ statements) own all = (own, all)
 
 pages-within :

@@ -114,7 +114,10 @@ pub(crate) fn check_not_root(account: &Account) -> Result<(), Rule>
 }
 
 /// The commodity of this number is one of the book's, where a number is given.
-pub(crate) fn check_given_commodity(commodities: &Commodities, number: Option<u64>) -> Result<(), Rule>
+pub(crate) fn check_given_commodity(
+    commodities: &Commodities,
+    number: Option<u64>,
+) -> Result<(), Rule>
     ensures { ReportsFirst (unknown_given_commodity commodities.now.entries number ∷ []) result }
 {
     match number {

@@ -32,11 +32,7 @@ pub(crate) fn bind_all<'a>(
 }
 
 /// The account that the statement goes to, which is in the statement's currency.
-fn account_of(
-    present: &Present,
-    given: Option<u64>,
-    statement: &Statement,
-) -> Result<u64, Refusal>
+fn account_of(present: &Present, given: Option<u64>, statement: &Statement) -> Result<u64, Refusal>
     ensures { Finds (statement_rules present.now.book given statement.now)
         (λ account. goes_to present.now.book.bindings given statement.now ≡ Some account) result }
 {
@@ -50,11 +46,7 @@ fn account_of(
 }
 
 /// The account that the statement goes to, if there is one.
-fn goes_to(
-    bindings: &[(u64, Binding)],
-    given: Option<u64>,
-    statement: &Statement,
-) -> Option<u64>
+fn goes_to(bindings: &[(u64, Binding)], given: Option<u64>, statement: &Statement) -> Option<u64>
     ensures { result ≡ goes_to bindings.now given statement.now }
 {
     match given {
@@ -96,9 +88,7 @@ fn has_code(commodities: &Commodities, code: &Text, number: u64) -> bool
     ensures { result ≡ has_code code.now (value_of number commodities.now.entries) }
 {
     match commodities.find(number) {
-        Some(commodity) => {
-            commodity.is_currency() && commodity.name.as_str() == code.as_str()
-        }
+        Some(commodity) => { commodity.is_currency() && commodity.name.as_str() == code.as_str() }
         None => false,
     }
 }

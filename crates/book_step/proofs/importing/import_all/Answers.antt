@@ -1,5 +1,4 @@
-use Rattle.std.proofs.Common.{◌≡◌, ◌++◌, None, map, subst, sym, ap, ◌∙◌}
-use Rattle.book_commodity.specs.Rules.{first_broken}
+use Rattle.std.proofs.Common.{◌++◌, ap, ◌∙◌}
 use Rattle.book_commodity.proofs.RuleLemmas.{first-past}
 use Rattle.book_import.specs.Import.{imported}
 use Rattle.book_step.specs.Importing.{file_rules}

@@ -1,4 +1,4 @@
-use Rattle.std.proofs.Common.{List, subst, sym}
+use Rattle.std.proofs.Common.{List, subst}
 use Rattle.book_statement.specs.declared.statement.Statement.{Statement}
 use Rattle.book_step.specs.Importing.{given_rules, import_file, import_statements, said}
 use Rattle.book_step.specs.Outcome.{StepsTo}
