@@ -8,12 +8,12 @@ use Rattle.book_splits.specs.declared.split.Mark.TheVariants.{Cleared}
 use Rattle.book_splits.specs.declared.split.Split.{Split}
 use Rattle.book_splits.specs.declared.transaction.Txn.{Txn}
 use Rattle.book_statement.specs.declared.line.Line.{Line}
-use Rattle.book_statement.specs.declared.line_state.LineState.{LineState}
-use Rattle.book_statement.specs.declared.line_state.LineState.TheVariants.{Open, Matched, Dismissed}
+use Rattle.book_statement.specs.declared.line_state.LineState.TheVariants.{Matched}
 use Rattle.book_undo.specs.Book.{Book, with_thing}
 use Rattle.book_undo.specs.declared.edit.Edit.{Edit, All, Put}
 use Rattle.book_undo.specs.declared.thing.Thing.TheVariants as thing
 use Rattle.book_step.specs.Accounts.{unknown_account}
+use Rattle.book_step.specs.BankLines.{line_taken}
 use Rattle.book_step.specs.Outcome.{Outcome, Broken, changing}
 use Rattle.book_step.specs.Posting.{new_splits, post_rules}
 use Rattle.book_step.specs.State.{State}
@@ -22,7 +22,7 @@ use Rattle.book_command.specs.declared.answer.Answer.TheVariants as answer
 use Rattle.book_command.specs.declared.command.GivenOther.{GivenOther}
 use Rattle.book_command.specs.declared.command.GivenSplit.{GivenSplit}
 use Rattle.book_command.specs.declared.rule.Rule.{Rule}
-use Rattle.book_command.specs.declared.rule.Rule.TheVariants.{LineTaken, Unknown, WrongCurrency}
+use Rattle.book_command.specs.declared.rule.Rule.TheVariants.{Unknown, WrongCurrency}
 
 -- ---- the transaction of a line
 
@@ -75,12 +75,6 @@ commodity_of (Some account) = account.commodity
 
 -- ---- the rules
 
--- A line that is matched or dismissed is taken (a rule of this project).
-abbrev pub line_taken : ℕ → LineState → Option Rule
-line_taken number Open = None
-line_taken number (Matched split) = Some (LineTaken number)
-line_taken number Dismissed = Some (LineTaken number)
-
 -- Another account is in another commodity than the line's account: the amounts of a line are all in one (a rule of this
 -- project).
 abbrev pub other_commodity : ℕ → Option Account → Option Rule
@@ -92,7 +86,7 @@ other_commodity commodity (Some account) =
 -- is in the commodity.
 abbrev pub given_rules : List (ℕ × Account) → ℕ → Line → ℕ → List GivenOther → List (Option Rule)
 given_rules accounts number line commodity others =
-    line_taken number line.state
+    line_taken number line
     ∷ map (λ other. unknown_account accounts other.account) others
     ++ map (λ other. other_commodity commodity (value_of other.account accounts)) others
 

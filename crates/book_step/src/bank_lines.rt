@@ -49,7 +49,7 @@ fn known<'a>(present: &Present<'a>, number: u64) -> Result<&'a Line, Rule>
 }
 
 /// The line of this number is open.
-fn check_open(number: u64, line: &Line) -> Result<(), Rule>
+pub(crate) fn check_open(number: u64, line: &Line) -> Result<(), Rule>
     ensures { ReportsFirst (line_taken number line.now ∷ []) result }
 {
     if is_open(line) {

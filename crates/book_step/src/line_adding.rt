@@ -5,11 +5,12 @@ ghost use Rattle.book_commodity.specs.Table.{value_of};
 ghost use Rattle.book_statement.specs.declared.line_state.LineState.{LineState as State};
 ghost use Rattle.book_step.specs.Accounts.{unknown_account};
 ghost use Rattle.book_step.specs.LineAdding.{commodity_of, given_rules, given_split, line_add, line_add_of};
-ghost use Rattle.book_step.specs.LineAdding.{line_matched, line_splits, line_taken, line_transaction};
+ghost use Rattle.book_step.specs.LineAdding.{line_matched, line_splits, line_transaction};
 ghost use Rattle.book_step.specs.LineAdding.{matched_answer, matched_with, matching_edit, other_commodity, own_split};
 ghost use Rattle.book_step.specs.Outcome.{StepsTo};
 
 use crate::accounts::known as known_account;
+use crate::bank_lines::check_open;
 use crate::posting::{check_post, new_split};
 use crate::present::Present;
 use crate::{Answer, GivenOther, GivenSplit, Refusal, Rule, Step};
@@ -101,16 +102,6 @@ fn check_given(
     check_open(number, line)?;
     check_accounts(present, others)?;
     check_commodities(present, commodity, others)
-}
-
-/// The line is open.
-fn check_open(number: u64, line: &Line) -> Result<(), Rule>
-    ensures { ReportsFirst (line_taken number line.now.state ∷ []) result }
-{
-    match line.state {
-        LineState::Open => Ok(()),
-        LineState::Matched(_) | LineState::Dismissed => Err(Rule::LineTaken { line: number }),
-    }
 }
 
 /// Each of the others is on an account of the book.
