@@ -1,2 +1,4 @@
 pub mod OrderLemmas
+pub mod SoundLemmas
+pub mod Worked
 pub mod WritingLemmas

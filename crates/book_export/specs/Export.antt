@@ -1,7 +1,7 @@
 -- The whole book as a plain-text journal, which ledger 3.3 and hledger 1.25 read (ledger 3 manual, journal format; hledger
 -- manual, journal format): its commodities, its accounts, its prices, and its transactions by day.
 use Rattle.std.specs.Prelude.{ℕ, ◌≡◌, ℤ, int_lt, if◌then◌else◌, is_none, List, [], ◌∷◌, ◌++◌, filter, map, codes}
-use Rattle.std.specs.Prelude.{Result, Ok, Err, Unit, ◌⊎◌}
+use Rattle.std.specs.Prelude.{Result, Ok, Err, ◌⊎◌}
 use Rattle.std.specs.List.{flat_map}
 use Rattle.std.specs.List.Sorted.{IsSortedBy}
 use Rattle.std.specs.Ordering.{int_eq}

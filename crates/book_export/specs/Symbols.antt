@@ -1,10 +1,10 @@
 -- Commodities as the journal has them: their symbols, their amounts, and the lines that say how many decimals they have
 -- (ledger 3 manual, commodities; hledger manual, commodity directive).
-use Rattle.std.specs.Prelude.{ℕ, ◌*◌, nat_le, Bool, ◌&&◌, if◌then◌else◌, List, [], ◌∷◌, ◌++◌, ℤ, pos, codes}
+use Rattle.std.specs.Prelude.{ℕ, ◌*◌, nat_le, Bool, true, ◌&&◌, if◌then◌else◌, List, [], ◌∷◌, ◌++◌, ℤ, pos, codes, is_some, position}
 use Rattle.std.specs.Prelude.{◌==◌, ◌≡◌, Some}
 use Rattle.std.specs.Int.{IsInRange}
 use Rattle.std.specs.Fmt.{decimal}
-use Rattle.std.specs.List.{list_all, list_any}
+use Rattle.std.specs.List.{list_all}
 use Rattle.std.specs.Option.{option_map_or}
 use Rattle.book_commodity.specs.Amount.{amount_text, powers_of_ten}
 use Rattle.book_commodity.specs.Currency.{is_currency}
@@ -14,7 +14,7 @@ use Rattle.book_export.specs.Names.{written}
 
 -- Whether amounts with this fraction are decimal numbers of whole units: the fraction is a power of ten.
 unfoldable pub is_decimal : ℕ → Bool
-is_decimal fraction = list_any (λ power. power == fraction) powers_of_ten
+is_decimal fraction = is_some (position (λ power. power == fraction) powers_of_ten)
 
 -- How many smallest units make one of the units that the journal counts: those of a fraction that is no power of ten
 -- are counted themselves (rule of this project).

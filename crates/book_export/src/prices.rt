@@ -1,4 +1,4 @@
-ghost use Rattle.std.specs.Prelude.{◌≡◌, ◌*◌, ◌^◌, ◌++◌, OnOk, IfOk};
+ghost use Rattle.std.specs.Prelude.{◌≡◌, ◌*◌, ◌%◌, ◌^◌, ◌==◌, ◌++◌, OnOk, IfOk, find};
 ghost use Rattle.std.specs.Int.{IsInRange};
 ghost use Rattle.book_export.specs.Prices.{power_for, price_line, price_number, price_of, price_start, quotient_line};
 ghost use Rattle.book_export.specs.Symbols.{AreInRange};
@@ -123,10 +123,21 @@ fn power_for(num: u128, denom: u128) -> Option<u64>
     requires denom_in { IsInRange 1 (10 ^ 18) denom }
     ensures { result ≡ power_for num denom }
 {
-    for power in &POWERS_OF_TEN {
+    power_among(&POWERS_OF_TEN, num, denom)
+}
+
+/// The first of some numbers by which a quotient becomes whole.
+fn power_among(powers: &[u64], num: u128, denom: u128) -> Option<u64>
+    requires num_in { IsInRange 1 (10 ^ 18) num }
+    requires denom_in { IsInRange 1 (10 ^ 18) denom }
+    ensures { result ≡ find (λ power. num * power % denom == 0) powers.now }
+{
+    let mut left = powers;
+    while let Some((power, rest)) = left.split_first() {
         if num * u128::from(*power) % denom == 0 {
             return Some(*power);
         }
+        left = rest;
     }
     None
 }

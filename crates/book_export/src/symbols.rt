@@ -122,12 +122,21 @@ fn push_currency_symbol(out: &mut Vec<u8>, name: &[u8]) -> Result<(), OutOfMemor
 fn are_capitals(name: &[u8]) -> bool
     ensures { result ≡ list_all is_capital name.now }
 {
-    for byte in name {
-        if *byte < b'A' || *byte > b'Z' {
+    let mut left = name;
+    while let Some((byte, rest)) = left.split_first() {
+        if !is_capital(*byte) {
             return false;
         }
+        left = rest;
     }
     true
+}
+
+/// Whether a byte is a capital letter of ASCII.
+fn is_capital(byte: u8) -> bool
+    ensures { result ≡ is_capital byte }
+{
+    b'A' <= byte && byte <= b'Z'
 }
 
 /// Adds the symbol of a commodity that is named by its space and its name.
@@ -163,12 +172,7 @@ fn push_part(alloc: Global, out: &mut Vec<u8>, fraction: u64) -> Result<(), OutO
 fn is_decimal(fraction: u64) -> bool
     ensures { result ≡ is_decimal fraction }
 {
-    for power in &POWERS_OF_TEN {
-        if *power == fraction {
-            return true;
-        }
-    }
-    false
+    POWERS_OF_TEN.iter().position(|power| *power == fraction).is_some()
 }
 
 /// How many smallest units make one of the units that the journal counts.
