@@ -46,3 +46,11 @@ entry_at [] i n x d number value = absurd (none-some n number)
 entry_at {X} (e ∷ xs) zero n x d number value =
     sym (ap (λ (m : ℕ). (m, e.1)) (same_Some e.0 n number) ∙ ap (λ (y : X). (n, y)) (same_Some e.1 x value))
 entry_at (e ∷ xs) (suc i) n x d number value = entry_at xs i n x d number value
+
+-- the value at a place is that of the entry there
+pub value_there :
+    {X : Type 0} (xs : List (ℕ × X)) (i : ℕ) (x : X) (d : ℕ × X)
+    → option_map (λ (e : ℕ × X). e.1) (slice_get xs i) ≡ Some x → (get_or xs i d).1 ≡ x
+value_there [] i x d at = absurd (none-some x at)
+value_there (e ∷ xs) zero x d at = same_Some e.1 x at
+value_there (e ∷ xs) (suc i) x d at = value_there xs i x d at

@@ -18,7 +18,7 @@ use Rattle.book_export.specs.Entries.{head_line, posting_line, transaction_lines
 use Rattle.book_export.specs.Export.{accounts_text, commodities_text, prices_text}
 use Rattle.book_export.specs.Names.{journal_name, written}
 use Rattle.book_export.specs.Prices.{power_for, price_line}
-use Rattle.book_export.specs.Symbols.{amount_in, commodity_lines, is_decimal, symbol}
+use Rattle.book_export.specs.Symbols.{amount_in, commodity_lines, exponent_of}
 use Rattle.book_export.specs.Texts.{shown}
 
 abbrev commodity : List ℕ → List ℕ → ℕ → Commodity
@@ -77,7 +77,7 @@ salary :
     (transaction (pos 40) (codes "7") (codes "Salary")
     (split 5 [] New (pos 250000) (pos 250000) ∷ split 6 [] New (negsuc 249999) (negsuc 249999) ∷ []))
     ≡ codes "\n" ++ day_text (pos 40) ++ codes " (7) Salary\n    Bank  2500.00 EUR\n    Pay  -2500.00 EUR\n"
-unfolding amount_in amount_text decimals_of digits head_line is_decimal nearest_parents posting_line shown transaction_lines written
+unfolding amount_in amount_text decimals_of digits exponent_of head_line nearest_parents posting_line shown transaction_lines written
 salary = refl
 
 -- ten shares for 100.00: the value is the cost of the quantity
@@ -86,7 +86,7 @@ purchase :
     (transaction (pos 41) [] (codes "Buy")
     (split 7 [] New (pos 10000) (pos 10) ∷ split 5 [] New (negsuc 9999) (negsuc 9999) ∷ []))
     ≡ codes "\n" ++ day_text (pos 41) ++ codes " Buy\n    Bank:Broker  10 \"NYSE:ACME\" @@ 100.00 EUR\n    Bank  -100.00 EUR\n"
-unfolding amount_in amount_text decimals_of digits head_line is_decimal nearest_parents posting_line shown transaction_lines written
+unfolding amount_in amount_text decimals_of digits exponent_of head_line nearest_parents posting_line shown transaction_lines written
 purchase = refl
 
 -- a correction of the cost alone: one share has it, and one is taken back for nothing
@@ -97,7 +97,7 @@ correction :
     ≡ codes "\n" ++ day_text (pos 42)
     ++ codes " Fee\n    Bank:Broker  1 \"NYSE:ACME\" @@ 1.50 EUR\n    Bank:Broker  -1 \"NYSE:ACME\" @@ 0.00 EUR\n"
     ++ codes "    Bank  -1.50 EUR\n"
-unfolding amount_in amount_text decimals_of digits head_line is_decimal nearest_parents posting_line shown transaction_lines written
+unfolding amount_in amount_text decimals_of digits exponent_of head_line nearest_parents posting_line shown transaction_lines written
 correction = refl
 
 -- splits that are marked, a name with a semicolon, a memo with a colon, and a description that begins as a mark
@@ -107,7 +107,7 @@ marked :
     (split 8 [] Cleared (pos 5) (pos 5) ∷ split 5 (codes "ref: 9") Reconciled (negsuc 4) (negsuc 4) ∷ []))
     ≡ codes "\n" ++ day_text (pos 43)
     ++ codes " () *Market%3B stall 3\n    ! Food%3B drink  0.05 EUR\n    * Bank  -0.05 EUR  ; ref : 9\n"
-unfolding amount_in amount_text decimals_of digits head_line is_decimal nearest_parents posting_line shown transaction_lines written
+unfolding amount_in amount_text decimals_of digits exponent_of head_line nearest_parents posting_line shown transaction_lines written
 marked = refl
 
 -- every account has its directive, the hidden one too, and the root has none
@@ -120,7 +120,7 @@ directives = refl
 commodities :
     commodities_text book
     ≡ codes "commodity EUR\n  format 1000.00 EUR\ncommodity \"NYSE:ACME\"\ncommodity \"US:NOTE:1/8\"\n"
-unfolding amount_text commodity_lines decimals_of digits is_decimal written
+unfolding amount_text commodity_lines decimals_of digits exponent_of written
 commodities = refl
 
 -- an exact price, and one that no decimal number is
@@ -128,7 +128,7 @@ prices :
     prices_text book
     ≡ codes "P " ++ day_text (pos 40) ++ codes " \"NYSE:ACME\" 150.25 EUR\n"
     ++ codes "; P " ++ day_text (pos 40) ++ codes " \"NYSE:ACME\" 1/3 EUR\n"
-unfolding amount_text decimals_of digits is_decimal power_for price_line written
+unfolding amount_text decimals_of digits exponent_of power_for price_line written
 prices = refl
 
 -- names that are common stay as they are, and those that would be read as more don't

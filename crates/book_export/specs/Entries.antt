@@ -45,14 +45,22 @@ fits_cost quantity value =
 abbrev pub unit_toward : ℤ → ℤ
 unit_toward value = if int_lt value (pos 0) then negsuc 0 else pos 1
 
--- The postings of an account that holds another commodity than the currency of the transaction. Where the quantity can't
--- be given the value as its cost, one smallest unit has it, and all the rest of the quantity costs nothing (rule of this
--- project): so the quantities sum to that of the split, and the costs to its value.
+-- The two postings of a quantity that can't be given the value as its cost: one smallest unit has it, and all the rest of
+-- the quantity costs nothing (rule of this project). So the quantities sum to that of the split, and the costs to its
+-- value.
+abbrev pub postings_apart : ℤ → ℤ → List Posting
+postings_apart quantity value =
+    posting_at (unit_toward value) value ∷ posting_at (quantity -ℤ unit_toward value) (pos 0) ∷ []
+
+-- Whether both amounts are zero.
+abbrev pub are_zero : ℤ → ℤ → Bool
+are_zero quantity value = int_eq quantity (pos 0) && int_eq value (pos 0)
+
+-- The postings of an account that holds another commodity than the currency of the transaction.
 abbrev pub postings_at_cost : ℤ → ℤ → List Posting
 postings_at_cost quantity value =
-    if int_eq quantity (pos 0) && int_eq value (pos 0) then plain_posting quantity ∷ []
-    else (if fits_cost quantity value then posting_at quantity value ∷ []
-        else posting_at (unit_toward value) value ∷ posting_at (quantity -ℤ unit_toward value) (pos 0) ∷ [])
+    if are_zero quantity value then plain_posting quantity ∷ []
+    else (if fits_cost quantity value then posting_at quantity value ∷ [] else postings_apart quantity value)
 
 -- The postings of a split: on an account in the currency of the transaction one of the quantity, which is the value.
 abbrev pub postings_of : Bool → Split → List Posting

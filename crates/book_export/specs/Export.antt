@@ -54,9 +54,15 @@ prices_text book = flat_map (λ e. price_line book.commodities e.1) book.prices
 abbrev pub transactions_text : Book → List (ℤ × ℕ) → List ℕ
 transactions_text book order = flat_map (λ e. lines_at book e.1) order
 
--- The journal of a book with its transactions in an order.
+-- The journal of a book with its transactions in an order: from its prices on, from its accounts on, and all of it.
+abbrev pub text_from_prices : Book → List (ℤ × ℕ) → List ℕ
+text_from_prices book order = prices_text book ++ transactions_text book order
+
+abbrev pub text_from_accounts : Book → List (ℤ × ℕ) → List ℕ
+text_from_accounts book order = accounts_text book ++ text_from_prices book order
+
 unfoldable pub export_text : Book → List (ℤ × ℕ) → List ℕ
-export_text book order = commodities_text book ++ accounts_text book ++ prices_text book ++ transactions_text book order
+export_text book order = commodities_text book ++ text_from_accounts book order
 
 -- A text is the journal of a book: that with its transactions by day, and on one day by number.
 pub record IsExport (book : Book) (text : List ℕ) : Type 0 where

@@ -1,7 +1,7 @@
 -- Commodities as the journal has them: their symbols, their amounts, and the lines that say how many decimals they have
 -- (ledger 3 manual, commodities; hledger manual, commodity directive).
 use Rattle.std.specs.Prelude.{ℕ, ◌*◌, nat_le, Bool, true, ◌&&◌, if◌then◌else◌, List, [], ◌∷◌, ◌++◌, ℤ, pos, codes, is_some, position}
-use Rattle.std.specs.Prelude.{◌==◌, ◌≡◌, Some}
+use Rattle.std.specs.Prelude.{◌==◌, ◌≡◌, Option, Some}
 use Rattle.std.specs.Int.{IsInRange}
 use Rattle.std.specs.Fmt.{decimal}
 use Rattle.std.specs.List.{list_all}
@@ -12,9 +12,13 @@ use Rattle.book_commodity.specs.Table.{value_of}
 use Rattle.book_commodity.specs.declared.commodity.Commodity.{Commodity}
 use Rattle.book_export.specs.Names.{written}
 
+-- The exponent of a power of ten, and none of another number.
+unfoldable pub exponent_of : ℕ → Option ℕ
+exponent_of fraction = position (λ power. power == fraction) powers_of_ten
+
 -- Whether amounts with this fraction are decimal numbers of whole units: the fraction is a power of ten.
-unfoldable pub is_decimal : ℕ → Bool
-is_decimal fraction = is_some (position (λ power. power == fraction) powers_of_ten)
+abbrev pub is_decimal : ℕ → Bool
+is_decimal fraction = is_some (exponent_of fraction)
 
 -- How many smallest units make one of the units that the journal counts: those of a fraction that is no power of ten
 -- are counted themselves (rule of this project).

@@ -5,7 +5,8 @@ ghost use Rattle.book_prices.specs.Rate.{IsSound};
 ghost use Rattle.book_sound.specs.Soundness.{IsSoundBook};
 ghost use Rattle.book_undo.specs.Book.{book_of};
 ghost use Rattle.book_export.specs.Export.{HasExported, HasFault, HasWritten, account_line, accounts_text};
-ghost use Rattle.book_export.specs.Export.{commodities_text, export_text, prices_text, transactions_text};
+ghost use Rattle.book_export.specs.Export.{commodities_text, export_text, prices_text, text_from_accounts, text_from_prices};
+ghost use Rattle.book_export.specs.Export.{transactions_text};
 ghost use Rattle.book_export.specs.Symbols.{AreInRange};
 
 use crate::ExportError;
@@ -50,16 +51,50 @@ fn write_book<O: Sink>(
         (export_text (book_of book.now) order.now) result }
     ensures faults { HasFault (O.faults output.old) (O.faults output.new) result }
 {
-    if let Err(error) = write_commodities(alloc, book, output) {
-        return Err(error);
+    match write_commodities(alloc, book, output) {
+        Ok(()) => write_from_accounts(alloc, book, order, output),
+        Err(error) => Err(error),
     }
-    if let Err(error) = write_accounts(alloc, book, output) {
-        return Err(error);
+}
+
+/// Writes the journal from the accounts on.
+fn write_from_accounts<O: Sink>(
+    alloc: Global,
+    book: &Plain,
+    order: &[(i32, u64)],
+    output: &mut O,
+) -> Result<(), ExportError>
+    requires rooted { IsRooted book.now.accounts.entries }
+    requires fractions { AreInRange book.now.commodities.entries }
+    requires sound { All (λ e. IsSound e.1) book.now.prices.entries }
+    ensures written { HasWritten (O.written output.old) (O.written output.new)
+        (text_from_accounts (book_of book.now) order.now) result }
+    ensures faults { HasFault (O.faults output.old) (O.faults output.new) result }
+{
+    match write_accounts(alloc, book, output) {
+        Ok(()) => write_from_prices(alloc, book, order, output),
+        Err(error) => Err(error),
     }
-    if let Err(error) = write_prices(alloc, book, output) {
-        return Err(error);
+}
+
+/// Writes the journal from the prices on.
+fn write_from_prices<O: Sink>(
+    alloc: Global,
+    book: &Plain,
+    order: &[(i32, u64)],
+    output: &mut O,
+) -> Result<(), ExportError>
+    requires rooted { IsRooted book.now.accounts.entries }
+    requires fractions { AreInRange book.now.commodities.entries }
+    requires sound { All (λ e. IsSound e.1) book.now.prices.entries }
+    ensures written { HasWritten (O.written output.old) (O.written output.new)
+        (text_from_prices (book_of book.now) order.now) result }
+    ensures faults { HasFault (O.faults output.old) (O.faults output.new) result }
+{
+    match write_prices(alloc, book, output) {
+        Ok(()) => write_transactions(alloc, book, order, output),
+        Err(error) => Err(error),
     }
-    write_transactions(alloc, book, order, output)
 }
 
 /// Writes the commodities.
@@ -68,8 +103,9 @@ fn write_commodities<O: Sink>(alloc: Global, book: &Plain, output: &mut O) -> Re
     ensures faults { HasFault (O.faults output.old) (O.faults output.new) result }
 {
     for (_, commodity) in book.commodities.as_slice() {
-        if let Err(error) = write_piece(output, commodity_lines(alloc, commodity)) {
-            return Err(error);
+        match write_piece(output, commodity_lines(alloc, commodity)) {
+            Ok(()) => {}
+            Err(error) => return Err(error),
         }
     }
     Ok(())
@@ -84,8 +120,9 @@ fn write_accounts<O: Sink>(alloc: Global, book: &Plain, output: &mut O) -> Resul
     for place in 0..book.accounts.len() {
         let number = book.accounts.number_at(place);
         let account = book.accounts.value_at(place);
-        if let Err(error) = write_piece(output, account_line(alloc, &book.accounts, number, account)) {
-            return Err(error);
+        match write_piece(output, account_line(alloc, &book.accounts, number, account)) {
+            Ok(()) => {}
+            Err(error) => return Err(error),
         }
     }
     Ok(())
@@ -121,8 +158,9 @@ fn write_prices<O: Sink>(alloc: Global, book: &Plain, output: &mut O) -> Result<
 {
     for place in 0..book.prices.len() {
         let price = book.prices.value_at(place);
-        if let Err(error) = write_piece(output, price_line(alloc, &book.commodities, price)) {
-            return Err(error);
+        match write_piece(output, price_line(alloc, &book.commodities, price)) {
+            Ok(()) => {}
+            Err(error) => return Err(error),
         }
     }
     Ok(())
@@ -141,8 +179,9 @@ fn write_transactions<O: Sink>(
     ensures faults { HasFault (O.faults output.old) (O.faults output.new) result }
 {
     for (_, number) in order {
-        if let Err(error) = write_piece(output, lines_at(alloc, book, *number)) {
-            return Err(error);
+        match write_piece(output, lines_at(alloc, book, *number)) {
+            Ok(()) => {}
+            Err(error) => return Err(error),
         }
     }
     Ok(())

@@ -1,4 +1,4 @@
-ghost use Rattle.std.specs.Prelude.{◌≡◌, ◌∷◌, ◌++◌, IfOk, OnOk, map};
+ghost use Rattle.std.specs.Prelude.{◌≡◌, ◌==◌, [], ◌∷◌, ◌++◌, if◌then◌else◌, IfOk, OnOk, map};
 ghost use Rattle.std.specs.List.{join_with_byte};
 ghost use Rattle.book_commodity.specs.Table.{Rises};
 ghost use Rattle.book_accounts.specs.Path.{name_at};
@@ -54,12 +54,20 @@ fn joined_names(alloc: Global, accounts: &Tree, numbers: &[u64]) -> Result<Vec<u
 {
     let mut names = Vec::new(alloc);
     for (place, number) in numbers.iter().enumerate() {
-        if place > 0 {
-            names.push(b':')?;
-        }
+        push_colon_behind(&mut names, place)?;
         push_name_at(&mut names, accounts, *number)?;
     }
     Ok(names)
+}
+
+/// Adds a colon behind so many names; nothing where there is none.
+fn push_colon_behind(names: &mut Vec<u8>, count: usize) -> Result<(), OutOfMemory>
+    ensures { OnOk result (names.new.items ≡ names.old.items ++ (if count == 0 then [] else 58 ∷ [])) }
+{
+    if count > 0 {
+        names.push(b':')?;
+    }
+    Ok(())
 }
 
 /// Adds the name of the account with a number; nothing where there is no such account.

@@ -1,6 +1,6 @@
-ghost use Rattle.std.specs.Prelude.{◌≡◌, IfOk};
-ghost use Rattle.book_export.specs.Entries.{fits_cost, plain_posting, posting_at, postings_at_cost, postings_of};
-ghost use Rattle.book_export.specs.Entries.{unit_toward};
+ghost use Rattle.std.specs.Prelude.{◌≡◌, [], ◌∷◌, ◌-ℤ◌, IfOk};
+ghost use Rattle.book_export.specs.Entries.{are_zero, fits_cost, plain_posting, posting_at, postings_apart};
+ghost use Rattle.book_export.specs.Entries.{postings_at_cost, postings_of, unit_toward};
 
 use book_commodity::{Many, OutOfMemory};
 use book_splits::Split;
@@ -23,9 +23,7 @@ pub(crate) fn postings_of(
     ensures { IfOk result (λ postings. postings ≡ postings_of in_currency split.now) }
 {
     if in_currency {
-        let mut postings = Many::new(alloc);
-        postings.push(plain_posting(split.quantity))?;
-        return Ok(postings);
+        return one_posting(alloc, plain_posting(split.quantity));
     }
     postings_at_cost(alloc, split.quantity, split.value)
 }
@@ -34,19 +32,47 @@ pub(crate) fn postings_of(
 fn postings_at_cost(alloc: Global, quantity: i64, value: i64) -> Result<Many<Posting>, OutOfMemory>
     ensures { IfOk result (λ postings. postings ≡ postings_at_cost quantity value) }
 {
-    let mut postings = Many::new(alloc);
-    if quantity == 0 && value == 0 {
-        postings.push(plain_posting(quantity))?;
-        return Ok(postings);
+    if are_zero(quantity, value) {
+        return one_posting(alloc, plain_posting(quantity));
     }
     if fits_cost(quantity, value) {
-        postings.push(posting_at(i128::from(quantity), value))?;
-        return Ok(postings);
+        return one_posting(alloc, posting_at(i128::from(quantity), value));
     }
-    let unit = unit_toward(value);
-    postings.push(posting_at(unit, value))?;
-    postings.push(posting_at(i128::from(quantity) - unit, 0))?;
+    postings_apart(alloc, quantity, value)
+}
+
+/// One posting alone.
+fn one_posting(alloc: Global, posting: Posting) -> Result<Many<Posting>, OutOfMemory>
+    ensures { IfOk result (λ postings. postings ≡ posting ∷ []) }
+{
+    let mut postings = Many::new(alloc);
+    postings.push(posting)?;
     Ok(postings)
+}
+
+/// The two postings of a quantity and of a value that can't be its cost.
+fn postings_apart(alloc: Global, quantity: i64, value: i64) -> Result<Many<Posting>, OutOfMemory>
+    ensures { IfOk result (λ postings. postings ≡ postings_apart quantity value) }
+{
+    let unit = unit_toward(value);
+    let mut postings = Many::new(alloc);
+    postings.push(posting_at(i128::from(unit), value))?;
+    postings.push(posting_at(difference(quantity, unit), 0))?;
+    Ok(postings)
+}
+
+/// The difference of two amounts.
+fn difference(one: i64, other: i64) -> i128
+    ensures { result ≡ one -ℤ other }
+{
+    i128::from(one) - i128::from(other)
+}
+
+/// Whether both amounts are zero.
+fn are_zero(quantity: i64, value: i64) -> bool
+    ensures { result ≡ are_zero quantity value }
+{
+    quantity == 0 && value == 0
 }
 
 /// A posting without a cost.
@@ -77,7 +103,7 @@ fn fits_cost(quantity: i64, value: i64) -> bool
 }
 
 /// One smallest unit with the sign of a value.
-fn unit_toward(value: i64) -> i128
+fn unit_toward(value: i64) -> i64
     ensures { result ≡ unit_toward value }
 {
     if value < 0 { -1 } else { 1 }

@@ -1,6 +1,6 @@
 ghost use Rattle.std.specs.Prelude.{◌≡◌, ◌++◌, OnOk, IfOk};
 ghost use Rattle.std.specs.List.{list_all};
-ghost use Rattle.book_export.specs.Symbols.{amount_in, amount_of, commodity_lines, counted, currency_symbol};
+ghost use Rattle.book_export.specs.Symbols.{amount_in, amount_of, commodity_lines, counted, currency_symbol, exponent_of};
 ghost use Rattle.book_export.specs.Symbols.{format_line, is_capital, is_decimal, long_symbol, part_of_unit, symbol, units};
 
 use crate::names::push_written;
@@ -168,11 +168,18 @@ fn push_part(alloc: Global, out: &mut Vec<u8>, fraction: u64) -> Result<(), OutO
 }
 
 /// Whether amounts with this fraction are decimal numbers of whole units.
-#[tactic(auto, unfolding(crate::specs::Symbols::is_decimal))]
 fn is_decimal(fraction: u64) -> bool
     ensures { result ≡ is_decimal fraction }
 {
-    POWERS_OF_TEN.iter().position(|power| *power == fraction).is_some()
+    exponent_of(fraction).is_some()
+}
+
+/// The exponent of a power of ten; `None` for another number.
+#[tactic(auto, unfolding(crate::specs::Symbols::exponent_of))]
+fn exponent_of(fraction: u64) -> Option<usize>
+    ensures { result ≡ exponent_of fraction }
+{
+    POWERS_OF_TEN.iter().position(|power| *power == fraction)
 }
 
 /// How many smallest units make one of the units that the journal counts.

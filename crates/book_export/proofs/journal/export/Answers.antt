@@ -1,0 +1,23 @@
+use Rattle.std.proofs.Common.{refl}
+use Rattle.book_accounts.specs.Tree.{IsRooted}
+use Rattle.book_keeper.proofs.StreamLemmas.{Wrote-nil}
+use Rattle.book_sound.proofs.SoundFacts.{accounts_are_rooted}
+use Rattle.book_undo.specs.Book.{book_of}
+use Rattle.book_export.specs.Export.{export_text}
+use Rattle.book_export.proofs.SoundLemmas.{fractions_in_range, prices_are_sound}
+use Rattle.book_export.proofs.journal.export.Goals as goal
+
+pub write_book-requires-clause-rooted : goal.write_book-requires-clause-rooted
+write_book-requires-clause-rooted g c = accounts_are_rooted (book_of c.args.book.now) c.requires
+
+pub write_book-requires-clause-fractions : goal.write_book-requires-clause-fractions
+write_book-requires-clause-fractions g c = fractions_in_range (book_of c.args.book.now) c.requires
+
+pub write_book-requires-clause-sound : goal.write_book-requires-clause-sound
+write_book-requires-clause-sound g c = prices_are_sound (book_of c.args.book.now) c.requires
+
+pub returns-in-Ok-clause-written : goal.returns-in-Ok-clause-written
+returns-in-Ok-clause-written g c = ?
+
+pub returns-in-Err-clause-written : goal.returns-in-Err-clause-written
+returns-in-Err-clause-written g c = inr (refl, Wrote-nil (g.O.Sink.written c.args.output.now))
