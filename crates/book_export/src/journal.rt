@@ -30,7 +30,7 @@ pub fn export<O: Sink>(alloc: Global, book: &Plain, output: &mut O) -> Result<()
     ensures written { HasExported (O.written output.old) (O.written output.new) (book_of book.now) result }
     ensures faults { HasFault (O.faults output.old) (O.faults output.new) result }
 {
-    match by_day(alloc, book.transactions.as_slice()) {
+    match by_day(alloc, &book.transactions) {
         Ok(order) => write_book(alloc, book, order.as_slice(), output),
         Err(_) => Err(ExportError::Memory),
     }
@@ -98,7 +98,11 @@ fn write_from_prices<O: Sink>(
 }
 
 /// Writes the commodities.
-fn write_commodities<O: Sink>(alloc: Global, book: &Plain, output: &mut O) -> Result<(), ExportError>
+fn write_commodities<O: Sink>(
+    alloc: Global,
+    book: &Plain,
+    output: &mut O,
+) -> Result<(), ExportError>
     ensures written { HasWritten (O.written output.old) (O.written output.new) (commodities_text (book_of book.now)) result }
     ensures faults { HasFault (O.faults output.old) (O.faults output.new) result }
 {

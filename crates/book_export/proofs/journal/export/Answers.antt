@@ -1,5 +1,4 @@
-use Rattle.std.proofs.Common.{refl}
-use Rattle.book_accounts.specs.Tree.{IsRooted}
+use Rattle.std.proofs.Common.{refl, inl, inr}
 use Rattle.book_keeper.proofs.StreamLemmas.{Wrote-nil}
 use Rattle.book_sound.proofs.SoundFacts.{accounts_are_rooted}
 use Rattle.book_undo.specs.Book.{book_of}
@@ -17,7 +16,13 @@ pub write_book-requires-clause-sound : goal.write_book-requires-clause-sound
 write_book-requires-clause-sound g c = prices_are_sound (book_of c.args.book.now) c.requires
 
 pub returns-in-Ok-clause-written : goal.returns-in-Ok-clause-written
-returns-in-Ok-clause-written g c = ?
+returns-in-Ok-clause-written g c =
+    let book = book_of c.args.book.now in
+    inl (
+      export_text book c.in-Ok.order.items,
+      record { order = c.in-Ok.order.items; by_day = c.in-Ok.ensures; are = refl },
+      c.write_book.ensures.written,
+    )
 
 pub returns-in-Err-clause-written : goal.returns-in-Err-clause-written
 returns-in-Err-clause-written g c = inr (refl, Wrote-nil (g.O.Sink.written c.args.output.now))

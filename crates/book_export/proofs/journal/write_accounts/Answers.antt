@@ -12,7 +12,7 @@ loop-place-preserved g c = record {
       next_piece (account_line c.args.book.now.accounts.entries) c.args.book.now.accounts.entries c.loop-place.place
       (c.number_at-number.result, c.value_at-account.result.now) (c.number_at-number.result, c.value_at-account.result.now)
       (g.O.Sink.written c.args.output.now) (g.O.Sink.written c.loop-place.output)
-      (g.O.Sink.written c.write_piece.new.output) (omega (arith, c.len-place-end.ensures.len)) 
+      (g.O.Sink.written c.write_piece.new.output) (omega (arith, c.len-place-end.ensures.len))
       (entry_at c.args.book.now.accounts.entries c.loop-place.place _ _ (c.number_at-number.result, c.value_at-account.result.now)
       c.number_at-number.ensures c.value_at-account.ensures) c.loop-place.invariant.fed
       (c.in-Ok.ensures.written _ c.account_line.ensures);
@@ -24,9 +24,9 @@ returns-in-Err-clause-written g c =
     cut_piece (account_line c.args.book.now.accounts.entries) c.args.book.now.accounts.entries c.loop-place.place
     (c.number_at-number.result, c.value_at-account.result.now) (c.number_at-number.result, c.value_at-account.result.now)
     (g.O.Sink.written c.args.output.now) (g.O.Sink.written c.loop-place.output)
-    (g.O.Sink.written c.write_piece.new.output) c.in-Err.error (omega (arith, c.len-place-end.ensures.len)) 
-      (entry_at c.args.book.now.accounts.entries c.loop-place.place _ _ (c.number_at-number.result, c.value_at-account.result.now)
-      c.number_at-number.ensures c.value_at-account.ensures) c.loop-place.invariant.fed
+    (g.O.Sink.written c.write_piece.new.output) c.in-Err.error (omega (arith, c.len-place-end.ensures.len))
+    (entry_at c.args.book.now.accounts.entries c.loop-place.place _ _ (c.number_at-number.result, c.value_at-account.result.now)
+    c.number_at-number.ensures c.value_at-account.ensures) c.loop-place.invariant.fed
     (c.in-Err.ensures.written _ c.account_line.ensures)
 
 pub returns-in-Err-clause-faults : goal.returns-in-Err-clause-faults
