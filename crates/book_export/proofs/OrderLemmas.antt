@@ -1,5 +1,6 @@
 -- What a stable sort by days gives stands by day.
-use Rattle.std.proofs.Common.{◌≡◌, ℕ, ◌&&◌, Bool, true, false, cond, not, ℤ, int_lt, List, [], ◌∷◌, filter, if◌then◌else◌, refl, sym, ap, ◌∙◌}
+use Rattle.std.proofs.Common.{◌≡◌, ℕ, ◌&&◌, Bool, true, false, cond, not, ℤ, int_lt, List, [], ◌∷◌, filter}
+use Rattle.std.proofs.Common.{if◌then◌else◌, refl, sym, ap, ◌∙◌}
 use Rattle.std.proofs.Common.{is_lt, int_cmp}
 use Rattle.std.specs.List.Sorted.{IsSortedByKey, IsStableByKey, ties}
 use Rattle.std.specs.Ordering.{int_eq, is_eq}

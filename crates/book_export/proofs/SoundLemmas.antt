@@ -1,5 +1,6 @@
 -- What the export needs of a sound book.
-use Rattle.std.proofs.Common.{◌≡◌, ℕ, ◌^◌, ◌||◌, nat_lt, All, List, [], ◌∷◌, Some, zero, suc, subst, arith, get_or, sym, ap, ◌∙◌}
+use Rattle.std.proofs.Common.{◌≡◌, ℕ, ◌^◌, ◌||◌, nat_lt, All, List, [], ◌∷◌, Some, zero, suc, subst, arith, get_or}
+use Rattle.std.proofs.Common.{sym, ap, ◌∙◌}
 use Rattle.std.proofs.lemmas.Bool.{not-true}
 use Rattle.std.proofs.lemmas.Bool.Decides.{nat_tests}
 use Rattle.std.proofs.lemmas.List.Elements.{All-head, All-tail}

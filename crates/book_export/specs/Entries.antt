@@ -45,9 +45,9 @@ fits_cost quantity value =
 abbrev pub unit_toward : ℤ → ℤ
 unit_toward value = if int_lt value (pos 0) then negsuc 0 else pos 1
 
--- The two postings of a quantity that can't be given the value as its cost: one smallest unit has it, and all the rest of
--- the quantity costs nothing (rule of this project). So the quantities sum to that of the split, and the costs to its
--- value.
+-- The two postings of a quantity that can't be given the value as its cost: one smallest unit has it, and all the rest
+-- of the quantity costs nothing (rule of this project). So the quantities sum to that of the split, and the costs to
+-- its value.
 abbrev pub postings_apart : ℤ → ℤ → List Posting
 postings_apart quantity value =
     posting_at (unit_toward value) value ∷ posting_at (quantity -ℤ unit_toward value) (pos 0) ∷ []
@@ -72,12 +72,20 @@ abbrev pub cost_text : Book → Txn → Option ℤ → List ℕ
 cost_text book transaction None = []
 cost_text book transaction (Some cost) = codes " @@ " ++ amount_in book.commodities transaction.currency cost
 
--- The line of a posting: its mark, its account, its quantity, its cost and the memo of its split.
-unfoldable pub posting_line : Book → Txn → Split → Posting → List ℕ
-posting_line book transaction split posting =
+-- How the line of a posting begins: the mark of its split and its account.
+unfoldable pub posting_start : Book → Split → List ℕ
+posting_start book split =
     codes "    " ++ mark_text split.mark ++ journal_path book.accounts split.account ++ codes "  "
-    ++ amount_in book.commodities (commodity_of book split.account) posting.quantity
+
+-- How it goes on: its quantity, its cost and the memo of its split.
+unfoldable pub posting_end : Book → Txn → Split → Posting → List ℕ
+posting_end book transaction split posting =
+    amount_in book.commodities (commodity_of book split.account) posting.quantity
     ++ cost_text book transaction posting.cost ++ note split.memo ++ 10 ∷ []
+
+-- The line of a posting.
+unfoldable pub posting_line : Book → Txn → Split → Posting → List ℕ
+posting_line book transaction split posting = posting_start book split ++ posting_end book transaction split posting
 
 -- The lines of a split.
 abbrev pub split_lines : Book → Txn → Split → List ℕ

@@ -1,5 +1,5 @@
--- The whole book as a plain-text journal, which ledger 3.3 and hledger 1.25 read (ledger 3 manual, journal format; hledger
--- manual, journal format): its commodities, its accounts, its prices, and its transactions by day.
+-- The whole book as a plain-text journal, which ledger 3.3 and hledger 1.25 read (ledger 3 manual, journal format;
+-- hledger manual, journal format): its commodities, its accounts, its prices, and its transactions by day.
 use Rattle.std.specs.Prelude.{ℕ, ◌≡◌, ℤ, int_lt, if◌then◌else◌, is_none, List, [], ◌∷◌, ◌++◌, filter, map, codes}
 use Rattle.std.specs.Prelude.{Result, Ok, Err, ◌⊎◌}
 use Rattle.std.specs.List.{flat_map}
@@ -27,8 +27,8 @@ dated transactions = map (λ e. (e.1.day, e.0)) transactions
 abbrev pub on_day : ℤ → List (ℤ × ℕ) → List (ℤ × ℕ)
 on_day day all = filter (λ e. int_eq e.0 day) all
 
--- Transactions stand by day: no day is before the one in front of it, and on each day they are all those of that day, as
--- they stood before. There is one such order.
+-- Transactions stand by day: no day is before the one in front of it, and on each day they are all those of that day,
+-- as they stood before. There is one such order.
 pub record AreByDay (all order : List (ℤ × ℕ)) : Type 0 where
   pub rise : IsSortedBy (λ one other. int_lt one.0 other.0) order
   pub each : (day : ℤ) → on_day day order ≡ on_day day all

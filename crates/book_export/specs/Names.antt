@@ -1,5 +1,5 @@
--- Names as the journal has them: those of accounts and of commodities. A name stands there as it is, except that some of
--- its bytes are percent-encoded, so that both readers find its end and different names stay different (rule of this
+-- Names as the journal has them: those of accounts and of commodities. A name stands there as it is, except that some
+-- of its bytes are percent-encoded, so that both readers find its end and different names stay different (rule of this
 -- project).
 use Rattle.std.specs.Prelude.{ℕ, ◌+◌, ◌/◌, ◌%◌, ◌==◌, nat_eq, nat_lt, Bool, true, false, ◌&&◌, ◌||◌, if◌then◌else◌}
 use Rattle.std.specs.Prelude.{List, [], ◌∷◌, ◌++◌, length, map, drop, codes}
@@ -81,4 +81,5 @@ journal_name name = if begins_as_more name then masked name else written true na
 -- The path of an account in the journal: the names on the way down to it, separated by colons; that of the root is
 -- empty.
 abbrev pub journal_path : List (ℕ × Account) → ℕ → List ℕ
-journal_path accounts number = join_with_byte 58 (map (λ n. journal_name (name_at accounts n)) (way_down accounts number))
+journal_path accounts number =
+    join_with_byte 58 (map (λ n. journal_name (name_at accounts n)) (way_down accounts number))

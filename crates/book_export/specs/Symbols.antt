@@ -1,6 +1,7 @@
 -- Commodities as the journal has them: their symbols, their amounts, and the lines that say how many decimals they have
 -- (ledger 3 manual, commodities; hledger manual, commodity directive).
-use Rattle.std.specs.Prelude.{ℕ, ◌*◌, nat_le, Bool, true, ◌&&◌, if◌then◌else◌, List, [], ◌∷◌, ◌++◌, ℤ, pos, codes, is_some, position}
+use Rattle.std.specs.Prelude.{ℕ, ◌*◌, nat_le, Bool, true, ◌&&◌, if◌then◌else◌, List, [], ◌∷◌, ◌++◌, ℤ, pos, codes}
+use Rattle.std.specs.Prelude.{is_some, position}
 use Rattle.std.specs.Prelude.{◌==◌, ◌≡◌, Option, Some}
 use Rattle.std.specs.Int.{IsInRange}
 use Rattle.std.specs.Fmt.{decimal}
@@ -63,7 +64,8 @@ amount_of commodity amount = amount_text amount (counted commodity.fraction) ++ 
 
 -- The same of the commodity with a number; empty, where there is no such commodity.
 unfoldable pub amount_in : List (ℕ × Commodity) → ℕ → ℤ → List ℕ
-amount_in commodities number amount = option_map_or (λ commodity. amount_of commodity amount) (value_of number commodities) []
+amount_in commodities number amount =
+    option_map_or (λ commodity. amount_of commodity amount) (value_of number commodities) []
 
 -- The line that says how amounts of a commodity are written, by the amount of a thousand units. It is left out where
 -- there are no decimals: no such line is read by both programs.

@@ -1,5 +1,5 @@
--- Texts as the journal has them, each on one line: the num and the description of a transaction, and the memo of a split
--- (rule of this project). They are no keys: a program shows them and compares none.
+-- Texts as the journal has them, each on one line: the num and the description of a transaction, and the memo of a
+-- split (rule of this project). They are no keys: a program shows them and compares none.
 use Rattle.std.specs.Prelude.{ℕ, ◌==◌, Bool, true, false, ◌&&◌, ◌||◌, not, if◌then◌else◌, List, [], ◌∷◌, ◌++◌, codes}
 use Rattle.std.specs.List.{flat_map}
 use Rattle.book_export.specs.Names.{is_control, is_nothing}
@@ -21,8 +21,8 @@ shown_byte Memo byte = if byte == 58 then codes " :" else (if byte == 91 then co
 unfoldable pub shown : Place → List ℕ → List ℕ
 shown place text = flat_map (shown_byte place) text
 
--- Whether a description needs a num before it, even an empty one, since its first byte would be read as a mark, `*` (42)
--- or `!` (33), or as the bracket (40) of a num, or is a blank before such a byte.
+-- Whether a description needs a num before it, even an empty one, since its first byte would be read as a mark, `*`
+-- (42) or `!` (33), or as the bracket (40) of a num, or is a blank before such a byte.
 abbrev pub begins_as_more : List ℕ → Bool
 begins_as_more [] = false
 begins_as_more (byte ∷ _) = is_control byte || (byte == 32) || (byte == 33) || (byte == 40) || (byte == 42)

@@ -5,7 +5,8 @@ ghost use Rattle.book_prices.specs.Rate.{IsSound};
 ghost use Rattle.book_sound.specs.Soundness.{IsSoundBook};
 ghost use Rattle.book_undo.specs.Book.{book_of};
 ghost use Rattle.book_export.specs.Export.{HasExported, HasFault, HasWritten, account_line, accounts_text};
-ghost use Rattle.book_export.specs.Export.{commodities_text, export_text, prices_text, text_from_accounts, text_from_prices};
+ghost use Rattle.book_export.specs.Export.{commodities_text, export_text, prices_text, text_from_accounts};
+ghost use Rattle.book_export.specs.Export.{text_from_prices};
 ghost use Rattle.book_export.specs.Export.{transactions_text};
 ghost use Rattle.book_export.specs.Symbols.{AreInRange};
 
@@ -103,7 +104,8 @@ fn write_commodities<O: Sink>(
     book: &Plain,
     output: &mut O,
 ) -> Result<(), ExportError>
-    ensures written { HasWritten (O.written output.old) (O.written output.new) (commodities_text (book_of book.now)) result }
+    ensures written { HasWritten (O.written output.old) (O.written output.new)
+        (commodities_text (book_of book.now)) result }
     ensures faults { HasFault (O.faults output.old) (O.faults output.new) result }
 {
     for (_, commodity) in book.commodities.as_slice() {
@@ -118,7 +120,8 @@ fn write_commodities<O: Sink>(
 /// Writes the accounts.
 fn write_accounts<O: Sink>(alloc: Global, book: &Plain, output: &mut O) -> Result<(), ExportError>
     requires { IsRooted book.now.accounts.entries }
-    ensures written { HasWritten (O.written output.old) (O.written output.new) (accounts_text (book_of book.now)) result }
+    ensures written { HasWritten (O.written output.old) (O.written output.new)
+        (accounts_text (book_of book.now)) result }
     ensures faults { HasFault (O.faults output.old) (O.faults output.new) result }
 {
     for place in 0..book.accounts.len() {

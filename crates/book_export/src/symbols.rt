@@ -1,7 +1,9 @@
 ghost use Rattle.std.specs.Prelude.{◌≡◌, ◌++◌, OnOk, IfOk};
 ghost use Rattle.std.specs.List.{list_all};
-ghost use Rattle.book_export.specs.Symbols.{amount_in, amount_of, commodity_lines, counted, currency_symbol, exponent_of};
-ghost use Rattle.book_export.specs.Symbols.{format_line, is_capital, is_decimal, long_symbol, part_of_unit, symbol, units};
+ghost use Rattle.book_export.specs.Symbols.{amount_in, amount_of, commodity_lines, counted, currency_symbol};
+ghost use Rattle.book_export.specs.Symbols.{exponent_of};
+ghost use Rattle.book_export.specs.Symbols.{format_line, is_capital, is_decimal, long_symbol, part_of_unit, symbol};
+ghost use Rattle.book_export.specs.Symbols.{units};
 
 use crate::names::push_written;
 use book_commodity::{Commodities, Commodity, OutOfMemory, amount_text};

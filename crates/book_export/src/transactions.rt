@@ -1,8 +1,8 @@
 ghost use Rattle.std.specs.Prelude.{◌≡◌, ◌++◌, OnOk, IfOk};
 ghost use Rattle.std.specs.List.{flat_map};
 ghost use Rattle.book_accounts.specs.Tree.{IsRooted};
-ghost use Rattle.book_export.specs.Entries.{commodity_of, cost_text, head_line, lines_at, mark_text, posting_line};
-ghost use Rattle.book_export.specs.Entries.{split_lines, transaction_lines};
+ghost use Rattle.book_export.specs.Entries.{commodity_of, cost_text, head_line, lines_at, mark_text, posting_end};
+ghost use Rattle.book_export.specs.Entries.{posting_line, posting_start, split_lines, transaction_lines};
 ghost use Rattle.book_undo.specs.Book.{book_of};
 
 use crate::path::path_of;
@@ -103,12 +103,43 @@ fn push_posting(
     ensures { OnOk result (out.new.items
         ≡ out.old.items ++ posting_line (book_of book.now) transaction.now split.now posting.now) }
 {
+    push_start(alloc, out, book, split)?;
+    push_end(alloc, out, book, transaction, split, posting)
+}
+
+/// Adds how the line of a posting begins: the mark of its split and its account.
+#[tactic(auto, unfolding(crate::specs::Entries::posting_start))]
+fn push_start(
+    alloc: Global,
+    out: &mut Vec<u8>,
+    book: &Plain,
+    split: &Split,
+) -> Result<(), OutOfMemory>
+    requires { IsRooted book.now.accounts.entries }
+    ensures { OnOk result (out.new.items ≡ out.old.items ++ posting_start (book_of book.now) split.now) }
+{
     let path = path_of(alloc, &book.accounts, split.account)?;
-    let commodity = commodity_of(book, split.account);
     out.extend_from_slice(b"    ")?;
     out.extend_from_slice(mark_text(split.mark))?;
     out.extend_from_slice(path.as_slice())?;
     out.extend_from_slice(b"  ")?;
+    Ok(())
+}
+
+/// Adds how it goes on: its quantity, its cost and the memo of its split.
+#[tactic(auto, unfolding(crate::specs::Entries::posting_end))]
+fn push_end(
+    alloc: Global,
+    out: &mut Vec<u8>,
+    book: &Plain,
+    transaction: &Txn,
+    split: &Split,
+    posting: &Posting,
+) -> Result<(), OutOfMemory>
+    ensures { OnOk result (out.new.items
+        ≡ out.old.items ++ posting_end (book_of book.now) transaction.now split.now posting.now) }
+{
+    let commodity = commodity_of(book, split.account);
     push_amount(alloc, out, &book.commodities, commodity, posting.quantity)?;
     push_cost(alloc, out, book, transaction, posting.cost)?;
     push_note(out, split.memo.as_str().as_bytes())?;

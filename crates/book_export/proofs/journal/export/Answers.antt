@@ -1,8 +1,8 @@
-use Rattle.std.proofs.Common.{refl, inl, inr}
+use Rattle.std.proofs.Common.{ℕ, ℤ, List, refl, inl, inr, subst, sym}
 use Rattle.book_keeper.proofs.StreamLemmas.{Wrote-nil}
 use Rattle.book_sound.proofs.SoundFacts.{accounts_are_rooted}
 use Rattle.book_undo.specs.Book.{book_of}
-use Rattle.book_export.specs.Export.{export_text}
+use Rattle.book_export.specs.Export.{AreByDay, dated, export_text}
 use Rattle.book_export.proofs.SoundLemmas.{fractions_in_range, prices_are_sound}
 use Rattle.book_export.proofs.journal.export.Goals as goal
 
@@ -18,9 +18,16 @@ write_book-requires-clause-sound g c = prices_are_sound (book_of c.args.book.now
 pub returns-in-Ok-clause-written : goal.returns-in-Ok-clause-written
 returns-in-Ok-clause-written g c =
     let book = book_of c.args.book.now in
+    let order : List (ℤ × ℕ) = c.as_slice.result.now in
     inl (
-      export_text book c.in-Ok.order.items,
-      record { order = c.in-Ok.order.items; by_day = c.in-Ok.ensures; are = refl },
+      export_text book order,
+      record {
+        order = order;
+        by_day =
+            subst (λ (l : List (ℤ × ℕ)). AreByDay (dated book.transactions) l) (sym c.as_slice.ensures.value)
+            c.in-Ok.ensures;
+        are = refl;
+      },
       c.write_book.ensures.written,
     )
 

@@ -10,10 +10,12 @@ pub loop-place-preserved : goal.loop-place-preserved
 loop-place-preserved g c = record {
   fed =
       next_piece (account_line c.args.book.now.accounts.entries) c.args.book.now.accounts.entries c.loop-place.place
-      (c.number_at-number.result, c.value_at-account.result.now) (c.number_at-number.result, c.value_at-account.result.now)
+      (c.number_at-number.result, c.value_at-account.result.now)
+      (c.number_at-number.result, c.value_at-account.result.now)
       (g.O.Sink.written c.args.output.now) (g.O.Sink.written c.loop-place.output)
       (g.O.Sink.written c.write_piece.new.output) (omega (arith, c.len-place-end.ensures.len))
-      (entry_at c.args.book.now.accounts.entries c.loop-place.place _ _ (c.number_at-number.result, c.value_at-account.result.now)
+      (entry_at c.args.book.now.accounts.entries c.loop-place.place _ _
+      (c.number_at-number.result, c.value_at-account.result.now)
       c.number_at-number.ensures c.value_at-account.ensures) c.loop-place.invariant.fed
       (c.in-Ok.ensures.written _ c.account_line.ensures);
   quiet = c.in-Ok.ensures.faults ∙ c.loop-place.invariant.quiet;
@@ -22,10 +24,12 @@ loop-place-preserved g c = record {
 pub returns-in-Err-clause-written : goal.returns-in-Err-clause-written
 returns-in-Err-clause-written g c =
     cut_piece (account_line c.args.book.now.accounts.entries) c.args.book.now.accounts.entries c.loop-place.place
-    (c.number_at-number.result, c.value_at-account.result.now) (c.number_at-number.result, c.value_at-account.result.now)
+    (c.number_at-number.result, c.value_at-account.result.now)
+    (c.number_at-number.result, c.value_at-account.result.now)
     (g.O.Sink.written c.args.output.now) (g.O.Sink.written c.loop-place.output)
     (g.O.Sink.written c.write_piece.new.output) c.in-Err.error (omega (arith, c.len-place-end.ensures.len))
-    (entry_at c.args.book.now.accounts.entries c.loop-place.place _ _ (c.number_at-number.result, c.value_at-account.result.now)
+    (entry_at c.args.book.now.accounts.entries c.loop-place.place _ _
+    (c.number_at-number.result, c.value_at-account.result.now)
     c.number_at-number.ensures c.value_at-account.ensures) c.loop-place.invariant.fed
     (c.in-Err.ensures.written _ c.account_line.ensures)
 

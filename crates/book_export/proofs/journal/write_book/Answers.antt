@@ -16,10 +16,12 @@ pub returns-in-Err-clause-written : goal.returns-in-Err-clause-written
 unfolding export_text
 returns-in-Err-clause-written g c =
     cut (g.O.Sink.written c.args.output.now) (g.O.Sink.written c.write_commodities.new.output)
-    (commodities_text (book_of c.args.book.now)) (text_from_accounts (book_of c.args.book.now) c.args.order.now) c.in-Err.error
+    (commodities_text (book_of c.args.book.now)) (text_from_accounts (book_of c.args.book.now) c.args.order.now)
+    c.in-Err.error
     c.in-Err.ensures.written
 
 pub returns-in-Ok-clause-faults : goal.returns-in-Ok-clause-faults
 returns-in-Ok-clause-faults g c =
-    subst (λ (n : ℕ). HasFault n (g.O.Sink.faults c.write_from_accounts.new.output) c.write_from_accounts.result) c.in-Ok.ensures.faults
+    subst (λ (n : ℕ). HasFault n (g.O.Sink.faults c.write_from_accounts.new.output) c.write_from_accounts.result)
+    c.in-Ok.ensures.faults
     c.write_from_accounts.ensures.faults

@@ -14,10 +14,12 @@ returns-in-Ok-clause-written g c =
 pub returns-in-Err-clause-written : goal.returns-in-Err-clause-written
 returns-in-Err-clause-written g c =
     cut (g.O.Sink.written c.args.output.now) (g.O.Sink.written c.write_accounts.new.output)
-    (accounts_text (book_of c.args.book.now)) (text_from_prices (book_of c.args.book.now) c.args.order.now) c.in-Err.error
+    (accounts_text (book_of c.args.book.now)) (text_from_prices (book_of c.args.book.now) c.args.order.now)
+    c.in-Err.error
     c.in-Err.ensures.written
 
 pub returns-in-Ok-clause-faults : goal.returns-in-Ok-clause-faults
 returns-in-Ok-clause-faults g c =
-    subst (λ (n : ℕ). HasFault n (g.O.Sink.faults c.write_from_prices.new.output) c.write_from_prices.result) c.in-Ok.ensures.faults
+    subst (λ (n : ℕ). HasFault n (g.O.Sink.faults c.write_from_prices.new.output) c.write_from_prices.result)
+    c.in-Ok.ensures.faults
     c.write_from_prices.ensures.faults
