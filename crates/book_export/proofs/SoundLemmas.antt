@@ -5,11 +5,8 @@ use Rattle.std.proofs.lemmas.Bool.{not-true}
 use Rattle.std.proofs.lemmas.Bool.Decides.{nat_tests}
 use Rattle.std.proofs.lemmas.List.Elements.{All-head, All-tail}
 use Rattle.std.proofs.lemmas.Option.{none-some, same_Some}
-use Rattle.std.specs.Int.{IsInRange}
 use Rattle.std.specs.List.{slice_get}
 use Rattle.std.specs.Option.{option_map}
-use Rattle.book_commodity.specs.Table.{value_of}
-use Rattle.book_commodity.specs.declared.commodity.Commodity.{Commodity}
 use Rattle.book_prices.specs.Rate.{IsSound}
 use Rattle.book_prices.specs.declared.price.Price.{Price}
 use Rattle.book_sound.specs.Soundness.{IsSoundBook}

@@ -77,8 +77,8 @@ salary :
     (transaction (pos 40) (codes "7") (codes "Salary")
     (split 5 [] New (pos 250000) (pos 250000) ∷ split 6 [] New (negsuc 249999) (negsuc 249999) ∷ []))
     ≡ (codes "\n" ++ day_text (pos 40) ++ codes " (7) Salary\n") ++ codes "    Bank  2500.00 EUR\n    Pay  -2500.00 EUR\n"
-unfolding amount_in amount_text decimals_of digits exponent_of head_line nearest_parents posting_end posting_line
-    posting_start shown transaction_lines written
+unfolding amount_in amount_text day_text decimals_of digits exponent_of head_line nearest_parents posting_end
+    posting_line posting_start shown transaction_lines written
 salary = refl
 
 -- ten shares for 100.00: the value is the cost of the quantity
@@ -88,8 +88,8 @@ purchase :
     (split 7 [] New (pos 10000) (pos 10) ∷ split 5 [] New (negsuc 9999) (negsuc 9999) ∷ []))
     ≡ (codes "\n" ++ day_text (pos 41) ++ codes " Buy\n") ++ codes "    Bank:Broker  10 \"NYSE:ACME\" @@ 100.00 EUR\n"
     ++ codes "    Bank  -100.00 EUR\n"
-unfolding amount_in amount_text decimals_of digits exponent_of head_line nearest_parents posting_end posting_line
-    posting_start shown transaction_lines written
+unfolding amount_in amount_text day_text decimals_of digits exponent_of head_line nearest_parents posting_end
+    posting_line posting_start shown transaction_lines written
 purchase = refl
 
 -- a correction of the cost alone: one share has it, and one is taken back for nothing
@@ -100,8 +100,8 @@ correction :
     ≡ (codes "\n" ++ day_text (pos 42) ++ codes " Fee\n")
     ++ codes "    Bank:Broker  1 \"NYSE:ACME\" @@ 1.50 EUR\n    Bank:Broker  -1 \"NYSE:ACME\" @@ 0.00 EUR\n"
     ++ codes "    Bank  -1.50 EUR\n"
-unfolding amount_in amount_text decimals_of digits exponent_of head_line nearest_parents posting_end posting_line
-    posting_start shown transaction_lines written
+unfolding amount_in amount_text day_text decimals_of digits exponent_of head_line nearest_parents posting_end
+    posting_line posting_start shown transaction_lines written
 correction = refl
 
 -- splits that are marked, a name with a semicolon, a memo with a colon, and a description that begins as a mark
@@ -111,8 +111,8 @@ marked :
     (split 8 [] Cleared (pos 5) (pos 5) ∷ split 5 (codes "ref: 9") Reconciled (negsuc 4) (negsuc 4) ∷ []))
     ≡ (codes "\n" ++ day_text (pos 43) ++ codes " () *Market%3B stall 3\n")
     ++ codes "    ! Food%3B drink  0.05 EUR\n    * Bank  -0.05 EUR  ; ref : 9\n"
-unfolding amount_in amount_text decimals_of digits exponent_of head_line nearest_parents posting_end posting_line
-    posting_start shown transaction_lines written
+unfolding amount_in amount_text day_text decimals_of digits exponent_of head_line nearest_parents posting_end
+    posting_line posting_start shown transaction_lines written
 marked = refl
 
 -- every account has its directive, the hidden one too, and the root has none
@@ -133,7 +133,7 @@ prices :
     prices_text book
     ≡ (codes "P " ++ day_text (pos 40) ++ codes " \"NYSE:ACME\" 150.25 EUR\n")
     ++ (codes "; P " ++ day_text (pos 40) ++ codes " \"NYSE:ACME\" 1/3 EUR\n") ++ []
-unfolding amount_text decimals_of digits exponent_of power_for price_line written
+unfolding amount_text day_text decimals_of digits exponent_of power_for price_line written
 prices = refl
 
 -- names that are common stay as they are, and those that would be read as more don't

@@ -3,8 +3,8 @@ use Rattle.std.proofs.Common.{◌≡◌, ℕ, ◌+◌, ◌<◌, List, [], ◌∷
 use Rattle.std.proofs.Common.{sym, ap, subst, ◌∙◌, append_assoc, append-nil, take-append-drop}
 use Rattle.std.specs.List.{flat_map}
 use Rattle.std.proofs.lemmas.Grind.{flat_map-append}
-use Rattle.std.proofs.lemmas.List.{take_all, take_more}
-use Rattle.book_keeper.specs.Stream.{Wrote, WrotePart}
+use Rattle.std.proofs.lemmas.List.{take_more}
+use Rattle.book_keeper.specs.Stream.{Wrote}
 use Rattle.book_keeper.proofs.StreamLemmas.{Wrote-append, Wrote-nil, WrotePart-longer}
 use Rattle.book_export.specs.Export.{HasWritten, WroteFront}
 use Rattle.book_export.specs.declared.error.ExportError.{ExportError}

@@ -1,7 +1,6 @@
 -- Prices as the journal has them (ledger 3 manual, price database; hledger manual, P directive).
 use Rattle.std.specs.Prelude.{ℕ, ◌*◌, ◌/◌, ◌%◌, ◌==◌, List, [], ◌∷◌, ◌++◌, ℤ, pos, codes, find, Option, Some, None}
 use Rattle.std.specs.Fmt.{decimal}
-use Rattle.std.specs.Option.{option_map_or}
 use Rattle.book_commodity.specs.Amount.{amount_text, powers_of_ten}
 use Rattle.book_commodity.specs.Day.{day_text}
 use Rattle.book_commodity.specs.Table.{value_of}

@@ -1,6 +1,6 @@
 -- Texts as the journal has them, each on one line: the num and the description of a transaction, and the memo of a
 -- split (rule of this project). They are no keys: a program shows them and compares none.
-use Rattle.std.specs.Prelude.{ℕ, ◌==◌, Bool, true, false, ◌&&◌, ◌||◌, not, if◌then◌else◌, List, [], ◌∷◌, ◌++◌, codes}
+use Rattle.std.specs.Prelude.{ℕ, ◌==◌, Bool, false, ◌&&◌, ◌||◌, not, if◌then◌else◌, List, [], ◌∷◌, ◌++◌, codes}
 use Rattle.std.specs.List.{flat_map}
 use Rattle.book_export.specs.Names.{is_control, is_nothing}
 use Rattle.book_export.specs.declared.texts.Place.{Place}

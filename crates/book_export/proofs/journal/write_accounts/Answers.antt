@@ -1,8 +1,7 @@
-use Rattle.std.proofs.Common.{◌≡◌, ℕ, ℤ, List, Err, subst, ◌∙◌, sym, arith}
-use Rattle.book_accounts.specs.declared.account.Account.{Account}
+use Rattle.std.proofs.Common.{ℕ, Err, subst, ◌∙◌, arith}
 use Rattle.book_export.specs.Export.{account_line}
 use Rattle.book_export.proofs.SoundLemmas.{entry_at}
-use Rattle.book_export.specs.Export.{HasFault, HasWritten}
+use Rattle.book_export.specs.Export.{HasFault}
 use Rattle.book_export.proofs.WritingLemmas.{cut_piece, next_piece}
 use Rattle.book_export.proofs.journal.write_accounts.Goals as goal
 

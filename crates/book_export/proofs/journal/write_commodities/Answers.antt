@@ -1,4 +1,4 @@
-use Rattle.std.proofs.Common.{◌≡◌, ℕ, ℤ, List, Err, subst, ◌∙◌, sym, arith}
+use Rattle.std.proofs.Common.{ℕ, List, Err, subst, ◌∙◌}
 use Rattle.std.specs.List.{flat_map}
 use Rattle.book_commodity.specs.declared.commodity.Commodity.{Commodity}
 use Rattle.book_export.specs.Symbols.{commodity_lines}

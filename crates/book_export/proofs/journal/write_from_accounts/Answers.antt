@@ -1,4 +1,4 @@
-use Rattle.std.proofs.Common.{◌≡◌, ℕ, subst}
+use Rattle.std.proofs.Common.{ℕ, subst}
 use Rattle.book_undo.specs.Book.{book_of}
 use Rattle.book_export.specs.Export.{HasFault, accounts_text, text_from_prices}
 use Rattle.book_export.proofs.WritingLemmas.{cut, then_written}

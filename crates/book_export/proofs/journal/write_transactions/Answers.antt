@@ -1,7 +1,7 @@
-use Rattle.std.proofs.Common.{◌≡◌, ℕ, ℤ, pos, Err, subst, ◌∙◌, refl, get_or}
+use Rattle.std.proofs.Common.{ℕ, ℤ, pos, Err, subst, ◌∙◌, refl, get_or}
 use Rattle.book_undo.specs.Book.{book_of}
 use Rattle.book_export.specs.Entries.{lines_at}
-use Rattle.book_export.specs.Export.{HasFault, HasWritten}
+use Rattle.book_export.specs.Export.{HasFault}
 use Rattle.book_export.proofs.WritingLemmas.{cut_piece, next_piece}
 use Rattle.book_export.proofs.journal.write_transactions.Goals as goal
 
