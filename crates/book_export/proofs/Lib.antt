@@ -1,0 +1,5 @@
+pub mod OrderLemmas
+pub mod PathLemmas
+pub mod SoundLemmas
+pub mod Worked
+pub mod WritingLemmas

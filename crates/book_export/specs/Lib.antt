@@ -1,0 +1,6 @@
+pub mod Entries
+pub mod Export
+pub mod Names
+pub mod Prices
+pub mod Symbols
+pub mod Texts
