@@ -1,3 +1,6 @@
+ghost use Rattle.std.specs.Prelude.{◌≡◌, ◌↔◌, true, IsTrue};
+ghost use Rattle.std.specs.String.{string_bytes};
+
 use crate::counters::{count, counted, expanded};
 use crate::rows::row_of;
 use book_commodity::discard;
@@ -16,7 +19,9 @@ pub struct Answer {
 
 impl Answer {
     /// Whether a line is this answer.
-    pub fn is(&self, line: &str) -> bool {
+    pub fn is(&self, line: &str) -> bool
+        ensures whole { self.now.is_whole ≡ true → (IsTrue result ↔ (line.now ≡ string_bytes self.now.begins)) }
+    {
         if self.is_whole {
             return line == self.begins.as_str();
         }

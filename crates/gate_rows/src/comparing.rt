@@ -1,3 +1,6 @@
+ghost use Rattle.std.specs.Prelude.{◌≡◌, IfSome, OnOk};
+ghost use Rattle.gate_rows.specs.Comparing.{CountsUnless};
+
 use crate::report::{Place, Report};
 use crate::run::Run;
 use book_keeper::{MemSink, Row};
@@ -13,7 +16,9 @@ pub struct Case<'a> {
 
 impl<'a> Case<'a> {
     /// A line of it.
-    pub fn at(self, line: usize) -> Place<'a> {
+    pub fn at(self, line: usize) -> Place<'a>
+        ensures { result ≡ record { file = self.entry.file; line = line; name = self.entry.name } }
+    {
         Place {
             file: self.file,
             line,
@@ -65,7 +70,9 @@ pub fn compare_status(
     place: Place<'_>,
     came: &str,
     wanted: &str,
-) -> io::Result<()> {
+) -> io::Result<()>
+    ensures { CountsUnless (came.now ≡ wanted.now) report.old.failed report.new.failed }
+{
     if came == wanted {
         return Ok(());
     }
@@ -78,7 +85,10 @@ fn compare_unread(
     case: Case<'_>,
     run: &Run,
     outcome: &Outcome,
-) -> io::Result<()> {
+) -> io::Result<()>
+    ensures { OnOk result (CountsUnless (IfSome run.now.wanted.unread (λ count. count ≡ outcome.now.unread))
+        report.old.failed report.new.failed) }
+{
     match run.wanted.unread {
         Some(count) if count != outcome.unread => {
             let came = format!(in report.alloc(); "{}", outcome.unread)?;
@@ -120,12 +130,10 @@ pub fn compare_lines(
 }
 
 /// Compares how many rows are held.
-fn compare_count(
-    report: &mut Report<'_>,
-    case: Case<'_>,
-    run: &Run,
-    held: usize,
-) -> io::Result<()> {
+fn compare_count(report: &mut Report<'_>, case: Case<'_>, run: &Run, held: usize) -> io::Result<()>
+    ensures { OnOk result (CountsUnless (IfSome run.now.wanted.count (λ count. count ≡ held))
+        report.old.failed report.new.failed) }
+{
     match run.wanted.count {
         Some(count) if count != held => {
             let wanted = format!(in report.alloc(); "{count} rows")?;

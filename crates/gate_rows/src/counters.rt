@@ -1,14 +1,21 @@
+ghost use Rattle.std.specs.Prelude.{◌≡◌};
+ghost use Rattle.std.specs.IoError.{error_kind};
+
 use std::alloc::Global;
 use std::io;
 use std::io::ErrorKind;
 
 /// The error of a line that can't be read.
-pub fn unread() -> io::Error {
+pub fn unread() -> io::Error
+    ensures { error_kind result ≡ ErrorKind.InvalidData }
+{
     io::Error::from(ErrorKind::InvalidData)
 }
 
 /// The error of a call that is out of memory.
-pub fn memory() -> io::Error {
+pub fn memory() -> io::Error
+    ensures { error_kind result ≡ ErrorKind.OutOfMemory }
+{
     io::Error::from(ErrorKind::OutOfMemory)
 }
 

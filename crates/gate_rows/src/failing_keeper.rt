@@ -13,7 +13,9 @@ pub struct Numbered {
 
 impl Numbered {
     /// The calls of these numbers fail.
-    pub fn new(failing: Many<u64>) -> Numbered {
+    pub fn new(failing: Many<u64>) -> Numbered
+        ensures { result ≡ record { failing = failing; made = 0 } }
+    {
         Numbered { failing, made: 0 }
     }
 
@@ -36,7 +38,14 @@ pub struct FailingKeeper {
 
 impl FailingKeeper {
     /// The keeper, of which these calls and commits fail.
-    pub fn new(keeper: MemKeeper, calls: Many<u64>, commits: Many<u64>) -> FailingKeeper {
+    pub fn new(keeper: MemKeeper, calls: Many<u64>, commits: Many<u64>) -> FailingKeeper
+        ensures { result ≡ record {
+          keeper = keeper;
+          calls = record { failing = calls; made = 0 };
+          commits = record { failing = commits; made = 0 };
+          faults = 0;
+        } }
+    {
         FailingKeeper {
             keeper,
             calls: Numbered::new(calls),
@@ -46,7 +55,9 @@ impl FailingKeeper {
     }
 
     /// The keeper in memory.
-    pub fn into_keeper(self) -> MemKeeper {
+    pub fn into_keeper(self) -> MemKeeper
+        ensures { result ≡ self.keeper }
+    {
         self.keeper
     }
 

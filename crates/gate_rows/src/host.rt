@@ -1,3 +1,5 @@
+ghost use Rattle.std.specs.Prelude.{◌≡◌, true};
+
 use std::alloc::{Alloc, Allocator, Global};
 use std::cell::Cell;
 use std::env::{Env, FillError};
@@ -49,7 +51,9 @@ impl<'a> Host<'a> {
     }
 
     /// Has each write to its output fail from now on.
-    pub fn break_output(&mut self) {
+    pub fn break_output(&mut self)
+        ensures { self.new ≡ record self.old { fails = true } }
+    {
         self.fails = true;
     }
 

@@ -1,3 +1,6 @@
+ghost use Rattle.std.specs.Prelude.{◌≡◌};
+ghost use Rattle.gate_rows.specs.Comparing.{CountsUnless};
+
 use crate::comparing::Case;
 use crate::page::Page;
 use crate::report::Report;
@@ -70,7 +73,9 @@ pub fn check_line(
     case: Case<'_>,
     shown: Line<'_>,
     wanted: &str,
-) -> io::Result<()> {
+) -> io::Result<()>
+    ensures { CountsUnless (shown.entry.text.now ≡ wanted.now) report.old.failed report.new.failed }
+{
     if shown.text == wanted {
         return Ok(());
     }

@@ -1,3 +1,6 @@
+ghost use Rattle.std.specs.Prelude.{◌≡◌, ◌==◌};
+ghost use Rattle.book_keeper.specs.Faults.{next_count};
+
 use std::alloc::{AllocError, Global};
 use std::{fs, io};
 
@@ -22,7 +25,9 @@ pub struct Report<'a> {
 
 impl<'a> Report<'a> {
     /// A report in which no row failed.
-    pub fn new(rt: &'a HostRuntime) -> Report<'a> {
+    pub fn new(rt: &'a HostRuntime) -> Report<'a>
+        ensures { result.failed ≡ 0 }
+    {
         Report {
             rt,
             failed: 0,
@@ -31,7 +36,9 @@ impl<'a> Report<'a> {
     }
 
     /// A report in which no row failed, and which says nothing.
-    pub fn silent(rt: &'a HostRuntime) -> Report<'a> {
+    pub fn silent(rt: &'a HostRuntime) -> Report<'a>
+        ensures { result.failed ≡ 0 }
+    {
         Report {
             rt,
             failed: 0,
@@ -40,7 +47,9 @@ impl<'a> Report<'a> {
     }
 
     /// The host.
-    pub fn rt(&self) -> &'a HostRuntime {
+    pub fn rt(&self) -> &'a HostRuntime
+        ensures { result ≡ self.now.rt }
+    {
         self.rt
     }
 
@@ -50,7 +59,9 @@ impl<'a> Report<'a> {
     }
 
     /// Whether no row failed.
-    pub fn has_no_failure(&self) -> bool {
+    pub fn has_no_failure(&self) -> bool
+        ensures { result ≡ (self.now.failed == 0) }
+    {
         self.failed == 0
     }
 
@@ -79,7 +90,9 @@ impl<'a> Report<'a> {
     }
 
     /// Says that a row failed, on standard output and on standard error.
-    pub fn fail(&mut self, place: Place<'_>, wanted: &str, came: &str) -> io::Result<()> {
+    pub fn fail(&mut self, place: Place<'_>, wanted: &str, came: &str) -> io::Result<()>
+        ensures { self.new.failed ≡ next_count self.old.failed }
+    {
         self.failed = self.failed.saturating_add(1);
         if self.is_silent {
             return Ok(());

@@ -1,3 +1,5 @@
+ghost use Rattle.std.specs.Prelude.{◌≡◌, []};
+
 use crate::counters::{memory, number, unread};
 use book_commodity::{Bytes, Many, OutOfMemory};
 use book_keeper::{Change, Keeper, MemKeeper, Row, RowKey};
@@ -58,7 +60,9 @@ pub fn row_of(alloc: Global, text: &str) -> io::Result<(RowKey, Vec<u8>)> {
 }
 
 /// A keeper in memory without rows.
-pub fn no_rows(alloc: Global) -> MemKeeper {
+pub fn no_rows(alloc: Global) -> MemKeeper
+    ensures { result.rows ≡ [] }
+{
     MemKeeper::new(Many::new(alloc), Many::new(alloc))
 }
 

@@ -1,3 +1,5 @@
+ghost use Rattle.std.specs.Prelude.{◌≡◌};
+
 use std::cell::Cell;
 use std::io;
 use std::io::{ErrorKind, Read, Write};
@@ -13,7 +15,9 @@ pub struct Reader<'a> {
 
 impl<'a> Reader<'a> {
     /// A reader of the bytes that fails at this call.
-    pub fn new(left: &'a [u8], fails: u32) -> Reader<'a> {
+    pub fn new(left: &'a [u8], fails: u32) -> Reader<'a>
+        ensures { result ≡ record { left = left.entry; calls = 0; fails = fails } }
+    {
         Reader {
             left,
             calls: 0,
@@ -48,7 +52,9 @@ pub struct Writer<'a> {
 
 impl<'a> Writer<'a> {
     /// A writer that wants these bytes, and fails at this call.
-    pub fn new(wanted: &'a [u8], fails: u32, taken: &'a Cell<usize>) -> Writer<'a> {
+    pub fn new(wanted: &'a [u8], fails: u32, taken: &'a Cell<usize>) -> Writer<'a>
+        ensures { result ≡ record { wanted = wanted.entry; taken = taken.entry; calls = 0; fails = fails } }
+    {
         Writer {
             wanted,
             taken,
@@ -88,7 +94,9 @@ pub struct Unforgiving<'a> {
 
 impl<'a> Unforgiving<'a> {
     /// A writer that counts here.
-    pub fn new(taken: &'a Cell<usize>, unflushed: &'a Cell<usize>) -> Unforgiving<'a> {
+    pub fn new(taken: &'a Cell<usize>, unflushed: &'a Cell<usize>) -> Unforgiving<'a>
+        ensures { result ≡ record { taken = taken.entry; unflushed = unflushed.entry } }
+    {
         Unforgiving { taken, unflushed }
     }
 }

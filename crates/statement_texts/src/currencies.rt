@@ -1,4 +1,5 @@
-ghost use Rattle.std.specs.Prelude.{◌≡◌, [], IfOk};
+ghost use Rattle.std.specs.Prelude.{◌≡◌, [], IfOk, OnOk, length};
+ghost use Rattle.book_commodity.specs.Table.{with_entry};
 ghost use Rattle.book_statement.specs.Currencies.{HaveFractions, IsFraction};
 ghost use Rattle.statement_texts.specs.Answers.{currency};
 
@@ -68,6 +69,8 @@ impl Currencies {
     /// Adds a currency with this code, of which so many smallest units make one unit.
     pub fn add(&mut self, alloc: Global, code: &str, fraction: u64) -> Result<(), OutOfMemory>
         requires { IsFraction fraction }
+        ensures { OnOk result
+            (self.new ≡ with_entry (length self.old) (currency code.now fraction) self.old) }
     {
         let number = self.known.len() as u64;
         let added = currency(alloc, code, fraction)?;
