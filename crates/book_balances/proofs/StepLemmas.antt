@@ -1,20 +1,24 @@
 -- A change that is done leaves the state as it is, or raises its version by one, and the next number doesn't fall.
 use Rattle.std.proofs.Common.{◌≡◌, ◌≤◌, ℕ, ◌+◌, ◌==◌, ℤ, Bool, true, false, if◌then◌else◌, List, [], ◌∷◌, ◌++◌, length}
-use Rattle.std.proofs.Common.{map, Option, Some, None, inl, inr, sym, ap, arith, ◌⊎◌}
+use Rattle.std.proofs.Common.{map, Option, Some, None, Result, Ok, Err, inl, inr, sym, ap, arith, ◌⊎◌}
+use Rattle.book_commodity.specs.Rules.{first_broken}
 use Rattle.book_commodity.specs.Table.{value_of}
 use Rattle.book_accounts.specs.declared.account.Account.{Account}
 use Rattle.book_prices.specs.declared.price.Price.{Price}
 use Rattle.book_schedule.specs.declared.recurrence.Recurrence.{Recurrence}
 use Rattle.book_splits.specs.declared.transaction.Txn.{Txn}
 use Rattle.book_statement.specs.declared.binding.Binding.{Binding}
+use Rattle.book_statement.specs.declared.fault.StatementFault.{StatementFault}
 use Rattle.book_statement.specs.declared.line.Line.{Line}
 use Rattle.book_statement.specs.declared.line_state.LineState.TheVariants.{Open, Dismissed}
+use Rattle.book_statement.specs.declared.statement.Statement.{Statement}
 use Rattle.book_undo.specs.Book.{Book, with_currency, with_thing, without_thing}
 use Rattle.book_undo.specs.declared.thing.Thing.TheVariants as thing
 use Rattle.book_undo.specs.declared.thing.ThingKind.TheVariants as kind
 use Rattle.book_command.specs.declared.answer.Answer.{Answer}
 use Rattle.book_command.specs.declared.answer.Answer.TheVariants as answer
 use Rattle.book_command.specs.declared.command.GivenAccount.{GivenAccount}
+use Rattle.book_command.specs.declared.command.GivenOther.{GivenOther}
 use Rattle.book_command.specs.declared.command.GivenSchedule.{GivenSchedule}
 use Rattle.book_command.specs.declared.command.GivenTxn.{GivenTxn}
 use Rattle.book_command.specs.declared.command.Update.{Update}
@@ -22,8 +26,9 @@ use Rattle.book_command.specs.declared.command.Update.TheVariants.{BookCurrency,
 use Rattle.book_command.specs.declared.command.Update.TheVariants.{AccountEdit, AccountDrop, Drop, Edit, Post}
 use Rattle.book_command.specs.declared.command.Update.TheVariants.{PriceDrop, PriceSet, ScheduleAdd, ScheduleDrop}
 use Rattle.book_command.specs.declared.command.Update.TheVariants.{ScheduleRun}
-use Rattle.book_command.specs.declared.command.Update.TheVariants.{Bind, LineDismiss, LineReopen}
+use Rattle.book_command.specs.declared.command.Update.TheVariants.{Bind, Import, LineAdd, LineDismiss, LineReopen}
 use Rattle.book_command.specs.declared.rule.Rule.{Rule}
+use Rattle.book_command.specs.declared.rule.Rule.TheVariants.{BadStatement}
 use Rattle.book_step.specs.Accounts.{account_drop_of, account_edit_at, add_rules, drop_rules, edit_rules}
 use Rattle.book_step.specs.Accounts.{stays, with_given}
 use Rattle.book_step.specs.BankLines.{in_state, is_open, line_dismiss_at, line_reopen_at, line_taken}
@@ -33,7 +38,11 @@ use Rattle.book_step.specs.Commodities as commodities
 use Rattle.book_step.specs.Editing as editing
 use Rattle.book_step.specs.Editing.{book_with, book_without, drop_at, drawn_by, edit_answer, edit_at}
 use Rattle.book_step.specs.Editing.{edited_transaction, reconciled}
-use Rattle.book_step.specs.Outcome.{Done, changing, leaving}
+use Rattle.book_step.specs.Importing as importing
+use Rattle.book_step.specs.Importing.{added_by, adds_nothing, file_rules, import_answer, import_said, room_rules, said}
+use Rattle.book_step.specs.LineAdding as adding
+use Rattle.book_step.specs.LineAdding.{book_matched, commodity_of, line_add_at, line_transaction, matched_answer}
+use Rattle.book_step.specs.Outcome.{Broken, Done, changing, leaving, unless_broken}
 use Rattle.book_step.specs.Posting.{new_transaction, post_answer, post_rules}
 use Rattle.book_step.specs.Prices.{has_numbers, price_of_day, price_rules, price_set_at, too_many_prices}
 use Rattle.book_step.specs.Prices.{unknown_price}
@@ -164,6 +173,34 @@ reopen_moves state n (Some line) new reply e =
     either_moves (is_open line.state) state [] (with_thing n (thing.Line (in_state line Open)) state.book) 0
     answer.LineReopen answer.LineReopen new reply e
 
+add_moves :
+    (state : State) (n : ℕ) (others : List GivenOther) (description : Option (List ℕ)) (found : Option Line)
+    (new : State) (reply : Answer)
+    → line_add_at state n others description found ≡ Done new reply → Moves state new
+add_moves state n others description None new reply e = absurd cc
+add_moves state n others description (Some line) new reply e =
+    let book = state.book in
+    let commodity = commodity_of (value_of line.account book.accounts) in
+    let transaction = line_transaction state.next commodity line others description in
+    changing_moves state (adding.given_rules book.accounts n line commodity others ++ post_rules book transaction)
+    (book_matched book state.next transaction n line) (1 + length transaction.splits)
+    (matched_answer state.next transaction) new reply e
+
+import_moves :
+    (state : State) (rules : List (Option Rule)) (given : Option ℕ) (says : Result (List Statement) StatementFault)
+    (new : State) (reply : Answer) → import_said state rules given says ≡ Done new reply → Moves state new
+import_moves state rules given (Err fault) new reply e = go (first_broken rules) e
+  where
+    go : (broken : Option Rule) → unless_broken broken (Broken (BadStatement fault)) ≡ Done new reply → Moves state new
+    go None e = absurd cc
+    go (Some rule) e = absurd cc
+import_moves state rules given (Ok statements) new reply e =
+    let added = added_by state given statements in
+    either_moves (adds_nothing added) state
+    ((rules ++ file_rules state.book given statements) ++ room_rules state.book added)
+    (importing.book_with state.book added) (importing.drawn_by added) (import_answer added) (import_answer added) new
+    reply e
+
 -- A change that is done leaves the state as it is, or raises its version by one, and the next number does not fall.
 pub outcome_moves :
     (state : State) (update : Update) (new : State) (reply : Answer) → outcome state update ≡ Done new reply
@@ -205,3 +242,8 @@ outcome_moves state (Bind binding) new reply e =
     bind_moves state binding (binding_of binding.text state.book.bindings) new reply e
 outcome_moves state (LineDismiss n) new reply e = dismiss_moves state n (value_of n state.book.lines) new reply e
 outcome_moves state (LineReopen n) new reply e = reopen_moves state n (value_of n state.book.lines) new reply e
+outcome_moves state (LineAdd n others description) new reply e =
+    add_moves state n others description (value_of n state.book.lines) new reply e
+outcome_moves state (Import format text account) new reply e =
+    import_moves state (importing.given_rules state.book format account) account
+    (said state.book.commodities text format) new reply e
