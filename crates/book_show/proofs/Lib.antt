@@ -5,5 +5,6 @@ pub mod OpeningLemmas
 pub mod OrderLemmas
 pub mod RegisterLemmas
 pub mod RowLemmas
+pub mod ShownLemmas
 pub mod WordLemmas
 pub mod Worked
