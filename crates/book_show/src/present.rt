@@ -59,11 +59,7 @@ impl PresentBook {
     /// Writes the book as a journal, piece by piece.
     /// Memory: the program is out of memory; what was written is the front of the journal. Output: the output failed;
     /// a part was written, and not all.
-    pub(crate) fn write_to<O: Sink>(
-        &self,
-        alloc: Global,
-        output: &mut O,
-    ) -> Result<(), ExportError>
+    pub(crate) fn write_to<O: Sink>(&self, alloc: Global, output: &mut O) -> Result<(), ExportError>
         ensures written { HasExported (O.written output.old) (O.written output.new) self.now result }
         ensures faults { HasFault (O.faults output.old) (O.faults output.new) result }
     {
