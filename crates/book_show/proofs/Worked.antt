@@ -22,7 +22,7 @@ use Rattle.book_show.specs.Columns.{lines, placed, table_text, width}
 use Rattle.book_show.specs.Journal.{dated, rows_of}
 use Rattle.book_show.specs.Words.{asked_of}
 use Rattle.book_show.specs.declared.columns.Side.TheVariants.{Free, Left, Right}
-use Rattle.book_show.specs.declared.question.Question.TheVariants.{Accounts, Command}
+use Rattle.book_show.specs.declared.question.Question.TheVariants.{Accounts, Command, Export}
 
 abbrev commodity : List ℕ → List ℕ → ℕ → Commodity
 commodity space name fraction = record { space = space; name = name; full_name = []; fraction = fraction }
@@ -127,9 +127,16 @@ asks_command : asked_of (codes "my.book" ∷ codes "command" ∷ codes "12" ∷ 
     ≡ Some (record { book = codes "my.book"; question = Command 12; form = Plain })
 asks_command = refl
 
--- a command line is no table, and no book begins with a hyphen
+asks_export : asked_of (codes "my.book" ∷ codes "export" ∷ [])
+    ≡ Some (record { book = codes "my.book"; question = Export; form = Plain })
+asks_export = refl
+
+-- a command line and the exported book are no tables, and no book begins with a hyphen
 no_table : asked_of (codes "my.book" ∷ codes "command" ∷ codes "12" ∷ codes "--csv" ∷ []) ≡ None
 no_table = refl
+
+no_table_of_all : asked_of (codes "my.book" ∷ codes "export" ∷ codes "--csv" ∷ []) ≡ None
+no_table_of_all = refl
 
 no_book : asked_of (codes "-x" ∷ codes "accounts" ∷ []) ≡ None
 no_book = refl

@@ -1,8 +1,11 @@
--- What is shown of the present book of a keeper's rows.
-use Rattle.std.specs.Prelude.{◌≡◌, ⊤, List, ℕ, Option, Some, None, Result, Ok, Err}
+-- What is shown of the present book of a keeper's rows: what is written of the answer to a question.
+use Rattle.std.specs.Prelude.{◌≡◌, ◌⊎◌, List, [], ℕ, Option, Some, None, Result, Ok, Err}
+use Rattle.book_keeper.specs.Faults.{Rose}
+use Rattle.book_keeper.specs.Stream.{Wrote, WrotePart}
 use Rattle.book_keeper.specs.declared.row.Row.{Row}
 use Rattle.book_reports.specs.declared.form.Form.{Form}
 use Rattle.book_undo.specs.Book.{Book}
+use Rattle.book_export.specs.Export.{IsExport, WroteFront}
 use Rattle.book_show.specs.Account.{account_text}
 use Rattle.book_show.specs.Accounts.{accounts_text}
 use Rattle.book_show.specs.Command.{command_text}
@@ -11,7 +14,7 @@ use Rattle.book_show.specs.Find.{AreFound}
 use Rattle.book_show.specs.Journal.{IsJournal}
 use Rattle.book_show.specs.Opening.{AreRefused, HaveBook}
 use Rattle.book_show.specs.declared.question.Question.{Question}
-use Rattle.book_show.specs.declared.question.Question.TheVariants.{Account, Accounts, Command, Commodities, Find, Journal, Prices}
+use Rattle.book_show.specs.declared.question.Question.TheVariants.{Account, Accounts, Command, Commodities, Export, Find, Journal, Prices}
 use Rattle.book_show.specs.declared.showing.ShowError.{ShowError}
 use Rattle.book_show.specs.declared.showing.ShowError.TheVariants as error
 
@@ -29,11 +32,42 @@ Answers book (Journal days) form answer = IsSomeText answer (IsJournal book days
 Answers book (Find sought) form answer = IsSomeText answer (AreFound book sought form)
 Answers book (Account number) form answer = answer ≡ account_text book number form
 Answers book (Command number) form answer = answer ≡ command_text book number
+Answers book Export form answer = IsSomeText answer (IsExport book)
 
--- What is shown of rows: the answer of their present book, or that it has nothing of that number; or by what the rows
--- are refused.
-abbrev pub IsShown : List Row → Question → Form → Result (List ℕ) ShowError → Type 0
-IsShown rows question form (Ok text) = (book : Book) × HaveBook rows book × Answers book question form (Some text)
-IsShown rows question form (Err error.Unknown) = (book : Book) × HaveBook rows book × Answers book question form None
-IsShown rows question form (Err (error.Open why)) = AreRefused rows why
-IsShown rows question form (Err error.OutOfMemory) = ⊤
+-- ---- what a call writes of an answer
+
+-- What was written of the answer of which this holds, by how the call ended: all its text; nothing, where the answer is
+-- that there is none; where the output failed a part of its text, which isn't all; and out of memory its first bytes,
+-- or nothing. `old` and `new` are the lists of bytes that the output may have been given, before and now.
+abbrev pub HasAnswered :
+    (List ℕ → Type 0) → (List ℕ → Type 0) → (Option (List ℕ) → Type 0) → Result Unit ShowError → Type 0
+HasAnswered old new Is (Ok _) = (text : List ℕ) × Is (Some text) × Wrote old new text
+HasAnswered old new Is (Err error.Unknown) = Is None × Wrote old new []
+HasAnswered old new Is (Err error.Output) = (text : List ℕ) × Is (Some text) × WrotePart old new text
+HasAnswered old new Is (Err error.OutOfMemory) =
+    ((text : List ℕ) × Is (Some text) × WroteFront old new text) ⊎ Wrote old new []
+HasAnswered old new Is (Err (error.Open why)) = ⊥
+
+-- The output's count of faults rose where the call says that the output failed, and else it stayed.
+abbrev pub HasFault : ℕ → ℕ → Result Unit ShowError → Type 0
+HasFault before now (Ok _) = now ≡ before
+HasFault before now (Err error.Unknown) = now ≡ before
+HasFault before now (Err error.Output) = Rose before now
+HasFault before now (Err error.OutOfMemory) = now ≡ before
+HasFault before now (Err (error.Open why)) = now ≡ before
+
+-- What was written of the answer of the present book of rows.
+abbrev pub HasAnsweredOf :
+    (List ℕ → Type 0) → (List ℕ → Type 0) → List Row → Question → Form → Result Unit ShowError → Type 0
+HasAnsweredOf old new rows question form result =
+    (book : Book) × HaveBook rows book × HasAnswered old new (Answers book question form) result
+
+-- What was written of rows: what was of the answer of their present book; or nothing, where the rows are refused.
+abbrev pub HasShown :
+    (List ℕ → Type 0) → (List ℕ → Type 0) → List Row → Question → Form → Result Unit ShowError → Type 0
+HasShown old new rows question form (Ok u) = HasAnsweredOf old new rows question form (Ok u)
+HasShown old new rows question form (Err error.Unknown) = HasAnsweredOf old new rows question form (Err error.Unknown)
+HasShown old new rows question form (Err error.Output) = HasAnsweredOf old new rows question form (Err error.Output)
+HasShown old new rows question form (Err error.OutOfMemory) =
+    HasAnsweredOf old new rows question form (Err error.OutOfMemory)
+HasShown old new rows question form (Err (error.Open why)) = AreRefused rows why × Wrote old new []

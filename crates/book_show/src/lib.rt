@@ -1,8 +1,9 @@
 //! What a book has, as texts for a person or as comma-separated values, with the numbers by which commands name things:
 //! its accounts and their registers, its commodities and prices, its journal,
-//! the transactions in which a text stands, and the command that changes a transaction. `asked_of` reads the words of a
-//! program, and `show` answers them from a keeper's rows, which stay as they are. Each text is stated as a function of the
-//! book or, as the journal, as the one text of which its definition holds.
+//! the transactions in which a text stands, and the command that changes a transaction; and the whole book as a journal
+//! for ledger and hledger. `asked_of` reads the words of a program, and `show` writes the answer to them, from a keeper's
+//! rows, which stay as they are. Each text is stated as a function of the book or, as the journal, as the one text of
+//! which its definition holds.
 #![tactic(auto)]
 
 mod account;
@@ -21,6 +22,7 @@ mod present;
 mod question;
 mod showing;
 mod words;
+mod writing;
 
 pub use account::account_text;
 pub use accounts::accounts_text;

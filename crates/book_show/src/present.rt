@@ -2,6 +2,7 @@ ghost use Rattle.std.specs.Prelude.{◌≡◌, All, IfOk, IsSome};
 ghost use Rattle.book_accounts.specs.Order.{depth_first};
 ghost use Rattle.book_accounts.specs.Path.{path};
 ghost use Rattle.book_commodity.specs.Table.{value_of};
+ghost use Rattle.book_export.specs.Export.{HasExported, HasFault};
 ghost use Rattle.book_ledger.specs.Ledger.{Keeps, register_of};
 ghost use Rattle.book_reports.specs.Measure.{CanBeSummed, commodity_of, fraction_of, name_of};
 ghost use Rattle.book_sound.specs.Soundness.{IsSoundBook};
@@ -9,10 +10,13 @@ ghost use Rattle.book_splits.specs.Balance.{balance};
 ghost use Rattle.book_undo.specs.Book.{book_of};
 
 use book_commodity::{Many, OutOfMemory, Text};
+use book_export::{ExportError, export};
+use book_keeper::Sink;
 use book_ledger::Registers;
 use book_prices::Prices;
 use book_register::Register;
 use book_undo::Plain;
+use std::alloc::Global;
 use std::marker::Model;
 
 /// The present book of a file, which is sound, with the registers of its accounts. Contracts see the book.
@@ -50,6 +54,17 @@ impl PresentBook {
     {
         let _ = &self.registers;
         &self.plain
+    }
+
+    /// Writes the book as a journal, piece by piece.
+    /// Memory: the program is out of memory; what was written is the front of the journal. Output: the output failed;
+    /// a part was written, and not all.
+    pub(crate) fn write_to<O: Sink>(&self, alloc: Global, output: &mut O) -> Result<(), ExportError>
+        ensures written { HasExported (O.written output.old) (O.written output.new) self.now result }
+        ensures faults { HasFault (O.faults output.old) (O.faults output.new) result }
+    {
+        let _ = &self.registers;
+        export(alloc, &self.plain, output)
     }
 
     /// The prices of the book.

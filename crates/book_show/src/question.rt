@@ -18,4 +18,6 @@ pub enum Question {
     Find(Text),
     /// The line of the command `edit` of the transaction with this number.
     Command(u64),
+    /// The whole book as a journal that ledger and hledger read.
+    Export,
 }

@@ -1,9 +1,9 @@
-ghost use Rattle.std.specs.Prelude.{◌≡◌, List, IfOk, IsTrue, OnOk, Some, Err};
+ghost use Rattle.std.specs.Prelude.{◌≡◌, List, IsTrue, OnOk, Err};
 ghost use Rattle.book_keeper.specs.Faults.{Rose};
 ghost use Rattle.book_keeper.specs.declared.row.Row.{Row};
 ghost use Rattle.book_engine.specs.Opening.{HasOpenCause};
 ghost use Rattle.book_show.specs.Opening.{OpenedAs};
-ghost use Rattle.book_show.specs.Shown.{Answers, IsShown};
+ghost use Rattle.book_show.specs.Shown.{Answers, HasAnswered, HasFault, HasShown};
 
 use crate::account::account_text;
 use crate::accounts::accounts_text;
@@ -12,14 +12,14 @@ use crate::commodities::{commodities_text, prices_text};
 use crate::find::found_text;
 use crate::journal::journal_text;
 use crate::opening::open_book;
+use crate::writing::{write_found, write_journal, write_text};
 use crate::{PresentBook, Question};
-use book_commodity::{OutOfMemory, Text};
 use book_engine::OpenError;
-use book_keeper::{KeepError, Keeper};
+use book_keeper::{KeepError, Keeper, Sink};
 use book_reports::Form;
 use std::alloc::Global;
 
-/// Why nothing is shown.
+/// Why nothing is shown, or not all.
 #[derive(Clone, Copy, Debug, PartialEq, Eq)]
 pub enum ShowError {
     /// The book has nothing of the number that is asked for.
@@ -28,35 +28,35 @@ pub enum ShowError {
     Open(OpenError),
     /// The program is out of memory.
     OutOfMemory,
+    /// The output failed.
+    Output,
 }
 
-/// The answer to a question on the book that the keeper has at a path. The keeper commits nothing: its rows are as
-/// before, whatever is answered.
-/// Open: the book can't be opened; where the keeper failed, its count of faults rose.
-/// Unknown: the book has nothing of the number that is asked for.
-pub fn show<K: Keeper>(
+/// Writes the answer to a question on the book that the keeper has at a path. The keeper commits nothing: its rows are
+/// as before, whatever is answered. An answer is written whole, the exported book one piece after another.
+/// Open: the book can't be opened, and nothing was written; where the keeper failed, its count of faults rose.
+/// Unknown: the book has nothing of the number that is asked for, and nothing was written. OutOfMemory: what was written
+/// is the front of the answer, perhaps nothing. Output: the output failed; a part was written, and not all.
+pub fn show<K: Keeper, O: Sink>(
     alloc: Global,
     keeper: &mut K,
     path: &str,
     question: &Question,
     form: Form,
-) -> Result<Text, ShowError>
+    output: &mut O,
+) -> Result<(), ShowError>
     ensures sure { IsTrue (K.sure keeper.new) → IsTrue (K.sure keeper.old) }
     ensures rows { IsTrue (K.sure keeper.new) → (rows : List Row) → K.holds keeper.old rows → K.holds keeper.new rows }
     ensures shown { IsTrue (K.sure keeper.new) → (rows : List Row) → K.holds keeper.old rows
-        → IsShown rows question.now form result }
+        → HasShown (O.written output.old) (O.written output.new) rows question.now form result }
     ensures path { OnOk result (K.path_given keeper.new ≡ path.now) }
     ensures fault { result ≡ Err (ShowError.Open OpenError.Keeper)
         → Rose (K.faults keeper.old) (K.faults keeper.new) }
+    ensures output_faults { HasFault (O.faults output.old) (O.faults output.new) result }
 {
-    let book = match open_at(alloc, keeper, path) {
-        Ok(book) => book,
-        Err(error) => return Err(ShowError::Open(error)),
-    };
-    match answer(alloc, &book, question, form) {
-        Ok(Some(text)) => Ok(text),
-        Ok(None) => Err(ShowError::Unknown),
-        Err(OutOfMemory) => Err(ShowError::OutOfMemory),
+    match open_at(alloc, keeper, path) {
+        Ok(book) => write_answer(alloc, &book, question, form, output),
+        Err(error) => Err(ShowError::Open(error)),
     }
 }
 
@@ -75,22 +75,30 @@ fn open_at<K: Keeper>(alloc: Global, keeper: &mut K, path: &str) -> Result<Prese
     }
 }
 
-/// The answer of a book to a question; None where it has nothing of the number that is asked for.
-fn answer(
+/// Writes the answer of a book to a question.
+/// Unknown: it has nothing of the number that is asked for. OutOfMemory: the program is out of memory. Output: the
+/// output failed.
+fn write_answer<O: Sink>(
     alloc: Global,
     book: &PresentBook,
     question: &Question,
     form: Form,
-) -> Result<Option<Text>, OutOfMemory>
-    ensures { IfOk result (Answers book.now question.now form) }
+    output: &mut O,
+) -> Result<(), ShowError>
+    ensures written { HasAnswered (O.written output.old) (O.written output.new) (Answers book.now question.now form)
+        result }
+    ensures faults { HasFault (O.faults output.old) (O.faults output.new) result }
 {
     match question {
-        Question::Accounts => Ok(Some(accounts_text(alloc, book, form)?)),
-        Question::Commodities => Ok(Some(commodities_text(alloc, book, form)?)),
-        Question::Prices => Ok(Some(prices_text(alloc, book, form)?)),
-        Question::Journal(days) => Ok(Some(journal_text(alloc, book, days, form)?)),
-        Question::Account(number) => account_text(alloc, book, *number, form),
-        Question::Find(sought) => Ok(Some(found_text(alloc, book, sought.as_str(), form)?)),
-        Question::Command(number) => command_text(alloc, book, *number),
+        Question::Accounts => write_text(output, accounts_text(alloc, book, form)),
+        Question::Commodities => write_text(output, commodities_text(alloc, book, form)),
+        Question::Prices => write_text(output, prices_text(alloc, book, form)),
+        Question::Journal(days) => write_text(output, journal_text(alloc, book, days, form)),
+        Question::Account(number) => write_found(output, account_text(alloc, book, *number, form)),
+        Question::Find(sought) => {
+            write_text(output, found_text(alloc, book, sought.as_str(), form))
+        }
+        Question::Command(number) => write_found(output, command_text(alloc, book, *number)),
+        Question::Export => write_journal(alloc, book, output),
     }
 }

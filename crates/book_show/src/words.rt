@@ -77,12 +77,12 @@ fn question_in(form: Form, words: &[Text]) -> Result<Option<Question>, OutOfMemo
     }
 }
 
-/// The question, where it is answered in a form: a command line is no table.
+/// The question, where it is answered in a form: a command line and the exported book are no tables.
 fn in_form(form: Form, question: Question) -> Option<Question>
     ensures { result ≡ in_form form question }
 {
     match (form, question) {
-        (Form::Csv, Question::Command(_)) => None,
+        (Form::Csv, Question::Command(_) | Question::Export) => None,
         (_, question) => Some(question),
     }
 }
@@ -166,6 +166,7 @@ fn alone(word: &str) -> Option<Question>
         "commodities" => Some(Question::Commodities),
         "prices" => Some(Question::Prices),
         "journal" => Some(Question::Journal(None)),
+        "export" => Some(Question::Export),
         _ => None,
     }
 }

@@ -27,8 +27,9 @@ end_of_opening fault.OutOfMemory = Memory
 end_of_opening (fault.BadRows kind id) = BadRows kind id
 end_of_opening (fault.UnsoundBook kind id) = UnsoundBook kind id
 
--- The end where nothing is shown.
+-- The end where nothing is shown, or not all.
 abbrev pub end_of : ShowError → Ended
 end_of error.Unknown = NotThere
+end_of error.Output = OutputFault
 end_of error.OutOfMemory = Memory
 end_of (error.Open cause) = end_of_opening cause

@@ -10,8 +10,8 @@ use std::process::{ExitCode, Termination};
 
 /// What the program prints where the words ask nothing.
 const USAGE: &str =
-    "usage: bookshow BOOK accounts|commodities|prices|journal [FROM TO]|account NUMBER|find TEXT|command NUMBER \
-    [--csv], or bookshow --help";
+    "usage: bookshow BOOK accounts|commodities|prices|journal [FROM TO]|account NUMBER|find TEXT|command NUMBER|\
+    export [--csv], or bookshow --help";
 
 /// How the program ended.
 #[derive(Clone, Copy, Debug, PartialEq, Eq)]
@@ -39,12 +39,13 @@ pub(crate) enum Ended {
 }
 
 impl Ended {
-    /// The end by an error of what is shown.
+    /// The end by an error of what is shown. Whether what reads the output closed it is not seen here.
     pub(crate) fn of_error(error: ShowError) -> Ended
         ensures { result ≡ end_of error }
     {
         match error {
             ShowError::Unknown => Ended::NotThere,
+            ShowError::Output => Ended::OutputFault,
             ShowError::OutOfMemory | ShowError::Open(OpenError::OutOfMemory) => Ended::Memory,
             ShowError::Open(OpenError::Keeper) => Ended::KeeperFault,
             ShowError::Open(OpenError::BadRows { kind, id }) => Ended::BadRows { kind, id },

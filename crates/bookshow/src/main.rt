@@ -4,17 +4,20 @@
 #![tactic(auto)]
 
 mod ended;
+mod watched;
 
 ghost use Rattle.std.specs.Prelude.{◌≡◌, List, IsTrue, OnOk};
 ghost use Rattle.sqlite.specs.Files.{over_files};
 ghost use Rattle.sqlite.specs.WalFiles.{image_at};
 ghost use Rattle.book_keeper.specs.declared.row.Row.{Row};
 ghost use Rattle.book_sqlite.specs.KeeperInSqlite.{HoldsRows, is_sure};
-ghost use Rattle.book_show.specs.Shown.{IsShown};
+ghost use Rattle.book_show.specs.Shown.{HasFault, HasShown};
 ghost use Rattle.bookshow.specs.FileRows.{BeginsWith};
 
 use crate::ended::Ended;
+use crate::watched::Watched;
 use book_commodity::{OutOfMemory, Text};
+use book_keeper::{Sink, StreamSink};
 use book_show::{Asked, ShowError, asked_of, show};
 use book_sqlite::FileKeeper;
 use sqlite::{Start, Unknown};
@@ -34,8 +37,10 @@ Shows what the book in the file BOOK has, and changes nothing in it. WORD .. is 
   account NUMBER      the register of an account, with the other side of each split
   find TEXT           the transactions with TEXT in num, description or a memo
   command NUMBER      the line `edit` of a transaction as it stands
+  export              the whole book, as a journal for ledger and hledger
 
---csv asks for comma-separated values in place of columns, but for `command`.
+--csv asks for comma-separated values in place of columns, but for `command`
+and `export`.
 ";
 
 /// What `--version` shows.
@@ -50,18 +55,21 @@ fn words(rt: &HostRuntime) -> io::Result<Vec<Text>> {
     Ok(words)
 }
 
-/// The answer to what is asked of the book in a file, and the keeper over that file as it was left. `T` stands for what
-/// the file and its log held before. It is proved for every `T`, so it holds of any file: the rows stay.
-fn show_in<T: Start>(
+/// Writes the answer to what is asked of the book in a file; with the keeper over that file as it was left. `T` stands
+/// for what the file and its log held before. It is proved for every `T`, so it holds of any file: the rows stay.
+fn show_in<T: Start, O: Sink>(
     rt: &HostRuntime,
     asked: &Asked,
     start: T,
-) -> (Result<Text, ShowError>, FileKeeper<T>)
+    output: &mut O,
+) -> (Result<(), ShowError>, FileKeeper<T>)
     ensures rows { IsTrue (is_sure over_files result.1) → (rows : List Row)
         → BeginsWith (image_at T.Start) rows → HoldsRows over_files result.1 rows }
     ensures shown { IsTrue (is_sure over_files result.1) → (rows : List Row)
-        → BeginsWith (image_at T.Start) rows → IsShown rows asked.now.question asked.now.form result.0 }
+        → BeginsWith (image_at T.Start) rows
+        → HasShown (O.written output.old) (O.written output.new) rows asked.now.question asked.now.form result.0 }
     ensures path { OnOk result.0 (result.1.path ≡ asked.now.book.now) }
+    ensures output_faults { HasFault (O.faults output.old) (O.faults output.new) result.0 }
 {
     let mut keeper = FileKeeper::at(rt, Some(asked.book), start);
     let answer = show(
@@ -70,6 +78,7 @@ fn show_in<T: Start>(
         asked.book,
         &asked.question,
         asked.form,
+        output,
     );
     (answer, keeper)
 }
@@ -100,11 +109,13 @@ fn show_file(rt: &HostRuntime, asked: &Asked) -> Ended {
     if let Some(ended) = refused(rt, asked.book) {
         return ended;
     }
+    let mut writer = Watched::new(io::writer(rt));
     // The keeper is not closed, since that would copy the commits of a log beside the file into it.
-    let (answer, keeper) = show_in(rt, asked, Unknown);
+    let (answer, keeper) = show_in(rt, asked, Unknown, &mut StreamSink::new(&mut writer));
     drop(keeper);
     match answer {
-        Ok(text) => print(rt, text.as_str()),
+        Ok(()) => Ended::Done,
+        Err(ShowError::Output) if writer.is_closed() => Ended::Closed,
         Err(error) => Ended::of_error(error),
     }
 }

@@ -11,4 +11,5 @@ returns g c = record {
       from_rows _ _ _ (c.show-answer.ensures.shown still) (c.at-keeper.ensures.found (c.show-answer.ensures.sure still))
       (c.at-keeper.ensures.empty (c.show-answer.ensures.sure still));
   path = c.show-answer.ensures.path;
+  output_faults = c.show-answer.ensures.output_faults;
 }
