@@ -3,7 +3,7 @@ ghost use Rattle.std.specs.Prelude.{◌≡◌, IfOk};
 use book_commodity::{OutOfMemory, Text};
 
 /// The account of the book that a statement's account text stands for: `text` is what the files call the account, as a
-/// statement's `account_text`. No command uses it yet.
+/// statement's `account_text`.
 #[derive(Drop)]
 pub struct Binding {
     pub text: Text,

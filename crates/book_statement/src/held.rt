@@ -4,7 +4,7 @@ use book_commodity::{Day, OutOfMemory, Text};
 
 /// A statement that is kept in the book, without its lines: the account of the book, what the file calls the account,
 /// the statement's number, its balances in smallest units of the account's commodity, its day, and whether its opening
-/// balance and its lines sum to its closing balance. No command uses it yet.
+/// balance and its lines sum to its closing balance.
 #[derive(Drop)]
 pub struct Held {
     pub account: u64,

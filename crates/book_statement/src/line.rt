@@ -4,8 +4,7 @@ use crate::{LineState, StatementLine};
 use book_commodity::OutOfMemory;
 
 /// A statement's line in the book: the account and the statement that it belongs to, its ordinal among the lines of
-/// that statement that are equal to it, what it says, and what became of it. Ordinals count from 0. No command uses it
-/// yet.
+/// that statement that are equal to it, what it says, and what became of it. Ordinals count from 0.
 #[derive(Drop)]
 pub struct Line {
     pub account: u64,

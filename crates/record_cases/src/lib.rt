@@ -1,6 +1,6 @@
 //! Tests alone: what no line, no file and no row reaches. Readers and writers that are interrupted, and a flush; words
-//! that the program never hands on; lines of the sample; keys of a statement's lines and rows of things that no command
-//! makes yet. All else is compared by `book_gate`.
+//! that the program never hands on; lines of the sample; keys of a statement's lines; and rows of statements, lines,
+//! bindings and reconciliations. All else is compared by `book_gate`.
 #![tactic(auto)]
 
 #[cfg(test)]

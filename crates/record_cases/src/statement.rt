@@ -36,7 +36,7 @@ fn statement(alloc: Global, day: Day) -> Result<Statement, OutOfMemory> {
     })
 }
 
-// Equal lines are told apart by ordinals. No command asks for the keys yet.
+// Equal lines are told apart by ordinals.
 #[test]
 fn equal_lines_have_ordinals(rt: HostRuntime) -> Result<(), Fail> {
     let day = Day::of_number(0).ok_or("a day of the range")?;

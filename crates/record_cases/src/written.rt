@@ -1,5 +1,5 @@
-//! Rows of things that no command makes yet. The bodies were made by hand from the table of rows in docs/FORMATS.md. No
-//! two fields of a thing that have one type are equal, so that a swap of two would show.
+//! Rows of statements, lines, bindings and reconciliations. The bodies were made by hand from the table of rows in
+//! docs/FORMATS.md. No two fields of a thing that have one type are equal, so that a swap of two would show.
 use book_codec::{Field, write_whole};
 use book_commodity::{Day, Many, OutOfMemory, Text};
 use book_rows::Rows;
