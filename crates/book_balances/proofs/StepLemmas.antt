@@ -27,6 +27,10 @@ use Rattle.book_command.specs.declared.command.Update.TheVariants.{AccountEdit, 
 use Rattle.book_command.specs.declared.command.Update.TheVariants.{PriceDrop, PriceSet, ScheduleAdd, ScheduleDrop}
 use Rattle.book_command.specs.declared.command.Update.TheVariants.{ScheduleRun}
 use Rattle.book_command.specs.declared.command.Update.TheVariants.{Bind, Import, LineAdd, LineDismiss, LineReopen}
+use Rattle.book_command.specs.declared.command.Update.TheVariants.{Mark}
+use Rattle.book_command.specs.declared.command.Update.TheVariants.{LineMatch}
+use Rattle.book_command.specs.declared.command.Update.TheVariants.{MatchAuto}
+use Rattle.book_command.specs.declared.command.Update.TheVariants.{Reconcile, ReconcileStatement}
 use Rattle.book_command.specs.declared.rule.Rule.{Rule}
 use Rattle.book_command.specs.declared.rule.Rule.TheVariants.{BadStatement}
 use Rattle.book_step.specs.Accounts.{account_drop_of, account_edit_at, add_rules, drop_rules, edit_rules}
@@ -247,3 +251,8 @@ outcome_moves state (LineAdd n others description) new reply e =
 outcome_moves state (Import format text account) new reply e =
     import_moves state (importing.given_rules state.book format account) account
     (said state.book.commodities text format) new reply e
+outcome_moves state (Mark split cleared force) new reply e = absurd cc
+outcome_moves state (LineMatch line split) new reply e = absurd cc
+outcome_moves state (MatchAuto account window) new reply e = absurd cc
+outcome_moves state (Reconcile account day closing) new reply e = absurd cc
+outcome_moves state (ReconcileStatement statement) new reply e = absurd cc

@@ -9,7 +9,7 @@ use Rattle.book_command.specs.declared.word.Word.TheVariants.{MatchAuto, Reconci
 use Rattle.book_command.specs.declared.word.Word.TheVariants.{Register, Trial, Sheet, Income, Lots, Gains, Lines}
 use Rattle.book_command.specs.declared.word.Word.TheVariants.{Statements, Recons, Due, Price, Status}
 
--- Each word behind its text. Those of commands that are not built yet stand here too.
+-- Each word behind its text.
 abbrev pub words : List (List ℕ × Word)
 words =
     (codes "book_currency", BookCurrency)

@@ -1,4 +1,5 @@
 use book_commodity::{Day, Many, Text};
+use book_match::Matched;
 use book_statement::{Held, Line};
 
 /// What one whole unit of a commodity is worth: num / denom whole units of a currency.
@@ -27,6 +28,18 @@ pub struct LineShown {
 pub struct HeldShown {
     pub id: u64,
     pub held: Held,
+}
+
+/// A reconciliation, with its number: its day, its opening and its closing balance in smallest units of the account's
+/// commodity, how many splits it marked, and whether each of these still is as it was then.
+#[derive(Clone, Copy, Debug, PartialEq, Eq)]
+pub struct ReconShown {
+    pub id: u64,
+    pub day: Day,
+    pub opening: i128,
+    pub closing: i64,
+    pub marked: u64,
+    pub intact: bool,
 }
 
 /// What an accepted command is answered, by the command's word.
@@ -58,6 +71,7 @@ pub enum Answer {
         balances: Many<i128>,
     },
     Drop,
+    Mark,
     /// The number of the price, which is new, or that of the one in whose place it stands.
     PriceSet {
         price: u64,
@@ -108,6 +122,7 @@ pub enum Answer {
         lines: Many<u64>,
         seen: u64,
     },
+    LineMatch,
     /// The number of the new transaction, and those of its splits by place.
     LineAdd {
         transaction: u64,
@@ -115,6 +130,20 @@ pub enum Answer {
     },
     LineDismiss,
     LineReopen,
+    /// The lines that were matched, each with its split, by day and number of the lines.
+    MatchAuto {
+        pairs: Many<Matched>,
+    },
+    /// The number of the new reconciliation, and the numbers of the splits that it marked, in the order of the register.
+    Reconcile {
+        reconciliation: u64,
+        marked: Many<u64>,
+    },
+    /// The same.
+    ReconcileStatement {
+        reconciliation: u64,
+        marked: Many<u64>,
+    },
     /// The lines of the account, by number.
     Lines {
         lines: Many<LineShown>,
@@ -122,6 +151,10 @@ pub enum Answer {
     /// The statements of the account, by number.
     Statements {
         statements: Many<HeldShown>,
+    },
+    /// The reconciliations of the account, by number.
+    Recons {
+        recons: Many<ReconShown>,
     },
     /// The days that are due, in order of their schedules and days.
     Due {

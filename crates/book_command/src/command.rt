@@ -36,6 +36,10 @@ pub enum What {
     Statements {
         account: u64,
     },
+    /// The account's reconciliations.
+    Recons {
+        account: u64,
+    },
     /// Which days of the schedules are due up to the day.
     Due {
         upto: Day,
@@ -127,6 +131,12 @@ pub enum Update {
         transaction: u64,
         force: bool,
     },
+    /// The split of this number is cleared, or it is new again. The mark of a reconciled one changes only with force.
+    Mark {
+        split: u64,
+        cleared: bool,
+        force: bool,
+    },
     /// The price of the commodity in the currency on the day, in the place of the one that is there.
     PriceSet {
         price: Price,
@@ -159,8 +169,13 @@ pub enum Update {
         text: Text,
         account: Option<u64>,
     },
+    /// The open line of this number is matched with the split, which is cleared where it was new.
+    LineMatch {
+        line: u64,
+        split: u64,
+    },
     /// A transaction is posted for the open line of this number, on its day and with its amount, and the line is
-    /// matched with it. Where no description is given it is the line's text.
+    /// matched with its first split. Where no description is given it is the line's text.
     LineAdd {
         line: u64,
         others: Many<GivenOther>,
@@ -173,6 +188,23 @@ pub enum Update {
     /// The line of this number is open again.
     LineReopen {
         line: u64,
+    },
+    /// Each open line of the account is matched with the nearest of its splits that has the line's amount and is at most
+    /// so many days away, where one is left.
+    MatchAuto {
+        account: u64,
+        window: u64,
+    },
+    /// The cleared splits of the account on or before the day are reconciled, if with those that are they sum to the
+    /// closing balance, in smallest units of the account's commodity.
+    Reconcile {
+        account: u64,
+        day: Day,
+        closing: i64,
+    },
+    /// The same for the account of the statement of this number, at its day and with its closing balance.
+    ReconcileStatement {
+        statement: u64,
     },
 }
 

@@ -40,7 +40,7 @@ pub enum Rule {
     ValueNotQuantity { place: u64 },
     /// The values of the splits sum to this and not to zero.
     Unbalanced { sum: i128 },
-    /// This split is reconciled with a statement, and would be removed, or have another account or quantity.
+    /// This split is reconciled with a statement, and would be removed, or have another account, quantity or mark.
     Reconciled { split: u64 },
     /// The statement file is broken at a line of it.
     BadStatement { fault: StatementFault },
@@ -48,6 +48,12 @@ pub enum Rule {
     Unbound { text: Text },
     /// This line is not open, or it is matched with the split.
     LineTaken { line: u64 },
+    /// The split doesn't stand in the account of this line, or hasn't its amount as quantity.
+    LineAmount { line: u64 },
+    /// This statement has no closing balance.
+    NoClosing { statement: u64 },
+    /// The closing balance is so much above what would be reconciled, in smallest units of the account's commodity.
+    Difference { by: i128 },
     /// A number of a price is not 1 to 10^9, or its commodity and its currency are one.
     PriceShape,
     /// The first day of a period comes after its last.

@@ -8,8 +8,6 @@ pub enum WireError {
     /// It is JSON, and this is the member that fails first: it is needed and absent, of another form, or not asked
     /// for. The name is empty where the line is no object.
     NotCommand { field: Text },
-    /// Its word is that of a command which is not built yet.
-    NotBuilt,
     /// Out of memory.
     OutOfMemory,
 }

@@ -63,6 +63,10 @@ use Rattle.book_command.specs.declared.command.Update.TheVariants.{LineAdd}
 use Rattle.book_command.specs.declared.command.GivenOther.{GivenOther}
 use Rattle.book_command.specs.declared.command.Update.TheVariants.{Bind, LineDismiss, LineReopen}
 use Rattle.book_command.specs.declared.command.Update.TheVariants.{Import}
+use Rattle.book_command.specs.declared.command.Update.TheVariants.{Mark}
+use Rattle.book_command.specs.declared.command.Update.TheVariants.{LineMatch}
+use Rattle.book_command.specs.declared.command.Update.TheVariants.{MatchAuto}
+use Rattle.book_command.specs.declared.command.Update.TheVariants.{Reconcile, ReconcileStatement}
 use Rattle.book_command.specs.declared.command.GivenSchedule.{GivenSchedule}
 use Rattle.book_command.specs.declared.command.GivenTxn.{GivenTxn}
 use Rattle.book_command.specs.declared.rule.Rule.{Rule}
@@ -314,6 +318,11 @@ answered state (LineReopen n) new reply e = reopened_answered state n (value_of 
 answered state (Import format text account) new reply e =
     imported_answered state (importing.given_rules state.book format account) account (said state.book.commodities text format)
     new reply e
+answered state (Mark split cleared force) new reply e = absurd cc
+answered state (LineMatch line split) new reply e = absurd cc
+answered state (MatchAuto account window) new reply e = absurd cc
+answered state (Reconcile account day closing) new reply e = absurd cc
+answered state (ReconcileStatement statement) new reply e = absurd cc
 
 -- ---- answers with and without balances
 filled : (old new : State) (whole : Answer) → HasBalances old new whole → with_balances new.book whole ≡ whole
@@ -325,6 +334,7 @@ filled old new answer.AccountDrop has = refl
 filled old new (answer.Post n splits balances) has = ap (λ (bs : List ℤ). answer.Post n splits bs) (sym has.1)
 filled old new (answer.Edit n splits balances) has = ap (λ (bs : List ℤ). answer.Edit n splits bs) (sym has.1)
 filled old new answer.Drop has = refl
+filled old new answer.Mark has = refl
 filled old new (answer.PriceSet n) has = refl
 filled old new answer.PriceDrop has = refl
 filled old new (answer.Price rate) has = refl
@@ -339,11 +349,16 @@ filled old new answer.ScheduleDrop has = refl
 filled old new (answer.ScheduleRun ns) has = refl
 filled old new answer.Bind has = refl
 filled old new (answer.Import statements lines seen) has = refl
+filled old new answer.LineMatch has = refl
 filled old new (answer.LineAdd n splits) has = refl
 filled old new answer.LineDismiss has = refl
 filled old new answer.LineReopen has = refl
+filled old new (answer.MatchAuto pairs) has = refl
+filled old new (answer.Reconcile n marked) has = refl
+filled old new (answer.ReconcileStatement n marked) has = refl
 filled old new (answer.Lines lines) has = refl
 filled old new (answer.Statements statements) has = refl
+filled old new (answer.Recons recons) has = refl
 filled old new (answer.Due days) has = refl
 filled old new answer.Undo has = refl
 filled old new answer.Redo has = refl
@@ -358,6 +373,7 @@ filled_again book answer.AccountDrop = refl
 filled_again book (answer.Post n splits balances) = refl
 filled_again book (answer.Edit n splits balances) = refl
 filled_again book answer.Drop = refl
+filled_again book answer.Mark = refl
 filled_again book (answer.PriceSet n) = refl
 filled_again book answer.PriceDrop = refl
 filled_again book (answer.Price rate) = refl
@@ -372,11 +388,16 @@ filled_again book answer.ScheduleDrop = refl
 filled_again book (answer.ScheduleRun ns) = refl
 filled_again book answer.Bind = refl
 filled_again book (answer.Import statements lines seen) = refl
+filled_again book answer.LineMatch = refl
 filled_again book (answer.LineAdd n splits) = refl
 filled_again book answer.LineDismiss = refl
 filled_again book answer.LineReopen = refl
+filled_again book (answer.MatchAuto pairs) = refl
+filled_again book (answer.Reconcile n marked) = refl
+filled_again book (answer.ReconcileStatement n marked) = refl
 filled_again book (answer.Lines lines) = refl
 filled_again book (answer.Statements statements) = refl
+filled_again book (answer.Recons recons) = refl
 filled_again book (answer.Due days) = refl
 filled_again book answer.Undo = refl
 filled_again book answer.Redo = refl
@@ -422,6 +443,7 @@ puts_whole state new change answer.AccountDrop is book has = tt
 puts_whole state new change (answer.Post n splits balances) is book has = puts state new change n balances is book has
 puts_whole state new change (answer.Edit n splits balances) is book has = puts state new change n balances is book has
 puts_whole state new change answer.Drop is book has = tt
+puts_whole state new change answer.Mark is book has = tt
 puts_whole state new change (answer.PriceSet n) is book has = tt
 puts_whole state new change answer.PriceDrop is book has = tt
 puts_whole state new change (answer.Price rate) is book has = tt
@@ -436,11 +458,16 @@ puts_whole state new change answer.ScheduleDrop is book has = tt
 puts_whole state new change (answer.ScheduleRun ns) is book has = tt
 puts_whole state new change answer.Bind is book has = tt
 puts_whole state new change (answer.Import statements lines seen) is book has = tt
+puts_whole state new change answer.LineMatch is book has = tt
 puts_whole state new change (answer.LineAdd n splits) is book has = tt
 puts_whole state new change answer.LineDismiss is book has = tt
 puts_whole state new change answer.LineReopen is book has = tt
+puts_whole state new change (answer.MatchAuto pairs) is book has = tt
+puts_whole state new change (answer.Reconcile n marked) is book has = tt
+puts_whole state new change (answer.ReconcileStatement n marked) is book has = tt
 puts_whole state new change (answer.Lines lines) is book has = tt
 puts_whole state new change (answer.Statements statements) is book has = tt
+puts_whole state new change (answer.Recons recons) is book has = tt
 puts_whole state new change (answer.Due days) is book has = tt
 puts_whole state new change answer.Undo is book has = tt
 puts_whole state new change answer.Redo is book has = tt

@@ -30,6 +30,10 @@ use Rattle.book_command.specs.declared.command.Update.TheVariants.{ScheduleRun}
 use Rattle.book_command.specs.declared.command.Update.TheVariants.{LineAdd}
 use Rattle.book_command.specs.declared.command.Update.TheVariants.{Bind, LineDismiss, LineReopen}
 use Rattle.book_command.specs.declared.command.Update.TheVariants.{Import}
+use Rattle.book_command.specs.declared.command.Update.TheVariants.{Mark}
+use Rattle.book_command.specs.declared.command.Update.TheVariants.{LineMatch}
+use Rattle.book_command.specs.declared.command.Update.TheVariants.{MatchAuto}
+use Rattle.book_command.specs.declared.command.Update.TheVariants.{Reconcile, ReconcileStatement}
 use Rattle.book_step.specs.Outcome.{Done}
 use Rattle.book_step.specs.Soundness.{IsSound}
 use Rattle.book_step.specs.State.{State, fresh_state, fresh_book, euro, root}
@@ -73,6 +77,11 @@ outcome-sound state (LineDismiss line) new answered is e = line_dismiss-sound st
 outcome-sound state (LineReopen line) new answered is e = line_reopen-sound state line new answered is e
 outcome-sound state (Import format text account) new answered is e =
     import_file-sound state format text account new answered is e
+outcome-sound state (Mark split cleared force) new answered is e = absurd cc
+outcome-sound state (LineMatch line split) new answered is e = absurd cc
+outcome-sound state (MatchAuto account window) new answered is e = absurd cc
+outcome-sound state (Reconcile account day closing) new answered is e = absurd cc
+outcome-sound state (ReconcileStatement statement) new answered is e = absurd cc
 
 -- ---- the fresh state
 

@@ -154,7 +154,7 @@ abbrev pub room_rules : Book → Additions → List (Option Rule)
 room_rules book added =
     too_many_lines book.lines added.lines ∷ too_many_statements book.statements added.statements ∷ []
 
--- The numbers of what is added, and how many lines of the file were there before.
+-- The numbers of what is added, and how many lines of the file were in the book already, or earlier in the file.
 abbrev pub import_answer : Additions → Answer
 import_answer added = answer.Import (map (λ entry. entry.0) added.statements) (map (λ entry. entry.0) added.lines)
     added.seen

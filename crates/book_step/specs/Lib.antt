@@ -1,5 +1,6 @@
 pub mod Accounts
 pub mod AnswerBalances
+pub mod AutoMatching
 pub mod BankLines
 pub mod Bindings
 pub mod Commodities
@@ -8,9 +9,12 @@ pub mod Editing
 pub mod Importing
 pub mod InUse
 pub mod LineAdding
+pub mod LineMatching
+pub mod Marking
 pub mod Outcome
 pub mod Posting
 pub mod Prices
+pub mod Reconciling
 pub mod SameTransaction
 pub mod ScheduleRuns
 pub mod Schedules

@@ -9,6 +9,10 @@ use Rattle.book_step.specs.Commodities.{book_currency, commodity_add}
 use Rattle.book_step.specs.Editing.{drop_transaction, edit_transaction}
 use Rattle.book_step.specs.LineAdding.{line_add}
 use Rattle.book_step.specs.Importing.{import_file}
+use Rattle.book_step.specs.AutoMatching.{match_auto}
+use Rattle.book_step.specs.LineMatching.{line_match}
+use Rattle.book_step.specs.Marking.{mark}
+use Rattle.book_step.specs.Reconciling.{reconcile, reconcile_statement}
 use Rattle.book_step.specs.Outcome.{Outcome}
 use Rattle.book_step.specs.Posting.{post}
 use Rattle.book_step.specs.Prices.{price_drop, price_set}
@@ -23,6 +27,10 @@ use Rattle.book_command.specs.declared.command.Update.TheVariants.{ScheduleRun}
 use Rattle.book_command.specs.declared.command.Update.TheVariants.{LineAdd}
 use Rattle.book_command.specs.declared.command.Update.TheVariants.{Bind, LineDismiss, LineReopen}
 use Rattle.book_command.specs.declared.command.Update.TheVariants.{Import}
+use Rattle.book_command.specs.declared.command.Update.TheVariants.{Mark}
+use Rattle.book_command.specs.declared.command.Update.TheVariants.{LineMatch}
+use Rattle.book_command.specs.declared.command.Update.TheVariants.{MatchAuto}
+use Rattle.book_command.specs.declared.command.Update.TheVariants.{Reconcile, ReconcileStatement}
 use Rattle.book_command.specs.declared.rule.Rule.{Rule}
 use Rattle.book_command.specs.declared.rule.Rule.TheVariants.{Stale}
 
@@ -51,3 +59,8 @@ outcome state (Bind binding) = bind state binding
 outcome state (LineDismiss line) = line_dismiss state line
 outcome state (LineReopen line) = line_reopen state line
 outcome state (Import format text account) = import_file state format text account
+outcome state (Mark split cleared force) = mark state split cleared force
+outcome state (LineMatch line split) = line_match state line split
+outcome state (MatchAuto account window) = match_auto state account window
+outcome state (Reconcile account day closing) = reconcile state account day closing
+outcome state (ReconcileStatement statement) = reconcile_statement state statement

@@ -8,6 +8,7 @@
 
 mod account_edit;
 mod accounts;
+mod auto_matching;
 mod bank_lines;
 mod bank_questions;
 mod bindings;
@@ -20,9 +21,12 @@ mod editing;
 mod importing;
 mod in_use;
 mod line_adding;
+mod line_matching;
+mod marking;
 mod posting;
 mod present;
 mod prices;
+mod reconciling;
 mod same_transaction;
 mod schedule_runs;
 mod schedules;
@@ -32,8 +36,9 @@ mod step;
 pub use bank_questions::{lines_answer, statements_answer};
 pub use book_command::{
     Answer, Command, DueDay, GivenAccount, GivenOther, GivenSchedule, GivenSplit, GivenTxn,
-    HeldShown, LineShown, Refusal, Rule, Update, What,
+    HeldShown, LineShown, ReconShown, Refusal, Rule, Update, What,
 };
 pub use due_schedules::due_answer;
 pub use prices::rate_answer;
+pub use reconciling::recons_answer;
 pub use step::{Step, check_version, step_of};

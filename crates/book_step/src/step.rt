@@ -13,11 +13,15 @@ use crate::bank_lines::{line_dismiss, line_reopen};
 use crate::bindings::bind;
 use crate::commodities::{book_currency, commodity_add};
 use crate::editing::{drop, edit};
+use crate::auto_matching::match_auto;
 use crate::importing::import_file;
 use crate::line_adding::line_add;
+use crate::line_matching::line_match;
+use crate::marking::mark;
 use crate::posting::post;
 use crate::present::Present;
 use crate::prices::{price_drop, price_set};
+use crate::reconciling::{reconcile, reconcile_statement};
 use crate::schedule_runs::schedule_run;
 use crate::schedules::{schedule_add, schedule_drop};
 use crate::{Answer, Refusal, Rule, Update};
@@ -125,6 +129,19 @@ pub fn step_of(
             text,
             account,
         } => import_file(present, format, text, account),
+        Update::Mark {
+            split,
+            cleared,
+            force,
+        } => mark(present, split, cleared, force),
+        Update::LineMatch { line, split } => line_match(present, line, split),
+        Update::MatchAuto { account, window } => match_auto(present, account, window),
+        Update::Reconcile {
+            account,
+            day,
+            closing,
+        } => reconcile(present, account, day, closing),
+        Update::ReconcileStatement { statement } => reconcile_statement(present, statement),
     }
 }
 

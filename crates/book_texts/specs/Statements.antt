@@ -18,8 +18,8 @@ use Rattle.book_texts.specs.Shown.{signed_data, signed-plain}
 abbrev pub bind : ℕ → Members
 bind = answered Bind []
 
--- `import`: the numbers of the statements and of the lines that were added, and how many lines of the file were there
--- already.
+-- `import`: the numbers of the statements and of the lines that were added, and how many lines of the file were in the
+-- book already, or earlier in the file.
 abbrev pub import : List ℕ → List ℕ → ℕ → ℕ → Members
 import statements lines seen =
     answered Import
