@@ -22,6 +22,7 @@ pub mod PostingLemmas
 pub mod PriceLemmas
 pub mod QifAmounts
 pub mod ReadAmounts
+pub mod RemarkTable
 pub mod RunLemmas
 pub mod RunWalkLemmas
 pub mod ScheduleLemmas
