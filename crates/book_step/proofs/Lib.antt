@@ -45,3 +45,4 @@ pub mod SplitsOnce
 pub mod TableWalkLemmas
 pub mod Worked
 pub mod WorkedImport
+pub mod WorkedReconciling

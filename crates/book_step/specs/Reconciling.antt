@@ -1,6 +1,6 @@
 -- The commands that reconcile an account with a statement of the bank (GnuCash Manual, reconciling accounts), and the
 -- question for the reconciliations of an account.
-use Rattle.std.specs.Prelude.{ℕ, ◌+◌, nat_lt, ℤ, pos, int_le, not, Bool, ◌&&◌, if◌then◌else◌, List, [], ◌∷◌, ◌++◌}
+use Rattle.std.specs.Prelude.{◌≡◌, ℕ, ◌+◌, nat_lt, ℤ, pos, int_le, not, Bool, ◌&&◌, if◌then◌else◌, List, [], ◌∷◌, ◌++◌}
 use Rattle.std.specs.Prelude.{filter, length, map, Option, Some, None, is_none}
 use Rattle.std.specs.Ordering.{int_eq}
 use Rattle.book_commodity.specs.Rules.{broken_where}
@@ -117,6 +117,13 @@ abbrev pub reconciling : Book → ℕ → Recon → Edit
 reconciling book number recon =
     whole_edit (remarking (is_to_mark recon.account recon.day) (marked_under number recon.account recon.day)
     book.transactions ++ Put number (thing.Recon recon) ∷ [])
+
+-- A reconciliation of an account at a day with a closing balance is done by this edit, and marks the splits of these
+-- numbers.
+abbrev pub IsFinish : Book → ℕ → ℕ → ℤ → ℤ → Edit × List ℕ → Type 0
+IsFinish book number account day closing made =
+    (made.0 ≡ reconciling book number (finished book account day closing))
+    × (made.1 ≡ marked_numbers (finished book account day closing).marked)
 
 -- ---- the question
 

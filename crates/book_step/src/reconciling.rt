@@ -13,8 +13,8 @@ ghost use Rattle.book_command.specs.declared.answer.Answer.TheVariants.{Recons a
 ghost use Rattle.book_command.specs.declared.rule.Rule.TheVariants.{NoClosing};
 ghost use Rattle.book_step.specs.BankLines.{account_asked};
 ghost use Rattle.book_step.specs.Outcome.{StepsTo};
-ghost use Rattle.book_step.specs.Reconciling.{differs, finish_rules, finished, is_to_mark, marked_under, reconcile};
-ghost use Rattle.book_step.specs.Reconciling.{reconcile_statement, reconciling, recon_shown};
+ghost use Rattle.book_step.specs.Reconciling.{IsFinish, differs, finish_rules, finished, is_to_mark, marked_under};
+ghost use Rattle.book_step.specs.Reconciling.{reconcile, reconcile_statement, reconciling, recon_shown};
 ghost use Rattle.book_step.specs.Reconciling.{recons_among, recons_of, too_many_reconciliations};
 ghost use Rattle.book_step.specs.Reconciling.{unknown_statement};
 ghost use Rattle.book_step.specs.Remarking.{remarked, remarking};
@@ -106,9 +106,8 @@ fn finish(
     day: Day,
     closing: i64,
 ) -> Result<(Edit, Many<u64>), Refusal>
-    ensures { Finds (finish_rules present.now.book account day closing) (λ made.
-        (made.0 ≡ reconciling present.now.book present.now.next (finished present.now.book account day closing))
-        × (made.1 ≡ marked_numbers (finished present.now.book account day closing).marked)) result }
+    ensures { Finds (finish_rules present.now.book account day closing)
+        (IsFinish present.now.book present.now.next account day closing) result }
 {
     let recon = match planned(present, account, day, closing) {
         Ok(recon) => recon,

@@ -1,11 +1,12 @@
-use Rattle.std.proofs.Common.{rules, ◌≡◌, ℤ, FitsSigned, w64, to_z, of_z, [], ◌∷◌, None, Err, ap, subst, ◌∙◌}
+use Rattle.std.proofs.Common.{rules, ◌≡◌, ℕ, ℤ, List, FitsSigned, w64, to_z, of_z, [], ◌∷◌, None, Err, ap, subst, ◌∙◌}
 use Rattle.std.proofs.lemmas.Int.{to_z-of_z}
 use Rattle.book_commodity.specs.Rules.{first_broken}
 use Rattle.book_commodity.proofs.RuleLemmas.{first-past}
 use Rattle.book_splits.specs.declared.reconciliation.Recon.{Recon}
 use Rattle.book_reconcile.specs.Reconciliation.{difference}
 use Rattle.book_sound.specs.ReconciliationRules.{marked_numbers}
-use Rattle.book_step.specs.Reconciling.{differs, finished, reconciling, too_many_reconciliations}
+use Rattle.book_undo.specs.declared.edit.Edit.{Edit}
+use Rattle.book_step.specs.Reconciling.{IsFinish, differs, finished, reconciling, too_many_reconciliations}
 use Rattle.book_step.specs.Schedules.{Finds}
 use Rattle.book_step.proofs.ExactReconciling.{finds-broken, finds-refused}
 use Rattle.book_step.proofs.reconciling.finish.Goals as goal
@@ -18,8 +19,10 @@ returns-in-Err c =
     let same : to_z w64 (of_z w64 c.args.closing) ≡ c.args.closing = to_z-of_z w64 c.args.closing fits in
     let refused = subst (λ (closing : ℤ). Finds {T = Recon} (differs (by closing) ∷ [])
     (λ recon. recon ≡ finished book c.args.account c.args.day closing) (Err c.in-Err.refusal)) same c.in-Err.ensures in
-    finds-refused (differs (by c.args.closing) ∷ []) (too_many_reconciliations book.reconciliations ∷ []) _ _
-    c.in-Err.refusal refused
+    finds-refused {T = Recon} {U = Edit × List ℕ} (differs (by c.args.closing) ∷ [])
+    (too_many_reconciliations book.reconciliations ∷ [])
+    (λ recon. recon ≡ finished book c.args.account c.args.day c.args.closing)
+    (IsFinish book c.args.present.now.next c.args.account c.args.day c.args.closing) c.in-Err.refusal refused
 
 pub returns-in_err-check_count : goal.returns-in_err-check_count
 returns-in_err-check_count c =

@@ -1,4 +1,4 @@
-use Rattle.std.proofs.Common.{rules, ◌≡◌, ℤ, FitsSigned, w64, to_z, of_z, [], ◌∷◌, Err, refl, ap, sym, subst, ◌∙◌}
+use Rattle.std.proofs.Common.{rules, ◌≡◌, ℕ, ℤ, List, FitsSigned, w64, to_z, of_z, [], ◌∷◌, Err, refl, ap, sym, subst, ◌∙◌}
 use Rattle.std.proofs.lemmas.Int.{to_z-of_z}
 use Rattle.book_undo.specs.Exact.{IsExact}
 use Rattle.book_undo.specs.Edit.{is_nothing}
@@ -6,10 +6,11 @@ use Rattle.book_undo.specs.declared.edit.Edit.{Edit}
 use Rattle.book_command.specs.declared.answer.Answer.TheVariants as answer
 use Rattle.book_step.specs.Accounts.{unknown_account}
 use Rattle.book_step.specs.Outcome.{StepsTo}
-use Rattle.book_step.specs.Reconciling.{finished, reconcile}
+use Rattle.book_step.specs.Reconciling.{IsFinish, finished, reconcile}
 use Rattle.book_step.specs.Soundness.{IsSound}
 use Rattle.book_step.specs.State.{State}
 use Rattle.book_step.proofs.AnswerLemmas.{whole_outcome}
+use Rattle.book_step.proofs.WorkedReconciling as worked
 use Rattle.book_step.proofs.ExactReconciling.{finish-changed, finish-refused, reconciling_exact, reconciling_something}
 use Rattle.book_step.proofs.SoundStep.{outcome-sound}
 use Rattle.book_step.proofs.reconciling.reconcile.Goals as goal
@@ -22,9 +23,9 @@ returns-in-Err c =
     let same : to_z w64 (of_z w64 c.args.closing) ≡ c.args.closing = to_z-of_z w64 c.args.closing fits in
     subst (λ (closing : ℤ). StepsTo state (reconcile state c.args.account c.args.day closing)
     (Err c.in-Err.refusal)) same
-    (finish-refused state (unknown_account state.book.accounts c.args.account ∷ [])
-    (λ number marked. answer.Reconcile number marked) c.args.account c.args.day said c.in-Err.refusal _
-    c.in_ok-known.ensures.unknown c.in-Err.ensures)
+    (finish-refused {T = Edit × List ℕ} state (unknown_account state.book.accounts c.args.account ∷ [])
+    (λ number marked. answer.Reconcile number marked) c.args.account c.args.day said c.in-Err.refusal
+    (IsFinish state.book state.next c.args.account c.args.day said) c.in_ok-known.ensures.unknown c.in-Err.ensures)
 
 pub changing-requires-clause-changes : goal.changing-requires-clause-changes
 changing-requires-clause-changes c =

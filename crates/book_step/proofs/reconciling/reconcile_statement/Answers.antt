@@ -1,10 +1,10 @@
-use Rattle.std.proofs.Common.{rules, ◌≡◌, FitsSigned, w64, to_z, of_z, [], Err, refl, ap, sym, subst, ◌∙◌}
+use Rattle.std.proofs.Common.{rules, ◌≡◌, ℕ, List, FitsSigned, w64, to_z, of_z, [], Err, refl, ap, sym, subst, ◌∙◌}
 use Rattle.std.proofs.lemmas.Int.{to_z-of_z}
 use Rattle.book_undo.specs.Exact.{IsExact}
 use Rattle.book_undo.specs.Edit.{is_nothing}
 use Rattle.book_undo.specs.declared.edit.Edit.{Edit}
 use Rattle.book_command.specs.declared.answer.Answer.TheVariants as answer
-use Rattle.book_step.specs.Reconciling.{finished}
+use Rattle.book_step.specs.Reconciling.{IsFinish, finished}
 use Rattle.book_step.specs.Soundness.{IsSound}
 use Rattle.book_step.specs.State.{State}
 use Rattle.book_step.proofs.ExactReconciling.{at-closed, finish-changed, finish-refused, reconciling_exact}
@@ -21,8 +21,9 @@ returns-in-Err c =
     to_z-of_z w64 c.in_ok-closing.closing fits in
     at-closed state c.args.statement held (to_z w64 (of_z w64 closing)) closing (Err c.in-Err.refusal)
     c.in_ok-held.ensures.there c.in_ok-closing.ensures.there same
-    (finish-refused state [] (λ number marked. answer.ReconcileStatement number marked) held.account held.day
-    (to_z w64 (of_z w64 closing)) c.in-Err.refusal _ refl c.in-Err.ensures)
+    (finish-refused {T = Edit × List ℕ} state [] (λ number marked. answer.ReconcileStatement number marked) held.account
+    held.day (to_z w64 (of_z w64 closing)) c.in-Err.refusal
+    (IsFinish state.book state.next held.account held.day (to_z w64 (of_z w64 closing))) refl c.in-Err.ensures)
 
 pub changing-requires-clause-changes : goal.changing-requires-clause-changes
 changing-requires-clause-changes c =
