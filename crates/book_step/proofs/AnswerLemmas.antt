@@ -285,8 +285,8 @@ reconciled_answered state rules answers account day closing new reply has e =
     let recon = finished book account day closing in
     let later = book_reconciled book state.next recon in
     let numbers = marked_numbers recon.marked in
-    changing_answered state (rules ++ finish_rules book account day closing) later 1 (answers state.next numbers) new reply
-    (has (changed state later 1) state.next numbers) e
+    changing_answered state (rules ++ finish_rules book account day closing) later 1 (answers state.next numbers) new
+    reply (has (changed state later 1) state.next numbers) e
 
 closed_answered :
     (state : State) (n : ℕ) (statement : Held) (closing : Option ℤ) (new : State) (reply : Answer)

@@ -1,6 +1,6 @@
 -- The edit of a reconciliation is exact for a sound book, and leads to the book with the reconciliation and the splits
 -- that it marks; and what the commands come to.
-use Rattle.std.proofs.Common.{◌≡◌, ◌≢◌, ℕ, ◌<◌, ◌==◌, ◌&&◌, ℤ, pos, int_le, not, Bool, true, false, if◌then◌else◌, List, [], ◌∷◌}
+use Rattle.std.proofs.Common.{◌≡◌, ◌≢◌, ℕ, ◌==◌, ℤ, pos, int_le, not, Bool, true, false, if◌then◌else◌, List, [], ◌∷◌}
 use Rattle.std.proofs.Common.{◌++◌, Option, Some, None, option_map, Result, Ok, Err, refl, sym, ap, subst, ◌∙◌, arith}
 use Rattle.std.proofs.lemmas.Bool.{and_parts}
 use Rattle.std.proofs.lemmas.Bool.Decides.{Decides-int_eq, nat_tests}
@@ -17,8 +17,7 @@ use Rattle.book_splits.specs.declared.split.Split.{Split}
 use Rattle.book_splits.specs.declared.transaction.Txn.{Txn}
 use Rattle.book_statement.specs.declared.held.Held.{Held}
 use Rattle.book_undo.specs.Book.{Book}
-use Rattle.book_undo.specs.Edit.{Key, OfPut, edited, is_nothing}
-use Rattle.book_undo.specs.EditRules.{first_unordered}
+use Rattle.book_undo.specs.Edit.{OfPut, edited, is_nothing}
 use Rattle.book_undo.specs.Exact.{IsExact}
 use Rattle.book_undo.specs.declared.edit.Edit.{Edit, Put}
 use Rattle.book_undo.specs.declared.thing.Thing.{Thing}
@@ -32,8 +31,7 @@ use Rattle.book_command.specs.declared.refusal.Refusal.{Refusal}
 use Rattle.book_command.specs.declared.refusal.Refusal.TheVariants as refusal
 use Rattle.book_step.specs.Importing.{whole_edit}
 use Rattle.book_step.specs.Outcome.{StepsTo, changing}
-use Rattle.book_step.specs.Reconciling.{book_reconciled, differs, finish_rules, finished, is_to_mark}
-use Rattle.book_step.specs.Reconciling.{marked_under}
+use Rattle.book_step.specs.Reconciling.{book_reconciled, differs, finish_rules, finished, is_to_mark, marked_under}
 use Rattle.book_step.specs.Reconciling.{reconcile_at, reconcile_closed, reconcile_of, reconcile_statement}
 use Rattle.book_step.specs.Reconciling.{reconciled_under, reconciling}
 use Rattle.book_step.specs.Remarking.{ChangesMarksAlone, ChangesWhere, newly_remarked}

@@ -1,7 +1,7 @@
 -- What the definition of a reconciliation says of the splits that it marks: they are the account's cleared splits on or
 -- before the day, each once.
-use Rattle.std.proofs.Common.{◌≡◌, ℕ, ◌<◌, ◌==◌, ◌&&◌, ◌||◌, not, ℤ, pos, int_le, Bool, true, false, All, List, []}
-use Rattle.std.proofs.Common.{◌∷◌, ◌++◌, if◌then◌else◌, filter, flat_map, map, Some, refl, sym, ap, subst, ◌∙◌, eq-eqb}
+use Rattle.std.proofs.Common.{◌≡◌, ℕ, ◌<◌, ◌==◌, ◌&&◌, ◌||◌, not, ℤ, int_le, Bool, true, false, All, List, [], ◌∷◌}
+use Rattle.std.proofs.Common.{◌++◌, if◌then◌else◌, filter, flat_map, map, Some, refl, sym, ap, subst, ◌∙◌, eq-eqb}
 use Rattle.std.proofs.Common.{arith}
 use Rattle.std.specs.Prelude.{⊤, int_lt}
 use Rattle.std.specs.List.{list_any}
@@ -19,7 +19,8 @@ use Rattle.book_splits.specs.declared.reconciliation.MarkedSplit.{MarkedSplit}
 use Rattle.book_splits.specs.declared.split.Mark.TheVariants.{Cleared}
 use Rattle.book_splits.specs.declared.split.Split.{Split}
 use Rattle.book_splits.specs.declared.transaction.Txn.{Txn}
-use Rattle.book_reconcile.specs.Reconciliation.{by_day, dated_splits, has_mark, marked, splits_to_mark, until, with_dated}
+use Rattle.book_reconcile.specs.Reconciliation.{by_day, dated_splits, has_mark, marked, splits_to_mark, until}
+use Rattle.book_reconcile.specs.Reconciliation.{with_dated}
 use Rattle.book_sound.specs.MarkedTransactionRules.{is_marked_as}
 use Rattle.book_sound.specs.ReconciliationRules.{marked_numbers}
 

@@ -1,5 +1,5 @@
--- Reconciliations whose steps are known, in a book with two accounts in euros. Days count from 1970-01-01, so that 19723
--- is 2024-01-01, 19753 is 2024-01-31 and 19760 is 2024-02-07.
+-- Reconciliations whose steps are known, in a book with two accounts in euros. Days count from 1970-01-01, so that
+-- 19723 is 2024-01-01, 19753 is 2024-01-31 and 19760 is 2024-02-07.
 use Rattle.std.proofs.Common.{◌≡◌, ℕ, ℤ, pos, negsuc, true, false, Bool, List, [], ◌∷◌, ◌++◌, Option, Some, None, codes}
 use Rattle.std.proofs.Common.{refl}
 use Rattle.book_commodity.specs.declared.kind.Kind.TheVariants as kind
@@ -98,7 +98,8 @@ abbrev cleared : State
 cleared = with (winter Cleared Cleared None)
 
 -- January closes at 800.00
-finishes : reply (outcome cleared (Reconcile 3 (pos 19753) (pos 80000))) ≡ Answered (answer.Reconcile 20 (11 ∷ 14 ∷ [])) 5
+finishes :
+    reply (outcome cleared (Reconcile 3 (pos 19753) (pos 80000))) ≡ Answered (answer.Reconcile 20 (11 ∷ 14 ∷ [])) 5
 finishes = refl
 
 abbrev reconciled : State
@@ -128,7 +129,8 @@ nothing_more : reply (outcome reconciled (Reconcile 3 (pos 19753) (pos 80000))) 
 nothing_more = refl
 
 -- the next one begins where the last one closed
-next_month : reply (outcome reconciled (Reconcile 3 (pos 19782) (pos 85000))) ≡ Answered (answer.Reconcile 21 (17 ∷ [])) 6
+next_month :
+    reply (outcome reconciled (Reconcile 3 (pos 19782) (pos 85000))) ≡ Answered (answer.Reconcile 21 (17 ∷ [])) 6
 next_month = refl
 
 -- ---- by a statement

@@ -92,7 +92,8 @@ reconcile state account day closing =
 
 -- The book has no statement of this number.
 abbrev pub unknown_statement : List (ℕ × Held) → ℕ → Option Rule
-unknown_statement statements number = broken_where (is_none (value_of number statements)) (Unknown kind.Statement number)
+unknown_statement statements number =
+    broken_where (is_none (value_of number statements)) (Unknown kind.Statement number)
 
 -- The reconciliation of the account of a statement with its closing balance, if it has one.
 abbrev pub reconcile_closed : State → ℕ → Held → Option ℤ → Outcome

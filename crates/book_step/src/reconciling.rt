@@ -35,8 +35,8 @@ use std::alloc::Global;
 const MAX_RECONS: usize = 100_000;
 
 /// A reconciliation of the account stands in the book, under the next number: the account's cleared splits on or before
-/// the day are reconciled under it. The closing balance is in smallest units of the account's commodity; with the splits
-/// that were reconciled before, the cleared ones sum to it.
+/// the day are reconciled under it. With those that were before, they sum to the closing balance, which is in smallest
+/// units of the account's commodity.
 pub(crate) fn reconcile(
     present: &Present,
     account: u64,
@@ -181,11 +181,7 @@ struct Marking {
 
 impl Marking {
     /// The edits that put the transactions with a split that it marks, by number.
-    fn edits(
-        &self,
-        alloc: Global,
-        transactions: &[(u64, Txn)],
-    ) -> Result<Many<Edit>, OutOfMemory>
+    fn edits(&self, alloc: Global, transactions: &[(u64, Txn)]) -> Result<Many<Edit>, OutOfMemory>
         ensures { IfOk result (λ edits. edits ≡ remarking (is_to_mark self.now.account self.now.upto)
             (marked_under self.now.number self.now.account self.now.upto) transactions.now) }
     {
@@ -248,12 +244,7 @@ impl Marking {
     }
 
     /// The splits of a transaction of the day, marked.
-    fn splits(
-        &self,
-        alloc: Global,
-        day: Day,
-        splits: &[Split],
-    ) -> Result<Many<Split>, OutOfMemory>
+    fn splits(&self, alloc: Global, day: Day, splits: &[Split]) -> Result<Many<Split>, OutOfMemory>
         ensures { IfOk result (λ marked. marked
             ≡ map (marked_under self.now.number self.now.account self.now.upto day) splits.now) }
     {

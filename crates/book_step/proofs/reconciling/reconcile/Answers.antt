@@ -1,4 +1,5 @@
-use Rattle.std.proofs.Common.{rules, ◌≡◌, ℕ, ℤ, List, FitsSigned, w64, to_z, of_z, [], ◌∷◌, Err, refl, ap, sym, subst, ◌∙◌}
+use Rattle.std.proofs.Common.{rules, ◌≡◌, ℕ, ℤ, List, FitsSigned, w64, to_z, of_z, [], ◌∷◌, Err, refl, ap, sym, subst}
+use Rattle.std.proofs.Common.{◌∙◌}
 use Rattle.std.proofs.lemmas.Int.{to_z-of_z}
 use Rattle.book_undo.specs.Exact.{IsExact}
 use Rattle.book_undo.specs.Edit.{is_nothing}
@@ -9,10 +10,7 @@ use Rattle.book_step.specs.Outcome.{StepsTo}
 use Rattle.book_step.specs.Reconciling.{IsFinish, finished, reconcile}
 use Rattle.book_step.specs.Soundness.{IsSound}
 use Rattle.book_step.specs.State.{State}
-use Rattle.book_step.proofs.AnswerLemmas.{whole_outcome}
-use Rattle.book_step.proofs.WorkedReconciling as worked
 use Rattle.book_step.proofs.ExactReconciling.{finish-changed, finish-refused, reconciling_exact, reconciling_something}
-use Rattle.book_step.proofs.SoundStep.{outcome-sound}
 use Rattle.book_step.proofs.reconciling.reconcile.Goals as goal
 
 pub returns-in-Err : goal.returns-in-Err
