@@ -36,7 +36,7 @@ const MAX_RECONS: usize = 100_000;
 
 /// A reconciliation of the account stands in the book, under the next number: the account's cleared splits on or before
 /// the day are reconciled under it. With those that were before, they sum to the closing balance, which is in smallest
-/// units of the account's commodity.
+/// units of the account's commodity. Broken with the difference where they don't.
 pub(crate) fn reconcile(
     present: &Present,
     account: u64,
@@ -57,7 +57,8 @@ pub(crate) fn reconcile(
     Step::changing(present, 1, edit, answer)
 }
 
-/// The same for the account of the statement of this number, at its day and with its closing balance.
+/// The same for the account of the statement of this number, at its day and with its closing balance. Broken where it
+/// has none.
 pub(crate) fn reconcile_statement(present: &Present, statement: u64) -> Result<Step, Refusal>
     ensures { StepsTo present.now (reconcile_statement present.now statement) result }
 {
@@ -119,7 +120,8 @@ fn finish(
     Ok((edit, marked))
 }
 
-/// The record of a reconciliation of the account, whose closing balance is what would be reconciled.
+/// The record of a reconciliation of the account, whose closing balance is what would be reconciled; else the
+/// difference.
 fn planned(present: &Present, account: u64, day: Day, closing: i64) -> Result<Recon, Refusal>
     ensures { Finds (differs (difference account day closing present.now.book.transactions) ∷ [])
         (λ recon. recon ≡ finished present.now.book account day closing) result }
