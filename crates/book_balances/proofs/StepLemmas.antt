@@ -35,6 +35,7 @@ use Rattle.book_command.specs.declared.rule.Rule.{Rule}
 use Rattle.book_command.specs.declared.rule.Rule.TheVariants.{BadStatement}
 use Rattle.book_step.specs.Accounts.{account_drop_of, account_edit_at, add_rules, drop_rules, edit_rules}
 use Rattle.book_step.specs.Accounts.{stays, with_given}
+use Rattle.book_step.specs.Accounts.{unknown_account}
 use Rattle.book_step.specs.BankLines.{in_state, is_open, line_dismiss_at, line_reopen_at, line_taken}
 use Rattle.book_step.specs.Bindings as bindings
 use Rattle.book_step.specs.Bindings.{account_rules, bind_at, binding_of}
@@ -50,6 +51,10 @@ use Rattle.book_step.specs.Outcome.{Broken, Done, changing, leaving, unless_brok
 use Rattle.book_step.specs.Posting.{new_transaction, post_answer, post_rules}
 use Rattle.book_step.specs.Prices.{has_numbers, price_of_day, price_rules, price_set_at, too_many_prices}
 use Rattle.book_step.specs.Prices.{unknown_price}
+use Rattle.book_sound.specs.ReconciliationRules.{marked_numbers}
+use Rattle.book_statement.specs.declared.held.Held.{Held}
+use Rattle.book_step.specs.Reconciling.{book_reconciled, finish_rules, finished, reconcile_at, reconcile_closed}
+use Rattle.book_step.specs.Reconciling.{reconcile_of}
 use Rattle.book_step.specs.SameTransaction.{same_transaction}
 use Rattle.book_step.specs.ScheduleRuns as schedule_runs
 use Rattle.book_step.specs.ScheduleRuns.{asked, asked_rules, book_ran, made_by, schedule_run_of, too_many_made}
@@ -205,6 +210,31 @@ import_moves state rules given (Ok statements) new reply e =
     (importing.book_with state.book added) (importing.drawn_by added) (import_answer added) (import_answer added) new
     reply e
 
+reconcile_moves :
+    (state : State) (rules : List (Option Rule)) (answers : ℕ → List ℕ → Answer) (account : ℕ) (day closing : ℤ)
+    (new : State) (reply : Answer) → reconcile_of state rules answers account day closing ≡ Done new reply
+    → Moves state new
+reconcile_moves state rules answers account day closing new reply e =
+    let book = state.book in
+    let recon = finished book account day closing in
+    changing_moves state (rules ++ finish_rules book account day closing) (book_reconciled book state.next recon) 1
+    (answers state.next (marked_numbers recon.marked)) new reply e
+
+reconcile_closed_moves :
+    (state : State) (n : ℕ) (statement : Held) (closing : Option ℤ) (new : State) (reply : Answer)
+    → reconcile_closed state n statement closing ≡ Done new reply → Moves state new
+reconcile_closed_moves state n statement None new reply e = absurd cc
+reconcile_closed_moves state n statement (Some closing) new reply e =
+    reconcile_moves state [] (λ number marked. answer.ReconcileStatement number marked) statement.account statement.day
+    closing new reply e
+
+reconcile_statement_moves :
+    (state : State) (n : ℕ) (found : Option Held) (new : State) (reply : Answer)
+    → reconcile_at state n found ≡ Done new reply → Moves state new
+reconcile_statement_moves state n None new reply e = absurd cc
+reconcile_statement_moves state n (Some statement) new reply e =
+    reconcile_closed_moves state n statement statement.closing new reply e
+
 -- A change that is done leaves the state as it is, or raises its version by one, and the next number does not fall.
 pub outcome_moves :
     (state : State) (update : Update) (new : State) (reply : Answer) → outcome state update ≡ Done new reply
@@ -254,5 +284,8 @@ outcome_moves state (Import format text account) new reply e =
 outcome_moves state (Mark split cleared force) new reply e = absurd cc
 outcome_moves state (LineMatch line split) new reply e = absurd cc
 outcome_moves state (MatchAuto account window) new reply e = absurd cc
-outcome_moves state (Reconcile account day closing) new reply e = absurd cc
-outcome_moves state (ReconcileStatement statement) new reply e = absurd cc
+outcome_moves state (Reconcile account day closing) new reply e =
+    reconcile_moves state (unknown_account state.book.accounts account ∷ [])
+    (λ number marked. answer.Reconcile number marked) account day closing new reply e
+outcome_moves state (ReconcileStatement statement) new reply e =
+    reconcile_statement_moves state statement (value_of statement state.book.statements) new reply e

@@ -22,6 +22,7 @@ use Rattle.book_undo.specs.declared.thing.Thing.TheVariants as thing
 use Rattle.book_undo.specs.declared.thing.ThingKind.TheVariants as kind
 use Rattle.book_step.specs.Accounts.{account_drop_of, account_edit_at, add_rules, drop_rules, edit_rules}
 use Rattle.book_step.specs.Accounts.{stays, with_given}
+use Rattle.book_step.specs.Accounts.{unknown_account}
 use Rattle.book_step.specs.AnswerBalances.{PutsAnswered, PutsUnder, balances_at, balances_of, with_balances}
 use Rattle.book_step.specs.AnswerBalances.{without_balances}
 use Rattle.book_step.specs.BankLines.{in_state, is_open, line_dismiss_at, line_reopen_at, line_taken}
@@ -41,6 +42,10 @@ use Rattle.book_step.specs.Editing.{book_with, book_without, drop_at, drawn_by, 
 use Rattle.book_step.specs.Editing.{edited_transaction, reconciled}
 use Rattle.book_step.specs.Prices.{has_numbers, price_of_day, price_rules, price_set_at, too_many_prices}
 use Rattle.book_step.specs.Prices.{unknown_price}
+use Rattle.book_sound.specs.ReconciliationRules.{marked_numbers}
+use Rattle.book_statement.specs.declared.held.Held.{Held}
+use Rattle.book_step.specs.Reconciling.{book_reconciled, finish_rules, finished, reconcile_at, reconcile_closed}
+use Rattle.book_step.specs.Reconciling.{reconcile_of}
 use Rattle.book_step.specs.SameTransaction.{same_transaction}
 use Rattle.book_step.specs.ScheduleRuns as schedule_runs
 use Rattle.book_step.specs.ScheduleRuns.{asked, asked_rules, book_ran, made_by, schedule_run_of, too_many_made}
@@ -271,6 +276,33 @@ imported_answered state rules given (Ok statements) new reply e =
     adding_answered (adds_nothing added) state
     ((rules ++ file_rules state.book given statements) ++ room_rules state.book added) added new reply e
 
+reconciled_answered :
+    (state : State) (rules : List (Option Rule)) (answers : ℕ → List ℕ → Answer) (account : ℕ) (day closing : ℤ)
+    (new : State) (reply : Answer) → ((s : State) (n : ℕ) (marked : List ℕ) → HasBalances state s (answers n marked))
+    → reconcile_of state rules answers account day closing ≡ Done new reply → HasBalances state new reply
+reconciled_answered state rules answers account day closing new reply has e =
+    let book = state.book in
+    let recon = finished book account day closing in
+    let later = book_reconciled book state.next recon in
+    let numbers = marked_numbers recon.marked in
+    changing_answered state (rules ++ finish_rules book account day closing) later 1 (answers state.next numbers) new
+    reply (has (changed state later 1) state.next numbers) e
+
+closed_answered :
+    (state : State) (n : ℕ) (statement : Held) (closing : Option ℤ) (new : State) (reply : Answer)
+    → reconcile_closed state n statement closing ≡ Done new reply → HasBalances state new reply
+closed_answered state n statement None new reply e = absurd cc
+closed_answered state n statement (Some closing) new reply e =
+    reconciled_answered state [] (λ number marked. answer.ReconcileStatement number marked) statement.account
+    statement.day closing new reply (λ s number marked. tt) e
+
+statement_answered :
+    (state : State) (n : ℕ) (found : Option Held) (new : State) (reply : Answer)
+    → reconcile_at state n found ≡ Done new reply → HasBalances state new reply
+statement_answered state n None new reply e = absurd cc
+statement_answered state n (Some statement) new reply e =
+    closed_answered state n statement statement.closing new reply e
+
 answered : (state : State) (update : Update) (new : State) (reply : Answer) → outcome state update ≡ Done new reply
     → HasBalances state new reply
 answered state (BookCurrency commodity) new reply e =
@@ -321,8 +353,11 @@ answered state (Import format text account) new reply e =
 answered state (Mark split cleared force) new reply e = absurd cc
 answered state (LineMatch line split) new reply e = absurd cc
 answered state (MatchAuto account window) new reply e = absurd cc
-answered state (Reconcile account day closing) new reply e = absurd cc
-answered state (ReconcileStatement statement) new reply e = absurd cc
+answered state (Reconcile account day closing) new reply e =
+    reconciled_answered state (unknown_account state.book.accounts account ∷ [])
+    (λ number marked. answer.Reconcile number marked) account day closing new reply (λ s number marked. tt) e
+answered state (ReconcileStatement statement) new reply e =
+    statement_answered state statement (value_of statement state.book.statements) new reply e
 
 -- ---- answers with and without balances
 filled : (old new : State) (whole : Answer) → HasBalances old new whole → with_balances new.book whole ≡ whole

@@ -10,6 +10,7 @@ pub mod ExactBank
 pub mod ExactImport
 pub mod ExactLemmas
 pub mod ExactLines
+pub mod ExactReconciling
 pub mod ExactRuns
 pub mod FormatAmounts
 pub mod ImportLemmas
@@ -22,6 +23,8 @@ pub mod PostingLemmas
 pub mod PriceLemmas
 pub mod QifAmounts
 pub mod ReadAmounts
+pub mod ReconcileLemmas
+pub mod RemarkTable
 pub mod RunLemmas
 pub mod RunWalkLemmas
 pub mod ScheduleLemmas
@@ -34,9 +37,12 @@ pub mod SoundLineAdding
 pub mod SoundOutcome
 pub mod SoundPosting
 pub mod SoundPrices
+pub mod SoundReconciling
 pub mod SoundRuns
 pub mod SoundSchedules
 pub mod SoundStep
+pub mod SplitsOnce
 pub mod TableWalkLemmas
 pub mod Worked
 pub mod WorkedImport
+pub mod WorkedReconciling

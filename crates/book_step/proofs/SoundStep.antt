@@ -46,6 +46,7 @@ use Rattle.book_step.proofs.SoundLineAdding.{line_add-sound}
 use Rattle.book_step.proofs.SoundImport.{import_file-sound}
 use Rattle.book_step.proofs.SoundPosting.{post-sound}
 use Rattle.book_step.proofs.SoundPrices.{price_drop-sound, price_set-sound}
+use Rattle.book_step.proofs.SoundReconciling.{reconcile-sound, reconcile_statement-sound}
 use Rattle.book_step.proofs.SoundRuns.{schedule_run-sound}
 use Rattle.book_step.proofs.SoundSchedules.{schedule_add-sound, schedule_drop-sound}
 
@@ -80,8 +81,10 @@ outcome-sound state (Import format text account) new answered is e =
 outcome-sound state (Mark split cleared force) new answered is e = absurd cc
 outcome-sound state (LineMatch line split) new answered is e = absurd cc
 outcome-sound state (MatchAuto account window) new answered is e = absurd cc
-outcome-sound state (Reconcile account day closing) new answered is e = absurd cc
-outcome-sound state (ReconcileStatement statement) new answered is e = absurd cc
+outcome-sound state (Reconcile account day closing) new answered is e =
+    reconcile-sound state account day closing new answered is e
+outcome-sound state (ReconcileStatement statement) new answered is e =
+    reconcile_statement-sound state statement new answered is e
 
 -- ---- the fresh state
 

@@ -15,6 +15,7 @@ pub mod Outcome
 pub mod Posting
 pub mod Prices
 pub mod Reconciling
+pub mod Remarking
 pub mod SameTransaction
 pub mod ScheduleRuns
 pub mod Schedules
