@@ -16,12 +16,15 @@ pub mod ImportLemmas
 pub mod ImportWalkLemmas
 pub mod LineAddingLemmas
 pub mod LineLemmas
+pub mod MatchableLemmas
 pub mod Mt940Amounts
 pub mod OutcomeLemmas
 pub mod PostingLemmas
 pub mod PriceLemmas
+pub mod ProposalLemmas
 pub mod QifAmounts
 pub mod ReadAmounts
+pub mod RemarkTable
 pub mod RunLemmas
 pub mod RunWalkLemmas
 pub mod ScheduleLemmas
