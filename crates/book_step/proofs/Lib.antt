@@ -19,6 +19,8 @@ pub mod LineLemmas
 pub mod MatchableLemmas
 pub mod Mt940Amounts
 pub mod OutcomeLemmas
+pub mod PairedEdits
+pub mod PairedLines
 pub mod PostingLemmas
 pub mod PriceLemmas
 pub mod ProposalLemmas
