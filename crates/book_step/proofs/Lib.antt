@@ -16,9 +16,11 @@ pub mod ImportLemmas
 pub mod ImportWalkLemmas
 pub mod LineAddingLemmas
 pub mod LineLemmas
+pub mod MatchWalkLemmas
 pub mod MatchableLemmas
 pub mod Mt940Amounts
 pub mod OutcomeLemmas
+pub mod PairLemmas
 pub mod PairedEdits
 pub mod PairedLines
 pub mod PostingLemmas
@@ -36,6 +38,7 @@ pub mod SoundCommodities
 pub mod SoundEditing
 pub mod SoundImport
 pub mod SoundLineAdding
+pub mod SoundMatching
 pub mod SoundOutcome
 pub mod SoundPosting
 pub mod SoundPrices
@@ -45,3 +48,4 @@ pub mod SoundStep
 pub mod TableWalkLemmas
 pub mod Worked
 pub mod WorkedImport
+pub mod WorkedMatching

@@ -20,8 +20,8 @@ use Rattle.book_undo.proofs.ExactLaws.{AllChange}
 use Rattle.book_sound.proofs.SplitFrames.{above_there}
 use Rattle.book_import.specs.Edits.{line_edits}
 use Rattle.book_match.specs.declared.views.Matched.{Matched}
-use Rattle.book_step.specs.AutoMatching.{becomes_cleared, book_paired, cleared, has_pair, line_paired, lines_newly_paired}
-use Rattle.book_step.specs.AutoMatching.{lines_paired, newly_paired, pairing_edit, split_of, split_paired}
+use Rattle.book_step.specs.AutoMatching.{becomes_cleared, book_paired, cleared, clearing, clears, has_pair, line_paired}
+use Rattle.book_step.specs.AutoMatching.{lines_newly_paired, lines_paired, newly_paired, pairing_edit, split_of}
 use Rattle.book_step.specs.Importing.{whole_edit}
 use Rattle.book_step.specs.LineAdding.{matched_with}
 use Rattle.book_step.specs.Remarking.{ChangesMarksAlone, ChangesWhere, all_remarked, newly_remarked}
@@ -36,18 +36,18 @@ use Rattle.book_step.proofs.RemarkTable.{IsBehind, all_remarked-edits, all_remar
 not_new : (mark : Mark) → mark ≡ Cleared → is_new mark ≡ true → ⊥
 not_new mark is new = absurd (let none = ap is_new is in cc)
 
-pub clearing_alone : (taken : ℕ → Bool) → ChangesMarksAlone (split_paired taken)
+pub clearing_alone : (taken : ℕ → Bool) → ChangesMarksAlone (clearing taken)
 clearing_alone taken = record {
   each = λ day split.
       let rule : Bool → Split = λ b. if b then cleared split else split in
-      elim (becomes_cleared taken day split) as
+      elim (becomes_cleared taken split) as
       (λ (b : Bool). rule b ≡ record split { mark = (rule b).mark; recon = (rule b).recon }) [
         | true ↦ refl
         | false ↦ refl
       ];
 }
 
-pub clearing_where : (taken : ℕ → Bool) → ChangesWhere (becomes_cleared taken) (split_paired taken)
+pub clearing_where : (taken : ℕ → Bool) → ChangesWhere (clears taken) (clearing taken)
 clearing_where taken = record {
   stays = λ day split other. ap (λ (b : Bool). if b then cleared split else split) other;
   changes = λ day split new same.
@@ -118,8 +118,8 @@ pub pairing_leads :
 pairing_leads pairs book r =
     let taken = has_pair pairs in
     let rows = lines_newly_paired (split_of pairs) book.lines in
-    let later : Book = record book { transactions = all_remarked (split_paired taken) book.transactions } in
-    all_remarked-edits (becomes_cleared taken) (split_paired taken) (line_edits rows) book (clearing_where taken)
+    let later : Book = record book { transactions = all_remarked (clearing taken) book.transactions } in
+    all_remarked-edits (clears taken) (clearing taken) (line_edits rows) book (clearing_where taken)
     r.transactions
     ∙ edited_lines rows later
     ∙ ap (λ (lines : List (ℕ × Line)). record later { lines = lines }) (with_paired (split_of pairs) book.lines r.lines)
@@ -174,7 +174,7 @@ pub pairing_exact :
 pairing_exact pairs book r open_ =
     let taken = has_pair pairs in
     let rows = lines_newly_paired (split_of pairs) book.lines in
-    all_remarked-exact (becomes_cleared taken) (split_paired taken) (line_edits rows) (line_leaves rows) book
+    all_remarked-exact (clears taken) (clearing taken) (line_edits rows) (line_leaves rows) book
     (clearing_where taken) r
     (record {
       are = leaves_of_lines rows;
@@ -219,6 +219,6 @@ pub pairing_something :
     → split_of pairs n ≡ Some split → is_nothing (pairing_edit pairs book) ≡ false
 pairing_something pairs book n split line there some =
     let taken = has_pair pairs in
-    something_put (newly_remarked (becomes_cleared taken) (split_paired taken) book.transactions)
+    something_put (newly_remarked (clears taken) (clearing taken) book.transactions)
     (lines_newly_paired (split_of pairs) book.lines)
     (some_paired (split_of pairs) n split line book.lines there some)

@@ -52,21 +52,28 @@ abbrev pub lines_paired : (ℕ → Option ℕ) → List (ℕ × Line) → List (
 lines_paired takes lines = map (λ entry. (entry.0, line_paired (takes entry.0) entry.1)) lines
 
 -- Whether a split is new and is taken. The bank has booked it, and so it becomes cleared (GnuCash Manual, reconciling).
-abbrev pub becomes_cleared : (ℕ → Bool) → ℤ → Split → Bool
-becomes_cleared taken day split = is_new split.mark && taken split.id
+abbrev pub becomes_cleared : (ℕ → Bool) → Split → Bool
+becomes_cleared taken split = is_new split.mark && taken split.id
 
 -- The split, cleared.
 abbrev pub cleared : Split → Split
 cleared split = record split { mark = Cleared }
 
 -- The split, cleared where it becomes so.
-abbrev pub split_paired : (ℕ → Bool) → ℤ → Split → Split
-split_paired taken day split = if becomes_cleared taken day split then cleared split else split
+abbrev pub split_paired : (ℕ → Bool) → Split → Split
+split_paired taken split = if becomes_cleared taken split then cleared split else split
+
+-- The same of a split of any day.
+abbrev pub clears : (ℕ → Bool) → ℤ → Split → Bool
+clears taken day split = becomes_cleared taken split
+
+abbrev pub clearing : (ℕ → Bool) → ℤ → Split → Split
+clearing taken day split = split_paired taken split
 
 -- The book in which all pairs are matched.
 abbrev pub book_paired : List Matched → Book → Book
 book_paired pairs book = record book {
-  transactions = all_remarked (split_paired (has_pair pairs)) book.transactions;
+  transactions = all_remarked (clearing (has_pair pairs)) book.transactions;
   lines = lines_paired (split_of pairs) book.lines;
 }
 
@@ -106,7 +113,7 @@ lines_newly_paired takes lines = flat_map (λ entry. newly_paired entry (takes e
 -- transactions, and behind them those of the lines, by rising keys.
 abbrev pub pairing_edits : (ℕ → Bool) → (ℕ → Option ℕ) → Book → List Edit
 pairing_edits taken takes book =
-    remarking (becomes_cleared taken) (split_paired taken) book.transactions
+    remarking (clears taken) (clearing taken) book.transactions
     ++ line_edits (lines_newly_paired takes book.lines)
 
 -- Those of all pairs: one alone, or else the list of all.

@@ -1,8 +1,8 @@
-ghost use Rattle.std.specs.Prelude.{◌≡◌, ℕ, ◌++◌, ◌∷◌, [], IfOk, OnOk};
+ghost use Rattle.std.specs.Prelude.{◌≡◌, ℕ, ◌++◌, ◌∷◌, [], ◌||◌, filter, map, IfOk};
 ghost use Rattle.std.specs.BTreeSet.{contains};
 ghost use Rattle.std.specs.Ordering.{nat_cmp};
 ghost use Rattle.book_step.specs.Matchable.{free_among, free_of, free_split, free_splits as free_splits_of};
-ghost use Rattle.book_step.specs.Matchable.{is_free, is_matched, line_view, open_lines};
+ghost use Rattle.book_step.specs.Matchable.{has_matched, is_free, is_matched, line_view, open_lines};
 
 use crate::bank_lines::is_open;
 use crate::present::Present;
@@ -23,11 +23,25 @@ pub(crate) fn open_lines(
 {
     let mut views = Vec::new(alloc);
     for (number, line) in lines {
-        if line.account == account && is_open(line) {
-            views.push(line_view(*number, line)?)?;
-        }
+        add_open(&mut views, account, *number, line)?;
     }
     Ok(views)
+}
+
+/// Adds the line where it is an open one of the account.
+fn add_open(
+    views: &mut Vec<LineView>,
+    account: u64,
+    number: u64,
+    line: &Line,
+) -> Result<(), OutOfMemory>
+    ensures { IfOk result (λ _. views.new.items
+        ≡ views.old.items ++ open_lines account ((number, line.now) ∷ [])) }
+{
+    if line.account == account && is_open(line) {
+        views.push(line_view(number, line)?)?;
+    }
+    Ok(())
 }
 
 /// The line as it is matched, with its own reference as its number.
@@ -59,11 +73,20 @@ fn matched_splits(alloc: Global, lines: &[(u64, Line)]) -> Result<BTreeSet<u64>,
 {
     let mut taken = BTreeSet::new(alloc);
     for (_, line) in lines {
-        if let LineState::Matched(split) = line.state {
-            taken.insert(split)?;
-        }
+        add_matched(&mut taken, line.state)?;
     }
     Ok(taken)
+}
+
+/// Adds the number of the split that a line in this state is matched with, if it is.
+fn add_matched(taken: &mut BTreeSet<u64>, state: LineState) -> Result<(), OutOfMemory>
+    ensures { IfOk result (λ _. (number : ℕ) → contains nat_cmp taken.new number
+        ≡ (has_matched number state || contains nat_cmp taken.old number)) }
+{
+    if let LineState::Matched(split) = state {
+        taken.insert(split)?;
+    }
+    Ok(())
 }
 
 /// The splits of the transactions that may be matched, where lines are matched with these.
@@ -87,13 +110,27 @@ fn add_free(
     transaction: &Txn,
     taken: &BTreeSet<u64>,
 ) -> Result<(), OutOfMemory>
-    ensures { OnOk result (free.new.items
+    ensures { IfOk result (λ _. free.new.items
         ≡ free.old.items ++ free_of (contains nat_cmp taken.now) transaction.now) }
 {
     for split in transaction.splits.as_slice() {
-        if is_free(split, taken) {
-            free.push(free_split(transaction.day, split))?;
-        }
+        add_split(free, transaction.day, split, taken)?;
+    }
+    Ok(())
+}
+
+/// Adds the split of a transaction of this day, if it may be matched.
+fn add_split(
+    free: &mut Vec<Free>,
+    day: Day,
+    split: &Split,
+    taken: &BTreeSet<u64>,
+) -> Result<(), OutOfMemory>
+    ensures { IfOk result (λ _. free.new.items ≡ free.old.items
+        ++ map (free_split day) (filter (is_free (contains nat_cmp taken.now)) (split.now ∷ []))) }
+{
+    if is_free(split, taken) {
+        free.push(free_split(day, split))?;
     }
     Ok(())
 }

@@ -1,12 +1,12 @@
-ghost use Rattle.std.specs.Prelude.{◌≡◌, ℕ, ℤ, ◌++◌, IfOk, OnOk, map};
+ghost use Rattle.std.specs.Prelude.{◌≡◌, ℕ, ◌++◌, ◌∷◌, [], IfOk, map};
 ghost use Rattle.std.specs.BTreeMap.{get};
 ghost use Rattle.std.specs.BTreeSet.{contains};
 ghost use Rattle.std.specs.Ordering.{nat_cmp};
 ghost use Rattle.book_undo.specs.declared.edit.Edit.{Put};
 ghost use Rattle.book_undo.specs.declared.thing.Thing.TheVariants as thing;
 ghost use Rattle.book_import.specs.Edits.{line_edits};
-ghost use Rattle.book_step.specs.AutoMatching.{becomes_cleared, has_pair, lines_newly_paired, pairing_edit as edit_of};
-ghost use Rattle.book_step.specs.AutoMatching.{split_of, split_paired};
+ghost use Rattle.book_step.specs.AutoMatching.{becomes_cleared, clearing, clears, has_pair, lines_newly_paired};
+ghost use Rattle.book_step.specs.AutoMatching.{pairing_edit as edit_of, split_of, split_paired};
 ghost use Rattle.book_step.specs.LineAdding.{matched_with};
 ghost use Rattle.book_step.specs.Remarking.{has_touched, remarked, remarking};
 
@@ -62,21 +62,38 @@ fn clearing(
     transactions: &[(u64, Txn)],
     taken: &BTreeSet<u64>,
 ) -> Result<Vec<Edit>, OutOfMemory>
-    ensures { IfOk result (λ edits. edits.items ≡ remarking (becomes_cleared (contains nat_cmp taken.now))
-        (split_paired (contains nat_cmp taken.now)) transactions.now) }
+    ensures { IfOk result (λ edits. edits.items ≡ remarking (clears (contains nat_cmp taken.now))
+        (clearing (contains nat_cmp taken.now)) transactions.now) }
 {
     let mut edits = Vec::new(alloc);
     for (number, transaction) in transactions {
-        if has_cleared(transaction, taken) {
-            edits.push(Edit::Put(*number, Thing::Txn(cleared(alloc, transaction, taken)?)))?;
-        }
+        add_clearing(&mut edits, alloc, *number, transaction, taken)?;
     }
     Ok(edits)
 }
 
+/// Adds the edit that clears the transaction's new splits among those that are taken, where it has one.
+fn add_clearing(
+    edits: &mut Vec<Edit>,
+    alloc: Global,
+    number: u64,
+    transaction: &Txn,
+    taken: &BTreeSet<u64>,
+) -> Result<(), OutOfMemory>
+    ensures { IfOk result (λ _. edits.new.items ≡ edits.old.items ++ remarking
+        (clears (contains nat_cmp taken.now)) (clearing (contains nat_cmp taken.now))
+        ((number, transaction.now) ∷ [])) }
+{
+    if has_cleared(transaction, taken) {
+        let transaction = cleared(alloc, transaction, taken)?;
+        edits.push(Edit::Put(number, Thing::Txn(transaction)))?;
+    }
+    Ok(())
+}
+
 /// Whether one of the transaction's splits is new and taken.
 fn has_cleared(transaction: &Txn, taken: &BTreeSet<u64>) -> bool
-    ensures { result ≡ has_touched (becomes_cleared (contains nat_cmp taken.now)) transaction.now }
+    ensures { result ≡ has_touched (clears (contains nat_cmp taken.now)) transaction.now }
 {
     for split in transaction.splits.as_slice() {
         if becomes_cleared(split, taken) {
@@ -88,7 +105,7 @@ fn has_cleared(transaction: &Txn, taken: &BTreeSet<u64>) -> bool
 
 /// Whether the split is new and taken.
 fn becomes_cleared(split: &Split, taken: &BTreeSet<u64>) -> bool
-    ensures { (day : ℤ) → result ≡ becomes_cleared (contains nat_cmp taken.now) day split.now }
+    ensures { result ≡ becomes_cleared (contains nat_cmp taken.now) split.now }
 {
     match split.mark {
         Mark::New => taken.contains(&split.id),
@@ -102,7 +119,7 @@ fn cleared(
     transaction: &Txn,
     taken: &BTreeSet<u64>,
 ) -> Result<Txn, OutOfMemory>
-    ensures { IfOk result (λ new. new ≡ remarked (split_paired (contains nat_cmp taken.now)) transaction.now) }
+    ensures { IfOk result (λ new. new ≡ remarked (clearing (contains nat_cmp taken.now)) transaction.now) }
 {
     Ok(Txn {
         currency: transaction.currency,
@@ -119,8 +136,7 @@ fn splits_paired(
     splits: &[Split],
     taken: &BTreeSet<u64>,
 ) -> Result<Many<Split>, OutOfMemory>
-    ensures { IfOk result (λ new. (day : ℤ)
-        → new ≡ map (split_paired (contains nat_cmp taken.now) day) splits.now) }
+    ensures { IfOk result (λ new. new ≡ map (split_paired (contains nat_cmp taken.now)) splits.now) }
 {
     let mut paired = Many::new(alloc);
     for split in splits {
@@ -131,7 +147,7 @@ fn splits_paired(
 
 /// The split, cleared where it is new and taken.
 fn split_paired(split: &Split, taken: &BTreeSet<u64>) -> Result<Split, OutOfMemory>
-    ensures { IfOk result (λ new. (day : ℤ) → new ≡ split_paired (contains nat_cmp taken.now) day split.now) }
+    ensures { IfOk result (λ new. new ≡ split_paired (contains nat_cmp taken.now) split.now) }
 {
     let copy = split.copy()?;
     if becomes_cleared(split, taken) {
@@ -149,13 +165,27 @@ fn add_matching(
     lines: &[(u64, Line)],
     takes: &BTreeMap<u64, u64>,
 ) -> Result<(), OutOfMemory>
-    ensures { OnOk result (edits.new.items
+    ensures { IfOk result (λ _. edits.new.items
         ≡ edits.old.items ++ line_edits (lines_newly_paired (get nat_cmp takes.now) lines.now)) }
 {
     for (number, line) in lines {
-        if let Some(split) = takes.get(number) {
-            edits.push(matching(*number, line, *split)?)?;
-        }
+        add_line(edits, *number, line, takes)?;
+    }
+    Ok(())
+}
+
+/// Adds the edit that matches the line with the split that it takes, if it takes one.
+fn add_line(
+    edits: &mut Vec<Edit>,
+    number: u64,
+    line: &Line,
+    takes: &BTreeMap<u64, u64>,
+) -> Result<(), OutOfMemory>
+    ensures { IfOk result (λ _. edits.new.items ≡ edits.old.items
+        ++ line_edits (lines_newly_paired (get nat_cmp takes.now) ((number, line.now) ∷ []))) }
+{
+    if let Some(split) = takes.get(&number) {
+        edits.push(matching(number, line, *split)?)?;
     }
     Ok(())
 }
