@@ -34,17 +34,17 @@ use Rattle.book_step.proofs.SoundImport.{below-next}
 
 -- ---- one edit alone, or the list of all
 
-edited_whole : (edits : List Edit) (book : Book) → edited (whole_edit edits) book ≡ edited_all edits book
+pub edited_whole : (edits : List Edit) (book : Book) → edited (whole_edit edits) book ≡ edited_all edits book
 edited_whole [] book = edited_of_all [] book
 edited_whole (edit ∷ []) book = refl
 edited_whole (edit ∷ next ∷ more) book = edited_of_all (edit ∷ next ∷ more) book
 
-leaves_whole : (edits : List Edit) → leaves (whole_edit edits) ≡ flat_map leaves edits
+pub leaves_whole : (edits : List Edit) → leaves (whole_edit edits) ≡ flat_map leaves edits
 leaves_whole [] = leaves_of_all []
 leaves_whole (edit ∷ []) = sym (append-nil (leaves edit))
 leaves_whole (edit ∷ next ∷ more) = leaves_of_all (edit ∷ next ∷ more)
 
-shallow_whole : (edits : List Edit) → deepest edits ≡ 0 → nat_lt 8 (depth (whole_edit edits)) ≡ false
+pub shallow_whole : (edits : List Edit) → deepest edits ≡ 0 → nat_lt 8 (depth (whole_edit edits)) ≡ false
 shallow_whole [] flat = let deep = depth_of_all [] in grind (arith, nat_tests, deep)
 shallow_whole (edit ∷ []) flat = grind (arith, nat_tests, flat)
 shallow_whole (edit ∷ next ∷ more) flat =

@@ -16,6 +16,7 @@ pub mod ImportLemmas
 pub mod ImportWalkLemmas
 pub mod LineAddingLemmas
 pub mod LineLemmas
+pub mod MatchStepLemmas
 pub mod MatchWalkLemmas
 pub mod MatchableLemmas
 pub mod Mt940Amounts
@@ -45,6 +46,7 @@ pub mod SoundPrices
 pub mod SoundRuns
 pub mod SoundSchedules
 pub mod SoundStep
+pub mod SplitsOnce
 pub mod TableWalkLemmas
 pub mod Worked
 pub mod WorkedImport

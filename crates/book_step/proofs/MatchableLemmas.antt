@@ -9,7 +9,6 @@ use Rattle.std.proofs.lemmas.Bool.Decides.{nat_tests}
 use Rattle.std.proofs.lemmas.List.{map-append}
 use Rattle.std.proofs.lemmas.List.Elements.{All-append, All-cons, All-head, All-map, All-nil, All-tail, All-weaker}
 use Rattle.std.proofs.lemmas.List.Elements.{filter-append}
-use Rattle.std.proofs.lemmas.List.Folds.{list_any-append}
 use Rattle.book_commodity.specs.Rules.{stands_before}
 use Rattle.book_commodity.specs.Table.{Rises, value_of}
 use Rattle.book_splits.specs.Balance.{splits_of}
@@ -25,91 +24,13 @@ use Rattle.book_match.specs.declared.views.SplitView.{SplitView}
 use Rattle.book_sound.specs.LineRules.{split_among, split_at}
 use Rattle.book_sound.specs.Soundness.{IsSoundBook}
 use Rattle.book_sound.proofs.OwnFrames.{all_of_each}
-use Rattle.book_sound.proofs.SplitFrames.{above_there, found_among, split_of_one}
+use Rattle.book_sound.proofs.SplitFrames.{found_among, split_of_one}
 use Rattle.book_undo.specs.Book.{Book}
 use Rattle.book_step.specs.BankLines.{is_open}
 use Rattle.book_step.specs.Matchable.{free_among, free_of, free_split, is_free, is_open_on, line_view, open_lines}
 use Rattle.book_step.proofs.ProposalLemmas.{filter-holds}
 
--- ---- the numbers of all splits of a book stand once
-
--- numbers that aren't shared: the first isn't among the others, and neither are the rest
-first_apart :
-    (x : ℕ) (xs ys : List ℕ) → list_any (is_among (x ∷ xs)) ys ≡ false
-    → (is_among ys x ≡ false) × (list_any (is_among xs) ys ≡ false)
-first_apart x xs [] none = (refl, refl)
-first_apart x xs (y ∷ ys) none =
-    let here = or_parts (is_among (x ∷ xs) y) (list_any (is_among (x ∷ xs)) ys) none in
-    let parts = or_parts (x == y) (is_among xs y) here.0 in
-    let rest = first_apart x xs ys here.1 in
-    let differs : (y == x) ≡ false = grind (arith, nat_tests, parts.0) in
-    (or_from (y == x) (is_among ys x) differs rest.0, or_from (is_among xs y) _ parts.1 rest.1)
-
-once_both :
-    (xs ys : List ℕ) → are_once xs ≡ true → are_once ys ≡ true → list_any (is_among xs) ys ≡ false
-    → are_once (xs ++ ys) ≡ true
-once_both [] ys once others apart = others
-once_both (x ∷ xs) ys once others apart =
-    let own = and_parts (not (is_among xs x)) (are_once xs) once in
-    let first = first_apart x xs ys apart in
-    let none : is_among (xs ++ ys) x ≡ false = list_any-append (λ (other : ℕ). other == x) xs ys
-    ∙ or_from (is_among xs x) (is_among ys x) (not-true _ own.0) first.0 in
-    and_from (not (is_among (xs ++ ys) x)) (are_once (xs ++ ys)) (not_from_false _ none)
-    (once_both xs ys own.1 others first.1)
-
--- each transaction has its numbers once, and none before it has one of them
-abbrev HaveOwn : List (ℕ × Txn) → Type 0
-HaveOwn ts = (k : ℕ) (t : Txn) → value_of k ts ≡ Some t
-    → (are_once (numbers_of t.splits) ≡ true) × (stands_before (share_numbers t) k ts ≡ false)
-
--- a later transaction shares none with the first, nor with one between
-apart_from_first :
-    (first : ℕ × Txn) (ts : List (ℕ × Txn)) (k : ℕ) (t : Txn) → Rises (first ∷ ts) → value_of k ts ≡ Some t
-    → HaveOwn (first ∷ ts)
-    → (are_once (numbers_of t.splits) ≡ true) × (share_numbers t first.1 ≡ false)
-    × (stands_before (share_numbers t) k ts ≡ false)
-apart_from_first first ts k t r there own =
-    let past = above_there first.0 k t ts r.0 there in
-    let found : value_of k (first ∷ ts) ≡ Some t = grind (arith, nat_tests, past, there) in
-    let has = own k t found in
-    let parts = or_parts (nat_lt first.0 k && share_numbers t first.1) (stands_before (share_numbers t) k ts) has.1 in
-    let before : nat_lt first.0 k ≡ true = grind (arith, nat_tests, past) in
-    (has.0, sym (ap (λ (b : Bool). b && share_numbers t first.1) before) ∙ parts.0, parts.1)
-
--- so the numbers of the first aren't among those of the later ones
-none_later :
-    (first : Txn) (ts : List (ℕ × Txn)) → All (λ (e : ℕ × Txn). share_numbers e.1 first ≡ false) ts
-    → list_any (is_among (numbers_of first.splits)) (numbers_of (splits_of ts)) ≡ false
-none_later first [] apart = refl
-none_later first (e ∷ ts) apart =
-    let Apart : ℕ × Txn → Type 0 = λ x. share_numbers x.1 first ≡ false in
-    let asked = is_among (numbers_of first.splits) in
-    ap (list_any asked) (map-append (λ (split : Split). split.id) e.1.splits (splits_of ts))
-    ∙ list_any-append asked (numbers_of e.1.splits) (numbers_of (splits_of ts))
-    ∙ or_from (list_any asked (numbers_of e.1.splits)) _ (All-head Apart e ts apart)
-    (none_later first ts (All-tail Apart e ts apart))
-
-once_all : (ts : List (ℕ × Txn)) → Rises ts → HaveOwn ts → are_once (numbers_of (splits_of ts)) ≡ true
-once_all [] r own = refl
-once_all (e ∷ ts) r own =
-    let here : value_of e.0 (e ∷ ts) ≡ Some e.1 = grind (arith, nat_tests) in
-    let later = all_of_each (λ (x : ℕ × Txn). share_numbers x.1 e.1 ≡ false) ts r.1
-    (λ k t there. (apart_from_first e ts k t r there own).1) in
-    let rest = once_all ts r.1
-    (λ k t there. let has = apart_from_first e ts k t r there own in (has.0, has.2)) in
-    ap are_once (map-append (λ (split : Split). split.id) e.1.splits (splits_of ts))
-    ∙ once_both (numbers_of e.1.splits) (numbers_of (splits_of ts)) (own e.0 e.1 here).0 rest (none_later e.1 ts later)
-
--- the transactions of a sound book have their own numbers
-own_numbers : (book : Book) → IsSoundBook book → HaveOwn book.transactions
-own_numbers book is k t there =
-    let kept = is.transactions.keep.each k t there in (kept.1.0, not-true _ kept.1.1.0)
-
--- Each split of a sound book has a number of its own.
-pub numbers_once : (book : Book) → IsSoundBook book → are_once (numbers_of (splits_of book.transactions)) ≡ true
-numbers_once book is = once_all book.transactions is.transactions.rise (own_numbers book is)
-
--- ---- so no split is twice among those that may be matched
+-- ---- no split is twice among those that may be matched
 
 last_differs : (a b c d : Bool) → d ≡ false → (a && (b && (c && d))) ≡ false
 last_differs false b c d e = refl
@@ -183,6 +104,7 @@ once_fewer test (s ∷ splits) once =
       | false ↦ rest
     ]
 
+-- In a book whose splits have numbers of their own, those that may be matched are apart.
 pub free_apart :
     (taken : ℕ → Bool) (ts : List (ℕ × Txn)) → are_once (numbers_of (splits_of ts)) ≡ true
     → AreApart (free_among taken ts)
@@ -228,12 +150,18 @@ pub record IsFreeIn (taken : ℕ → Bool) (ts : List (ℕ × Txn)) (free : Free
   pub amount : split.quantity ≡ free.amount
   pub untaken : taken free.split ≡ false
 
+-- the numbers of a transaction's splits stand once in it, and none before it has one of them
+own_numbers :
+    (book : Book) (k : ℕ) (t : Txn) → IsSoundBook book → value_of k book.transactions ≡ Some t
+    → (are_once (numbers_of t.splits) ≡ true) × (stands_before (share_numbers t) k book.transactions ≡ false)
+own_numbers book k t is there = let kept = is.transactions.keep.each k t there in (kept.1.0, not-true _ kept.1.1.0)
+
 own_free :
     (book : Book) (taken : ℕ → Bool) (k : ℕ) (t : Txn) → IsSoundBook book → value_of k book.transactions ≡ Some t
     → All (IsFreeIn taken book.transactions) (free_of taken t)
 own_free book taken k t is there =
     let ts = book.transactions in
-    let own = own_numbers book is k t there in
+    let own = own_numbers book k t is there in
     let Found : Split → Type 0 = λ s. split_among s.id t.splits ≡ Some s in
     let Free_ : Split → Type 0 = λ s. Found s × (is_free taken s ≡ true) in
     All-map (IsFreeIn taken ts) (free_split t.day) (filter (is_free taken) t.splits)

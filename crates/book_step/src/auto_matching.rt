@@ -14,8 +14,8 @@ use book_match::{Matched, propose_kept};
 const MAX_WINDOW: u64 = 366;
 
 /// All pairs are matched that are proposed for the account. Each of its open lines takes one of its splits that no line
-/// has and that aren't reconciled: the nearest with the line's amount, at most `window` days away. The lines take turns
-/// by day and number. A new split that is taken becomes cleared.
+/// has and that aren't reconciled: the nearest with the line's amount, at most `window` days away. The lines choose
+/// by day and number, one after another. A new split that is taken becomes cleared.
 pub(crate) fn match_auto(present: &Present, account: u64, window: u64) -> Result<Step, Refusal>
     ensures { StepsTo present.now (match_auto present.now account window) result }
 {
@@ -24,7 +24,7 @@ pub(crate) fn match_auto(present: &Present, account: u64, window: u64) -> Result
     if pairs.is_empty() {
         return Ok(Step::leaving(present, Answer::MatchAuto { pairs }));
     }
-    let edit = pairing_edit(present, pairs.as_slice())?;
+    let edit = pairing_edit(present.alloc, present.plain, pairs.as_slice())?;
     Step::changing(present, 0, edit, Answer::MatchAuto { pairs })
 }
 

@@ -2,6 +2,7 @@ ghost use Rattle.std.specs.Prelude.{◌≡◌, ℕ, ◌++◌, ◌∷◌, [], IfO
 ghost use Rattle.std.specs.BTreeMap.{get};
 ghost use Rattle.std.specs.BTreeSet.{contains};
 ghost use Rattle.std.specs.Ordering.{nat_cmp};
+ghost use Rattle.book_undo.specs.Book.{book_of};
 ghost use Rattle.book_undo.specs.declared.edit.Edit.{Put};
 ghost use Rattle.book_undo.specs.declared.thing.Thing.TheVariants as thing;
 ghost use Rattle.book_import.specs.Edits.{line_edits};
@@ -12,23 +13,25 @@ ghost use Rattle.book_step.specs.Remarking.{has_touched, remarked, remarking};
 
 use crate::importing::whole_edit;
 use crate::line_adding::matched_with;
-use crate::present::Present;
 use book_commodity::{Many, OutOfMemory};
 use book_match::Matched;
 use book_splits::{Mark, Split, Txn};
 use book_statement::Line;
-use book_undo::{Edit, Thing};
+use book_undo::{Edit, Plain, Thing};
 use std::alloc::Global;
 use std::collections::{BTreeMap, BTreeSet};
 
 /// The edit that matches the line of each pair with its split, and clears the split where it is new.
-pub(crate) fn pairing_edit(present: &Present, pairs: &[Matched]) -> Result<Edit, OutOfMemory>
-    ensures { IfOk result (λ edit. edit ≡ edit_of pairs.now present.now.book) }
+pub(crate) fn pairing_edit(
+    alloc: Global,
+    plain: &Plain,
+    pairs: &[Matched],
+) -> Result<Edit, OutOfMemory>
+    ensures { IfOk result (λ edit. edit ≡ edit_of pairs.now (book_of plain.now)) }
 {
-    let plain = present.plain;
-    let taken = paired_splits(present.alloc, pairs)?;
-    let mut edits = clearing(present.alloc, plain.transactions.as_slice(), &taken)?;
-    let takes = splits_by_line(present.alloc, pairs)?;
+    let taken = paired_splits(alloc, pairs)?;
+    let mut edits = clearing(alloc, plain.transactions.as_slice(), &taken)?;
+    let takes = splits_by_line(alloc, pairs)?;
     add_matching(&mut edits, plain.lines.as_slice(), &takes)?;
     Ok(whole_edit(Many::of(edits)))
 }
