@@ -36,6 +36,7 @@ use Rattle.book_command.specs.declared.rule.Rule.TheVariants.{BadStatement}
 use Rattle.book_step.specs.Accounts.{account_drop_of, account_edit_at, add_rules, drop_rules, edit_rules}
 use Rattle.book_step.specs.Accounts.{stays, with_given}
 use Rattle.book_step.specs.Accounts.{unknown_account}
+use Rattle.book_step.specs.AutoMatching.{book_paired, match_rules, matches}
 use Rattle.book_step.specs.BankLines.{in_state, is_open, line_dismiss_at, line_reopen_at, line_taken}
 use Rattle.book_step.specs.Bindings as bindings
 use Rattle.book_step.specs.Bindings.{account_rules, bind_at, binding_of}
@@ -283,7 +284,10 @@ outcome_moves state (Import format text account) new reply e =
     (said state.book.commodities text format) new reply e
 outcome_moves state (Mark split cleared force) new reply e = absurd cc
 outcome_moves state (LineMatch line split) new reply e = absurd cc
-outcome_moves state (MatchAuto account window) new reply e = absurd cc
+outcome_moves state (MatchAuto account window) new reply e =
+    let pairs = matches state.book account window in
+    either_moves (length pairs == 0) state (match_rules state.book account window) (book_paired pairs state.book) 0
+    (answer.MatchAuto pairs) (answer.MatchAuto pairs) new reply e
 outcome_moves state (Reconcile account day closing) new reply e =
     reconcile_moves state (unknown_account state.book.accounts account ∷ [])
     (λ number marked. answer.Reconcile number marked) account day closing new reply e

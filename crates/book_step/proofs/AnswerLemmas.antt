@@ -25,6 +25,7 @@ use Rattle.book_step.specs.Accounts.{stays, with_given}
 use Rattle.book_step.specs.Accounts.{unknown_account}
 use Rattle.book_step.specs.AnswerBalances.{PutsAnswered, PutsUnder, balances_at, balances_of, with_balances}
 use Rattle.book_step.specs.AnswerBalances.{without_balances}
+use Rattle.book_step.specs.AutoMatching.{book_paired, match_rules, matches}
 use Rattle.book_step.specs.BankLines.{in_state, is_open, line_dismiss_at, line_reopen_at, line_taken}
 use Rattle.book_step.specs.Bindings as bindings
 use Rattle.book_step.specs.Bindings.{account_rules, bind_at, binding_of}
@@ -352,7 +353,10 @@ answered state (Import format text account) new reply e =
     new reply e
 answered state (Mark split cleared force) new reply e = absurd cc
 answered state (LineMatch line split) new reply e = absurd cc
-answered state (MatchAuto account window) new reply e = absurd cc
+answered state (MatchAuto account window) new reply e =
+    let pairs = matches state.book account window in
+    either_answered (length pairs == 0) state (match_rules state.book account window) (book_paired pairs state.book)
+    (answer.MatchAuto pairs) new reply (λ s. tt) e
 answered state (Reconcile account day closing) new reply e =
     reconciled_answered state (unknown_account state.book.accounts account ∷ [])
     (λ number marked. answer.Reconcile number marked) account day closing new reply (λ s number marked. tt) e

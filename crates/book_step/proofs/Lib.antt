@@ -17,10 +17,17 @@ pub mod ImportLemmas
 pub mod ImportWalkLemmas
 pub mod LineAddingLemmas
 pub mod LineLemmas
+pub mod MatchStepLemmas
+pub mod MatchWalkLemmas
+pub mod MatchableLemmas
 pub mod Mt940Amounts
 pub mod OutcomeLemmas
+pub mod PairLemmas
+pub mod PairedEdits
+pub mod PairedLines
 pub mod PostingLemmas
 pub mod PriceLemmas
+pub mod ProposalLemmas
 pub mod QifAmounts
 pub mod ReadAmounts
 pub mod ReconcileLemmas
@@ -34,6 +41,7 @@ pub mod SoundCommodities
 pub mod SoundEditing
 pub mod SoundImport
 pub mod SoundLineAdding
+pub mod SoundMatching
 pub mod SoundOutcome
 pub mod SoundPosting
 pub mod SoundPrices
@@ -46,3 +54,4 @@ pub mod TableWalkLemmas
 pub mod Worked
 pub mod WorkedImport
 pub mod WorkedReconciling
+pub mod WorkedMatching

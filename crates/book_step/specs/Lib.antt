@@ -11,6 +11,7 @@ pub mod InUse
 pub mod LineAdding
 pub mod LineMatching
 pub mod Marking
+pub mod Matchable
 pub mod Outcome
 pub mod Posting
 pub mod Prices

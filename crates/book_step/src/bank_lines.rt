@@ -60,7 +60,7 @@ pub(crate) fn check_open(number: u64, line: &Line) -> Result<(), Rule>
 }
 
 /// Whether the line is neither matched with a split nor dismissed.
-fn is_open(line: &Line) -> bool
+pub(crate) fn is_open(line: &Line) -> bool
     ensures { result ≡ is_open line.now.state }
 {
     match line.state {

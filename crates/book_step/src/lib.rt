@@ -23,6 +23,8 @@ mod in_use;
 mod line_adding;
 mod line_matching;
 mod marking;
+mod matchable;
+mod pairing;
 mod posting;
 mod present;
 mod prices;
