@@ -12,8 +12,11 @@ pub mod ExactLemmas
 pub mod ExactLines
 pub mod ExactRuns
 pub mod FormatAmounts
+pub mod ImportLaws
 pub mod ImportLemmas
 pub mod ImportWalkLemmas
+pub mod KeepLaws
+pub mod KeepLemmas
 pub mod LineAddingLemmas
 pub mod LineLemmas
 pub mod Mt940Amounts
@@ -38,5 +41,6 @@ pub mod SoundRuns
 pub mod SoundSchedules
 pub mod SoundStep
 pub mod TableWalkLemmas
+pub mod ThereLemmas
 pub mod Worked
 pub mod WorkedImport

@@ -77,7 +77,7 @@ none-equal held (e ∷ es) none =
     go false among found more none = more none
 
 -- what stands there still does with others behind
-value-front :
+pub value-front :
     {T : Type 0} (n : ℕ) (x : T) (es more : List (ℕ × T)) → value_of n es ≡ Some x → value_of n (es ++ more) ≡ Some x
 value-front n x [] more there = absurd cc
 value-front {T} n x (e ∷ es) more there = go (n == e.0) (value-front n x es more) there
