@@ -14,12 +14,7 @@ use book_undo::Plain;
 use std::alloc::Global;
 
 /// STUB
-pub(crate) fn reconcile(
-    present: &Present,
-    account: u64,
-    day: Day,
-    closing: i64,
-) -> Result<Step, Refusal>
+pub(crate) fn reconcile(present: &Present, account: u64, day: Day, closing: i64) -> Result<Step, Refusal>
     ensures { StepsTo present.now (reconcile present.now account day closing) result }
 {
     Err(Refusal::OutOfMemory)
