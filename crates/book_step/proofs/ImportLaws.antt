@@ -1,7 +1,7 @@
--- What an import of a file comes to in a book: when it leaves the state, that all of the file is there after it, and that
--- the order of two imports does not matter for the keys and the statements.
+-- What an import of a file comes to in a book: when it leaves the state, that all of the file is there after it, and
+-- that two imports in either order leave the same keys and the same statements.
 use Rattle.std.proofs.Common.{◌≡◌, ℕ, ◌+◌, ◌==◌, ◌||◌, nat_lt, Bool, true, false, if◌then◌else◌, List, []}
-use Rattle.std.proofs.Common.{◌∷◌, ◌++◌, length, map, Option, Some, None, Ok, Err, Result, refl, sym, ap, subst, ◌∙◌}
+use Rattle.std.proofs.Common.{◌∷◌, ◌++◌, length, map, Option, Ok, Err, Result, refl, sym, ap, subst, ◌∙◌}
 use Rattle.std.proofs.Common.{arith}
 use Rattle.std.specs.Prelude.{IfOk}
 use Rattle.std.proofs.Math.ListN.{length-append}
@@ -18,7 +18,7 @@ use Rattle.book_statement.specs.declared.line_key.LineKey.{LineKey}
 use Rattle.book_statement.specs.declared.statement.Statement.{Statement}
 use Rattle.book_undo.specs.Book.{Book}
 use Rattle.book_undo.specs.Edit.{is_nothing}
-use Rattle.book_import.specs.Import.{has_key, imported}
+use Rattle.book_import.specs.Import.{has_key}
 use Rattle.book_import.specs.Laws.{AreThere, count_lines, is_among, keys_in, only_seen}
 use Rattle.book_import.specs.declared.added.Additions.{Additions}
 use Rattle.book_import.proofs.ImportLaws.{imported-keys, imported-nothing}
@@ -30,9 +30,9 @@ use Rattle.book_command.specs.declared.refusal.Refusal.{Refusal}
 use Rattle.book_command.specs.declared.rule.Rule.{Rule}
 use Rattle.book_command.specs.declared.rule.Rule.TheVariants.{BadStatement, Limit}
 use Rattle.book_step.specs.Importing.{added_by, adds_nothing, book_with, bound_to, drawn_by, file_rules, given_rules}
-use Rattle.book_step.specs.Importing.{import_answer, import_of, import_said, room_rules, said, too_many_lines}
-use Rattle.book_step.specs.Importing.{too_many_statements}
-use Rattle.book_step.specs.Laws.{HasFile, SameKeys, SameStatements, bound_in, file_of, has_statement, is_in_file, lines_in}
+use Rattle.book_step.specs.Importing.{import_answer, import_of, import_said, room_rules, said}
+use Rattle.book_step.specs.Laws.{HasFile, SameKeys, SameStatements, bound_in, file_of, has_statement, is_in_file}
+use Rattle.book_step.specs.Laws.{lines_in}
 use Rattle.book_step.specs.Outcome.{Broken, Done, StepsTo, after, changed, changing, leaving, numbers, unless_broken}
 use Rattle.book_step.specs.Outcome.{version_after}
 use Rattle.book_step.specs.State.{State}
@@ -106,7 +106,8 @@ is-added state rules added new answered e = go (adds_nothing added) refl e
         }
 
 -- The file says these statements, and what they add led to the state with this answer.
-record IsImported (state : State) (format : Format) (text : List ℕ) (given : Option ℕ) (new : State) (answered : Answer) :
+record IsImported
+    (state : State) (format : Format) (text : List ℕ) (given : Option ℕ) (new : State) (answered : Answer) :
     Type 0 where
   statements : List Statement
   says : said state.book.commodities text format ≡ Ok statements
@@ -285,8 +286,11 @@ pub import-again :
 import-again state format text given new answered e =
     let is = is-imported state format text given new answered e in
     let there = import-there state format text given new answered e in
-    let whole : record { book = book_with state.book (added_by state given is.statements); next = new.next; version = new.version }
-    ≡ new = (λ i. record { book = sym is.added.book i; next = new.next; version = new.version }) in
+    let whole : record {
+      book = book_with state.book (added_by state given is.statements);
+      next = new.next;
+      version = new.version;
+    } ≡ new = (λ i. record { book = sym is.added.book i; next = new.next; version = new.version }) in
     subst (λ (s : State). outcome s (Import format text given)
     ≡ Done s (answer.Import [] [] (lines_in state.book format text given))) whole
     (again-there state format text given is.statements (added_by state given is.statements) new.next new.version

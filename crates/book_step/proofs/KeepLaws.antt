@@ -1,6 +1,6 @@
 -- No command takes a line of a bank statement or a statement out of the book.
-use Rattle.std.proofs.Common.{◌≡◌, ℕ, ℤ, ◌+◌, ◌==◌, ◌||◌, Bool, true, false, cond, if◌then◌else◌, List, []}
-use Rattle.std.proofs.Common.{◌∷◌, ◌++◌, length, map, Option, Some, None, Ok, Err, Result, refl, sym, ap, subst, ◌∙◌}
+use Rattle.std.proofs.Common.{◌≡◌, ℕ, ℤ, ◌+◌, ◌==◌, ◌||◌, Bool, true, false, cond, List, []}
+use Rattle.std.proofs.Common.{◌∷◌, ◌++◌, length, map, Option, Some, None, Ok, Err, Result, refl, ap, ◌∙◌}
 use Rattle.std.proofs.Common.{arith}
 use Rattle.std.specs.Prelude.{IfOk}
 use Rattle.std.specs.List.{list_any}
@@ -14,23 +14,20 @@ use Rattle.book_schedule.specs.declared.recurrence.Recurrence.{Recurrence}
 use Rattle.book_splits.specs.declared.transaction.Txn.{Txn}
 use Rattle.book_statement.specs.declared.binding.Binding.{Binding}
 use Rattle.book_statement.specs.declared.fault.StatementFault.{StatementFault}
-use Rattle.book_statement.specs.declared.held.Held.{Held}
 use Rattle.book_statement.specs.declared.line.Line.{Line}
 use Rattle.book_statement.specs.declared.line_key.LineKey.{LineKey}
 use Rattle.book_statement.specs.declared.line_state.LineState.TheVariants.{Open, Matched, Dismissed}
 use Rattle.book_statement.specs.declared.statement.Statement.{Statement}
 use Rattle.book_sound.specs.Dismissal.{loses_split}
 use Rattle.book_sound.specs.LineRules.{is_same_key, key_of_line}
-use Rattle.book_undo.specs.Book.{Book, with_currency, with_thing, without_thing}
+use Rattle.book_undo.specs.Book.{with_currency, with_thing, without_thing}
 use Rattle.book_undo.specs.Edit.{edited}
-use Rattle.book_undo.specs.declared.schedule.Schedule.{Schedule}
 use Rattle.book_undo.specs.declared.thing.Thing.TheVariants as thing
 use Rattle.book_undo.specs.declared.thing.ThingKind.TheVariants as thing_kind
 use Rattle.book_import.specs.Import.{has_key}
 use Rattle.book_import.specs.declared.added.Additions.{Additions}
 use Rattle.book_command.specs.declared.answer.Answer.{Answer}
 use Rattle.book_command.specs.declared.answer.Answer.TheVariants as answer
-use Rattle.book_command.specs.declared.command.Format.{Format}
 use Rattle.book_command.specs.declared.command.GivenAccount.{GivenAccount}
 use Rattle.book_command.specs.declared.command.GivenOther.{GivenOther}
 use Rattle.book_command.specs.declared.command.GivenSchedule.{GivenSchedule}
@@ -58,7 +55,7 @@ use Rattle.book_step.specs.Editing as editing
 use Rattle.book_step.specs.Importing as importing
 use Rattle.book_step.specs.Laws.{KeepsLines, KeepsStatements, SaysSame}
 use Rattle.book_step.specs.LineAdding as line_adding
-use Rattle.book_step.specs.Outcome.{Broken, Done, IsStepTo, StepsTo, after, changing, leaving}
+use Rattle.book_step.specs.Outcome.{Broken, Done, IsStepTo, StepsTo, after}
 use Rattle.book_step.specs.Posting.{new_transaction, post_answer, post_rules}
 use Rattle.book_step.specs.Prices as prices
 use Rattle.book_step.specs.SameTransaction.{same_transaction}

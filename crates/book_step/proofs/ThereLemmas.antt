@@ -1,9 +1,9 @@
 -- After an import of a file all of it is in the book, and of statements no others than were there.
-use Rattle.std.proofs.Common.{◌≡◌, ℕ, ℤ, ◌+◌, ◌==◌, ◌&&◌, ◌||◌, Bool, true, false, cond, is_some, List, [], ◌∷◌, ◌++◌}
+use Rattle.std.proofs.Common.{◌≡◌, ℕ, ◌+◌, ◌&&◌, ◌||◌, Bool, true, false, cond, is_some, List, [], ◌∷◌, ◌++◌}
 use Rattle.std.proofs.Common.{Option, Some, None, unwrap_or, refl, sym, ap, ◌∙◌, append_assoc, IsSome}
 use Rattle.std.specs.Bool.{Decides, beq}
 use Rattle.std.specs.Cmp.{booleans_Decides}
-use Rattle.std.specs.List.{list_all, list_any}
+use Rattle.std.specs.List.{list_all}
 use Rattle.std.specs.Option.{option_eq}
 use Rattle.std.specs.Ordering.{int_eq}
 use Rattle.std.proofs.lemmas.Bool.Decides.{Decides-eqb, Decides-int_eq, Decides-like}
@@ -11,15 +11,15 @@ use Rattle.std.proofs.lemmas.List.{append-nil}
 use Rattle.std.proofs.lemmas.List.Folds.{list_any-append}
 use Rattle.std.proofs.lemmas.Slice.Eq.{bytes_eq-Decides}
 use Rattle.book_commodity.specs.Decision.{both_decide}
-use Rattle.book_statement.specs.Keys.{keys_of, same_text}
+use Rattle.book_statement.specs.Keys.{keys_of}
 use Rattle.book_statement.specs.declared.held.Held.{Held}
 use Rattle.book_statement.specs.declared.line.Line.{Line}
 use Rattle.book_statement.specs.declared.line_key.LineKey.{LineKey}
-use Rattle.book_statement.specs.declared.line_state.LineState.TheVariants.{Open}
 use Rattle.book_statement.specs.declared.statement_line.StatementLine.{StatementLine}
 use Rattle.book_sound.specs.LineRules.{is_same_key}
 use Rattle.book_sound.specs.StatementRules.{is_same_statement}
-use Rattle.book_import.specs.Import.{Bound, has_key, held_of, imported, new_line, nothing_added, number_among, with_held}
+use Rattle.book_import.specs.Import.{Bound, has_key, held_of, imported, new_line, nothing_added, number_among}
+use Rattle.book_import.specs.Import.{with_held}
 use Rattle.book_import.specs.Import.{with_line, with_lines, with_statement, with_statements}
 use Rattle.book_import.specs.Laws.{AreThere, is_among, keys_in}
 use Rattle.book_import.specs.declared.added.Additions.{Additions}

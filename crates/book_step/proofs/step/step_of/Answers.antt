@@ -1,7 +1,7 @@
 use Rattle.std.proofs.Common.{subst}
 use Rattle.book_command.specs.declared.command.Update.{Update}
 use Rattle.book_step.specs.Outcome.{StepsTo}
-use Rattle.book_step.specs.State.{State, state_of}
+use Rattle.book_step.specs.State.{state_of}
 use Rattle.book_step.specs.Step.{outcome}
 use Rattle.book_step.proofs.ImportLaws.{step-leaves}
 use Rattle.book_step.proofs.KeepLaws.{step-keeps-lines, step-keeps-statements}
