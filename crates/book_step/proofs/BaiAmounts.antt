@@ -1,6 +1,6 @@
 -- The lines that a BAI2 file says have amounts that a book may hold.
 use Rattle.std.proofs.Common.{◌≡◌, ℕ, nat_le, Bool, true, false, ◌&&◌, ℤ, pos, neg_ℤ, List, [], ◌∷◌, ◌++◌, length, Option}
-use Rattle.std.proofs.Common.{if◌then◌else◌, Some, None, Ok, refl, sym, subst, slice_index, ◌==◌}
+use Rattle.std.proofs.Common.{if◌then◌else◌, Some, None, Ok, refl, subst, slice_index, ◌==◌}
 use Rattle.book_splits.specs.Check.{is_over_limit}
 use Rattle.book_commodity.specs.declared.commodity.Commodity.{Commodity}
 use Rattle.book_statement.specs.Checks.{first_fault}

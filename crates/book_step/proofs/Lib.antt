@@ -13,8 +13,11 @@ pub mod ExactLines
 pub mod ExactReconciling
 pub mod ExactRuns
 pub mod FormatAmounts
+pub mod ImportLaws
 pub mod ImportLemmas
 pub mod ImportWalkLemmas
+pub mod KeepLaws
+pub mod KeepLemmas
 pub mod LineAddingLemmas
 pub mod LineLemmas
 pub mod MatchStepLemmas
@@ -51,6 +54,7 @@ pub mod SoundSchedules
 pub mod SoundStep
 pub mod SplitsOnce
 pub mod TableWalkLemmas
+pub mod ThereLemmas
 pub mod Worked
 pub mod WorkedImport
 pub mod WorkedReconciling

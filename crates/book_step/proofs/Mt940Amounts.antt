@@ -5,7 +5,7 @@ use Rattle.std.specs.List.{AllByRecursion, after_first, before_first}
 use Rattle.book_splits.specs.Check.{is_over_limit}
 use Rattle.book_commodity.specs.declared.commodity.Commodity.{Commodity}
 use Rattle.book_statement.specs.Checks.{check, first_bad, first_fault}
-use Rattle.book_statement.specs.Lists.{each_after, grouped, in_front}
+use Rattle.book_statement.specs.Lists.{each_after, in_front}
 use Rattle.book_statement.specs.Numbers.{units}
 use Rattle.book_statement.specs.Texts.{lines_of}
 use Rattle.book_statement.specs.declared.bad.Bad.TheVariants.{FieldOrder, TooMany}

@@ -1,7 +1,6 @@
 -- The lines that a QIF file says have amounts that a book may hold.
-use Rattle.std.proofs.Common.{◌≡◌, ℕ, ◌==◌, Bool, true, false, ℤ, pos, List, [], ◌∷◌, ◌++◌, if◌then◌else◌, length, map}
+use Rattle.std.proofs.Common.{◌≡◌, ℕ, ◌==◌, Bool, true, false, pos, List, [], ◌∷◌, ◌++◌, if◌then◌else◌, length}
 use Rattle.std.proofs.Common.{Option, Some, None, is_some, option_map, unwrap_or, Ok, IfSome, refl, subst}
-use Rattle.std.specs.List.{AllByRecursion}
 use Rattle.std.specs.Option.{option_or}
 use Rattle.book_splits.specs.Check.{is_over_limit}
 use Rattle.book_commodity.specs.declared.commodity.Commodity.{Commodity}
@@ -12,9 +11,8 @@ use Rattle.book_statement.specs.Texts.{lines_of}
 use Rattle.book_statement.specs.declared.bad.Bad.TheVariants.{AmountForm}
 use Rattle.book_statement.specs.declared.fault.StatementFault.{StatementFault}
 use Rattle.book_statement.specs.declared.statement.Statement.{Statement}
-use Rattle.book_statement.specs.declared.statement_line.StatementLine.{StatementLine}
-use Rattle.qif_read.specs.Entries.{amount_of, first_of, line_in, place_of, total_in}
-use Rattle.qif_read.specs.Qif.{answer_of, entries_places, entry_checks, entry_places, form_of, line_checks, line_places}
+use Rattle.qif_read.specs.Entries.{amount_of, first_of, line_in, place_of}
+use Rattle.qif_read.specs.Qif.{answer_of, entries_places, entry_places, form_of, line_checks, line_places}
 use Rattle.qif_read.specs.Qif.{listing_places, name_behind, places, reading, statements, statements_behind}
 use Rattle.qif_read.specs.Qif.{statements_of}
 use Rattle.qif_read.specs.QifAmount.{amount, amount_checks, decimal_part, is_negative, is_number, whole_digits}

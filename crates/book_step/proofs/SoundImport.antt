@@ -1,16 +1,14 @@
 -- An import leads from a sound state to a sound one: what is added keeps the rules of the book.
 use Rattle.std.proofs.Common.{◌≡◌, ℕ, ◌+◌, ◌<◌, ◌≤◌, ◌==◌, Bool, true, false, cond, All, List, [], ◌∷◌}
-use Rattle.std.proofs.Common.{◌++◌, ◌||◌, find, is_none, is_some, length, map, not, option_map, Option, Some, None}
-use Rattle.std.proofs.Common.{Ok, Err, Result, unwrap_or, refl, sym, ap, subst, ◌∙◌, append_assoc, arith}
+use Rattle.std.proofs.Common.{◌++◌, ◌||◌, find, is_none, is_some, length, map, option_map, Option, Some, None}
+use Rattle.std.proofs.Common.{Ok, Err, Result, unwrap_or, refl, sym, ap, subst, append_assoc, arith}
 use Rattle.std.specs.List.{AllByRecursion, list_any}
 use Rattle.std.proofs.Math.ListN.{length-append}
-use Rattle.std.proofs.lemmas.Bool.{not-true}
 use Rattle.std.proofs.lemmas.Bool.Decides.{nat_tests}
 use Rattle.std.proofs.lemmas.List.{append-nil}
 use Rattle.std.proofs.lemmas.List.Elements.{All-head, All-tail}
 use Rattle.book_commodity.specs.Rules.{AllKept, IsSoundTable, broken_where, first_broken}
-use Rattle.book_commodity.specs.Table.{Rises, value_of, with_entry}
-use Rattle.book_commodity.specs.declared.commodity.Commodity.{Commodity}
+use Rattle.book_commodity.specs.Table.{value_of}
 use Rattle.book_commodity.proofs.DrawnLemmas.{Stays, all_with, drawn_before, with_last}
 use Rattle.book_commodity.proofs.RuleLemmas.{kept_back, kept_front, not-broken}
 use Rattle.book_accounts.specs.declared.account.Account.{Account}
@@ -22,14 +20,14 @@ use Rattle.book_statement.specs.declared.held.Held.{Held}
 use Rattle.book_statement.specs.declared.line.Line.{Line}
 use Rattle.book_statement.specs.declared.statement.Statement.{Statement}
 use Rattle.book_sound.specs.BindingRules.{takes_splits}
-use Rattle.book_sound.specs.LineRules.{has_same_key, is_same_key, key_of_line, line_rules}
+use Rattle.book_sound.specs.LineRules.{has_same_key, key_of_line, line_rules}
 use Rattle.book_sound.specs.StatementRules.{is_same_statement, statement_rules}
 use Rattle.book_sound.specs.Tests.{is_live}
 use Rattle.book_sound.proofs.DrawnFrames.{drawn_later}
 use Rattle.book_sound.proofs.LineFrames.{lines_under}
 use Rattle.book_sound.proofs.OwnChanges.{lines_put, statements_put}
 use Rattle.book_sound.proofs.OwnFrames.{all_of_each}
-use Rattle.book_import.specs.Import.{Bound, has_key, imported, number_among}
+use Rattle.book_import.specs.Import.{has_key, number_among}
 use Rattle.book_import.specs.Laws as laws
 use Rattle.book_import.specs.Laws.{AreApart, AreNamed, AreNew, HasDrawn}
 use Rattle.book_import.specs.declared.added.Additions.{Additions}
@@ -42,14 +40,14 @@ use Rattle.book_command.specs.declared.command.Format.{Format}
 use Rattle.book_command.specs.declared.rule.Rule.{Rule}
 use Rattle.book_command.specs.declared.rule.Rule.TheVariants.{BadStatement}
 use Rattle.book_step.specs.Importing.{account_rules, added_by, adds_nothing, book_with, bound_account, bound_to, drawn_by}
-use Rattle.book_step.specs.Importing.{file_rules, given_rules, goes_to, import_answer, import_file, import_of}
-use Rattle.book_step.specs.Importing.{import_said, import_statements, room_rules, said, statement_rules as rules_of}
+use Rattle.book_step.specs.Importing.{file_rules, given_rules, import_answer, import_file, import_of}
+use Rattle.book_step.specs.Importing.{import_said, room_rules, said, statement_rules as rules_of}
 use Rattle.book_step.specs.Outcome.{Broken, Done}
 use Rattle.book_step.specs.Soundness.{AreDrawn, IsSound, IsSoundBook}
 use Rattle.book_step.specs.State.{State}
 use Rattle.book_step.proofs.FormatAmounts.{read-within}
 use Rattle.book_step.proofs.ImportLemmas.{AreFit, IsFit, SuitFile, imported-counted, imported-fits}
-use Rattle.book_step.proofs.ReadAmounts.{AllWithin, AreWithin}
+use Rattle.book_step.proofs.ReadAmounts.{AllWithin}
 use Rattle.book_step.proofs.SoundOutcome.{either_sound, sound_after, unless_done}
 
 -- ---- entries behind others
@@ -77,7 +75,7 @@ none-equal held (e ∷ es) none =
     go false among found more none = more none
 
 -- what stands there still does with others behind
-value-front :
+pub value-front :
     {T : Type 0} (n : ℕ) (x : T) (es more : List (ℕ × T)) → value_of n es ≡ Some x → value_of n (es ++ more) ≡ Some x
 value-front n x [] more there = absurd cc
 value-front {T} n x (e ∷ es) more there = go (n == e.0) (value-front n x es more) there

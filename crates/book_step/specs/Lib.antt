@@ -8,6 +8,7 @@ pub mod DueDays
 pub mod Editing
 pub mod Importing
 pub mod InUse
+pub mod Laws
 pub mod LineAdding
 pub mod LineMatching
 pub mod Marking

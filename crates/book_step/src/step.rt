@@ -1,7 +1,11 @@
-ghost use Rattle.std.specs.Prelude.{◌≡◌, ◌<◌, ◌≤◌, ◌^◌, [], ◌∷◌, false};
+ghost use Rattle.std.specs.Prelude.{◌≡◌, ℕ, ◌<◌, ◌≤◌, ◌^◌, List, Option, [], ◌∷◌, true, false, IfOk};
 ghost use Rattle.book_commodity.specs.Rules.{ReportsFirst};
-ghost use Rattle.book_undo.specs.Edit.{is_nothing};
+ghost use Rattle.book_command.specs.declared.command.Format.{Format as FileFormat};
+ghost use Rattle.book_command.specs.declared.command.Update.TheVariants.{Import};
+ghost use Rattle.book_undo.specs.Book.{book_of};
+ghost use Rattle.book_undo.specs.Edit.{edited, is_nothing};
 ghost use Rattle.book_undo.specs.Exact.{IsExact};
+ghost use Rattle.book_step.specs.Laws.{HasFile, KeepsLines, KeepsStatements};
 ghost use Rattle.book_step.specs.Outcome.{ChangesBy, LeavesBy, StepsTo, numbers};
 ghost use Rattle.book_step.specs.Soundness.{IsSound};
 ghost use Rattle.book_step.specs.State.{state_of};
@@ -9,11 +13,11 @@ ghost use Rattle.book_step.specs.Step.{outcome, stale};
 
 use crate::account_edit::account_edit;
 use crate::accounts::{account_add, account_drop};
+use crate::auto_matching::match_auto;
 use crate::bank_lines::{line_dismiss, line_reopen};
 use crate::bindings::bind;
 use crate::commodities::{book_currency, commodity_add};
 use crate::editing::{drop, edit};
-use crate::auto_matching::match_auto;
 use crate::importing::import_file;
 use crate::line_adding::line_add;
 use crate::line_matching::line_match;
@@ -81,6 +85,9 @@ impl Step {
 /// leaf for each key at which the book becomes different and for no other. The version is the same after it if the edit
 /// changes nothing, and one more if not. The answer is whole but for its balances. Out of memory where there is none
 /// for texts, for the edit or for the answer. Whether the change is for this version is asked by `check_version`.
+///
+/// Whatever the change is, the edit leaves each bank statement of the book as it is, and each of their lines but for
+/// what became of it. An import of a file that is all in the book changes nothing.
 pub fn step_of(
     alloc: Global,
     plain: &Plain,
@@ -89,7 +96,11 @@ pub fn step_of(
     update: Update,
 ) -> Result<Step, Refusal>
     requires { IsSound (state_of plain.now next version) }
-    ensures { StepsTo (state_of plain.now next version) (outcome (state_of plain.now next version) update) result }
+    ensures steps { StepsTo (state_of plain.now next version) (outcome (state_of plain.now next version) update) result }
+    ensures lines { IfOk result (λ step. KeepsLines (book_of plain.now) (edited step.edit (book_of plain.now))) }
+    ensures statements { IfOk result (λ step. KeepsStatements (book_of plain.now) (edited step.edit (book_of plain.now))) }
+    ensures leaves { (format : FileFormat) (text : List ℕ) (given : Option ℕ) → update ≡ Import format text given
+        → HasFile (book_of plain.now) format text given → IfOk result (λ step. is_nothing step.edit ≡ true) }
 {
     let present = &Present {
         alloc,
@@ -97,6 +108,13 @@ pub fn step_of(
         next,
         version,
     };
+    step_at(present, update)
+}
+
+/// What a change comes to that is asked of the present state.
+fn step_at(present: &Present, update: Update) -> Result<Step, Refusal>
+    ensures { StepsTo present.now (outcome present.now update) result }
+{
     match update {
         Update::BookCurrency { commodity } => book_currency(present, commodity),
         Update::CommodityAdd { commodity } => commodity_add(present, commodity),
