@@ -8,20 +8,19 @@ import sys
 import tempfile
 sys.path.insert(0, os.path.dirname(os.path.abspath(__file__)))
 from draw import Draw
-from model import Machine, NOT_BUILT
 from rows import opened, rows
 
 
 def one(book, seed, count):
     lines = list(Draw(seed).lines(count))
     cut = count * 2 // 3
-    machine, have, failed = Machine(NOT_BUILT), {}, None
+    have, failed = {}, None
     with tempfile.TemporaryDirectory() as folder:
         path = os.path.join(folder, 'a.book')
         for part in (lines[:cut], lines[cut:]):
             data = ''.join(x + '\n' for x in part).encode()
             got = subprocess.run([book, 'run', path], input=data, stdout=subprocess.PIPE).stdout.decode('utf-8', 'replace').split('\n')
-            machine = opened(have, NOT_BUILT)
+            machine = opened(have)
             want = machine.run(data).split('\n')
             have = rows(machine)
             for i, (g, v) in enumerate(zip(got + ['(end)'], want + ['(end)'])):

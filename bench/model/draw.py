@@ -6,7 +6,7 @@ import os
 import random
 import sys
 sys.path.insert(0, os.path.dirname(os.path.abspath(__file__)))
-from model import Machine, NOT_BUILT
+from model import Machine
 import datetime as dt
 
 
@@ -21,7 +21,7 @@ def eur(cents):
 class Draw:
     def __init__(self, seed):
         self.r = random.Random(seed)
-        self.m = Machine(NOT_BUILT)
+        self.m = Machine()
         self.files = []
         self.names = 0
 
