@@ -1,7 +1,7 @@
 """Runs the cases of files of runs over the model, and compares answers and rows: python3 check_runs.py FILE.runs ..
 Cases with calls that fail (but for commits), databases, damaged rows and the sample are passed over, and counted."""
 import re, sys
-from model import Machine, NOT_BUILT, dumps
+from model import dumps
 from rows import rows, opened
 
 
@@ -72,7 +72,7 @@ def check(path, name, number, lines, fill):
     def finish():
         nonlocal have, run, runs
         runs += 1
-        machine = opened(have, NOT_BUILT)
+        machine = opened(have)
         got = answers_of(machine, run)
         wants = run.wants
         if len(got) != len(wants):
