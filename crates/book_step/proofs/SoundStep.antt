@@ -44,6 +44,8 @@ use Rattle.book_step.proofs.SoundCommodities.{book_currency-sound, commodity_add
 use Rattle.book_step.proofs.SoundEditing.{drop_transaction-sound, edit_transaction-sound}
 use Rattle.book_step.proofs.SoundLineAdding.{line_add-sound}
 use Rattle.book_step.proofs.SoundImport.{import_file-sound}
+use Rattle.book_step.proofs.SoundLineMatching.{line_match-sound}
+use Rattle.book_step.proofs.SoundMarking.{mark-sound}
 use Rattle.book_step.proofs.SoundPosting.{post-sound}
 use Rattle.book_step.proofs.SoundPrices.{price_drop-sound, price_set-sound}
 use Rattle.book_step.proofs.SoundRuns.{schedule_run-sound}
@@ -77,8 +79,9 @@ outcome-sound state (LineDismiss line) new answered is e = line_dismiss-sound st
 outcome-sound state (LineReopen line) new answered is e = line_reopen-sound state line new answered is e
 outcome-sound state (Import format text account) new answered is e =
     import_file-sound state format text account new answered is e
-outcome-sound state (Mark split cleared force) new answered is e = absurd cc
-outcome-sound state (LineMatch line split) new answered is e = absurd cc
+outcome-sound state (Mark split cleared force) new answered is e =
+    mark-sound state split cleared force new answered is e
+outcome-sound state (LineMatch line split) new answered is e = line_match-sound state line split new answered is e
 outcome-sound state (MatchAuto account window) new answered is e = absurd cc
 outcome-sound state (Reconcile account day closing) new answered is e = absurd cc
 outcome-sound state (ReconcileStatement statement) new answered is e = absurd cc
