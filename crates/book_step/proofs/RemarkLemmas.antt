@@ -2,10 +2,13 @@
 use Rattle.std.proofs.Common.{◌≡◌, ◌≢◌, ℕ, ◌<◌, ◌==◌, nat_lt, Bool, true, false, cond, if◌then◌else◌, All, List, [], ◌∷◌}
 use Rattle.std.proofs.Common.{◌++◌, map, Option, Some, None, option_map, refl, sym, ap, subst, ◌∙◌, eq-eqb, arith}
 use Rattle.std.specs.List.{list_all}
+use Rattle.std.specs.Option.{option_or}
 use Rattle.std.proofs.lemmas.Bool.{and_from, and_parts, eqb-true, not-true, or_parts}
 use Rattle.std.proofs.lemmas.Bool.Decides.{nat_tests}
 use Rattle.std.proofs.lemmas.List.{map-append}
+use Rattle.std.proofs.lemmas.List.Folds.{find-append}
 use Rattle.std.proofs.lemmas.List.Elements.{All-cons, All-head, All-nil, All-tail}
+use Rattle.book_commodity.specs.Rules.{stands_before}
 use Rattle.book_commodity.specs.Table.{AllAbove, Rises, value_of, with_entry}
 use Rattle.book_commodity.proofs.DrawnLemmas.{drawn_below}
 use Rattle.book_commodity.proofs.RuleLemmas.{fails_before}
@@ -25,7 +28,7 @@ use Rattle.book_sound.specs.Soundness.{IsSoundBook, AreDrawn}
 use Rattle.book_sound.proofs.DrawnFrames.{transaction_drawn}
 use Rattle.book_sound.proofs.MarkFrames.{AreRemarked, IsRemarked, transaction_marked}
 use Rattle.book_sound.proofs.MarkLemmas.{unreconciled_is_right}
-use Rattle.book_sound.proofs.SplitFrames.{above_there, among_back, among_front, found_among, split_of_one}
+use Rattle.book_sound.proofs.SplitFrames.{above_there, found_among, split_of_one}
 use Rattle.book_step.specs.Marking.{Held, IsHeld, book_marked, marked_among, marked_as, marked_where, remarked}
 
 -- ---- a transaction in the place of one that differs in marks and reconciliations alone
@@ -160,10 +163,11 @@ value_marked :
     ≡ option_map (remarked number mark) (value_of k ts)
 value_marked k number mark [] = refl
 value_marked k number mark (e ∷ ts) =
-    let more = map (λ (x : ℕ × Txn). (x.0, remarked number mark x.1)) ts in
+    let more : List (ℕ × Txn) = map (λ (x : ℕ × Txn). (x.0, remarked number mark x.1)) ts in
     let Here : Bool → Type 0 = λ b. (if b then Some (remarked number mark e.1) else value_of k more)
     ≡ option_map (remarked number mark) (if b then Some e.1 else value_of k ts) in
-    elim (k == e.0) as Here [ true ↦ refl | false ↦ value_marked k number mark ts ]
+    let rest : value_of k more ≡ option_map (remarked number mark) (value_of k ts) = value_marked k number mark ts in
+    elim (k == e.0) as Here [ true ↦ refl | false ↦ rest ]
 
 -- no other transaction has a split with the number
 other_lacks :
@@ -172,8 +176,8 @@ other_lacks :
     → is_among (numbers_of x.splits) number ≡ false
 other_lacks book n k number t x is there found other has =
     let ts = book.transactions in
-    let own = not-true _ (is.transactions.keep.each n t there).1.1.0 in
-    let its = not-true _ (is.transactions.keep.each k x found).1.1.0 in
+    let own : stands_before (share_numbers t) n ts ≡ false = not-true _ (is.transactions.keep.each n t there).1.1.0 in
+    let its : stands_before (share_numbers x) k ts ≡ false = not-true _ (is.transactions.keep.each k x found).1.1.0 in
     let Side : Bool → Type 0 = λ b. nat_lt k n ≡ b → is_among (numbers_of x.splits) number ≡ false in
     let Had : Bool → Type 0 = λ b. is_among (numbers_of x.splits) number ≡ b
     → is_among (numbers_of x.splits) number ≡ false in
@@ -210,25 +214,26 @@ pub record HasHolder (transactions : List (ℕ × Txn)) (number : ℕ) (split : 
   pub has : IsHeld transactions number held
   pub is : held.split ≡ split
 
+one_split : (old new : Split) → Some old ≡ Some new → old ≡ new
+one_split old new same = cc
+
 -- The split of a number stands in one of the transactions.
 pub held_of :
     (number : ℕ) (split : Split) (ts : List (ℕ × Txn)) → Rises ts → split_at number ts ≡ Some split
     → HasHolder ts number split
 held_of number split [] r found = absurd cc
 held_of number split (e ∷ ts) r found =
-    let Among : Bool → Type 0 = λ b. is_among (numbers_of e.1.splits) number ≡ b
+    let among = split_among number e.1.splits in
+    let First : Option Split → Type 0 = λ o. among ≡ o → option_or o (split_at number ts) ≡ Some split
     → HasHolder (e ∷ ts) number split in
-    elim (is_among (numbers_of e.1.splits) number) as Among [
-      | true ↦ λ among. record {
-          held = record { number = e.0; transaction = e.1; split = split };
-          has = (
-            ap (λ (b : Bool). if b then Some e.1 else value_of e.0 ts) (eq-eqb e.0 e.0 refl),
-            sym (among_front number e.1.splits (splits_of ts) among) ∙ found,
-          );
-          is = refl;
+    elim among as First [
+      | Some s ↦ λ here first. record {
+          held = record { number = e.0; transaction = e.1; split = s };
+          has = (ap (λ (b : Bool). if b then Some e.1 else value_of e.0 ts) (eq-eqb e.0 e.0 refl), here);
+          is = one_split s split first;
         }
-      | false ↦ λ none.
-          let rest = held_of number split ts r.1 (sym (among_back number e.1.splits (splits_of ts) none) ∙ found) in
+      | None ↦ λ none later.
+          let rest = held_of number split ts r.1 later in
           let past = above_there e.0 rest.held.number rest.held.transaction ts r.0 rest.has.0 in
           let apart : (rest.held.number == e.0) ≡ false = grind (arith, nat_tests, past) in
           record {
@@ -239,7 +244,7 @@ held_of number split (e ∷ ts) r found =
             );
             is = rest.is;
           }
-    ] refl
+    ] refl (sym (find-append (λ (s : Split). s.id == number) e.1.splits (splits_of ts)) ∙ found)
 
 mapped_here :
     (number : ℕ) (mark : Mark) (found : Option Txn)

@@ -1,7 +1,7 @@
-ghost use Rattle.std.specs.Prelude.{◌≡◌, ◌∷◌, [], None, IfNone, IfOk, IfSome};
+ghost use Rattle.std.specs.Prelude.{◌≡◌, ◌∷◌, [], None, Some, IfNone, IfOk, IfSome, option_map};
 ghost use Rattle.book_commodity.specs.Rules.{ReportsFirst};
 ghost use Rattle.book_sound.specs.LineRules.{split_among, split_at};
-ghost use Rattle.book_step.specs.Marking.{Held as HeldAs, IsHeld, unknown_split};
+ghost use Rattle.book_step.specs.Marking.{IsHeld, unknown_split};
 
 use crate::Rule;
 use crate::edited_splits::find_split;
@@ -29,6 +29,7 @@ impl<'a> Model for Held<'a> {
 /// The split of this number, which is one of the book's.
 pub(crate) fn known_split<'a>(present: &Present<'a>, number: u64) -> Result<Held<'a>, Rule>
     ensures there { IfOk result (IsHeld present.now.book.transactions number) }
+    ensures split { IfOk result (λ held. split_at number present.now.book.transactions ≡ Some held.split) }
     ensures unknown { ReportsFirst (unknown_split present.now.book.transactions number ∷ []) result }
 {
     match find_held(present, number) {
@@ -43,7 +44,7 @@ pub(crate) fn known_split<'a>(present: &Present<'a>, number: u64) -> Result<Held
 /// The split of this number, if it is one of the book's.
 fn find_held<'a>(present: &Present<'a>, number: u64) -> Option<Held<'a>>
     ensures there { IfSome result (IsHeld present.now.book.transactions number) }
-    ensures none { IfNone result (split_at number present.now.book.transactions ≡ None) }
+    ensures split { option_map (λ held. held.split) result ≡ split_at number present.now.book.transactions }
 {
     if let Some(held) = held_nearby(present, number) {
         return Some(held);
@@ -59,7 +60,8 @@ fn find_held<'a>(present: &Present<'a>, number: u64) -> Option<Held<'a>>
 /// The split of this number, where the last transaction with a smaller number has it, as it does unless the split was
 /// added to a transaction later: a transaction's number is drawn before those of its splits.
 fn held_nearby<'a>(present: &Present<'a>, number: u64) -> Option<Held<'a>>
-    ensures { IfSome result (IsHeld present.now.book.transactions number) }
+    ensures there { IfSome result (IsHeld present.now.book.transactions number) }
+    ensures split { IfSome result (λ held. split_at number present.now.book.transactions ≡ Some held.split) }
 {
     let entries = present.plain.transactions.as_slice();
     let place = entries.partition_point(|entry| entry.0 < number);
