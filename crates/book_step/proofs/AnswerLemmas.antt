@@ -282,8 +282,8 @@ marked_answered :
     → mark_at state number to force found ≡ Done new reply → HasBalances state new reply
 marked_answered state number to force None new reply e = absurd cc
 marked_answered state number to force (Some split) new reply e =
-    either_answered (is_mark split.mark to) state (keeps_mark force number split ∷ []) (book_marked number to state.book)
-    answer.Mark new reply (λ s. tt) e
+    either_answered (is_mark split.mark to) state (keeps_mark force number split ∷ [])
+    (book_marked number to state.book) answer.Mark new reply (λ s. tt) e
 
 paired_answered :
     (state : State) (n : ℕ) (line : Line) (wanted : ℕ) (found : Option Split) (new : State) (reply : Answer)

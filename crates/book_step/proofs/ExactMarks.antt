@@ -1,6 +1,6 @@
--- The edits of the commands that mark a split and that match a line with one are exact for a sound book, and lead to the
--- books that these commands lead to.
-use Rattle.std.proofs.Common.{◌≡◌, ◌≢◌, ℕ, nat_lt, Bool, true, false, if◌then◌else◌, List, [], ◌∷◌, Option, Some, None}
+-- The edits of the commands that mark a split and that match a line with one are exact for a sound book, and lead to
+-- the books of these commands.
+use Rattle.std.proofs.Common.{◌≡◌, ℕ, nat_lt, Bool, true, false, if◌then◌else◌, List, [], ◌∷◌, Some}
 use Rattle.std.proofs.Common.{option_map, refl, sym, ap, subst, ◌∙◌}
 use Rattle.book_commodity.specs.Rules.{broken_where}
 use Rattle.book_commodity.specs.Table.{value_of}
@@ -23,7 +23,7 @@ use Rattle.book_undo.proofs.ThreeRules.{three_none}
 use Rattle.book_sound.specs.LineRules.{split_among}
 use Rattle.book_sound.proofs.SoundFacts.{tables_rise}
 use Rattle.book_step.specs.LineAdding.{matched_with}
-use Rattle.book_step.specs.LineMatching.{book_cleared, book_paired, pairing_edit}
+use Rattle.book_step.specs.LineMatching.{book_paired, pairing_edit}
 use Rattle.book_step.specs.Marking.{Held, IsHeld, book_marked, marked_as, remarked}
 use Rattle.book_step.specs.SameTransaction.{is_mark, mark_itself}
 use Rattle.book_step.specs.Soundness.{IsSoundBook, IsSound}
@@ -54,9 +54,9 @@ remarked_differs book number mark held has differs same =
     let marks : mark ≡ held.split.mark =
     ap (λ (s : Split). s.mark) (one_split held.split (marked_as mark held.split) found) in
     absurd (
-      let equal = ap (λ (m : Mark). is_mark m mark) (sym marks) ∙ mark_itself mark in
-      let both = sym equal ∙ differs in
-      cc)
+    let equal = ap (λ (m : Mark). is_mark m mark) (sym marks) ∙ mark_itself mark in
+    let both = sym equal ∙ differs in
+    cc)
 
 pub mark_exact :
     (state : State) (number : ℕ) (mark : Mark) (held : Held) → IsSound state
@@ -99,7 +99,8 @@ pub pairing_leads :
 pairing_leads book number line wanted held is has = go (is_mark held.split.mark New)
   where
     go : (new : Bool) → edited (paired_if new number line wanted held) book
-        ≡ with_thing number (thing.Line (matched_with wanted line)) (if new then book_marked wanted Cleared book else book)
+        ≡ with_thing number (thing.Line (matched_with wanted line))
+        (if new then book_marked wanted Cleared book else book)
     go true =
         let first = Put held.number (thing.Txn (remarked wanted Cleared held.transaction)) in
         let second = Put number (thing.Line (matched_with wanted line)) in

@@ -1,5 +1,5 @@
 -- What the commands on a split come to, from what the checks of their rules report.
-use Rattle.std.proofs.Common.{◌≡◌, ℕ, Bool, true, false, if◌then◌else◌, List, [], ◌∷◌, Option, Some, None, Result, sym, ap}
+use Rattle.std.proofs.Common.{◌≡◌, ℕ, Bool, true, false, List, [], ◌∷◌, Option, Some, None, Result, sym, ap}
 use Rattle.std.proofs.Common.{refl, subst, ◌∙◌}
 use Rattle.std.proofs.lemmas.Bool.{not-false}
 use Rattle.book_commodity.specs.Rules.{first_broken}
@@ -123,5 +123,5 @@ match-changed state number wanted line held edit result is has there at kept mad
     let same : line_match state number wanted ≡ line_match_of state number line wanted (Some held.split) =
     ap (line_match_at state number wanted) there ∙ ap (line_match_of state number line wanted) at in
     subst (λ (outcome : Outcome). StepsTo state outcome result) (sym same)
-    (past-changing state (match_rules state.book.lines number line wanted held.split) later 0 answer.LineMatch result kept
-    (subst (λ (b : Book). StepsTo state (changing state [] b 0 answer.LineMatch) result) leads h))
+    (past-changing state (match_rules state.book.lines number line wanted held.split) later 0 answer.LineMatch result
+    kept (subst (λ (b : Book). StepsTo state (changing state [] b 0 answer.LineMatch) result) leads h))

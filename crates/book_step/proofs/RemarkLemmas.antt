@@ -1,6 +1,6 @@
 -- A book in which a split is marked: it is the book with one transaction in the place of another, and it stays sound.
-use Rattle.std.proofs.Common.{◌≡◌, ◌≢◌, ℕ, ◌<◌, ◌==◌, nat_lt, Bool, true, false, cond, if◌then◌else◌, All, List, [], ◌∷◌}
-use Rattle.std.proofs.Common.{◌++◌, map, Option, Some, None, option_map, refl, sym, ap, subst, ◌∙◌, eq-eqb, arith}
+use Rattle.std.proofs.Common.{◌≡◌, ◌≢◌, ℕ, ◌<◌, ◌==◌, nat_lt, Bool, true, false, cond, if◌then◌else◌, All, List, []}
+use Rattle.std.proofs.Common.{◌∷◌, ◌++◌, map, Option, Some, None, option_map, refl, sym, ap, subst, ◌∙◌, eq-eqb, arith}
 use Rattle.std.specs.List.{list_all}
 use Rattle.std.specs.Option.{option_or}
 use Rattle.std.proofs.lemmas.Bool.{and_from, and_parts, eqb-true, not-true, or_parts}
@@ -20,8 +20,7 @@ use Rattle.book_splits.specs.declared.split.Mark.{Mark}
 use Rattle.book_splits.specs.declared.split.Split.{Split}
 use Rattle.book_splits.specs.declared.transaction.Txn.{Txn}
 use Rattle.book_splits.proofs.ReplacedLemmas.{all_of_one, fails_among}
-use Rattle.book_undo.specs.Book.{Book, with_thing}
-use Rattle.book_undo.specs.declared.thing.Thing.TheVariants as thing
+use Rattle.book_undo.specs.Book.{Book}
 use Rattle.book_sound.specs.LineRules.{split_among, split_at}
 use Rattle.book_sound.specs.MarkedTransactionRules.{is_reconciled, is_rightly_marked}
 use Rattle.book_sound.specs.Soundness.{IsSoundBook, AreDrawn}
@@ -45,8 +44,8 @@ remarked_below next (old ∷ olds) (new ∷ news) stay all =
     All-cons Below new news (subst (λ (n : ℕ). n < next) stay.0.id (All-head Below old olds all))
     (remarked_below next olds news stay.1 (All-tail Below old olds all))
 
--- A book stays sound, and its numbers drawn, where a transaction is put in the place of one from which it differs in the
--- marks and the reconciliations of its splits alone, and its splits are rightly marked.
+-- A book stays sound, and its numbers drawn, where a transaction is put in the place of one from which it differs in
+-- the marks and the reconciliations of its splits alone, and its splits are rightly marked.
 pub remarked-sound :
     (book : Book) (n limit : ℕ) (old new : Txn) → value_of n book.transactions ≡ Some old
     → old.currency ≡ new.currency → AreRemarked old.splits new.splits
@@ -70,7 +69,8 @@ one_remarked number mark split =
       | false ↦ record { id = refl; account = refl; value = refl; quantity = refl }
     ]
 
-pub all_remarked : (number : ℕ) (mark : Mark) (splits : List Split) → AreRemarked splits (marked_among number mark splits)
+pub all_remarked :
+    (number : ℕ) (mark : Mark) (splits : List Split) → AreRemarked splits (marked_among number mark splits)
 all_remarked number mark [] = tt
 all_remarked number mark (s ∷ splits) = (one_remarked number mark s, all_remarked number mark splits)
 
@@ -228,10 +228,10 @@ held_of number split (e ∷ ts) r found =
     → HasHolder (e ∷ ts) number split in
     elim among as First [
       | Some s ↦ λ here first. record {
-          held = record { number = e.0; transaction = e.1; split = s };
-          has = (ap (λ (b : Bool). if b then Some e.1 else value_of e.0 ts) (eq-eqb e.0 e.0 refl), here);
-          is = one_split s split first;
-        }
+        held = record { number = e.0; transaction = e.1; split = s };
+        has = (ap (λ (b : Bool). if b then Some e.1 else value_of e.0 ts) (eq-eqb e.0 e.0 refl), here);
+        is = one_split s split first;
+      }
       | None ↦ λ none later.
           let rest = held_of number split ts r.1 later in
           let past = above_there e.0 rest.held.number rest.held.transaction ts r.0 rest.has.0 in

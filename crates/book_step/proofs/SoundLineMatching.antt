@@ -1,7 +1,7 @@
 -- The command that matches a line with a split leads from sound states to sound states: the line fits the split, which
 -- no other line has.
-use Rattle.std.proofs.Common.{◌≡◌, ◌≢◌, ℕ, ◌+◌, ◌==◌, nat_eq, Bool, true, false, not, if◌then◌else◌, List, [], ◌∷◌, Option}
-use Rattle.std.proofs.Common.{Some, None, option_map, refl, sym, ap, subst, ◌∙◌, eq-eqb, arith}
+use Rattle.std.proofs.Common.{◌≡◌, ◌≢◌, ℕ, ◌+◌, ◌==◌, nat_eq, Bool, true, false, if◌then◌else◌, List, [], ◌∷◌, Option}
+use Rattle.std.proofs.Common.{Some, None, option_map, refl, sym, ap, ◌∙◌, eq-eqb, arith}
 use Rattle.std.specs.Option.{option_eq}
 use Rattle.std.specs.Ordering.{int_eq}
 use Rattle.std.proofs.lemmas.Bool.{and_parts, eqb-true, not-false}
@@ -12,7 +12,6 @@ use Rattle.book_commodity.proofs.ListLemmas.{mapped_none}
 use Rattle.book_commodity.proofs.RuleLemmas.{not-broken}
 use Rattle.book_splits.specs.declared.split.Mark.TheVariants.{New, Cleared}
 use Rattle.book_splits.specs.declared.split.Split.{Split}
-use Rattle.book_splits.specs.declared.transaction.Txn.{Txn}
 use Rattle.book_statement.specs.declared.line.Line.{Line}
 use Rattle.book_statement.specs.declared.line_state.LineState.{LineState}
 use Rattle.book_statement.specs.declared.line_state.LineState.TheVariants.{Matched}
@@ -22,7 +21,6 @@ use Rattle.book_sound.proofs.DrawnChanges.{line_drawn}
 use Rattle.book_sound.proofs.DrawnFrames.{drawn_later}
 use Rattle.book_command.specs.declared.answer.Answer.{Answer}
 use Rattle.book_command.specs.declared.answer.Answer.TheVariants as answer
-use Rattle.book_command.specs.declared.rule.Rule.{Rule}
 use Rattle.book_command.specs.declared.rule.Rule.TheVariants.{LineTaken}
 use Rattle.book_step.specs.LineAdding.{matched_with}
 use Rattle.book_step.specs.LineMatching.{book_cleared, book_paired, is_matched_with, line_match, line_match_at}
@@ -32,7 +30,7 @@ use Rattle.book_step.specs.Outcome.{Done}
 use Rattle.book_step.specs.SameTransaction.{is_mark}
 use Rattle.book_step.specs.Soundness.{IsSoundBook, AreDrawn, IsSound}
 use Rattle.book_step.specs.State.{State}
-use Rattle.book_step.proofs.LineLemmas.{Fits, IsFree, matched-sound}
+use Rattle.book_step.proofs.LineLemmas.{Fits, matched-sound}
 use Rattle.book_step.proofs.RemarkLemmas.{held_of, marked-sound, split_marked}
 use Rattle.book_step.proofs.SoundOutcome.{changing_done, sound_after}
 
@@ -61,10 +59,10 @@ none_matched wanted k x (e ∷ lines) none there =
 not_matched : (wanted : ℕ) (x : Line) → is_matched_with wanted x ≡ false → x.state ≢ Matched wanted
 not_matched wanted x lacks matched =
     absurd (
-      let has : is_matched_with wanted x ≡ true =
-      ap (λ (s : LineState). option_eq nat_eq (matched_split s) (Some wanted)) matched ∙ eq-eqb wanted wanted refl in
-      let both = sym has ∙ lacks in
-      cc)
+    let has : is_matched_with wanted x ≡ true =
+    ap (λ (s : LineState). option_eq nat_eq (matched_split s) (Some wanted)) matched ∙ eq-eqb wanted wanted refl in
+    let both = sym has ∙ lacks in
+    cc)
 
 -- ---- the book in which the split is cleared where it is new
 

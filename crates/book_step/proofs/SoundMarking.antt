@@ -1,15 +1,12 @@
 -- The command that marks a split leads from sound states to sound states.
-use Rattle.std.proofs.Common.{◌≡◌, ◌≢◌, ℕ, ◌+◌, Bool, true, false, List, [], ◌∷◌, Option, Some, None, refl, subst, arith}
-use Rattle.book_commodity.specs.Table.{value_of}
-use Rattle.book_splits.specs.declared.split.Mark.{Mark}
+use Rattle.std.proofs.Common.{◌≡◌, ℕ, ◌+◌, Bool, true, false, [], ◌∷◌, Option, Some, None, refl, arith}
 use Rattle.book_splits.specs.declared.split.Split.{Split}
-use Rattle.book_splits.specs.declared.transaction.Txn.{Txn}
 use Rattle.book_sound.specs.LineRules.{split_at}
 use Rattle.book_sound.specs.MarkedTransactionRules.{is_reconciled}
 use Rattle.book_sound.proofs.DrawnFrames.{drawn_later}
 use Rattle.book_command.specs.declared.answer.Answer.{Answer}
 use Rattle.book_command.specs.declared.answer.Answer.TheVariants as answer
-use Rattle.book_step.specs.Marking.{Held, IsHeld, book_marked, keeps_mark, mark, mark_asked, mark_at}
+use Rattle.book_step.specs.Marking.{book_marked, keeps_mark, mark, mark_asked, mark_at}
 use Rattle.book_step.specs.Outcome.{Done}
 use Rattle.book_step.specs.SameTransaction.{is_mark}
 use Rattle.book_step.specs.Soundness.{IsSound}

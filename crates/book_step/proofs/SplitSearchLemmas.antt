@@ -1,10 +1,8 @@
--- What a walk over transactions finds that looks for the split with a number, and one over lines that looks for the line
--- that is matched with it.
-use Rattle.std.proofs.Common.{◌≡◌, ℕ, ◌+◌, ◌<◌, ◌≤◌, ◌==◌, Bool, true, false, cond, List, [], ◌∷◌, ◌++◌, length, drop}
-use Rattle.std.proofs.Common.{get_or, Option, Some, None, refl, sym, ap, ◌∙◌}
+-- What a walk over transactions finds that looks for the split with a number.
+use Rattle.std.proofs.Common.{◌≡◌, ℕ, ◌+◌, ◌<◌, ◌==◌, List, length, drop, get_or, Option, Some, None, refl, sym, ap}
+use Rattle.std.proofs.Common.{◌∙◌}
 use Rattle.std.specs.Prelude.{IfSome}
 use Rattle.std.specs.Option.{option_or}
-use Rattle.std.proofs.lemmas.List.{drop_all}
 use Rattle.std.proofs.lemmas.List.Folds.{find-append}
 use Rattle.std.proofs.lemmas.Option.{slice_get_read}
 use Rattle.book_commodity.specs.Table.{Rises, value_of}
@@ -13,17 +11,11 @@ use Rattle.book_commodity.proofs.TableLemmas.{value_of_place}
 use Rattle.book_splits.specs.Balance.{splits_of}
 use Rattle.book_splits.specs.declared.split.Split.{Split}
 use Rattle.book_splits.specs.declared.transaction.Txn.{Txn}
-use Rattle.book_statement.specs.declared.line.Line.{Line}
 use Rattle.book_undo.specs.Book.{Book}
 use Rattle.book_sound.specs.LineRules.{split_among, split_at}
 use Rattle.book_sound.specs.Soundness.{IsSoundBook}
-use Rattle.book_command.specs.declared.rule.Rule.{Rule}
-use Rattle.book_command.specs.declared.rule.Rule.TheVariants.{LineTaken}
-use Rattle.book_step.specs.LineMatching.{is_matched_with, line_of_split, split_taken}
 use Rattle.book_step.specs.Marking.{Held, IsHeld}
 use Rattle.book_step.proofs.RemarkLemmas.{held_at}
-
--- ---- the split
 
 -- What the transaction under a number has is held by it.
 pub held_from :
@@ -81,30 +73,3 @@ split_later ts i e number below is none =
     ap (split_at number) (from-item ts i e below is)
     ∙ find-append (λ (s : Split). s.id == number) e.1.splits more
     ∙ ap (λ (o : Option Split). option_or o (split_among number more)) none
-
--- Behind the last transaction there is none.
-pub split_end :
-    (ts : List (ℕ × Txn)) (i number : ℕ) → length ts ≤ i → split_at number (drop i ts) ≡ None
-split_end ts i number past = ap (split_at number) (drop_all i ts past)
-
--- ---- the line that is matched with it
-
-pub line_here :
-    (lines : List (ℕ × Line)) (i : ℕ) (e : ℕ × Line) (split : ℕ) → i < length lines → e ≡ get_or lines i e
-    → is_matched_with split e.1 ≡ true
-    → line_of_split split (drop i lines) ≡ Some e
-line_here lines i e split below is has =
-    ap (line_of_split split) (from-item lines i e below is)
-    ∙ ap (λ (b : Bool). cond b (Some e) (line_of_split split (drop (i + 1) lines))) has
-
-pub line_later :
-    (lines : List (ℕ × Line)) (i : ℕ) (e : ℕ × Line) (split : ℕ) → i < length lines → e ≡ get_or lines i e
-    → is_matched_with split e.1 ≡ false
-    → line_of_split split (drop i lines) ≡ line_of_split split (drop (i + 1) lines)
-line_later lines i e split below is lacks =
-    ap (line_of_split split) (from-item lines i e below is)
-    ∙ ap (λ (b : Bool). cond b (Some e) (line_of_split split (drop (i + 1) lines))) lacks
-
-pub line_end :
-    (lines : List (ℕ × Line)) (i split : ℕ) → length lines ≤ i → line_of_split split (drop i lines) ≡ None
-line_end lines i split past = ap (line_of_split split) (drop_all i lines past)

@@ -61,13 +61,16 @@ into = record {
 }
 
 abbrev paid : MarkOf → Option ℕ → List (ℕ × Txn)
-paid mark recon = (5, record {
-  currency = 1;
-  day = pos 19727;
-  num = [];
-  description = codes "Rent";
-  splits = out_of mark recon ∷ into ∷ [];
-}) ∷ []
+paid mark recon = (
+  5,
+  record {
+    currency = 1;
+    day = pos 19727;
+    num = [];
+    description = codes "Rent";
+    splits = out_of mark recon ∷ into ∷ [];
+  },
+) ∷ []
 
 -- a line of account 3 of this amount
 abbrev line : ℤ → LineState → Line

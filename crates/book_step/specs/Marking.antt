@@ -1,6 +1,6 @@
 -- The command that marks a split.
-use Rattle.std.specs.Prelude.{◌≡◌, ℕ, ◌==◌, not, Bool, true, false, ◌&&◌, if◌then◌else◌, List, [], ◌∷◌, Option, Some, None}
-use Rattle.std.specs.Prelude.{is_none, map}
+use Rattle.std.specs.Prelude.{◌≡◌, ℕ, ◌==◌, not, Bool, ◌&&◌, if◌then◌else◌, List, [], ◌∷◌, Option, Some, None, is_none}
+use Rattle.std.specs.Prelude.{map}
 use Rattle.book_commodity.specs.Rules.{broken_where}
 use Rattle.book_commodity.specs.Table.{value_of}
 use Rattle.book_commodity.specs.declared.kind.Kind.TheVariants as kind
@@ -37,7 +37,7 @@ IsHeld transactions number held =
 
 -- ---- the book after a mark
 
--- The split with another mark. It names no reconciliation then, as one that isn't reconciled names none (GnuCash Manual,
+-- The split with another mark. It names no reconciliation then: only a reconciled split names one (GnuCash Manual,
 -- reconciling).
 abbrev pub marked_as : Mark → Split → Split
 marked_as mark split = record split { mark = mark; recon = None }

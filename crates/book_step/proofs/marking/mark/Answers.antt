@@ -13,9 +13,6 @@ use Rattle.book_step.specs.State.{State}
 use Rattle.book_step.proofs.ExactMarks.{mark_exact}
 use Rattle.book_step.proofs.MarkingLemmas.{mark-broken, mark-changed, mark-left}
 use Rattle.book_step.proofs.OutcomeLemmas.{refused}
-use Rattle.book_step.proofs.SoundStep
-use Rattle.book_step.proofs.WorkedMarks
-use Rattle.book_step.proofs.AnswerLemmas
 use Rattle.book_step.proofs.marking.mark.Goals as goal
 
 pub returns-in_err-check_kept : goal.returns-in_err-check_kept
