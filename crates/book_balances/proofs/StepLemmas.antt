@@ -6,12 +6,15 @@ use Rattle.book_commodity.specs.Table.{value_of}
 use Rattle.book_accounts.specs.declared.account.Account.{Account}
 use Rattle.book_prices.specs.declared.price.Price.{Price}
 use Rattle.book_schedule.specs.declared.recurrence.Recurrence.{Recurrence}
+use Rattle.book_splits.specs.declared.split.Mark as marks
+use Rattle.book_splits.specs.declared.split.Split.{Split}
 use Rattle.book_splits.specs.declared.transaction.Txn.{Txn}
 use Rattle.book_statement.specs.declared.binding.Binding.{Binding}
 use Rattle.book_statement.specs.declared.fault.StatementFault.{StatementFault}
 use Rattle.book_statement.specs.declared.line.Line.{Line}
 use Rattle.book_statement.specs.declared.line_state.LineState.TheVariants.{Open, Dismissed}
 use Rattle.book_statement.specs.declared.statement.Statement.{Statement}
+use Rattle.book_sound.specs.LineRules.{split_at}
 use Rattle.book_undo.specs.Book.{Book, with_currency, with_thing, without_thing}
 use Rattle.book_undo.specs.declared.thing.Thing.TheVariants as thing
 use Rattle.book_undo.specs.declared.thing.ThingKind.TheVariants as kind
@@ -48,6 +51,8 @@ use Rattle.book_step.specs.Importing as importing
 use Rattle.book_step.specs.Importing.{added_by, adds_nothing, file_rules, import_answer, import_said, room_rules, said}
 use Rattle.book_step.specs.LineAdding as adding
 use Rattle.book_step.specs.LineAdding.{book_matched, commodity_of, line_add_at, line_transaction, matched_answer}
+use Rattle.book_step.specs.LineMatching.{book_paired, line_match_at, line_match_of, match_rules}
+use Rattle.book_step.specs.Marking.{book_marked, keeps_mark, mark_asked, mark_at}
 use Rattle.book_step.specs.Outcome.{Broken, Done, changing, leaving, unless_broken}
 use Rattle.book_step.specs.Posting.{new_transaction, post_answer, post_rules}
 use Rattle.book_step.specs.Prices.{has_numbers, price_of_day, price_rules, price_set_at, too_many_prices}
@@ -57,6 +62,7 @@ use Rattle.book_statement.specs.declared.held.Held.{Held}
 use Rattle.book_step.specs.Reconciling.{book_reconciled, finish_rules, finished, reconcile_at, reconcile_closed}
 use Rattle.book_step.specs.Reconciling.{reconcile_of}
 use Rattle.book_step.specs.SameTransaction.{same_transaction}
+use Rattle.book_step.specs.SameTransaction.{is_mark}
 use Rattle.book_step.specs.ScheduleRuns as schedule_runs
 use Rattle.book_step.specs.ScheduleRuns.{asked, asked_rules, book_ran, made_by, schedule_run_of, too_many_made}
 use Rattle.book_step.specs.ScheduleRuns.{too_many_splits_made}
@@ -235,6 +241,28 @@ reconcile_statement_moves :
 reconcile_statement_moves state n None new reply e = absurd cc
 reconcile_statement_moves state n (Some statement) new reply e =
     reconcile_closed_moves state n statement statement.closing new reply e
+mark_moves :
+    (state : State) (number : ℕ) (to : marks.Mark) (force : Bool) (found : Option Split) (new : State) (reply : Answer)
+    → mark_at state number to force found ≡ Done new reply → Moves state new
+mark_moves state number to force None new reply e = absurd cc
+mark_moves state number to force (Some split) new reply e =
+    either_moves (is_mark split.mark to) state (keeps_mark force number split ∷ []) (book_marked number to state.book) 0
+    answer.Mark answer.Mark new reply e
+
+pair_moves :
+    (state : State) (n : ℕ) (line : Line) (wanted : ℕ) (found : Option Split) (new : State) (reply : Answer)
+    → line_match_of state n line wanted found ≡ Done new reply → Moves state new
+pair_moves state n line wanted None new reply e = absurd cc
+pair_moves state n line wanted (Some split) new reply e =
+    changing_moves state (match_rules state.book.lines n line wanted split)
+    (book_paired n line wanted split state.book) 0 answer.LineMatch new reply e
+
+match_moves :
+    (state : State) (n wanted : ℕ) (found : Option Line) (new : State) (reply : Answer)
+    → line_match_at state n wanted found ≡ Done new reply → Moves state new
+match_moves state n wanted None new reply e = absurd cc
+match_moves state n wanted (Some line) new reply e =
+    pair_moves state n line wanted (split_at wanted state.book.transactions) new reply e
 
 -- A change that is done leaves the state as it is, or raises its version by one, and the next number does not fall.
 pub outcome_moves :
@@ -282,8 +310,10 @@ outcome_moves state (LineAdd n others description) new reply e =
 outcome_moves state (Import format text account) new reply e =
     import_moves state (importing.given_rules state.book format account) account
     (said state.book.commodities text format) new reply e
-outcome_moves state (Mark split cleared force) new reply e = absurd cc
-outcome_moves state (LineMatch line split) new reply e = absurd cc
+outcome_moves state (Mark split cleared force) new reply e =
+    mark_moves state split (mark_asked cleared) force (split_at split state.book.transactions) new reply e
+outcome_moves state (LineMatch line split) new reply e =
+    match_moves state line split (value_of line state.book.lines) new reply e
 outcome_moves state (MatchAuto account window) new reply e =
     let pairs = matches state.book account window in
     either_moves (length pairs == 0) state (match_rules state.book account window) (book_paired pairs state.book) 0

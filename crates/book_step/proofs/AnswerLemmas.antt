@@ -8,6 +8,8 @@ use Rattle.book_commodity.proofs.DrawnLemmas.{value_here}
 use Rattle.book_accounts.specs.declared.account.Account.{Account}
 use Rattle.book_schedule.specs.declared.recurrence.Recurrence.{Recurrence}
 use Rattle.book_splits.specs.declared.transaction.Txn.{Txn}
+use Rattle.book_splits.specs.declared.split.Mark.{Mark}
+use Rattle.book_splits.specs.declared.split.Split.{Split}
 use Rattle.book_prices.specs.declared.price.Price.{Price}
 use Rattle.book_statement.specs.declared.line.Line.{Line}
 use Rattle.book_statement.specs.declared.binding.Binding.{Binding}
@@ -15,6 +17,7 @@ use Rattle.book_statement.specs.declared.line_state.LineState.TheVariants.{Open,
 use Rattle.book_statement.specs.declared.fault.StatementFault.{StatementFault}
 use Rattle.book_statement.specs.declared.statement.Statement.{Statement}
 use Rattle.book_import.specs.declared.added.Additions.{Additions}
+use Rattle.book_sound.specs.LineRules.{split_at}
 use Rattle.book_undo.specs.Book.{Book, with_currency, with_thing, without_thing}
 use Rattle.book_undo.specs.Edit.{edited}
 use Rattle.book_undo.specs.declared.edit.Edit as edits
@@ -35,6 +38,8 @@ use Rattle.book_step.specs.LineAdding.{matched_answer}
 use Rattle.book_step.specs.Importing as importing
 use Rattle.book_step.specs.Importing.{added_by, adds_nothing, file_rules, import_answer, import_said}
 use Rattle.book_step.specs.Importing.{room_rules, said}
+use Rattle.book_step.specs.LineMatching.{book_paired, line_match_at, line_match_of, match_rules}
+use Rattle.book_step.specs.Marking.{book_marked, keeps_mark, mark_asked, mark_at}
 use Rattle.book_step.specs.Outcome.{Outcome, Broken, Done, but_balances, changed, changing, leaving, numbers}
 use Rattle.book_step.specs.Outcome.{unless_broken}
 use Rattle.book_step.specs.Posting.{new_transaction, post_answer, post_rules}
@@ -48,6 +53,7 @@ use Rattle.book_statement.specs.declared.held.Held.{Held}
 use Rattle.book_step.specs.Reconciling.{book_reconciled, finish_rules, finished, reconcile_at, reconcile_closed}
 use Rattle.book_step.specs.Reconciling.{reconcile_of}
 use Rattle.book_step.specs.SameTransaction.{same_transaction}
+use Rattle.book_step.specs.SameTransaction.{is_mark}
 use Rattle.book_step.specs.ScheduleRuns as schedule_runs
 use Rattle.book_step.specs.ScheduleRuns.{asked, asked_rules, book_ran, made_by, schedule_run_of, too_many_made}
 use Rattle.book_step.specs.ScheduleRuns.{too_many_splits_made}
@@ -69,7 +75,7 @@ use Rattle.book_command.specs.declared.command.Update.TheVariants.{LineAdd}
 use Rattle.book_command.specs.declared.command.GivenOther.{GivenOther}
 use Rattle.book_command.specs.declared.command.Update.TheVariants.{Bind, LineDismiss, LineReopen}
 use Rattle.book_command.specs.declared.command.Update.TheVariants.{Import}
-use Rattle.book_command.specs.declared.command.Update.TheVariants.{Mark}
+use Rattle.book_command.specs.declared.command.Update.TheVariants.{Mark as MarkAsked}
 use Rattle.book_command.specs.declared.command.Update.TheVariants.{LineMatch}
 use Rattle.book_command.specs.declared.command.Update.TheVariants.{MatchAuto}
 use Rattle.book_command.specs.declared.command.Update.TheVariants.{Reconcile, ReconcileStatement}
@@ -303,6 +309,28 @@ statement_answered :
 statement_answered state n None new reply e = absurd cc
 statement_answered state n (Some statement) new reply e =
     closed_answered state n statement statement.closing new reply e
+marked_answered :
+    (state : State) (number : ℕ) (to : Mark) (force : Bool) (found : Option Split) (new : State) (reply : Answer)
+    → mark_at state number to force found ≡ Done new reply → HasBalances state new reply
+marked_answered state number to force None new reply e = absurd cc
+marked_answered state number to force (Some split) new reply e =
+    either_answered (is_mark split.mark to) state (keeps_mark force number split ∷ [])
+    (book_marked number to state.book) answer.Mark new reply (λ s. tt) e
+
+paired_answered :
+    (state : State) (n : ℕ) (line : Line) (wanted : ℕ) (found : Option Split) (new : State) (reply : Answer)
+    → line_match_of state n line wanted found ≡ Done new reply → HasBalances state new reply
+paired_answered state n line wanted None new reply e = absurd cc
+paired_answered state n line wanted (Some split) new reply e =
+    changing_answered state (match_rules state.book.lines n line wanted split)
+    (book_paired n line wanted split state.book) 0 answer.LineMatch new reply tt e
+
+matched_answered :
+    (state : State) (n wanted : ℕ) (found : Option Line) (new : State) (reply : Answer)
+    → line_match_at state n wanted found ≡ Done new reply → HasBalances state new reply
+matched_answered state n wanted None new reply e = absurd cc
+matched_answered state n wanted (Some line) new reply e =
+    paired_answered state n line wanted (split_at wanted state.book.transactions) new reply e
 
 answered : (state : State) (update : Update) (new : State) (reply : Answer) → outcome state update ≡ Done new reply
     → HasBalances state new reply
@@ -352,7 +380,8 @@ answered state (Import format text account) new reply e =
     imported_answered state (importing.given_rules state.book format account) account (said state.book.commodities text format)
     new reply e
 answered state (Mark split cleared force) new reply e = absurd cc
-answered state (LineMatch line split) new reply e = absurd cc
+answered state (LineMatch line split) new reply e =
+    matched_answered state line split (value_of line state.book.lines) new reply e
 answered state (MatchAuto account window) new reply e =
     let pairs = matches state.book account window in
     either_answered (length pairs == 0) state (match_rules state.book account window) (book_paired pairs state.book)
@@ -362,6 +391,8 @@ answered state (Reconcile account day closing) new reply e =
     (λ number marked. answer.Reconcile number marked) account day closing new reply (λ s number marked. tt) e
 answered state (ReconcileStatement statement) new reply e =
     statement_answered state statement (value_of statement state.book.statements) new reply e
+answered state (MarkAsked split cleared force) new reply e =
+    marked_answered state split (mark_asked cleared) force (split_at split state.book.transactions) new reply e
 
 -- ---- answers with and without balances
 filled : (old new : State) (whole : Answer) → HasBalances old new whole → with_balances new.book whole ≡ whole

@@ -11,6 +11,7 @@ pub mod ExactImport
 pub mod ExactLemmas
 pub mod ExactLines
 pub mod ExactReconciling
+pub mod ExactMarks
 pub mod ExactRuns
 pub mod FormatAmounts
 pub mod ImportLaws
@@ -23,6 +24,7 @@ pub mod LineLemmas
 pub mod MatchStepLemmas
 pub mod MatchWalkLemmas
 pub mod MatchableLemmas
+pub mod MarkingLemmas
 pub mod Mt940Amounts
 pub mod OutcomeLemmas
 pub mod PairLemmas
@@ -35,6 +37,7 @@ pub mod QifAmounts
 pub mod ReadAmounts
 pub mod ReconcileLemmas
 pub mod RemarkTable
+pub mod RemarkLemmas
 pub mod RunLemmas
 pub mod RunWalkLemmas
 pub mod ScheduleLemmas
@@ -45,6 +48,8 @@ pub mod SoundEditing
 pub mod SoundImport
 pub mod SoundLineAdding
 pub mod SoundMatching
+pub mod SoundLineMatching
+pub mod SoundMarking
 pub mod SoundOutcome
 pub mod SoundPosting
 pub mod SoundPrices
@@ -53,9 +58,11 @@ pub mod SoundRuns
 pub mod SoundSchedules
 pub mod SoundStep
 pub mod SplitsOnce
+pub mod SplitSearchLemmas
 pub mod TableWalkLemmas
 pub mod ThereLemmas
 pub mod Worked
 pub mod WorkedImport
 pub mod WorkedReconciling
 pub mod WorkedMatching
+pub mod WorkedMarks

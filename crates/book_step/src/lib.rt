@@ -32,6 +32,7 @@ mod reconciling;
 mod same_transaction;
 mod schedule_runs;
 mod schedules;
+mod split_search;
 mod statement_files;
 mod step;
 
