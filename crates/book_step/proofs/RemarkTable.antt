@@ -1,13 +1,13 @@
 -- A book stays sound where splits are marked otherwise, and rightly; and the edit that puts the transactions which
 -- become others, with more behind them, is exact and leads to that book.
-use Rattle.std.proofs.Common.{◌≡◌, ◌≢◌, ℕ, ◌^◌, ◌-◌, ◌+◌, ◌<◌, ◌==◌, ◌||◌, nat_lt, max, min, Bool, true, false, ℤ, All}
-use Rattle.std.proofs.Common.{List, [], ◌∷◌, ◌++◌, if◌then◌else◌, flat_map, map, Option, Some, None, option_map, refl, sym}
+use Rattle.std.proofs.Common.{◌≡◌, ◌≢◌, ℕ, ◌^◌, ◌-◌, ◌+◌, ◌<◌, ◌||◌, nat_lt, max, min, Bool, true, false, ℤ, All, List}
+use Rattle.std.proofs.Common.{[], ◌∷◌, ◌++◌, if◌then◌else◌, flat_map, map, Option, Some, None, option_map, refl, sym}
 use Rattle.std.proofs.Common.{ap, subst, ◌∙◌, append_assoc, arith, drop, get_or, length}
 use Rattle.std.specs.Prelude.{⊤}
 use Rattle.std.specs.List.{list_all, list_any}
 use Rattle.std.proofs.lemmas.Bool.{or_parts}
 use Rattle.std.proofs.lemmas.Bool.Decides.{nat_tests}
-use Rattle.std.proofs.lemmas.List.Elements.{All-append, All-head, All-map, All-nil, All-tail, All-weaker}
+use Rattle.std.proofs.lemmas.List.Elements.{All-append, All-map, All-nil, All-weaker}
 use Rattle.book_commodity.specs.Rules.{broken_where}
 use Rattle.book_commodity.specs.Table.{AllAbove, Rises, value_of, with_entry}
 use Rattle.book_commodity.proofs.DrawnLemmas.{drawn_below, value_beside}
