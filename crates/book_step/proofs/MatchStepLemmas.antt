@@ -1,5 +1,6 @@
 -- The matching of an account step by step: which rule is broken first, and what the pairs come to.
-use Rattle.std.proofs.Common.{◌≡◌, ◌≢◌, ℕ, ◌==◌, false, List, [], ◌∷◌, length, Option, Some, None, Result, refl, ap, subst, arith}
+use Rattle.std.proofs.Common.{◌≡◌, ◌≢◌, ℕ, ◌==◌, false, List, [], ◌∷◌, length, Option, Some, None, Result, refl, ap}
+use Rattle.std.proofs.Common.{subst, arith}
 use Rattle.std.proofs.lemmas.Bool.Decides.{nat_tests}
 use Rattle.book_commodity.specs.Rules.{first_broken}
 use Rattle.book_match.specs.declared.views.Matched.{Matched}

@@ -1,6 +1,6 @@
 -- The loops over pairs: which numbers are in a set, and what a map has, from place to place.
-use Rattle.std.proofs.Common.{◌≡◌, ℕ, ◌+◌, ◌<◌, ◌==◌, ◌||◌, nat_lt, Bool, true, false, cond, if◌then◌else◌, List, [], ◌∷◌}
-use Rattle.std.proofs.Common.{drop, find, get_or, length, Option, Some, None, option_map, refl, sym, ap, ◌∙◌, arith}
+use Rattle.std.proofs.Common.{◌≡◌, ℕ, ◌+◌, ◌<◌, ◌==◌, ◌||◌, nat_lt, Bool, true, false, cond, if◌then◌else◌, List, ◌∷◌}
+use Rattle.std.proofs.Common.{drop, find, get_or, length, Option, Some, option_map, refl, sym, ap, ◌∙◌, arith}
 use Rattle.std.specs.BTreeMap.{BTreeMap, get, is_at}
 use Rattle.std.specs.BTreeSet.{BTreeSet, contains}
 use Rattle.std.specs.Ordering.{is_eq, nat_cmp}
@@ -51,7 +51,8 @@ drop_item xs i d below = from-item xs i (get_or xs i d) below (get_or_default xs
 
 pub paired-more :
     (pairs : List Matched) (i : ℕ) (d : Matched) (old new : BTreeSet ℕ) → i < length pairs
-    → ((q : ℕ) → contains nat_cmp new q ≡ cond (is_at (nat_cmp (get_or pairs i d).split) q) true (contains nat_cmp old q))
+    → ((q : ℕ) → contains nat_cmp new q
+    ≡ cond (is_at (nat_cmp (get_or pairs i d).split) q) true (contains nat_cmp old q))
     → ((n : ℕ) → (has_pair (drop i pairs) n || contains nat_cmp old n) ≡ has_pair pairs n)
     → (n : ℕ) → (has_pair (drop (i + 1) pairs) n || contains nat_cmp new n) ≡ has_pair pairs n
 paired-more pairs i d old new below updates before n =

@@ -1,10 +1,9 @@
 -- What may be matched of a sound book: its open lines stand among its lines, and its free splits among its splits, each
 -- once.
-use Rattle.std.proofs.Common.{◌≡◌, ℕ, ◌<◌, ◌==◌, nat_lt, Bool, true, false, not, ◌&&◌, ◌||◌, if◌then◌else◌, cond, All}
-use Rattle.std.proofs.Common.{List, [], ◌∷◌, ◌++◌, filter, flat_map, map, Some, IsTrue, refl, sym, ap, ◌∙◌, eq-eqb, arith}
-use Rattle.std.specs.List.{list_any}
+use Rattle.std.proofs.Common.{◌≡◌, ℕ, ◌==◌, Bool, true, false, not, ◌&&◌, if◌then◌else◌, cond, All}
+use Rattle.std.proofs.Common.{List, [], ◌∷◌, ◌++◌, filter, flat_map, map, Some, refl, sym, ap, ◌∙◌, eq-eqb, arith}
 use Rattle.std.specs.Ordering.{int_eq}
-use Rattle.std.proofs.lemmas.Bool.{and_from, and_parts, eqb-true, not-false, not-true, not_from_false, or_from, or_parts}
+use Rattle.std.proofs.lemmas.Bool.{and_from, and_parts, eqb-true, not-true, not_from_false, or_from, or_parts}
 use Rattle.std.proofs.lemmas.Bool.Decides.{nat_tests}
 use Rattle.std.proofs.lemmas.List.{map-append}
 use Rattle.std.proofs.lemmas.List.Elements.{All-append, All-cons, All-head, All-map, All-nil, All-tail, All-weaker}

@@ -1,13 +1,11 @@
 -- What the pairs that are proposed in a sound book are: each has an open line of the account and a split that fits it,
 -- which no line has, and no two have the same split.
-use Rattle.std.proofs.Common.{◌≡◌, ◌≢◌, ℕ, ◌==◌, ◌&&◌, ◌||◌, nat_eq, Bool, true, false, if◌then◌else◌, cond, All, List, []}
-use Rattle.std.proofs.Common.{◌∷◌, find, Option, Some, None, option_map, IsTrue, refl, sym, ap, subst, ◌∙◌, eq-eqb, arith}
-use Rattle.std.specs.List.{list_any}
-use Rattle.std.specs.Option.{option_eq}
+use Rattle.std.proofs.Common.{◌≡◌, ◌≢◌, ℕ, ◌==◌, Bool, true, false, if◌then◌else◌, cond, All, List, []}
+use Rattle.std.proofs.Common.{◌∷◌, find, Option, Some, option_map, IsTrue, refl, sym, ap, subst, ◌∙◌, eq-eqb}
 use Rattle.std.specs.Ordering.{int_eq}
 use Rattle.std.specs.Prelude.{nat_le}
 use Rattle.std.proofs.lemmas.Bool.{and_from, and_parts, eqb-true, or_parts}
-use Rattle.std.proofs.lemmas.Bool.Decides.{Decides-int_eq, nat_tests}
+use Rattle.std.proofs.lemmas.Bool.Decides.{Decides-int_eq}
 use Rattle.std.proofs.lemmas.List.Elements.{All-head, All-tail}
 use Rattle.book_commodity.specs.Table.{value_of}
 use Rattle.book_commodity.proofs.ListLemmas.{mapped_some}
@@ -18,7 +16,7 @@ use Rattle.book_statement.specs.declared.line_state.LineState.TheVariants.{Open,
 use Rattle.book_match.specs.Kept.{views_on}
 use Rattle.book_match.specs.Proposal.{distance}
 use Rattle.book_match.specs.declared.views.Matched.{Matched}
-use Rattle.book_sound.specs.LineRules.{fits_line, matched_split, split_at}
+use Rattle.book_sound.specs.LineRules.{fits_line, split_at}
 use Rattle.book_sound.specs.Soundness.{IsSoundBook}
 use Rattle.book_undo.specs.Book.{Book}
 use Rattle.book_step.specs.AutoMatching.{matches, split_of}
@@ -38,7 +36,8 @@ pairs_fit :
     (book : Book) (account window : ℕ) → IsSoundBook book
     → All (FitsPair book account window) (matches book account window)
 pairs_fit book account window is =
-    proposal-holds (IsOpenLine account book.lines) (IsFreeSplit (is_matched book.lines) account book.transactions) window
+    proposal-holds (IsOpenLine account book.lines)
+    (IsFreeSplit (is_matched book.lines) account book.transactions) window
     (open_lines account book.lines) (views_on account (free_splits book) book.transactions)
     (lines_hold account book.lines is.lines.rise) (splits_hold book (is_matched book.lines) account is)
 

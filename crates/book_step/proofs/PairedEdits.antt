@@ -1,7 +1,7 @@
 -- The edit that matches lines with the splits that they take is exact for a sound book, and leads to the book in which
 -- they are matched.
-use Rattle.std.proofs.Common.{◌≡◌, ◌≢◌, ℕ, ℤ, ◌<◌, ◌==◌, ◌&&◌, nat_lt, Bool, true, false, if◌then◌else◌, List, [], ◌∷◌}
-use Rattle.std.proofs.Common.{◌++◌, map, Option, Some, None, refl, sym, ap, subst, ◌∙◌, arith}
+use Rattle.std.proofs.Common.{◌≡◌, ◌≢◌, ℕ, ◌<◌, ◌==◌, Bool, true, false, if◌then◌else◌, List, [], ◌∷◌}
+use Rattle.std.proofs.Common.{◌++◌, Option, Some, None, refl, sym, ap, ◌∙◌, arith}
 use Rattle.std.proofs.lemmas.Bool.{and_parts}
 use Rattle.std.proofs.lemmas.Bool.Decides.{nat_tests}
 use Rattle.book_commodity.specs.Table.{AllAbove, Rises, value_of, with_entry}
@@ -29,7 +29,7 @@ use Rattle.book_step.specs.ScheduleRuns.{transaction_edits, with_entries}
 use Rattle.book_step.proofs.ExactImport.{deepest_lines, edited_lines, leaves_of_lines, line_leaves, missing_lines}
 use Rattle.book_step.proofs.ExactImport.{something_whole}
 use Rattle.book_step.proofs.ExactLines.{matched_differs}
-use Rattle.book_step.proofs.RemarkTable.{IsBehind, all_remarked-edits, all_remarked-exact}
+use Rattle.book_step.proofs.RemarkTable.{all_remarked-edits, all_remarked-exact}
 
 -- ---- the splits that become cleared
 

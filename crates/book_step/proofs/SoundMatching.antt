@@ -1,15 +1,13 @@
 -- The command that matches the open lines of an account leads from sound states to sound states.
-use Rattle.std.proofs.Common.{◌≡◌, ℕ, ℤ, ◌+◌, ◌==◌, ◌&&◌, Bool, true, false, if◌then◌else◌, List, [], ◌∷◌, length, map, Some}
-use Rattle.std.proofs.Common.{refl, sym, ap, subst, ◌∙◌, arith}
+use Rattle.std.proofs.Common.{◌≡◌, ℕ, ◌+◌, ◌==◌, Bool, true, false, if◌then◌else◌, List, [], ◌∷◌, length, map}
+use Rattle.std.proofs.Common.{refl, sym, ap, ◌∙◌, arith}
 use Rattle.std.specs.List.{list_all}
 use Rattle.std.proofs.lemmas.Bool.{and_from, and_parts}
-use Rattle.book_commodity.specs.Table.{value_of}
 use Rattle.book_splits.specs.TransactionRules.{is_new}
 use Rattle.book_splits.specs.declared.reconciliation.Recon.{Recon}
 use Rattle.book_splits.specs.declared.split.Mark.{Mark}
 use Rattle.book_splits.specs.declared.split.Mark.TheVariants.{Cleared, New, Reconciled}
 use Rattle.book_splits.specs.declared.split.Split.{Split}
-use Rattle.book_splits.specs.declared.transaction.Txn.{Txn}
 use Rattle.book_sound.specs.MarkedTransactionRules.{fits_mark, is_reconciled, is_rightly_marked}
 use Rattle.book_sound.proofs.DrawnFrames.{drawn_later}
 use Rattle.book_undo.specs.Book.{Book}

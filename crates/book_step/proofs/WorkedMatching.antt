@@ -1,5 +1,5 @@
 -- Lines of an account 3 that are matched at once with its splits: the steps are known.
-use Rattle.std.proofs.Common.{◌≡◌, ℕ, ℤ, pos, negsuc, List, [], ◌∷◌, ◌++◌, Option, Some, None, false, codes, map, refl}
+use Rattle.std.proofs.Common.{◌≡◌, ℕ, ℤ, pos, negsuc, List, [], ◌∷◌, ◌++◌, Some, None, false, codes, map, refl}
 use Rattle.book_commodity.specs.declared.counted.Counted.TheVariants.{Window}
 use Rattle.book_commodity.specs.declared.kind.Kind.TheVariants as kind
 use Rattle.book_accounts.specs.declared.account.Account.{Account}

@@ -1,6 +1,6 @@
 -- The command that matches the open lines of an account with the account's splits.
-use Rattle.std.specs.Prelude.{ℕ, ℤ, ◌==◌, nat_lt, Bool, ◌&&◌, if◌then◌else◌, List, [], ◌∷◌, ◌++◌, find, flat_map, length}
-use Rattle.std.specs.Prelude.{map, Option, Some, None, option_map}
+use Rattle.std.specs.Prelude.{ℕ, ℤ, ◌==◌, nat_lt, Bool, ◌&&◌, if◌then◌else◌, List, [], ◌∷◌, ◌++◌, find, flat_map}
+use Rattle.std.specs.Prelude.{length, map, Option, Some, None, option_map}
 use Rattle.std.specs.List.{list_any}
 use Rattle.book_commodity.specs.Rules.{broken_where}
 use Rattle.book_commodity.specs.declared.counted.Counted.TheVariants.{Window}
@@ -63,10 +63,11 @@ cleared split = record split { mark = Cleared }
 abbrev pub split_paired : (ℕ → Bool) → Split → Split
 split_paired taken split = if becomes_cleared taken split then cleared split else split
 
--- The same of a split of any day.
+-- Whether a split becomes cleared, whatever its day is.
 abbrev pub clears : (ℕ → Bool) → ℤ → Split → Bool
 clears taken day split = becomes_cleared taken split
 
+-- The split after that, whatever its day is.
 abbrev pub clearing : (ℕ → Bool) → ℤ → Split → Split
 clearing taken day split = split_paired taken split
 

@@ -117,11 +117,7 @@ fn becomes_cleared(split: &Split, taken: &BTreeSet<u64>) -> bool
 }
 
 /// The transaction, of whose splits those that are new and taken are cleared.
-fn cleared(
-    alloc: Global,
-    transaction: &Txn,
-    taken: &BTreeSet<u64>,
-) -> Result<Txn, OutOfMemory>
+fn cleared(alloc: Global, transaction: &Txn, taken: &BTreeSet<u64>) -> Result<Txn, OutOfMemory>
     ensures { IfOk result (λ new. new ≡ remarked (clearing (contains nat_cmp taken.now)) transaction.now) }
 {
     Ok(Txn {
