@@ -51,7 +51,8 @@ use Rattle.book_step.specs.Importing as importing
 use Rattle.book_step.specs.Importing.{added_by, adds_nothing, file_rules, import_answer, import_said, room_rules, said}
 use Rattle.book_step.specs.LineAdding as adding
 use Rattle.book_step.specs.LineAdding.{book_matched, commodity_of, line_add_at, line_transaction, matched_answer}
-use Rattle.book_step.specs.LineMatching.{book_paired, line_match_at, line_match_of, match_rules}
+use Rattle.book_step.specs.LineMatching as line_matching
+use Rattle.book_step.specs.LineMatching.{line_match_at, line_match_of}
 use Rattle.book_step.specs.Marking.{book_marked, keeps_mark, mark_asked, mark_at}
 use Rattle.book_step.specs.Outcome.{Broken, Done, changing, leaving, unless_broken}
 use Rattle.book_step.specs.Posting.{new_transaction, post_answer, post_rules}
@@ -254,8 +255,8 @@ pair_moves :
     → line_match_of state n line wanted found ≡ Done new reply → Moves state new
 pair_moves state n line wanted None new reply e = absurd cc
 pair_moves state n line wanted (Some split) new reply e =
-    changing_moves state (match_rules state.book.lines n line wanted split)
-    (book_paired n line wanted split state.book) 0 answer.LineMatch new reply e
+    changing_moves state (line_matching.match_rules state.book.lines n line wanted split)
+    (line_matching.book_paired n line wanted split state.book) 0 answer.LineMatch new reply e
 
 match_moves :
     (state : State) (n wanted : ℕ) (found : Option Line) (new : State) (reply : Answer)

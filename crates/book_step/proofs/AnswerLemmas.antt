@@ -38,7 +38,8 @@ use Rattle.book_step.specs.LineAdding.{matched_answer}
 use Rattle.book_step.specs.Importing as importing
 use Rattle.book_step.specs.Importing.{added_by, adds_nothing, file_rules, import_answer, import_said}
 use Rattle.book_step.specs.Importing.{room_rules, said}
-use Rattle.book_step.specs.LineMatching.{book_paired, line_match_at, line_match_of, match_rules}
+use Rattle.book_step.specs.LineMatching as line_matching
+use Rattle.book_step.specs.LineMatching.{line_match_at, line_match_of}
 use Rattle.book_step.specs.Marking.{book_marked, keeps_mark, mark_asked, mark_at}
 use Rattle.book_step.specs.Outcome.{Outcome, Broken, Done, but_balances, changed, changing, leaving, numbers}
 use Rattle.book_step.specs.Outcome.{unless_broken}
@@ -314,16 +315,16 @@ marked_answered :
     → mark_at state number to force found ≡ Done new reply → HasBalances state new reply
 marked_answered state number to force None new reply e = absurd cc
 marked_answered state number to force (Some split) new reply e =
-    either_answered (is_mark split.mark to) state (keeps_mark force number split ∷ [])
-    (book_marked number to state.book) answer.Mark new reply (λ s. tt) e
+    either_answered (is_mark split.mark to) state (keeps_mark force number split ∷ []) (book_marked number to state.book)
+    answer.Mark new reply (λ s. tt) e
 
 paired_answered :
     (state : State) (n : ℕ) (line : Line) (wanted : ℕ) (found : Option Split) (new : State) (reply : Answer)
     → line_match_of state n line wanted found ≡ Done new reply → HasBalances state new reply
 paired_answered state n line wanted None new reply e = absurd cc
 paired_answered state n line wanted (Some split) new reply e =
-    changing_answered state (match_rules state.book.lines n line wanted split)
-    (book_paired n line wanted split state.book) 0 answer.LineMatch new reply tt e
+    changing_answered state (line_matching.match_rules state.book.lines n line wanted split)
+    (line_matching.book_paired n line wanted split state.book) 0 answer.LineMatch new reply tt e
 
 matched_answered :
     (state : State) (n wanted : ℕ) (found : Option Line) (new : State) (reply : Answer)
@@ -379,20 +380,19 @@ answered state (LineReopen n) new reply e = reopened_answered state n (value_of 
 answered state (Import format text account) new reply e =
     imported_answered state (importing.given_rules state.book format account) account (said state.book.commodities text format)
     new reply e
-answered state (Mark split cleared force) new reply e = absurd cc
+answered state (MarkAsked split cleared force) new reply e =
+    marked_answered state split (mark_asked cleared) force (split_at split state.book.transactions) new reply e
 answered state (LineMatch line split) new reply e =
     matched_answered state line split (value_of line state.book.lines) new reply e
-answered state (MatchAuto account window) new reply e =
-    let pairs = matches state.book account window in
-    either_answered (length pairs == 0) state (match_rules state.book account window) (book_paired pairs state.book)
-    (answer.MatchAuto pairs) new reply (λ s. tt) e
 answered state (Reconcile account day closing) new reply e =
     reconciled_answered state (unknown_account state.book.accounts account ∷ [])
     (λ number marked. answer.Reconcile number marked) account day closing new reply (λ s number marked. tt) e
 answered state (ReconcileStatement statement) new reply e =
     statement_answered state statement (value_of statement state.book.statements) new reply e
-answered state (MarkAsked split cleared force) new reply e =
-    marked_answered state split (mark_asked cleared) force (split_at split state.book.transactions) new reply e
+answered state (MatchAuto account window) new reply e =
+    let pairs = matches state.book account window in
+    either_answered (length pairs == 0) state (match_rules state.book account window) (book_paired pairs state.book)
+    (answer.MatchAuto pairs) new reply (λ s. tt) e
 
 -- ---- answers with and without balances
 filled : (old new : State) (whole : Answer) → HasBalances old new whole → with_balances new.book whole ≡ whole
