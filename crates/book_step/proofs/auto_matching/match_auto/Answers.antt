@@ -1,4 +1,4 @@
-use Rattle.std.proofs.Common.{◌≡◌, ◌≢◌, List, [], Ok, sym, ap, subst, ◌∙◌}
+use Rattle.std.proofs.Common.{◌≡◌, List, Ok, sym, ap, subst, ◌∙◌}
 use Rattle.book_match.specs.declared.views.Matched.{Matched}
 use Rattle.book_undo.specs.Edit.{edited, is_nothing}
 use Rattle.book_undo.specs.Exact.{IsExact}
