@@ -310,6 +310,7 @@ statement_answered :
 statement_answered state n None new reply e = absurd cc
 statement_answered state n (Some statement) new reply e =
     closed_answered state n statement statement.closing new reply e
+
 marked_answered :
     (state : State) (number : ℕ) (to : Mark) (force : Bool) (found : Option Split) (new : State) (reply : Answer)
     → mark_at state number to force found ≡ Done new reply → HasBalances state new reply
