@@ -18,7 +18,8 @@ use book_statement::{Line, LineState};
 use book_undo::{Edit, Thing};
 use std::alloc::Global;
 
-/// The open line of this number is matched with the split, which becomes cleared where it was new.
+/// The open line of this number is matched with the split, which becomes cleared where it was new. Broken where the book
+/// has no such line or split, where the line isn't open, where a line has the split, and where the split doesn't fit.
 pub(crate) fn line_match(present: &Present, number: u64, split: u64) -> Result<Step, Refusal>
     ensures { StepsTo present.now (line_match present.now number split) result }
 {
@@ -84,7 +85,8 @@ fn fits_line(line: &Line, split: &Split) -> bool
     split.account == line.account && split.quantity == line.body.amount
 }
 
-/// The edit that matches the line with the split, and clears the split where it is new.
+/// The edit that matches the line with the split, and clears the split where it is new. Its parts are in the order of
+/// keys: transactions stand before lines.
 fn pairing_edit(
     alloc: Global,
     number: u64,

@@ -13,8 +13,9 @@ use book_splits::{Mark, Split, Txn};
 use book_undo::{Edit, Thing};
 use std::alloc::Global;
 
-/// The split of this number becomes cleared, or new where it is not to be cleared. Without force a reconciled split
-/// keeps its mark.
+/// The split of this number becomes cleared, or new where it isn't to be cleared, and names no reconciliation then. One
+/// that has the mark leaves the book as it is. Broken where the book has no such split, and, without force, where it is
+/// reconciled.
 pub(crate) fn mark(
     present: &Present,
     number: u64,
