@@ -1,12 +1,13 @@
-"""Draws a list of command lines about bank statements: python3 draw.py SEED COUNT > lines
-The draw follows the model, so that most numbers that are named are live. All commands that are built are drawn; those on
-statements, and what acts on their lines, most often. Some lines are no commands, or name what isn't there."""
+"""Draws a list of command lines: python3 draw.py SEED COUNT [reconciling] > lines
+The draw follows the model, so that most numbers that are named are live. All commands are drawn; those on statements, and
+what acts on their lines, most often. With the word `reconciling` it is those that match, mark and reconcile, and commands
+that break a rule. Some lines are no commands, or name what isn't there."""
 import json
 import os
 import random
 import sys
 sys.path.insert(0, os.path.dirname(os.path.abspath(__file__)))
-from model import Machine, NOT_BUILT
+from model import Broken, Machine, Step
 import datetime as dt
 
 
@@ -19,9 +20,10 @@ def eur(cents):
 
 
 class Draw:
-    def __init__(self, seed):
+    def __init__(self, seed, reconciling=False):
         self.r = random.Random(seed)
-        self.m = Machine(NOT_BUILT)
+        self.reconciling = reconciling
+        self.m = Machine()
         self.files = []
         self.names = 0
 
@@ -220,8 +222,92 @@ class Draw:
             splits[0]['account'] = self.account()
         elif how == 3:
             splits.reverse()
-        return dict(do='edit', transaction=t, day=self.day() if how == 4 else str(txn['day']), currency=txn['currency'], num=txn['num'],
-                    description=r.choice([txn['description'], 'x']), splits=splits)
+        return self.forced(dict(do='edit', transaction=t, day=self.day() if how == 4 else str(txn['day']), currency=txn['currency'],
+                                num=txn['num'], description=r.choice([txn['description'], 'x']), splits=splits))
+
+    def forced(self, c):
+        """The command, sometimes with force."""
+        return c | dict(force=self.r.random() < 0.8) if self.r.random() < 0.35 else c
+
+    # ---- marks, matches and reconciliations
+
+    def splits(self, test=lambda txn, split: True):
+        return [s['id'] for t in self.m.book.txns.values() for s in t['splits'] if test(t, s)]
+
+    def do_mark(self):
+        ids = self.splits(lambda t, s: s['mark'] == 'y') if self.r.random() < 0.25 else self.splits(lambda t, s: s['mark'] == 'n')
+        return self.forced(dict(do='mark', split=self.pick(ids or self.splits(), 0.06), state=self.r.choice('cccnnnn' if self.r.random() < 0.3 else 'ccccc')))
+
+    def do_line_match(self):
+        n = self.line('open') if self.r.random() < 0.85 else self.line()
+        line = self.m.book.lines.get(n)
+        fits = self.splits(lambda t, s: line is not None and (s['account'], s['quantity']) == (line['account'], line['amount']))
+        return dict(do='line_match', line=n, split=self.pick(fits if self.r.random() < 0.85 else self.splits(), 0.04))
+
+    def post_line(self):
+        """A post of what an open line says, as a person enters it who did not wait for the bank."""
+        lines = [v for v in self.m.book.lines.values() if v['state'] == 'open']
+        if not lines:
+            return self.do_post()
+        line, r = self.r.choice(lines), self.r
+        own = self.m.book.accounts[line['account']]['commodity']
+        near = [a for a, x in self.m.book.accounts.items() if not x['placeholder'] and x['commodity'] == own]
+        day = line['day'] + dt.timedelta(r.choice([0, 0, 1, 2, -1, -3, 10]))
+        return dict(do='post', day=str(day), currency=own, num=r.choice(['', line['ref_own'], line['ref_own'], '7']),
+                    splits=[dict(account=line['account'], value=line['amount']), dict(account=self.pick(near, 0), value=-line['amount'])])
+
+    def do_match_auto(self):
+        accounts = {v['account'] for v in self.m.book.lines.values()} if self.r.random() < 0.85 else self.m.book.accounts
+        return dict(do='match_auto', account=self.pick(sorted(accounts), 0.03), window=self.r.choice([0, 1, 2, 3, 3, 5, 10, 30, 366, 367]))
+
+    def closing(self, account, day):
+        """What the cleared splits up to the day come to with the reconciled ones."""
+        return sum(s['quantity'] for t in self.m.book.txns.values() for s in t['splits'] if s['account'] == account and
+                   (s['mark'] == 'y' or s['mark'] == 'c' and str(t['day']) <= day))
+
+    def do_reconcile(self):
+        marked = {s['account'] for t in self.m.book.txns.values() for s in t['splits'] if s['mark'] == 'c'}
+        account = self.pick(sorted(marked), 0.05) if marked and self.r.random() < 0.9 else self.account()
+        day = self.day() if self.r.random() < 0.6 else '2024-12-31'
+        closing = self.closing(account, day) if self.r.random() < 0.75 else self.r.choice([0, 1, -1, 85000, 2 ** 63 - 1, -2 ** 63])
+        return dict(do='reconcile', account=account, day=day, closing=closing)
+
+    def do_reconcile_statement(self):
+        held = self.m.book.statements
+        good = [n for n, v in held.items() if v['closing'] is not None and v['closing'] == self.closing(v['account'], str(v['day']))]
+        return dict(do='reconcile_statement', statement=self.pick(good if good and self.r.random() < 0.7 else held, 0.05))
+
+    def odd(self):
+        """A command that mostly breaks one of the rules which the others seldom break."""
+        r, b = self.r, self.m.book
+        post = lambda splits: dict(do='post', day=self.day(), currency=1, splits=splits)
+        security = [n for n, a in b.accounts.items() if a['kind'] in ('STOCK', 'MUTUAL')]
+        return r.choice([
+            lambda: dict(do='account_add', name='Bank', kind='BANK', commodity=1, parent=2),
+            lambda: dict(do='account_add', name='Under', kind='INCOME', commodity=1, parent=3),
+            lambda: dict(do='account_add', name='Fund', kind='STOCK', commodity=1, parent=2),
+            lambda: dict(do='account_edit', account=3, parent=3),
+            lambda: dict(do='account_edit', account=2, name='Top'),
+            lambda: dict(do='account_drop', account=r.choice([2, 3, 4, 10, max(b.accounts)])),
+            lambda: dict(do='commodity_add', space='NYSE', name='ZERO', fraction=0),
+            lambda: dict(do='price_set', commodity=1, currency=1, day=self.day(), num=1, denom=1),
+            lambda: dict(do='register', account=3, **{'from': '2024-02-02', 'to': '2024-02-01'}),
+            lambda: dict(do='income', **{'from': '2024-01-01', 'to': r.choice(['2023-12-31', '2024-12-31'])}),
+            lambda: dict(do='lots', account=r.choice([3] + security)),
+            lambda: dict(do='gains', account=r.choice([4] + security), **{'from': '2024-01-01', 'to': '2024-12-31'}),
+            lambda: post([]),
+            lambda: post([dict(account=3, value=1, quantity=2), dict(account=4, value=-1)]),
+            lambda: post([dict(account=3, value=10 ** 12 + 1), dict(account=4, value=-10 ** 12 - 1)]),
+            lambda: post([dict(account=n, value=5, quantity=1) for n in security] + [dict(account=3, value=-5 * len(security))]),
+            lambda: dict(do='schedule_add', name='Odd', recurrences=[dict(kind='day', every=r.choice([0, 1]), start='2020-01-01')],
+                         currency=1, splits=[dict(account=3, value=0)]),
+            lambda: dict(do='due', upto='2024-03-01'),
+            lambda: dict(do='price', commodity=1, currency=self.commodity(), day=self.day()),
+            lambda: dict(do='price_drop', price=self.pick(b.prices, 0.1)) if b.prices else
+            dict(do='price_set', commodity=9, currency=1, day=self.day(), num=3, denom=2),
+            lambda: dict(do='price_set', commodity=9, currency=1, day=self.day(), num=150, denom=100),
+            lambda: dict(do='schedule_drop', schedule=self.pick(b.schedules, 0.1)),
+        ])()
 
     def do_account_add(self):
         r = self.r
@@ -250,15 +336,30 @@ class Draw:
             lambda: dict(do='status'),
         ])()
 
+    def kinds(self):
+        """The commands that are drawn, each with how often it is."""
+        if self.reconciling:
+            return [(self.do_import, 9), (self.post_line, 14), (self.do_post, 4), (self.do_match_auto, 9), (self.do_line_match, 7), (self.do_mark, 12),
+                    (self.do_reconcile, 9), (self.do_reconcile_statement, 6), (self.do_line_add, 7), (self.do_edit, 9), (self.odd, 10), (self.other, 5),
+                    (self.do_account_add, 2), (self.do_commodity_add, 1), (self.do_bind, 1),
+                    (lambda: dict(do='line_dismiss', line=self.line('open')), 1),
+                    (lambda: dict(do='line_reopen', line=self.line(self.r.choice(['matched', 'dismissed', None]))), 3),
+                    (lambda: self.forced(dict(do='drop', transaction=self.pick(self.m.book.txns))), 4),
+                    (lambda: dict(do='recons', account=self.pick(sorted({v['account'] for v in self.m.book.recons.values()}) or self.m.book.accounts)), 6), (lambda: dict(do='lines', account=self.account()), 2),
+                    (lambda: dict(do='statements', account=self.account()), 1),
+                    (lambda: dict(do='undo'), 5), (lambda: dict(do='redo' if self.m.later or self.r.random() < 0.3 else 'status'), 5 + 15 * bool(self.m.later))]
+        return [(self.do_import, 22), (self.do_bind, 7), (self.do_line_add, 16), (self.do_post, 6), (self.do_edit, 8), (self.do_account_add, 4),
+                (self.do_commodity_add, 2), (self.other, 8),
+                (lambda: dict(do='line_dismiss', line=self.line('open')), 5),
+                (lambda: dict(do='line_reopen', line=self.line(self.r.choice(['matched', 'dismissed', None]))), 6),
+                (lambda: self.forced(dict(do='drop', transaction=self.pick(self.m.book.txns))), 5),
+                (self.do_match_auto, 3), (self.do_line_match, 3), (self.post_line, 3), (self.do_mark, 4), (self.do_reconcile, 3),
+                (self.do_reconcile_statement, 2), (lambda: dict(do='recons', account=self.account()), 2),
+                (lambda: dict(do='lines', account=self.account()), 5), (lambda: dict(do='statements', account=self.account()), 4),
+                (lambda: dict(do='undo'), 6), (lambda: dict(do='redo' if self.m.later or self.r.random() < 0.3 else 'status'), 5)]
+
     def command(self):
-        r = self.r
-        kinds = [(self.do_import, 22), (self.do_bind, 7), (self.do_line_add, 16), (self.do_post, 6), (self.do_edit, 8), (self.do_account_add, 4),
-                 (self.do_commodity_add, 2), (self.other, 8),
-                 (lambda: dict(do='line_dismiss', line=self.line('open')), 5),
-                 (lambda: dict(do='line_reopen', line=self.line(r.choice(['matched', 'dismissed', None]))), 6),
-                 (lambda: dict(do='drop', transaction=self.pick(self.m.book.txns)), 5),
-                 (lambda: dict(do='lines', account=self.account()), 5), (lambda: dict(do='statements', account=self.account()), 4),
-                 (lambda: dict(do='undo'), 6), (lambda: dict(do='redo' if self.m.later or r.random() < 0.3 else 'status'), 5)]
+        r, kinds = self.r, self.kinds()
         c = r.choices([k for k, _ in kinds], [n for _, n in kinds])[0]()
         if r.random() < 0.03:
             c['at'] = r.choice([self.m.version, self.m.version - 1, 0])
@@ -272,12 +373,34 @@ class Draw:
         start = [dict(do='account_add', name='Bank', kind='BANK', commodity=1, parent=2), dict(do='account_add', name='Rent', kind='EXPENSE', commodity=1, parent=2),
                  dict(do='commodity_add', space='CURRENCY', name='USD', fraction=100), dict(do='account_add', name='Checking', kind='BANK', commodity=5, parent=2),
                  dict(do='bind', text='NL01', account=3), dict(do='bind', text='123456789', account=6)]
+        if self.reconciling:
+            if self.r.random() < 0.3:
+                start.insert(0, dict(do='undo'))
+            start += [dict(do='commodity_add', space='NYSE', name='ACME', fraction=1),
+                      dict(do='account_add', name='Broker', kind='STOCK', commodity=9, parent=2, basis=1)]
         for i in range(count):
-            line = js(start[i]) if i < len(start) else self.command()
+            if i < len(start):
+                line = js(start[i])
+            elif self.reconciling and i < len(start) + 5:
+                line = js(self.good_file() if i == len(start) else self.post_line())
+            else:
+                line = self.command()
             self.m.line(line.encode())
             yield line
 
+    def good_file(self):
+        """An import of some lines that breaks no rule."""
+        while True:
+            c = dict(do='import', format='mt940', text=self.mt940(), account=3)
+            trial = Step(self.m.book, self.m.next, 0, 0)
+            try:
+                if 3 < len(trial.do_import(c | dict(currency=None))['lines']) < 7 and 'C240131EUR0,00' in c['text']:
+                    self.files.append(('mt940', c['text']))
+                    return c
+            except Broken:
+                pass
+
 
 if __name__ == '__main__':
-    for line in Draw(int(sys.argv[1])).lines(int(sys.argv[2])):
+    for line in Draw(int(sys.argv[1]), 'reconciling' in sys.argv[3:]).lines(int(sys.argv[2])):
         print(line)

@@ -17,7 +17,6 @@ TOP = 2 ** 62
 SIZE = 10 ** 12
 LIMITS = dict(transactions=200_000, splits=1_000_000, accounts=10_000, commodities=10_000, prices=1_000_000, schedules=1_000,
               lines=1_000_000, statements=100_000, bindings=10_000, recons=100_000)
-NOT_BUILT = {'mark', 'line_match', 'match_auto', 'reconcile', 'reconcile_statement', 'recons'}
 KINDS = 'ROOT ASSET BANK CASH CREDIT LIABILITY STOCK MUTUAL RECEIVABLE PAYABLE INCOME EXPENSE EQUITY'.split()
 RECURRENCES = ['once', 'day', 'week', 'month', 'end of month', 'nth weekday', 'last weekday', 'year']
 
@@ -263,15 +262,13 @@ COMMANDS = {
 NAMED = {'schedule_add': TP}  # a schedule's name: see name_of
 
 
-def command_of(value, not_built):
+def command_of(value):
     """(word, members, at)"""
     if not isinstance(value, dict):
         raise NotCommand('')
     do = value.get('do')
     if not isinstance(do, str) or do not in COMMANDS:
         raise NotCommand('do')
-    if do in not_built:
-        raise Broken('not built')
     at = None
     if 'at' in value:
         try:
@@ -928,9 +925,8 @@ def dumps(answer):
 
 
 class Machine:
-    def __init__(self, not_built=NOT_BUILT):
+    def __init__(self):
         self.book, self.past, self.later, self.next, self.version = Book(), [], [], 3, 0
-        self.not_built = not_built
         self.position = 0
 
     def turn(self, do):
@@ -978,13 +974,11 @@ class Machine:
         if len(data) > 8 * 1024 * 1024:
             return dumps(dict(length=len(data), refused='too long'))
         try:
-            do, members, at = command_of(parse_json(data), self.not_built)
+            do, members, at = command_of(parse_json(data))
         except NotJson:
             return dumps(dict(refused='not json'))
         except NotCommand as e:
             return dumps(dict(field=str(e), refused='not command'))
-        except Broken:
-            return dumps(dict(refused='not built'))
         return self.command(do, members, at)
 
     def run(self, data):
@@ -1002,7 +996,7 @@ class Machine:
 
 if __name__ == '__main__':
     words = sys.argv[1:]
-    machine = Machine(not_built=set() if '--all' in words else NOT_BUILT)
+    machine = Machine()
     if '--import' in words:
         i = words.index('--import')
         print(machine.import_words(sys.stdin.buffer.read(), words[i + 1], int(words[i + 2]), int(words[i + 3])))

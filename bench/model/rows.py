@@ -170,9 +170,9 @@ class Reader:
             book.currency = self.u()
 
 
-def opened(have, not_built):
+def opened(have):
     """The machine that rows open as; the rows have to be those of a sound book."""
-    m = Machine(not_built)
+    m = Machine()
     m.position = 0
     if not have:
         return m

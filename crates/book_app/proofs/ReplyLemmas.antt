@@ -17,7 +17,7 @@ use Rattle.book_texts.specs.AnswerText.{answer_bytes}
 use Rattle.book_texts.specs.RefusedText.{fault_bytes}
 use Rattle.book_texts.specs.RuleText.{rule_bytes}
 use Rattle.book_texts.proofs.OwnLineLemmas.{IsOwnLine, answer-own_line, fault-own_line, rule-own_line}
-use Rattle.book_wire.specs.Asked.{NotJson, NotCommand, NotBuilt, LineAsks, asked_of_fault}
+use Rattle.book_wire.specs.Asked.{NotJson, NotCommand, LineAsks, asked_of_fault}
 use Rattle.book_app.specs.Machine.{IsOutcome, Replies}
 
 own_line-mark : (bytes : List ℕ) → IsOwnLine bytes → mark_of bytes ≡ Answered
@@ -55,10 +55,6 @@ replies-fault state bytes (wire.NotCommand name) result read text_is =
       IsAnswer-fault (wire.NotCommand name) text is,
       record { asked = NotCommand name; read = read; reply = (is, refl) },
     )) text_is
-replies-fault state bytes wire.NotBuilt result read text_is =
-    IfOk-weaker result _ _
-    (λ text is. (IsAnswer-fault wire.NotBuilt text is, record { asked = NotBuilt; read = read; reply = (is, refl) }))
-    text_is
 replies-fault state bytes wire.OutOfMemory result read text_is =
     IfOk-weaker result _ _ (λ text is. absurd (no_text text is)) text_is
 

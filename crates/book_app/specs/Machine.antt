@@ -13,7 +13,7 @@ use Rattle.book_texts.specs.RefusedText.{fault_bytes, too_long_bytes}
 use Rattle.book_texts.specs.RuleText.{rule_bytes}
 use Rattle.book_statement.specs.Texts.{text_of_bytes}
 use Rattle.book_app.specs.declared.words.ImportWords.{ImportWords}
-use Rattle.book_wire.specs.Asked.{Asked, Asks, NotJson, NotCommand, NotBuilt, LineAsks}
+use Rattle.book_wire.specs.Asked.{Asked, Asks, NotJson, NotCommand, LineAsks}
 
 -- A reply as text: a broken rule with the version, which leaves the machine; or the answer with the version after.
 abbrev pub IsOutcome : Reply → Machine → List ℕ → Machine → Type 0
@@ -26,7 +26,6 @@ abbrev pub IsReply : Asked → Machine → List ℕ → Machine → Type 0
 IsReply (Asks command) old text new = IsOutcome (step old command) old text new
 IsReply NotJson old text new = (fault_bytes fault.NotJson ≡ Some text) × (new ≡ old)
 IsReply (NotCommand name) old text new = (fault_bytes (fault.NotCommand name) ≡ Some text) × (new ≡ old)
-IsReply NotBuilt old text new = (fault_bytes fault.NotBuilt ≡ Some text) × (new ≡ old)
 
 -- The machine replies to the bytes of a line by a text.
 pub record Replies (old : Machine) (bytes text : List ℕ) (new : Machine) : Type 0 where

@@ -93,7 +93,7 @@ impl<K: Keeper> Machine<Answering, K> for Importer {
         answer_file(alloc, &mut self.engine, self.words, keeper, bytes)
     }
 
-    /// A longer file is not read, so it has no answer.
+    /// A longer file has no answer.
     fn too_long(&self, _alloc: Global, _size: u64) -> Result<Bytes, OutOfMemory> {
         Err(OutOfMemory)
     }

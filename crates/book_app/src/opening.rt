@@ -1,5 +1,6 @@
-ghost use Rattle.std.specs.Prelude.{List, IfOk, IsTrue};
+ghost use Rattle.std.specs.Prelude.{◌≡◌, [], List, IfOk, IsTrue};
 ghost use Rattle.book_keeper.specs.declared.row.Row.{Row};
+ghost use Rattle.book_lines.specs.Room.{seen};
 ghost use Rattle.book_engine.specs.Opening.{HasOpenCause, Opened};
 ghost use Rattle.book_engine.specs.Standing.{Stands};
 ghost use Rattle.book_app.specs.StatusClause.{IsOpenedAt};
@@ -29,7 +30,9 @@ pub fn open_book<K: Keeper>(alloc: Global, keeper: &mut K, book: &str) -> Result
 }
 
 /// The room for what is read, once `clap` has parted the words, which are of the grammar.
-pub fn room_after(alloc: Global, words: &[Text]) -> Result<LineRoom, OutOfMemory> {
+pub fn room_after(alloc: Global, words: &[Text]) -> Result<LineRoom, OutOfMemory>
+    ensures { IfOk result (λ room. room.line ≡ seen []) }
+{
     part(alloc, words)?;
     LineRoom::new(alloc)
 }

@@ -6,12 +6,15 @@ use Rattle.book_commodity.specs.Table.{value_of}
 use Rattle.book_accounts.specs.declared.account.Account.{Account}
 use Rattle.book_prices.specs.declared.price.Price.{Price}
 use Rattle.book_schedule.specs.declared.recurrence.Recurrence.{Recurrence}
+use Rattle.book_splits.specs.declared.split.Mark as marks
+use Rattle.book_splits.specs.declared.split.Split.{Split}
 use Rattle.book_splits.specs.declared.transaction.Txn.{Txn}
 use Rattle.book_statement.specs.declared.binding.Binding.{Binding}
 use Rattle.book_statement.specs.declared.fault.StatementFault.{StatementFault}
 use Rattle.book_statement.specs.declared.line.Line.{Line}
 use Rattle.book_statement.specs.declared.line_state.LineState.TheVariants.{Open, Dismissed}
 use Rattle.book_statement.specs.declared.statement.Statement.{Statement}
+use Rattle.book_sound.specs.LineRules.{split_at}
 use Rattle.book_undo.specs.Book.{Book, with_currency, with_thing, without_thing}
 use Rattle.book_undo.specs.declared.thing.Thing.TheVariants as thing
 use Rattle.book_undo.specs.declared.thing.ThingKind.TheVariants as kind
@@ -35,6 +38,8 @@ use Rattle.book_command.specs.declared.rule.Rule.{Rule}
 use Rattle.book_command.specs.declared.rule.Rule.TheVariants.{BadStatement}
 use Rattle.book_step.specs.Accounts.{account_drop_of, account_edit_at, add_rules, drop_rules, edit_rules}
 use Rattle.book_step.specs.Accounts.{stays, with_given}
+use Rattle.book_step.specs.Accounts.{unknown_account}
+use Rattle.book_step.specs.AutoMatching.{book_paired, match_rules, matches}
 use Rattle.book_step.specs.BankLines.{in_state, is_open, line_dismiss_at, line_reopen_at, line_taken}
 use Rattle.book_step.specs.Bindings as bindings
 use Rattle.book_step.specs.Bindings.{account_rules, bind_at, binding_of}
@@ -46,11 +51,19 @@ use Rattle.book_step.specs.Importing as importing
 use Rattle.book_step.specs.Importing.{added_by, adds_nothing, file_rules, import_answer, import_said, room_rules, said}
 use Rattle.book_step.specs.LineAdding as adding
 use Rattle.book_step.specs.LineAdding.{book_matched, commodity_of, line_add_at, line_transaction, matched_answer}
+use Rattle.book_step.specs.LineMatching as line_matching
+use Rattle.book_step.specs.LineMatching.{line_match_at, line_match_of}
+use Rattle.book_step.specs.Marking.{book_marked, keeps_mark, mark_asked, mark_at}
 use Rattle.book_step.specs.Outcome.{Broken, Done, changing, leaving, unless_broken}
 use Rattle.book_step.specs.Posting.{new_transaction, post_answer, post_rules}
 use Rattle.book_step.specs.Prices.{has_numbers, price_of_day, price_rules, price_set_at, too_many_prices}
 use Rattle.book_step.specs.Prices.{unknown_price}
+use Rattle.book_sound.specs.ReconciliationRules.{marked_numbers}
+use Rattle.book_statement.specs.declared.held.Held.{Held}
+use Rattle.book_step.specs.Reconciling.{book_reconciled, finish_rules, finished, reconcile_at, reconcile_closed}
+use Rattle.book_step.specs.Reconciling.{reconcile_of}
 use Rattle.book_step.specs.SameTransaction.{same_transaction}
+use Rattle.book_step.specs.SameTransaction.{is_mark}
 use Rattle.book_step.specs.ScheduleRuns as schedule_runs
 use Rattle.book_step.specs.ScheduleRuns.{asked, asked_rules, book_ran, made_by, schedule_run_of, too_many_made}
 use Rattle.book_step.specs.ScheduleRuns.{too_many_splits_made}
@@ -205,6 +218,53 @@ import_moves state rules given (Ok statements) new reply e =
     (importing.book_with state.book added) (importing.drawn_by added) (import_answer added) (import_answer added) new
     reply e
 
+reconcile_moves :
+    (state : State) (rules : List (Option Rule)) (answers : ℕ → List ℕ → Answer) (account : ℕ) (day closing : ℤ)
+    (new : State) (reply : Answer) → reconcile_of state rules answers account day closing ≡ Done new reply
+    → Moves state new
+reconcile_moves state rules answers account day closing new reply e =
+    let book = state.book in
+    let recon = finished book account day closing in
+    changing_moves state (rules ++ finish_rules book account day closing) (book_reconciled book state.next recon) 1
+    (answers state.next (marked_numbers recon.marked)) new reply e
+
+reconcile_closed_moves :
+    (state : State) (n : ℕ) (statement : Held) (closing : Option ℤ) (new : State) (reply : Answer)
+    → reconcile_closed state n statement closing ≡ Done new reply → Moves state new
+reconcile_closed_moves state n statement None new reply e = absurd cc
+reconcile_closed_moves state n statement (Some closing) new reply e =
+    reconcile_moves state [] (λ number marked. answer.ReconcileStatement number marked) statement.account statement.day
+    closing new reply e
+
+reconcile_statement_moves :
+    (state : State) (n : ℕ) (found : Option Held) (new : State) (reply : Answer)
+    → reconcile_at state n found ≡ Done new reply → Moves state new
+reconcile_statement_moves state n None new reply e = absurd cc
+reconcile_statement_moves state n (Some statement) new reply e =
+    reconcile_closed_moves state n statement statement.closing new reply e
+mark_moves :
+    (state : State) (number : ℕ) (to : marks.Mark) (force : Bool) (found : Option Split) (new : State) (reply : Answer)
+    → mark_at state number to force found ≡ Done new reply → Moves state new
+mark_moves state number to force None new reply e = absurd cc
+mark_moves state number to force (Some split) new reply e =
+    either_moves (is_mark split.mark to) state (keeps_mark force number split ∷ []) (book_marked number to state.book) 0
+    answer.Mark answer.Mark new reply e
+
+pair_moves :
+    (state : State) (n : ℕ) (line : Line) (wanted : ℕ) (found : Option Split) (new : State) (reply : Answer)
+    → line_match_of state n line wanted found ≡ Done new reply → Moves state new
+pair_moves state n line wanted None new reply e = absurd cc
+pair_moves state n line wanted (Some split) new reply e =
+    changing_moves state (line_matching.match_rules state.book.lines n line wanted split)
+    (line_matching.book_paired n line wanted split state.book) 0 answer.LineMatch new reply e
+
+match_moves :
+    (state : State) (n wanted : ℕ) (found : Option Line) (new : State) (reply : Answer)
+    → line_match_at state n wanted found ≡ Done new reply → Moves state new
+match_moves state n wanted None new reply e = absurd cc
+match_moves state n wanted (Some line) new reply e =
+    pair_moves state n line wanted (split_at wanted state.book.transactions) new reply e
+
 -- A change that is done leaves the state as it is, or raises its version by one, and the next number does not fall.
 pub outcome_moves :
     (state : State) (update : Update) (new : State) (reply : Answer) → outcome state update ≡ Done new reply
@@ -251,8 +311,16 @@ outcome_moves state (LineAdd n others description) new reply e =
 outcome_moves state (Import format text account) new reply e =
     import_moves state (importing.given_rules state.book format account) account
     (said state.book.commodities text format) new reply e
-outcome_moves state (Mark split cleared force) new reply e = absurd cc
-outcome_moves state (LineMatch line split) new reply e = absurd cc
-outcome_moves state (MatchAuto account window) new reply e = absurd cc
-outcome_moves state (Reconcile account day closing) new reply e = absurd cc
-outcome_moves state (ReconcileStatement statement) new reply e = absurd cc
+outcome_moves state (Mark split cleared force) new reply e =
+    mark_moves state split (mark_asked cleared) force (split_at split state.book.transactions) new reply e
+outcome_moves state (LineMatch line split) new reply e =
+    match_moves state line split (value_of line state.book.lines) new reply e
+outcome_moves state (MatchAuto account window) new reply e =
+    let pairs = matches state.book account window in
+    either_moves (length pairs == 0) state (match_rules state.book account window) (book_paired pairs state.book) 0
+    (answer.MatchAuto pairs) (answer.MatchAuto pairs) new reply e
+outcome_moves state (Reconcile account day closing) new reply e =
+    reconcile_moves state (unknown_account state.book.accounts account ∷ [])
+    (λ number marked. answer.Reconcile number marked) account day closing new reply e
+outcome_moves state (ReconcileStatement statement) new reply e =
+    reconcile_statement_moves state statement (value_of statement state.book.statements) new reply e

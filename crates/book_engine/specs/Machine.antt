@@ -9,6 +9,7 @@ use Rattle.book_command.specs.declared.command.Command.{Command}
 use Rattle.book_command.specs.declared.command.What.{What}
 use Rattle.book_command.specs.declared.command.What.TheVariants.{Update, Undo, Redo, Price, Report, Due, Status}
 use Rattle.book_command.specs.declared.command.What.TheVariants.{Lines, Statements}
+use Rattle.book_command.specs.declared.command.What.TheVariants.{Recons}
 use Rattle.book_command.specs.declared.rule.Rule.{Rule}
 use Rattle.book_command.specs.declared.rule.Rule.TheVariants.{NothingToUndo, NothingToRedo}
 use Rattle.book_step.specs.BankLines.{account_asked, lines_of, statements_of}
@@ -16,6 +17,7 @@ use Rattle.book_step.specs.Outcome.{Outcome, numbers}
 use Rattle.book_step.specs.Outcome as outcome
 use Rattle.book_command.specs.Rates.{rate_on}
 use Rattle.book_step.specs.Prices.{rate_rules}
+use Rattle.book_step.specs.Reconciling.{recons_of}
 use Rattle.book_step.specs.Schedules.{day_rules, due_of}
 use Rattle.book_step.specs.State.{State, fresh_book}
 use Rattle.book_step.specs.Step.{outcome as outcome_of, stale}
@@ -123,6 +125,8 @@ reply machine (Lines account) =
 reply machine (Statements account) =
     asked machine (account_asked machine.book account)
     (answer.Statements (statements_of account machine.book.statements))
+reply machine (Recons account) =
+    asked machine (account_asked machine.book account) (answer.Recons (recons_of account machine.book))
 reply machine (Due upto) =
     asked machine (day_rules upto machine.book.schedules) (answer.Due (due_of machine.book upto))
 reply machine Status = Done machine (status machine)

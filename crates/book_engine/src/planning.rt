@@ -6,10 +6,12 @@ ghost use Rattle.book_undo.specs.Inverse.{LeadsBack};
 ghost use Rattle.book_step.specs.Outcome.{numbers};
 ghost use Rattle.book_step.specs.Step.{outcome};
 ghost use Rattle.book_step.specs.BankLines.{account_asked, lines_of, statements_of};
+ghost use Rattle.book_step.specs.Reconciling.{recons_of};
 ghost use Rattle.book_step.specs.Schedules.{Finds, day_rules, due_of};
 ghost use Rattle.book_command.specs.declared.answer.Answer.TheVariants.{Due as DueAnswer};
 ghost use Rattle.book_command.specs.declared.answer.Answer.TheVariants.{Lines as LinesAnswer};
 ghost use Rattle.book_command.specs.declared.answer.Answer.TheVariants.{Statements as StatementsAnswer};
+ghost use Rattle.book_command.specs.declared.answer.Answer.TheVariants.{Recons as ReconsAnswer};
 ghost use Rattle.book_command.specs.declared.command.What.TheVariants.{Redo as AskRedo, Undo as AskUndo};
 ghost use Rattle.book_opening.specs.State.{state_of};
 ghost use Rattle.book_report_answers.specs.Reports.{report_answer as report_answer_of, report_rules};
@@ -30,7 +32,7 @@ use book_opening::Saved;
 use book_report_answers::report_answer;
 use book_step::{
     Answer, Command, Refusal, Rule, Step, Update, check_version, due_answer, lines_answer,
-    rate_answer, statements_answer,
+    rate_answer, recons_answer, statements_answer,
 };
 use book_turns::{Turn, Way, row_changes};
 use book_undo::Edit;
@@ -87,6 +89,7 @@ fn plan_at(
         What::Report(report) => plan_report(alloc, state, registers, saved, &report),
         What::Lines { account } => plan_lines(alloc, state, account),
         What::Statements { account } => plan_statements(alloc, state, account),
+        What::Recons { account } => plan_recons(alloc, state, account),
         What::Due { upto } => plan_due(alloc, state, upto),
         What::Status => Ok(plan_stay(alloc, state, status(state))),
     }
@@ -148,6 +151,19 @@ fn plan_statements(alloc: Global, state: &Saved, account: u64) -> Result<Plan, R
         (StatementsAnswer (statements_of account (state_of state.now).book.statements))) result }
 {
     match statements_answer(alloc, &state.plain, account) {
+        Ok(answer) => Ok(plan_stay(alloc, state, answer)),
+        Err(refusal) => Err(refusal),
+    }
+}
+
+/// The plan of the question for the reconciliations of an account. It leaves the state as it is.
+fn plan_recons(alloc: Global, state: &Saved, account: u64) -> Result<Plan, Refusal>
+    requires { IsWhole (state_of state.now) true }
+    ensures { Finds (account_asked (state_of state.now).book account)
+        (λ plan. plan ≡ stay_plan (state_of state.now)
+        (ReconsAnswer (recons_of account (state_of state.now).book))) result }
+{
+    match recons_answer(alloc, &state.plain, account) {
         Ok(answer) => Ok(plan_stay(alloc, state, answer)),
         Err(refusal) => Err(refusal),
     }

@@ -8,6 +8,8 @@ use Rattle.book_commodity.proofs.DrawnLemmas.{value_here}
 use Rattle.book_accounts.specs.declared.account.Account.{Account}
 use Rattle.book_schedule.specs.declared.recurrence.Recurrence.{Recurrence}
 use Rattle.book_splits.specs.declared.transaction.Txn.{Txn}
+use Rattle.book_splits.specs.declared.split.Mark.{Mark}
+use Rattle.book_splits.specs.declared.split.Split.{Split}
 use Rattle.book_prices.specs.declared.price.Price.{Price}
 use Rattle.book_statement.specs.declared.line.Line.{Line}
 use Rattle.book_statement.specs.declared.binding.Binding.{Binding}
@@ -15,6 +17,7 @@ use Rattle.book_statement.specs.declared.line_state.LineState.TheVariants.{Open,
 use Rattle.book_statement.specs.declared.fault.StatementFault.{StatementFault}
 use Rattle.book_statement.specs.declared.statement.Statement.{Statement}
 use Rattle.book_import.specs.declared.added.Additions.{Additions}
+use Rattle.book_sound.specs.LineRules.{split_at}
 use Rattle.book_undo.specs.Book.{Book, with_currency, with_thing, without_thing}
 use Rattle.book_undo.specs.Edit.{edited}
 use Rattle.book_undo.specs.declared.edit.Edit as edits
@@ -22,8 +25,10 @@ use Rattle.book_undo.specs.declared.thing.Thing.TheVariants as thing
 use Rattle.book_undo.specs.declared.thing.ThingKind.TheVariants as kind
 use Rattle.book_step.specs.Accounts.{account_drop_of, account_edit_at, add_rules, drop_rules, edit_rules}
 use Rattle.book_step.specs.Accounts.{stays, with_given}
+use Rattle.book_step.specs.Accounts.{unknown_account}
 use Rattle.book_step.specs.AnswerBalances.{PutsAnswered, PutsUnder, balances_at, balances_of, with_balances}
 use Rattle.book_step.specs.AnswerBalances.{without_balances}
+use Rattle.book_step.specs.AutoMatching.{book_paired, match_rules, matches}
 use Rattle.book_step.specs.BankLines.{in_state, is_open, line_dismiss_at, line_reopen_at, line_taken}
 use Rattle.book_step.specs.Bindings as bindings
 use Rattle.book_step.specs.Bindings.{account_rules, bind_at, binding_of}
@@ -33,6 +38,9 @@ use Rattle.book_step.specs.LineAdding.{matched_answer}
 use Rattle.book_step.specs.Importing as importing
 use Rattle.book_step.specs.Importing.{added_by, adds_nothing, file_rules, import_answer, import_said}
 use Rattle.book_step.specs.Importing.{room_rules, said}
+use Rattle.book_step.specs.LineMatching as line_matching
+use Rattle.book_step.specs.LineMatching.{line_match_at, line_match_of}
+use Rattle.book_step.specs.Marking.{book_marked, keeps_mark, mark_asked, mark_at}
 use Rattle.book_step.specs.Outcome.{Outcome, Broken, Done, but_balances, changed, changing, leaving, numbers}
 use Rattle.book_step.specs.Outcome.{unless_broken}
 use Rattle.book_step.specs.Posting.{new_transaction, post_answer, post_rules}
@@ -41,7 +49,12 @@ use Rattle.book_step.specs.Editing.{book_with, book_without, drop_at, drawn_by, 
 use Rattle.book_step.specs.Editing.{edited_transaction, reconciled}
 use Rattle.book_step.specs.Prices.{has_numbers, price_of_day, price_rules, price_set_at, too_many_prices}
 use Rattle.book_step.specs.Prices.{unknown_price}
+use Rattle.book_sound.specs.ReconciliationRules.{marked_numbers}
+use Rattle.book_statement.specs.declared.held.Held.{Held}
+use Rattle.book_step.specs.Reconciling.{book_reconciled, finish_rules, finished, reconcile_at, reconcile_closed}
+use Rattle.book_step.specs.Reconciling.{reconcile_of}
 use Rattle.book_step.specs.SameTransaction.{same_transaction}
+use Rattle.book_step.specs.SameTransaction.{is_mark}
 use Rattle.book_step.specs.ScheduleRuns as schedule_runs
 use Rattle.book_step.specs.ScheduleRuns.{asked, asked_rules, book_ran, made_by, schedule_run_of, too_many_made}
 use Rattle.book_step.specs.ScheduleRuns.{too_many_splits_made}
@@ -63,7 +76,7 @@ use Rattle.book_command.specs.declared.command.Update.TheVariants.{LineAdd}
 use Rattle.book_command.specs.declared.command.GivenOther.{GivenOther}
 use Rattle.book_command.specs.declared.command.Update.TheVariants.{Bind, LineDismiss, LineReopen}
 use Rattle.book_command.specs.declared.command.Update.TheVariants.{Import}
-use Rattle.book_command.specs.declared.command.Update.TheVariants.{Mark}
+use Rattle.book_command.specs.declared.command.Update.TheVariants.{Mark as MarkAsked}
 use Rattle.book_command.specs.declared.command.Update.TheVariants.{LineMatch}
 use Rattle.book_command.specs.declared.command.Update.TheVariants.{MatchAuto}
 use Rattle.book_command.specs.declared.command.Update.TheVariants.{Reconcile, ReconcileStatement}
@@ -271,6 +284,55 @@ imported_answered state rules given (Ok statements) new reply e =
     adding_answered (adds_nothing added) state
     ((rules ++ file_rules state.book given statements) ++ room_rules state.book added) added new reply e
 
+reconciled_answered :
+    (state : State) (rules : List (Option Rule)) (answers : ℕ → List ℕ → Answer) (account : ℕ) (day closing : ℤ)
+    (new : State) (reply : Answer) → ((s : State) (n : ℕ) (marked : List ℕ) → HasBalances state s (answers n marked))
+    → reconcile_of state rules answers account day closing ≡ Done new reply → HasBalances state new reply
+reconciled_answered state rules answers account day closing new reply has e =
+    let book = state.book in
+    let recon = finished book account day closing in
+    let later = book_reconciled book state.next recon in
+    let numbers = marked_numbers recon.marked in
+    changing_answered state (rules ++ finish_rules book account day closing) later 1 (answers state.next numbers) new
+    reply (has (changed state later 1) state.next numbers) e
+
+closed_answered :
+    (state : State) (n : ℕ) (statement : Held) (closing : Option ℤ) (new : State) (reply : Answer)
+    → reconcile_closed state n statement closing ≡ Done new reply → HasBalances state new reply
+closed_answered state n statement None new reply e = absurd cc
+closed_answered state n statement (Some closing) new reply e =
+    reconciled_answered state [] (λ number marked. answer.ReconcileStatement number marked) statement.account
+    statement.day closing new reply (λ s number marked. tt) e
+
+statement_answered :
+    (state : State) (n : ℕ) (found : Option Held) (new : State) (reply : Answer)
+    → reconcile_at state n found ≡ Done new reply → HasBalances state new reply
+statement_answered state n None new reply e = absurd cc
+statement_answered state n (Some statement) new reply e =
+    closed_answered state n statement statement.closing new reply e
+marked_answered :
+    (state : State) (number : ℕ) (to : Mark) (force : Bool) (found : Option Split) (new : State) (reply : Answer)
+    → mark_at state number to force found ≡ Done new reply → HasBalances state new reply
+marked_answered state number to force None new reply e = absurd cc
+marked_answered state number to force (Some split) new reply e =
+    either_answered (is_mark split.mark to) state (keeps_mark force number split ∷ []) (book_marked number to state.book)
+    answer.Mark new reply (λ s. tt) e
+
+paired_answered :
+    (state : State) (n : ℕ) (line : Line) (wanted : ℕ) (found : Option Split) (new : State) (reply : Answer)
+    → line_match_of state n line wanted found ≡ Done new reply → HasBalances state new reply
+paired_answered state n line wanted None new reply e = absurd cc
+paired_answered state n line wanted (Some split) new reply e =
+    changing_answered state (line_matching.match_rules state.book.lines n line wanted split)
+    (line_matching.book_paired n line wanted split state.book) 0 answer.LineMatch new reply tt e
+
+matched_answered :
+    (state : State) (n wanted : ℕ) (found : Option Line) (new : State) (reply : Answer)
+    → line_match_at state n wanted found ≡ Done new reply → HasBalances state new reply
+matched_answered state n wanted None new reply e = absurd cc
+matched_answered state n wanted (Some line) new reply e =
+    paired_answered state n line wanted (split_at wanted state.book.transactions) new reply e
+
 answered : (state : State) (update : Update) (new : State) (reply : Answer) → outcome state update ≡ Done new reply
     → HasBalances state new reply
 answered state (BookCurrency commodity) new reply e =
@@ -318,11 +380,19 @@ answered state (LineReopen n) new reply e = reopened_answered state n (value_of 
 answered state (Import format text account) new reply e =
     imported_answered state (importing.given_rules state.book format account) account (said state.book.commodities text format)
     new reply e
-answered state (Mark split cleared force) new reply e = absurd cc
-answered state (LineMatch line split) new reply e = absurd cc
-answered state (MatchAuto account window) new reply e = absurd cc
-answered state (Reconcile account day closing) new reply e = absurd cc
-answered state (ReconcileStatement statement) new reply e = absurd cc
+answered state (MarkAsked split cleared force) new reply e =
+    marked_answered state split (mark_asked cleared) force (split_at split state.book.transactions) new reply e
+answered state (LineMatch line split) new reply e =
+    matched_answered state line split (value_of line state.book.lines) new reply e
+answered state (Reconcile account day closing) new reply e =
+    reconciled_answered state (unknown_account state.book.accounts account ∷ [])
+    (λ number marked. answer.Reconcile number marked) account day closing new reply (λ s number marked. tt) e
+answered state (ReconcileStatement statement) new reply e =
+    statement_answered state statement (value_of statement state.book.statements) new reply e
+answered state (MatchAuto account window) new reply e =
+    let pairs = matches state.book account window in
+    either_answered (length pairs == 0) state (match_rules state.book account window) (book_paired pairs state.book)
+    (answer.MatchAuto pairs) new reply (λ s. tt) e
 
 -- ---- answers with and without balances
 filled : (old new : State) (whole : Answer) → HasBalances old new whole → with_balances new.book whole ≡ whole

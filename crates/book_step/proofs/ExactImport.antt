@@ -34,23 +34,23 @@ use Rattle.book_step.proofs.SoundImport.{below-next}
 
 -- ---- one edit alone, or the list of all
 
-edited_whole : (edits : List Edit) (book : Book) → edited (whole_edit edits) book ≡ edited_all edits book
+pub edited_whole : (edits : List Edit) (book : Book) → edited (whole_edit edits) book ≡ edited_all edits book
 edited_whole [] book = edited_of_all [] book
 edited_whole (edit ∷ []) book = refl
 edited_whole (edit ∷ next ∷ more) book = edited_of_all (edit ∷ next ∷ more) book
 
-leaves_whole : (edits : List Edit) → leaves (whole_edit edits) ≡ flat_map leaves edits
+pub leaves_whole : (edits : List Edit) → leaves (whole_edit edits) ≡ flat_map leaves edits
 leaves_whole [] = leaves_of_all []
 leaves_whole (edit ∷ []) = sym (append-nil (leaves edit))
 leaves_whole (edit ∷ next ∷ more) = leaves_of_all (edit ∷ next ∷ more)
 
-shallow_whole : (edits : List Edit) → deepest edits ≡ 0 → nat_lt 8 (depth (whole_edit edits)) ≡ false
+pub shallow_whole : (edits : List Edit) → deepest edits ≡ 0 → nat_lt 8 (depth (whole_edit edits)) ≡ false
 shallow_whole [] flat = let deep = depth_of_all [] in grind (arith, nat_tests, deep)
 shallow_whole (edit ∷ []) flat = grind (arith, nat_tests, flat)
 shallow_whole (edit ∷ next ∷ more) flat =
     let deep = depth_of_all (edit ∷ next ∷ more) in grind (arith, nat_tests, deep, flat)
 
-something_whole :
+pub something_whole :
     (edit : Edit) (more : List Edit) → is_nothing edit ≡ false → is_nothing (whole_edit (edit ∷ more)) ≡ false
 something_whole edit [] something = something
 something_whole edit (next ∷ more) something = something_of_some (edit ∷ next ∷ more) (λ none. absurd cc)
@@ -69,7 +69,7 @@ edited_statements [] book = refl
 edited_statements (put ∷ more) book =
     edited_statements more (record book { statements = with_entry put.0 put.1 book.statements })
 
-edited_lines :
+pub edited_lines :
     (added : List (ℕ × Line)) (book : Book)
     → edited_all (line_edits added) book ≡ record book { lines = with_entries added book.lines }
 edited_lines [] book = refl
@@ -106,10 +106,10 @@ import_leads state added is drawn =
 abbrev statement_leaves : List (ℕ × Held) → List Leaf
 statement_leaves added = map (λ (e : ℕ × Held). OfPut e.0 (thing.Held e.1)) added
 
-abbrev line_leaves : List (ℕ × Line) → List Leaf
+abbrev pub line_leaves : List (ℕ × Line) → List Leaf
 line_leaves added = map (λ (e : ℕ × Line). OfPut e.0 (thing.Line e.1)) added
 
-leaves_of_lines : (added : List (ℕ × Line)) → flat_map leaves (line_edits added) ≡ line_leaves added
+pub leaves_of_lines : (added : List (ℕ × Line)) → flat_map leaves (line_edits added) ≡ line_leaves added
 leaves_of_lines [] = refl
 leaves_of_lines (put ∷ more) =
     ap (λ (ls : List Leaf). OfPut put.0 (thing.Line put.1) ∷ ls) (leaves_of_lines more)
@@ -122,7 +122,7 @@ leaves_of_both [] lines = leaves_of_lines lines
 leaves_of_both (put ∷ more) lines =
     ap (λ (ls : List Leaf). OfPut put.0 (thing.Held put.1) ∷ ls) (leaves_of_both more lines)
 
-deepest_lines : (added : List (ℕ × Line)) → deepest (line_edits added) ≡ 0
+pub deepest_lines : (added : List (ℕ × Line)) → deepest (line_edits added) ≡ 0
 deepest_lines [] = refl
 deepest_lines (put ∷ more) = ap (λ (d : ℕ). max 0 d) (deepest_lines more)
 
@@ -132,7 +132,7 @@ deepest_both :
 deepest_both [] lines = deepest_lines lines
 deepest_both (put ∷ more) lines = ap (λ (d : ℕ). max 0 d) (deepest_both more lines)
 
-missing_lines : (book : Book) (added : List (ℕ × Line)) → first_missing book (line_leaves added) ≡ None
+pub missing_lines : (book : Book) (added : List (ℕ × Line)) → first_missing book (line_leaves added) ≡ None
 missing_lines book [] = refl
 missing_lines book (put ∷ more) = missing_lines book more
 

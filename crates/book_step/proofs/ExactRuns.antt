@@ -60,12 +60,12 @@ schedule_gone state n is there =
 
 -- ---- the book that a run's edits lead to
 
-edited_behind :
+pub edited_behind :
     (xs ys : List Edit) (book : Book) → edited_all (xs ++ ys) book ≡ edited_all ys (edited_all xs book)
 edited_behind [] ys book = refl
 edited_behind (x ∷ xs) ys book = edited_behind xs ys (edited x book)
 
-edited_transactions :
+pub edited_transactions :
     (made : List (ℕ × Txn)) (book : Book)
     → edited_all (transaction_edits made) book
     ≡ record book { transactions = with_entries made book.transactions }
@@ -91,7 +91,7 @@ run_leads book next runs =
 
 -- ---- the leaves
 
-abbrev transaction_leaves : List (ℕ × Txn) → List Leaf
+abbrev pub transaction_leaves : List (ℕ × Txn) → List Leaf
 transaction_leaves made = map (λ (e : ℕ × Txn). OfPut e.0 (thing.Txn e.1)) made
 
 abbrev schedule_leaves : List (ℕ × Schedule) → List Leaf

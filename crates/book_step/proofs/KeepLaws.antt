@@ -19,7 +19,7 @@ use Rattle.book_statement.specs.declared.line_key.LineKey.{LineKey}
 use Rattle.book_statement.specs.declared.line_state.LineState.TheVariants.{Open, Matched, Dismissed}
 use Rattle.book_statement.specs.declared.statement.Statement.{Statement}
 use Rattle.book_sound.specs.Dismissal.{loses_split}
-use Rattle.book_sound.specs.LineRules.{is_same_key, key_of_line}
+use Rattle.book_sound.specs.LineRules.{is_same_key, key_of_line, split_at}
 use Rattle.book_undo.specs.Book.{with_currency, with_thing, without_thing}
 use Rattle.book_undo.specs.Edit.{edited}
 use Rattle.book_undo.specs.declared.thing.Thing.TheVariants as thing
@@ -48,6 +48,7 @@ use Rattle.book_command.specs.declared.refusal.Refusal.{Refusal}
 use Rattle.book_command.specs.declared.rule.Rule.{Rule}
 use Rattle.book_command.specs.declared.rule.Rule.TheVariants.{BadStatement}
 use Rattle.book_step.specs.Accounts as accounts
+use Rattle.book_step.specs.AutoMatching.{match_rules, matches}
 use Rattle.book_step.specs.BankLines.{in_state, is_open, line_dismiss_at, line_reopen_at, line_taken}
 use Rattle.book_step.specs.Bindings as bindings
 use Rattle.book_step.specs.Commodities as commodities
@@ -55,6 +56,7 @@ use Rattle.book_step.specs.Editing as editing
 use Rattle.book_step.specs.Importing as importing
 use Rattle.book_step.specs.Laws.{KeepsLines, KeepsStatements, SaysSame}
 use Rattle.book_step.specs.LineAdding as line_adding
+use Rattle.book_step.specs.Marking.{mark_asked}
 use Rattle.book_step.specs.Outcome.{Broken, Done, IsStepTo, StepsTo, after}
 use Rattle.book_step.specs.Posting.{new_transaction, post_answer, post_rules}
 use Rattle.book_step.specs.Prices as prices
@@ -68,6 +70,8 @@ use Rattle.book_step.specs.declared.step.Step.{Step}
 use Rattle.book_step.proofs.AnswerLemmas.{whole_of}
 use Rattle.book_step.proofs.KeepLemmas.{Keeps, added-behind, after-change, after-either, after-leaving, line-in-state}
 use Rattle.book_step.proofs.KeepLemmas.{keeps-through, lines-dismissed, untouched}
+use Rattle.book_step.proofs.KeepMarks.{line_match-keeps, mark-keeps, match_pairs-keeps, reconcile-keeps}
+use Rattle.book_step.proofs.KeepMarks.{reconcile_statement-keeps}
 use Rattle.book_step.proofs.SoundOutcome.{unless_done}
 
 -- ---- commodities, accounts, prices
@@ -293,11 +297,17 @@ outcome-keeps state (LineReopen line) new answered e =
 outcome-keeps state (Import format text given) new answered e =
     import-keeps state (importing.given_rules state.book format given) given
     (importing.said state.book.commodities text format) new answered e
-outcome-keeps state (Mark split cleared force) new answered e = absurd cc
-outcome-keeps state (LineMatch line split) new answered e = absurd cc
-outcome-keeps state (MatchAuto account window) new answered e = absurd cc
-outcome-keeps state (Reconcile account day closing) new answered e = absurd cc
-outcome-keeps state (ReconcileStatement statement) new answered e = absurd cc
+outcome-keeps state (Mark split cleared force) new answered e =
+    mark-keeps state split (mark_asked cleared) force (split_at split state.book.transactions) new answered e
+outcome-keeps state (LineMatch line split) new answered e =
+    line_match-keeps state line split (value_of line state.book.lines) new answered refl e
+outcome-keeps state (MatchAuto account window) new answered e =
+    match_pairs-keeps state (match_rules state.book account window) (matches state.book account window) new answered e
+outcome-keeps state (Reconcile account day closing) new answered e =
+    reconcile-keeps state (accounts.unknown_account state.book.accounts account ∷ [])
+    (λ number marked. answer.Reconcile number marked) account day closing new answered e
+outcome-keeps state (ReconcileStatement statement) new answered e =
+    reconcile_statement-keeps state statement (value_of statement state.book.statements) new answered e
 
 -- After a change that is done each line is there as it was, but for its state.
 pub outcome-keeps-lines :

@@ -44,8 +44,12 @@ use Rattle.book_step.proofs.SoundCommodities.{book_currency-sound, commodity_add
 use Rattle.book_step.proofs.SoundEditing.{drop_transaction-sound, edit_transaction-sound}
 use Rattle.book_step.proofs.SoundLineAdding.{line_add-sound}
 use Rattle.book_step.proofs.SoundImport.{import_file-sound}
+use Rattle.book_step.proofs.SoundMatching.{match_auto-sound}
+use Rattle.book_step.proofs.SoundLineMatching.{line_match-sound}
+use Rattle.book_step.proofs.SoundMarking.{mark-sound}
 use Rattle.book_step.proofs.SoundPosting.{post-sound}
 use Rattle.book_step.proofs.SoundPrices.{price_drop-sound, price_set-sound}
+use Rattle.book_step.proofs.SoundReconciling.{reconcile-sound, reconcile_statement-sound}
 use Rattle.book_step.proofs.SoundRuns.{schedule_run-sound}
 use Rattle.book_step.proofs.SoundSchedules.{schedule_add-sound, schedule_drop-sound}
 
@@ -77,11 +81,15 @@ outcome-sound state (LineDismiss line) new answered is e = line_dismiss-sound st
 outcome-sound state (LineReopen line) new answered is e = line_reopen-sound state line new answered is e
 outcome-sound state (Import format text account) new answered is e =
     import_file-sound state format text account new answered is e
-outcome-sound state (Mark split cleared force) new answered is e = absurd cc
-outcome-sound state (LineMatch line split) new answered is e = absurd cc
-outcome-sound state (MatchAuto account window) new answered is e = absurd cc
-outcome-sound state (Reconcile account day closing) new answered is e = absurd cc
-outcome-sound state (ReconcileStatement statement) new answered is e = absurd cc
+outcome-sound state (Mark split cleared force) new answered is e =
+    mark-sound state split cleared force new answered is e
+outcome-sound state (LineMatch line split) new answered is e = line_match-sound state line split new answered is e
+outcome-sound state (MatchAuto account window) new answered is e =
+    match_auto-sound state account window new answered is e
+outcome-sound state (Reconcile account day closing) new answered is e =
+    reconcile-sound state account day closing new answered is e
+outcome-sound state (ReconcileStatement statement) new answered is e =
+    reconcile_statement-sound state statement new answered is e
 
 -- ---- the fresh state
 

@@ -12,10 +12,12 @@ pub mod Laws
 pub mod LineAdding
 pub mod LineMatching
 pub mod Marking
+pub mod Matchable
 pub mod Outcome
 pub mod Posting
 pub mod Prices
 pub mod Reconciling
+pub mod Remarking
 pub mod SameTransaction
 pub mod ScheduleRuns
 pub mod Schedules

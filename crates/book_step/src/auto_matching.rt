@@ -1,12 +1,69 @@
-ghost use Rattle.book_step.specs.AutoMatching.{match_auto};
+ghost use Rattle.std.specs.Prelude.{◌≡◌, [], ◌∷◌, IfOk};
+ghost use Rattle.book_commodity.specs.Rules.{ReportsFirst};
+ghost use Rattle.book_step.specs.AutoMatching.{match_auto, match_rules, matches, wide_window};
 ghost use Rattle.book_step.specs.Outcome.{StepsTo};
 
+use crate::accounts::known;
+use crate::matchable::{free_splits, open_lines};
+use crate::pairing::pairing_edit;
 use crate::present::Present;
-use crate::{Refusal, Step};
+use crate::{Answer, Refusal, Rule, Step};
+use book_commodity::{Counted, Many, OutOfMemory};
+use book_match::{Matched, propose_kept};
 
-/// STUB
+const MAX_WINDOW: u64 = 366;
+
+/// All pairs are matched that are proposed for the account. Each of its open lines takes one of its splits that no line
+/// has and that aren't reconciled: the nearest with the line's amount, at most `window` days away. The lines choose
+/// by day and number, one after another. A new split that is taken becomes cleared.
 pub(crate) fn match_auto(present: &Present, account: u64, window: u64) -> Result<Step, Refusal>
     ensures { StepsTo present.now (match_auto present.now account window) result }
 {
-    Err(Refusal::OutOfMemory)
+    let days = check_asked(present, account, window)?;
+    let pairs = matches(present, account, days)?;
+    if pairs.is_empty() {
+        return Ok(Step::leaving(present, Answer::MatchAuto { pairs }));
+    }
+    let edit = pairing_edit(present.alloc, present.plain, pairs.as_slice())?;
+    Step::changing(present, 0, edit, Answer::MatchAuto { pairs })
+}
+
+/// The account is in the book, and the window is in its limit. It is returned in days.
+fn check_asked(present: &Present, account: u64, window: u64) -> Result<u32, Rule>
+    ensures rules { ReportsFirst (match_rules present.now.book account window) result }
+    ensures days { IfOk result (λ days. days ≡ window) }
+{
+    known(present, account)?;
+    check_window(window)
+}
+
+/// The window is at most 366 days. It is returned in days.
+fn check_window(window: u64) -> Result<u32, Rule>
+    ensures rule { ReportsFirst (wide_window window ∷ []) result }
+    ensures days { IfOk result (λ days. days ≡ window) }
+{
+    if window > MAX_WINDOW {
+        return Err(Rule::Limit {
+            which: Counted::Window,
+            at: MAX_WINDOW,
+        });
+    }
+    Ok(window as u32)
+}
+
+/// The pairs that are proposed for the account.
+fn matches(present: &Present, account: u64, window: u32) -> Result<Many<Matched>, OutOfMemory>
+    ensures { IfOk result (λ pairs. pairs ≡ matches present.now.book account window) }
+{
+    let plain = present.plain;
+    let lines = open_lines(present.alloc, plain.lines.as_slice(), account)?;
+    let index = free_splits(present)?;
+    propose_kept(
+        present.alloc,
+        lines.as_slice(),
+        &index,
+        account,
+        &plain.transactions,
+        window,
+    )
 }

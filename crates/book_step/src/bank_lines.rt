@@ -35,7 +35,7 @@ pub(crate) fn line_reopen(present: &Present, number: u64) -> Result<Step, Refusa
 }
 
 /// The line of this number, which is one of the book's.
-fn known<'a>(present: &Present<'a>, number: u64) -> Result<&'a Line, Rule>
+pub(crate) fn known<'a>(present: &Present<'a>, number: u64) -> Result<&'a Line, Rule>
     ensures there { IfOk result (λ line. value_of number present.now.book.lines ≡ Some line.now) }
     ensures unknown { ReportsFirst (unknown_line present.now.book.lines number ∷ []) result }
 {
@@ -60,7 +60,7 @@ pub(crate) fn check_open(number: u64, line: &Line) -> Result<(), Rule>
 }
 
 /// Whether the line is neither matched with a split nor dismissed.
-fn is_open(line: &Line) -> bool
+pub(crate) fn is_open(line: &Line) -> bool
     ensures { result ≡ is_open line.now.state }
 {
     match line.state {

@@ -35,7 +35,7 @@ pub fn statements_answer(alloc: Global, plain: &Plain, account: u64) -> Result<A
 }
 
 /// The account of this number is one of the book's.
-fn check_account(plain: &Plain, number: u64) -> Result<(), Rule>
+pub(crate) fn check_account(plain: &Plain, number: u64) -> Result<(), Rule>
     ensures { ReportsFirst (account_asked (book_of plain.now) number) result }
 {
     match plain.accounts.find(number) {

@@ -178,7 +178,7 @@ fn import_edit(alloc: Global, added: Additions) -> Result<Edit, OutOfMemory>
 }
 
 /// One edit alone, or else the list of all.
-fn whole_edit(edits: Many<Edit>) -> Edit
+pub(crate) fn whole_edit(edits: Many<Edit>) -> Edit
     ensures { result ≡ whole_edit edits }
 {
     let mut edits = edits.into_vec();

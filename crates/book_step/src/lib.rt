@@ -23,6 +23,8 @@ mod in_use;
 mod line_adding;
 mod line_matching;
 mod marking;
+mod matchable;
+mod pairing;
 mod posting;
 mod present;
 mod prices;
@@ -30,6 +32,7 @@ mod reconciling;
 mod same_transaction;
 mod schedule_runs;
 mod schedules;
+mod split_search;
 mod statement_files;
 mod step;
 

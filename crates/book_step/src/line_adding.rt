@@ -242,7 +242,7 @@ fn matching_edit(
 }
 
 /// The line, matched with the split of this number.
-fn matched_with(split: u64, line: &Line) -> Result<Line, OutOfMemory>
+pub(crate) fn matched_with(split: u64, line: &Line) -> Result<Line, OutOfMemory>
     ensures { IfOk result (λ matched. matched ≡ matched_with split line.now) }
 {
     Ok(Line {

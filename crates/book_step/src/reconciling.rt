@@ -1,30 +1,284 @@
-ghost use Rattle.std.specs.Prelude.{◌≡◌};
+ghost use Rattle.std.specs.Prelude.{◌≡◌, ◌++◌, [], ◌∷◌, None, Some, IfErr, IfOk, map, true};
+ghost use Rattle.std.specs.List.{list_any};
+ghost use Rattle.book_commodity.specs.Rules.{ReportsFirst};
+ghost use Rattle.book_commodity.specs.Table.{value_of};
+ghost use Rattle.book_splits.specs.Balance.{splits_of};
+ghost use Rattle.book_splits.specs.TransactionRules.{are_once, numbers_of};
+ghost use Rattle.book_splits.specs.declared.split.Mark.TheVariants.{Cleared};
 ghost use Rattle.book_undo.specs.Book.{book_of};
+ghost use Rattle.book_reconcile.specs.Reconciliation.{difference, is_mark};
+ghost use Rattle.book_sound.specs.ReconciliationRules.{marked_numbers};
 ghost use Rattle.book_sound.specs.Soundness.{IsSoundBook};
 ghost use Rattle.book_command.specs.declared.answer.Answer.TheVariants.{Recons as ReconsAnswer};
+ghost use Rattle.book_command.specs.declared.rule.Rule.TheVariants.{NoClosing};
 ghost use Rattle.book_step.specs.BankLines.{account_asked};
 ghost use Rattle.book_step.specs.Outcome.{StepsTo};
-ghost use Rattle.book_step.specs.Reconciling.{reconcile, reconcile_statement, recons_of};
+ghost use Rattle.book_step.specs.Reconciling.{IsFinish, differs, finish_rules, finished, is_to_mark, marked_under};
+ghost use Rattle.book_step.specs.Reconciling.{reconcile, reconcile_statement, reconciling, recon_shown};
+ghost use Rattle.book_step.specs.Reconciling.{recons_among, recons_of, too_many_reconciliations};
+ghost use Rattle.book_step.specs.Reconciling.{unknown_statement};
+ghost use Rattle.book_step.specs.Remarking.{remarked, remarking};
 ghost use Rattle.book_step.specs.Schedules.{Finds};
 
+use crate::accounts::known as known_account;
+use crate::bank_questions::check_account;
+use crate::importing::whole_edit;
 use crate::present::Present;
-use crate::{Answer, Refusal, Step};
-use book_commodity::Day;
-use book_undo::Plain;
+use crate::{Answer, ReconShown, Refusal, Rule, Step};
+use book_commodity::{Counted, Day, Kind, Many, OutOfMemory};
+use book_reconcile::{FinishError, intact, plan_finish};
+use book_splits::{Mark, Recon, Split, Txn, Txns};
+use book_statement::Held;
+use book_undo::{Edit, Plain, Thing};
 use std::alloc::Global;
 
-/// STUB
-pub(crate) fn reconcile(present: &Present, account: u64, day: Day, closing: i64) -> Result<Step, Refusal>
+const MAX_RECONS: usize = 100_000;
+
+/// A reconciliation of the account stands in the book, under the next number: the account's cleared splits on or before
+/// the day are reconciled under it. With those that were before, they sum to the closing balance, which is in smallest
+/// units of the account's commodity. Broken with the difference where they don't.
+pub(crate) fn reconcile(
+    present: &Present,
+    account: u64,
+    day: Day,
+    closing: i64,
+) -> Result<Step, Refusal>
     ensures { StepsTo present.now (reconcile present.now account day closing) result }
 {
-    Err(Refusal::OutOfMemory)
+    known_account(present, account)?;
+    let (edit, marked) = match finish(present, account, day, closing) {
+        Ok(finished) => finished,
+        Err(refusal) => return Err(refusal),
+    };
+    let answer = Answer::Reconcile {
+        reconciliation: present.next,
+        marked,
+    };
+    Step::changing(present, 1, edit, answer)
 }
 
-/// STUB
+/// The same for the account of the statement of this number, at its day and with its closing balance. Broken where it
+/// has none.
 pub(crate) fn reconcile_statement(present: &Present, statement: u64) -> Result<Step, Refusal>
     ensures { StepsTo present.now (reconcile_statement present.now statement) result }
 {
-    Err(Refusal::OutOfMemory)
+    let held = known_statement(present, statement)?;
+    let closing = closing_balance(statement, held)?;
+    let (edit, marked) = match finish(present, held.account, held.day, closing) {
+        Ok(finished) => finished,
+        Err(refusal) => return Err(refusal),
+    };
+    let answer = Answer::ReconcileStatement {
+        reconciliation: present.next,
+        marked,
+    };
+    Step::changing(present, 1, edit, answer)
+}
+
+/// The statement of this number, which is one of the book's.
+fn known_statement<'a>(present: &Present<'a>, number: u64) -> Result<&'a Held, Rule>
+    ensures there { IfOk result (λ held. value_of number present.now.book.statements ≡ Some held.now) }
+    ensures unknown { ReportsFirst (unknown_statement present.now.book.statements number ∷ []) result }
+{
+    match present.plain.statements.find(number) {
+        Some(held) => Ok(held),
+        None => Err(Rule::Unknown {
+            kind: Kind::Statement,
+            id: number,
+        }),
+    }
+}
+
+/// The closing balance of the statement of this number, which has one.
+fn closing_balance(number: u64, held: &Held) -> Result<i64, Rule>
+    ensures there { IfOk result (λ closing. held.now.closing ≡ Some closing) }
+    ensures none { IfErr result (λ rule. (rule ≡ NoClosing number) × (held.now.closing ≡ None)) }
+{
+    match held.closing {
+        Some(closing) => Ok(closing),
+        None => Err(Rule::NoClosing { statement: number }),
+    }
+}
+
+/// The edit that puts a reconciliation of the account, and the splits that it marks; and the numbers of these.
+fn finish(
+    present: &Present,
+    account: u64,
+    day: Day,
+    closing: i64,
+) -> Result<(Edit, Many<u64>), Refusal>
+    ensures { Finds (finish_rules present.now.book account day closing)
+        (IsFinish present.now.book present.now.next account day closing) result }
+{
+    let recon = match planned(present, account, day, closing) {
+        Ok(recon) => recon,
+        Err(refusal) => return Err(refusal),
+    };
+    check_count(present)?;
+    let marked = marked_numbers(present.alloc, &recon)?;
+    let edit = reconciling(present, recon)?;
+    Ok((edit, marked))
+}
+
+/// The record of a reconciliation of the account, whose closing balance is what would be reconciled; else the
+/// difference.
+fn planned(present: &Present, account: u64, day: Day, closing: i64) -> Result<Recon, Refusal>
+    ensures { Finds (differs (difference account day closing present.now.book.transactions) ∷ [])
+        (λ recon. recon ≡ finished present.now.book account day closing) result }
+{
+    let transactions = &present.plain.transactions;
+    match plan_finish(present.alloc, transactions, account, day, closing) {
+        Ok(recon) => Ok(recon),
+        Err(FinishError::Difference { by }) => Err(Refusal::Broken(Rule::Difference { by })),
+        Err(FinishError::OutOfMemory) => Err(Refusal::OutOfMemory),
+    }
+}
+
+/// The book has room for one reconciliation more.
+fn check_count(present: &Present) -> Result<(), Rule>
+    ensures { ReportsFirst (too_many_reconciliations present.now.book.reconciliations ∷ []) result }
+{
+    if present.plain.reconciliations.len() >= MAX_RECONS {
+        return Err(Rule::Limit {
+            which: Counted::Recons,
+            at: MAX_RECONS as u64,
+        });
+    }
+    Ok(())
+}
+
+/// The numbers of the splits that the reconciliation marks, in its order.
+fn marked_numbers(alloc: Global, recon: &Recon) -> Result<Many<u64>, OutOfMemory>
+    ensures { IfOk result (λ numbers. numbers ≡ marked_numbers recon.now.marked) }
+{
+    let marked = recon.marked.as_slice();
+    let numbers = marked.iter().map(|split| split.split).collect(alloc)?;
+    Ok(Many::of(numbers))
+}
+
+/// The edit that puts the transactions whose splits the reconciliation marks, and the reconciliation under the next
+/// number.
+fn reconciling(present: &Present, recon: Recon) -> Result<Edit, OutOfMemory>
+    ensures { IfOk result (λ edit. edit ≡ reconciling present.now.book present.now.next recon) }
+{
+    let marking = Marking {
+        number: present.next,
+        account: recon.account,
+        upto: recon.day,
+    };
+    let transactions = present.plain.transactions.as_slice();
+    let mut edits = marking.edits(present.alloc, transactions)?;
+    edits.push(Edit::Put(present.next, Thing::Recon(recon)))?;
+    Ok(whole_edit(edits))
+}
+
+/// What a reconciliation marks: the cleared splits of the account on or before the day, which become reconciled under
+/// its number.
+#[derive(Clone, Copy)]
+struct Marking {
+    number: u64,
+    account: u64,
+    upto: Day,
+}
+
+impl Marking {
+    /// The edits that put the transactions with a split that it marks, by number.
+    fn edits(&self, alloc: Global, transactions: &[(u64, Txn)]) -> Result<Many<Edit>, OutOfMemory>
+        ensures { IfOk result (λ edits. edits ≡ remarking (is_to_mark self.now.account self.now.upto)
+            (marked_under self.now.number self.now.account self.now.upto) transactions.now) }
+    {
+        let mut edits = Many::new(alloc);
+        for (number, transaction) in transactions {
+            self.add_edit(alloc, &mut edits, *number, transaction)?;
+        }
+        Ok(edits)
+    }
+
+    /// Adds the edit that puts the transaction where it has a split that is marked.
+    fn add_edit(
+        &self,
+        alloc: Global,
+        edits: &mut Many<Edit>,
+        number: u64,
+        transaction: &Txn,
+    ) -> Result<(), OutOfMemory>
+        ensures { IfOk result (λ _. edits.new ≡ edits.old ++ remarking (is_to_mark self.now.account self.now.upto)
+            (marked_under self.now.number self.now.account self.now.upto) ((number, transaction.now) ∷ [])) }
+    {
+        if self.has_any(transaction.day, transaction.splits.as_slice()) {
+            let marked = self.transaction(alloc, transaction)?;
+            edits.push(Edit::Put(number, Thing::Txn(marked)))?;
+        }
+        Ok(())
+    }
+
+    /// Whether one of the splits of a transaction of the day is marked.
+    fn has_any(&self, day: Day, splits: &[Split]) -> bool
+        ensures { result ≡ list_any (is_to_mark self.now.account self.now.upto day) splits.now }
+    {
+        for split in splits {
+            if self.has(day, split) {
+                return true;
+            }
+        }
+        false
+    }
+
+    /// Whether the split of a transaction of the day is marked.
+    fn has(&self, day: Day, split: &Split) -> bool
+        ensures { result ≡ is_to_mark self.now.account self.now.upto day split.now }
+    {
+        split.account == self.account && is_cleared(split.mark) && day <= self.upto
+    }
+
+    /// The transaction with its splits marked.
+    fn transaction(&self, alloc: Global, transaction: &Txn) -> Result<Txn, OutOfMemory>
+        ensures { IfOk result (λ marked. marked
+            ≡ remarked (marked_under self.now.number self.now.account self.now.upto) transaction.now) }
+    {
+        Ok(Txn {
+            currency: transaction.currency,
+            day: transaction.day,
+            num: transaction.num.copy()?,
+            description: transaction.description.copy()?,
+            splits: self.splits(alloc, transaction.day, transaction.splits.as_slice())?,
+        })
+    }
+
+    /// The splits of a transaction of the day, marked.
+    fn splits(&self, alloc: Global, day: Day, splits: &[Split]) -> Result<Many<Split>, OutOfMemory>
+        ensures { IfOk result (λ marked. marked
+            ≡ map (marked_under self.now.number self.now.account self.now.upto day) splits.now) }
+    {
+        let mut marked = Many::new(alloc);
+        for split in splits {
+            marked.push(self.split(day, split)?)?;
+        }
+        Ok(marked)
+    }
+
+    /// The split of a transaction of the day: reconciled where it is marked.
+    fn split(&self, day: Day, split: &Split) -> Result<Split, OutOfMemory>
+        ensures { IfOk result (λ marked. marked
+            ≡ marked_under self.now.number self.now.account self.now.upto day split.now) }
+    {
+        let copy = split.copy()?;
+        if !self.has(day, split) {
+            return Ok(copy);
+        }
+        Ok(Split {
+            mark: Mark::Reconciled,
+            recon: Some(self.number),
+            ..copy
+        })
+    }
+}
+
+/// Whether it is the mark of a split that is cleared.
+fn is_cleared(mark: Mark) -> bool
+    ensures { result ≡ is_mark mark Cleared }
+{
+    mark == Mark::Cleared
 }
 
 /// The answer that shows the account's reconciliations, by number. Broken where the book has no account of this number;
@@ -34,5 +288,59 @@ pub fn recons_answer(alloc: Global, plain: &Plain, account: u64) -> Result<Answe
     ensures { Finds (account_asked (book_of plain.now) account)
         (λ answer. answer ≡ ReconsAnswer (recons_of account (book_of plain.now))) result }
 {
-    Err(Refusal::OutOfMemory)
+    check_account(plain, account)?;
+    let reconciliations = plain.reconciliations.as_slice();
+    let recons = recons_of(alloc, &plain.transactions, account, reconciliations)?;
+    Ok(Answer::Recons { recons })
+}
+
+/// Those of the reconciliations that are of the account, each with its number, in order.
+fn recons_of(
+    alloc: Global,
+    transactions: &Txns,
+    account: u64,
+    reconciliations: &[(u64, Recon)],
+) -> Result<Many<ReconShown>, OutOfMemory>
+    requires { are_once (numbers_of (splits_of transactions.now.entries)) ≡ true }
+    ensures { IfOk result (λ shown. shown
+        ≡ recons_among transactions.now.entries account reconciliations.now) }
+{
+    let mut shown = Many::new(alloc);
+    for (number, recon) in reconciliations {
+        add_recon(&mut shown, transactions, account, *number, recon)?;
+    }
+    Ok(shown)
+}
+
+/// Adds the reconciliation with its number where it is one of the account.
+fn add_recon(
+    shown: &mut Many<ReconShown>,
+    transactions: &Txns,
+    account: u64,
+    number: u64,
+    recon: &Recon,
+) -> Result<(), OutOfMemory>
+    requires { are_once (numbers_of (splits_of transactions.now.entries)) ≡ true }
+    ensures { IfOk result (λ _. shown.new ≡ shown.old
+        ++ recons_among transactions.now.entries account ((number, recon.now) ∷ [])) }
+{
+    if recon.account == account {
+        shown.push(recon_shown(transactions, number, recon))?;
+    }
+    Ok(())
+}
+
+/// The reconciliation with its number, and whether it is intact among the transactions.
+fn recon_shown(transactions: &Txns, number: u64, recon: &Recon) -> ReconShown
+    requires { are_once (numbers_of (splits_of transactions.now.entries)) ≡ true }
+    ensures { result ≡ recon_shown transactions.now.entries (number, recon.now) }
+{
+    ReconShown {
+        id: number,
+        day: recon.day,
+        opening: recon.opening,
+        closing: recon.closing,
+        marked: recon.marked.len() as u64,
+        intact: intact(transactions, number, recon),
+    }
 }

@@ -44,7 +44,7 @@ fn is_same_split(split: &Split, other: &Split) -> bool
 }
 
 /// Whether the mark is the same as the other.
-fn is_mark(mark: Mark, other: Mark) -> bool
+pub(crate) fn is_mark(mark: Mark, other: Mark) -> bool
     ensures { result ≡ is_mark mark other }
 {
     match mark {

@@ -18,6 +18,8 @@ use Rattle.book_command.specs.declared.answer.Answer.TheVariants.{Register, Tria
 use Rattle.book_command.specs.declared.answer.Answer.TheVariants.{ScheduleAdd, ScheduleDrop, ScheduleRun, Due}
 use Rattle.book_command.specs.declared.answer.Answer.TheVariants.{Bind, Import, LineAdd, LineDismiss, LineReopen}
 use Rattle.book_command.specs.declared.answer.Answer.TheVariants.{Lines, Statements}
+use Rattle.book_command.specs.declared.answer.Answer.TheVariants.{Mark, LineMatch, MatchAuto}
+use Rattle.book_command.specs.declared.answer.Answer.TheVariants.{Reconcile, ReconcileStatement, Recons}
 use Rattle.book_command.specs.declared.rule.Rule.{Rule}
 use Rattle.book_command.specs.declared.rule.Rule.TheVariants.{Basis, BasisShape, Cycle, FractionShape, InUse, Limit}
 use Rattle.book_command.specs.declared.rule.Rule.TheVariants.{NameTaken, NotEmpty, ParentKind, Placeholder, Root}
@@ -25,8 +27,9 @@ use Rattle.book_command.specs.declared.rule.Rule.TheVariants.{Reconciled, SplitC
 use Rattle.book_command.specs.declared.rule.Rule.TheVariants.{NothingToRedo, NothingToUndo, ValueNotQuantity}
 use Rattle.book_command.specs.declared.rule.Rule.TheVariants.{DayRange, PriceShape, RecurrenceShape, WrongCurrency}
 use Rattle.book_command.specs.declared.rule.Rule.TheVariants.{BadStatement, LineTaken, Unbound}
+use Rattle.book_command.specs.declared.rule.Rule.TheVariants.{LineAmount, NoClosing, Difference}
 use Rattle.book_command.specs.declared.wire_error.WireError.{WireError}
-use Rattle.book_command.specs.declared.wire_error.WireError.TheVariants.{NotJson, NotCommand, NotBuilt, OutOfMemory}
+use Rattle.book_command.specs.declared.wire_error.WireError.TheVariants.{NotJson, NotCommand, OutOfMemory}
 use Rattle.book_json.proofs.OneLine.{compact_text-one_line}
 use Rattle.book_texts.specs.AnswerText.{answer_bytes, answer_members}
 use Rattle.book_texts.specs.Fields.{refused}
@@ -75,6 +78,7 @@ answer-letter AccountDrop version = refl
 answer-letter (Post transaction splits balances) version = refl
 answer-letter (Edit transaction splits balances) version = refl
 answer-letter Drop version = refl
+answer-letter Mark version = refl
 answer-letter (PriceSet number) version = refl
 answer-letter PriceDrop version = refl
 answer-letter (Price rate) version = refl
@@ -89,11 +93,16 @@ answer-letter ScheduleDrop version = refl
 answer-letter (ScheduleRun transactions) version = refl
 answer-letter Bind version = refl
 answer-letter (Import statements lines seen) version = refl
+answer-letter LineMatch version = refl
 answer-letter (LineAdd transaction splits) version = refl
 answer-letter LineDismiss version = refl
 answer-letter LineReopen version = refl
+answer-letter (MatchAuto pairs) version = refl
+answer-letter (Reconcile reconciliation marked) version = refl
+answer-letter (ReconcileStatement reconciliation marked) version = refl
 answer-letter (Lines lines) version = refl
 answer-letter (Statements statements) version = refl
+answer-letter (Recons recons) version = refl
 answer-letter (Due days) version = refl
 answer-letter Undo version = refl
 answer-letter Redo version = refl
@@ -144,6 +153,9 @@ rule-letter (Reconciled split) version = refl
 rule-letter (BadStatement fault) version = bad-letter fault.line version fault.bad
 rule-letter (Unbound text) version = refl
 rule-letter (LineTaken line) version = refl
+rule-letter (LineAmount line) version = refl
+rule-letter (NoClosing statement) version = refl
+rule-letter (Difference by) version = refl
 rule-letter PriceShape version = refl
 rule-letter DayRange version = refl
 rule-letter (RecurrenceShape place) version = refl
@@ -178,13 +190,6 @@ fault-own_line (NotCommand name) text is =
     (record {
       one_line = compact_text-one_line
           (object (refused (codes "not command") ((codes "field", string name) ∷ [])));
-      no_memory = refl;
-      no_keeper = refl;
-    })
-fault-own_line NotBuilt text is =
-    subst IsOwnLine (some_is _ _ is)
-    (record {
-      one_line = compact_text-one_line (object (refused (codes "not built") []));
       no_memory = refl;
       no_keeper = refl;
     })

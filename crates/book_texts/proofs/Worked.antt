@@ -1,16 +1,22 @@
 -- Lines at values written by hand.
 use Rattle.std.proofs.Common.{◌≡◌, [], ◌∷◌, ◌++◌, Some, None, codes, refl, pos, negsuc}
+use Rattle.std.proofs.Common.{true}
 use Rattle.std.specs.Fmt.{digits}
 use Rattle.serde_json.proofs.OnLiterals.{serde_json_on_literals}
 use Rattle.serde_json.specs.Data.{Data, array, item, member, negative, no_items, no_members, null, number, object}
+use Rattle.serde_json.specs.Data.{boolean}
 use Rattle.serde_json.specs.Data.{string, unsigned}
 use Rattle.serde_json.specs.Find.{get_member}
 use Rattle.book_command.specs.declared.answer.HeldShown.{HeldShown}
 use Rattle.book_command.specs.declared.answer.LineShown.{LineShown}
+use Rattle.book_command.specs.declared.answer.ReconShown.{ReconShown}
 use Rattle.book_command.specs.declared.answer.Answer.TheVariants.{Edit, Import, Lines, Price, Redo, Sheet}
 use Rattle.book_command.specs.declared.answer.Answer.TheVariants.{Statements, Status}
+use Rattle.book_command.specs.declared.answer.Answer.TheVariants.{Mark, LineMatch, MatchAuto}
+use Rattle.book_command.specs.declared.answer.Answer.TheVariants.{Reconcile, ReconcileStatement, Recons}
 use Rattle.book_command.specs.declared.rule.Rule.TheVariants.{BadStatement, NothingToRedo, Reconciled, Unbound}
 use Rattle.book_command.specs.declared.rule.Rule.TheVariants.{Unknown}
+use Rattle.book_command.specs.declared.rule.Rule.TheVariants.{LineAmount, NoClosing, Difference}
 use Rattle.book_command.specs.declared.wire_error.WireError.TheVariants.{NotCommand}
 use Rattle.book_commodity.specs.Day.{day_text}
 use Rattle.book_commodity.specs.declared.counted.Counted.TheVariants.{Numbers}
@@ -20,6 +26,7 @@ use Rattle.book_statement.specs.declared.count_of.CountOf.TheVariants.{AccountRe
 use Rattle.book_statement.specs.declared.level.Level.TheVariants.{Group}
 use Rattle.book_statement.specs.declared.line_state.LineState.TheVariants.{Dismissed, Matched}
 use Rattle.book_texts.specs.AnswerText.{answer_bytes}
+use Rattle.book_texts.specs.Reconciliations.{recon_data}
 use Rattle.book_texts.specs.RefusedText.{fault_bytes, too_long_bytes}
 use Rattle.book_texts.specs.RuleText.{rule_bytes}
 use Rattle.book_texts.specs.Statements.{held_data, line_data, line_members}
@@ -208,3 +215,72 @@ unbound_bytes : rule_bytes (Unbound (codes "NL01")) 2
     ≡ codes "{\"broken\":\"Unbound\",\"text\":\"NL01\",\"version\":2}"
 unfolding digits serde_json_on_literals
 unbound_bytes = refl
+
+mark_bytes : answer_bytes Mark 6 ≡ codes "{\"ok\":\"mark\",\"version\":6}"
+unfolding digits word_text serde_json_on_literals
+mark_bytes = refl
+
+line_match_bytes : answer_bytes LineMatch 7 ≡ codes "{\"ok\":\"line_match\",\"version\":7}"
+unfolding digits word_text serde_json_on_literals
+line_match_bytes = refl
+
+-- each pair is a line and its split
+match_auto_bytes : answer_bytes (MatchAuto (record { line = 7; split = 11 } ∷ record { line = 8; split = 14 } ∷ [])) 9
+    ≡ codes "{\"ok\":\"match_auto\",\"pairs\":[[7,11],[8,14]],\"version\":9}"
+unfolding digits word_text serde_json_on_literals
+match_auto_bytes = refl
+
+no_pairs_bytes : answer_bytes (MatchAuto []) 8 ≡ codes "{\"ok\":\"match_auto\",\"pairs\":[],\"version\":8}"
+unfolding digits word_text serde_json_on_literals
+no_pairs_bytes = refl
+
+reconcile_bytes : answer_bytes (Reconcile 15 (11 ∷ 14 ∷ [])) 10
+    ≡ codes "{\"marked\":[11,14],\"ok\":\"reconcile\",\"reconciliation\":15,\"version\":10}"
+unfolding digits word_text serde_json_on_literals
+reconcile_bytes = refl
+
+reconcile_statement_bytes : answer_bytes (ReconcileStatement 15 []) 10
+    ≡ codes "{\"marked\":[],\"ok\":\"reconcile_statement\",\"reconciliation\":15,\"version\":10}"
+unfolding digits word_text serde_json_on_literals
+reconcile_statement_bytes = refl
+
+abbrev april : ReconShown
+april =
+    record {
+      id = 15;
+      day = pos 19843;
+      opening = negsuc 4;
+      closing = negsuc 104;
+      marked = 2;
+      intact = true;
+    }
+
+-- the opening balance of a reconciliation is a text, and its closing balance a number
+april_shown : recon_data april ≡ object
+    (member (codes "closing") (number (negative (negsuc 104)))
+    (member (codes "day") (string (day_text (pos 19843)))
+    (member (codes "id") (number (unsigned 15))
+    (member (codes "intact") (boolean true)
+    (member (codes "marked") (number (unsigned 2))
+    (member (codes "opening") (string (codes "-5"))
+    no_members))))))
+unfolding digits
+april_shown = refl
+
+recons_bytes : answer_bytes (Recons []) 10 ≡ codes "{\"ok\":\"recons\",\"recons\":[],\"version\":10}"
+unfolding digits word_text serde_json_on_literals
+recons_bytes = refl
+
+line_amount_bytes : rule_bytes (LineAmount 7) 6 ≡ codes "{\"broken\":\"LineAmount\",\"line\":7,\"version\":6}"
+unfolding digits serde_json_on_literals
+line_amount_bytes = refl
+
+no_closing_bytes : rule_bytes (NoClosing 6) 9 ≡ codes "{\"broken\":\"NoClosing\",\"statement\":6,\"version\":9}"
+unfolding digits serde_json_on_literals
+no_closing_bytes = refl
+
+-- the difference is a text, as every sum
+difference_bytes : rule_bytes (Difference (negsuc 149)) 9
+    ≡ codes "{\"broken\":\"Difference\",\"by\":\"-150\",\"version\":9}"
+unfolding digits serde_json_on_literals
+difference_bytes = refl

@@ -10,15 +10,20 @@ use Rattle.book_command.specs.declared.word.Word.TheVariants as word
 use Rattle.book_command.specs.declared.answer.Answer.TheVariants.{ScheduleAdd, ScheduleDrop, ScheduleRun, Due}
 use Rattle.book_command.specs.declared.answer.Answer.TheVariants.{Bind, Import, LineAdd, LineDismiss, LineReopen}
 use Rattle.book_command.specs.declared.answer.Answer.TheVariants.{Lines, Statements}
+use Rattle.book_command.specs.declared.answer.Answer.TheVariants.{Mark, LineMatch, MatchAuto}
+use Rattle.book_command.specs.declared.answer.Answer.TheVariants.{Reconcile, ReconcileStatement, Recons}
 use Rattle.book_texts.specs.Accounts.{account_add, account_edit, account_drop}
 use Rattle.book_texts.specs.Commodities.{book_currency, commodity_add}
 use Rattle.book_texts.specs.Fields.{line_of}
 use Rattle.book_texts.specs.History.{undo, redo, status}
 use Rattle.book_texts.specs.Posting.{post, edit, drop}
+use Rattle.book_texts.specs.Posting.{mark}
 use Rattle.book_texts.specs.Prices.{price_set, price_drop, price}
+use Rattle.book_texts.specs.Reconciliations.{reconciled, recons}
 use Rattle.book_texts.specs.Reports.{gains, report}
 use Rattle.book_texts.specs.Schedules.{schedule_add, schedule_drop, schedule_run, due}
 use Rattle.book_texts.specs.Statements.{bind, import, line_add, line_dismiss, line_reopen, lines, statements}
+use Rattle.book_texts.specs.Statements.{line_match, match_auto}
 
 -- The answer of each command, with the version after it.
 abbrev pub answer_members : Answer → ℕ → Members
@@ -30,6 +35,7 @@ answer_members AccountDrop = account_drop
 answer_members (Post transaction splits balances) = post transaction splits balances
 answer_members (Edit transaction splits balances) = edit splits balances
 answer_members Drop = drop
+answer_members Mark = mark
 answer_members (PriceSet number) = price_set number
 answer_members PriceDrop = price_drop
 answer_members (Price rate) = price rate
@@ -44,11 +50,16 @@ answer_members ScheduleDrop = schedule_drop
 answer_members (ScheduleRun transactions) = schedule_run transactions
 answer_members Bind = bind
 answer_members (Import added new_lines seen) = import added new_lines seen
+answer_members LineMatch = line_match
 answer_members (LineAdd transaction splits) = line_add transaction splits
 answer_members LineDismiss = line_dismiss
 answer_members LineReopen = line_reopen
+answer_members (MatchAuto pairs) = match_auto pairs
+answer_members (Reconcile number marked) = reconciled word.Reconcile number marked
+answer_members (ReconcileStatement number marked) = reconciled word.ReconcileStatement number marked
 answer_members (Lines shown) = lines shown
 answer_members (Statements shown) = statements shown
+answer_members (Recons shown) = recons shown
 answer_members (Due days) = due days
 answer_members Undo = undo
 answer_members Redo = redo

@@ -5,6 +5,7 @@ pub mod Fields
 pub mod History
 pub mod Posting
 pub mod Prices
+pub mod Reconciliations
 pub mod RefusedText
 pub mod Reports
 pub mod RuleText

@@ -2,6 +2,7 @@
 use Rattle.std.specs.Prelude.{ℕ, ℤ, List, [], ◌∷◌, codes}
 use Rattle.serde_json.specs.Data.{Members}
 use Rattle.book_command.specs.declared.word.Word.TheVariants.{Post, Edit, Drop}
+use Rattle.book_command.specs.declared.word.Word.TheVariants.{Mark}
 use Rattle.book_texts.specs.Fields.{answered}
 use Rattle.book_texts.specs.Shown.{list_data, number_data, sum_data}
 
@@ -23,3 +24,7 @@ edit splits balances =
 -- `drop` has no field of its own.
 abbrev pub drop : ℕ → Members
 drop = answered Drop []
+
+-- `mark` has none either.
+abbrev pub mark : ℕ → Members
+mark = answered Mark []

@@ -2,7 +2,7 @@
 use Rattle.std.specs.Prelude.{ℕ, List, [], ◌∷◌, codes, Option, Some, None, option_map}
 use Rattle.serde_json.specs.Data.{Members, string}
 use Rattle.book_command.specs.declared.wire_error.WireError.{WireError}
-use Rattle.book_command.specs.declared.wire_error.WireError.TheVariants.{NotJson, NotCommand, NotBuilt, OutOfMemory}
+use Rattle.book_command.specs.declared.wire_error.WireError.TheVariants.{NotJson, NotCommand, OutOfMemory}
 use Rattle.book_texts.specs.Fields.{line_of, refused}
 use Rattle.book_texts.specs.Shown.{number_data}
 
@@ -10,7 +10,6 @@ use Rattle.book_texts.specs.Shown.{number_data}
 abbrev pub fault_members : WireError → Option Members
 fault_members NotJson = Some (refused (codes "not json") [])
 fault_members (NotCommand name) = Some (refused (codes "not command") ((codes "field", string name) ∷ []))
-fault_members NotBuilt = Some (refused (codes "not built") [])
 fault_members OutOfMemory = None
 
 -- Its line.

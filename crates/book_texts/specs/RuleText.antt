@@ -9,6 +9,7 @@ use Rattle.book_command.specs.declared.rule.Rule.TheVariants.{BasisShape, SplitC
 use Rattle.book_command.specs.declared.rule.Rule.TheVariants.{ValueNotQuantity, Unbalanced, Reconciled, PriceShape}
 use Rattle.book_command.specs.declared.rule.Rule.TheVariants.{DayRange, RecurrenceShape, NothingToUndo}
 use Rattle.book_command.specs.declared.rule.Rule.TheVariants.{NothingToRedo, Limit, BadStatement, Unbound, LineTaken}
+use Rattle.book_command.specs.declared.rule.Rule.TheVariants.{LineAmount, NoClosing, Difference}
 use Rattle.book_texts.specs.Fields.{broken, line_of}
 use Rattle.book_texts.specs.Shown.{number_data, sum_data}
 use Rattle.book_texts.specs.StatementFaults.{bad_statement}
@@ -41,6 +42,9 @@ rule_members (Reconciled split) = broken (codes "Reconciled") ((codes "split", n
 rule_members (BadStatement fault) = bad_statement fault
 rule_members (Unbound text) = broken (codes "Unbound") ((codes "text", string text) ∷ [])
 rule_members (LineTaken line) = broken (codes "LineTaken") ((codes "line", number_data line) ∷ [])
+rule_members (LineAmount line) = broken (codes "LineAmount") ((codes "line", number_data line) ∷ [])
+rule_members (NoClosing statement) = broken (codes "NoClosing") ((codes "statement", number_data statement) ∷ [])
+rule_members (Difference by) = broken (codes "Difference") ((codes "by", sum_data by) ∷ [])
 rule_members PriceShape = broken (codes "PriceShape") []
 rule_members DayRange = broken (codes "DayRange") []
 rule_members (RecurrenceShape place) = broken (codes "RecurrenceShape") ((codes "place", number_data place) ∷ [])

@@ -2,6 +2,7 @@
 use Rattle.std.specs.Prelude.{◌≡◌, ℕ, List, [], ◌∷◌, codes, Option, Some, None, false, refl}
 use Rattle.serde_json.specs.Data.{Data, Members, array, boolean, item, no_items, no_members, object, string}
 use Rattle.serde_json.specs.Written.{has_float}
+use Rattle.book_match.specs.declared.views.Matched.{Matched as Pair}
 use Rattle.book_statement.specs.declared.line_state.LineState.{LineState}
 use Rattle.book_statement.specs.declared.line_state.LineState.TheVariants.{Open, Matched, Dismissed}
 use Rattle.book_statement.specs.declared.part.Part.{Part}
@@ -10,6 +11,7 @@ use Rattle.book_command.specs.declared.answer.HeldShown.{HeldShown}
 use Rattle.book_command.specs.declared.answer.LineShown.{LineShown}
 use Rattle.book_command.specs.declared.word.Word.TheVariants.{Bind, Import, LineAdd, LineDismiss, LineReopen, Lines}
 use Rattle.book_command.specs.declared.word.Word.TheVariants.{Statements}
+use Rattle.book_command.specs.declared.word.Word.TheVariants.{LineMatch, MatchAuto}
 use Rattle.book_texts.specs.Fields.{answered, with_all}
 use Rattle.book_texts.specs.Shown.{day_data, list_data, list-plain, number_data, option_data, option-plain}
 use Rattle.book_texts.specs.Shown.{signed_data, signed-plain}
@@ -28,6 +30,10 @@ import statements lines seen =
     ∷ (codes "statements", list_data number_data statements)
     ∷ [])
 
+-- `line_match` has no field of its own.
+abbrev pub line_match : ℕ → Members
+line_match = answered LineMatch []
+
 -- `line_add`: the number of the new transaction, and the numbers of its splits.
 abbrev pub line_add : ℕ → List ℕ → ℕ → Members
 line_add transaction splits =
@@ -41,6 +47,18 @@ line_dismiss = answered LineDismiss []
 -- `line_reopen` has none either.
 abbrev pub line_reopen : ℕ → Members
 line_reopen = answered LineReopen []
+
+-- A line with the split that it takes: the numbers of the two.
+abbrev pub pair_data : Pair → Data
+pair_data pair = list_data number_data (pair.line ∷ pair.split ∷ [])
+
+-- Neither number has a fraction.
+pub pair-plain : (pair : Pair) → has_float (pair_data pair) ≡ false
+pair-plain pair = refl
+
+-- `match_auto`: the lines that were matched, each with its split.
+abbrev pub match_auto : List Pair → ℕ → Members
+match_auto pairs = answered MatchAuto ((codes "pairs", list_data pair_data pairs) ∷ [])
 
 -- A part of a line: its category, its memo and its amount.
 abbrev pub part_data : Part → Data

@@ -8,9 +8,10 @@ use crate::fields::Fields;
 use crate::history::status;
 use crate::posting::{edit, post};
 use crate::prices::{price, price_set};
+use crate::reconciliations::{listed_recons, reconciled};
 use crate::reports::{gains, report};
 use crate::schedules::{due, schedule_add, schedule_run};
-use crate::statements::{import, line_add, listed_lines, listed_statements};
+use crate::statements::{import, line_add, listed_lines, listed_statements, match_auto};
 use book_command::{Answer, Word};
 use book_commodity::{Bytes, OutOfMemory};
 use std::alloc::{AllocError, Global};
@@ -43,6 +44,7 @@ fn answer_fields(alloc: Global, answer: &Answer, version: u64) -> Result<Fields,
             balances,
         } => edit(alloc, splits, balances, version),
         Answer::Drop => Fields::answered(alloc, Word::Drop, version),
+        Answer::Mark => Fields::answered(alloc, Word::Mark, version),
         Answer::PriceSet { price } => price_set(alloc, *price, version),
         Answer::PriceDrop => Fields::answered(alloc, Word::PriceDrop, version),
         Answer::Price { rate } => price(alloc, rate, version),
@@ -61,14 +63,31 @@ fn answer_fields(alloc: Global, answer: &Answer, version: u64) -> Result<Fields,
             lines,
             seen,
         } => import(alloc, statements, lines, *seen, version),
+        Answer::LineMatch => Fields::answered(alloc, Word::LineMatch, version),
         Answer::LineAdd {
             transaction,
             splits,
         } => line_add(alloc, *transaction, splits, version),
         Answer::LineDismiss => Fields::answered(alloc, Word::LineDismiss, version),
         Answer::LineReopen => Fields::answered(alloc, Word::LineReopen, version),
+        Answer::MatchAuto { pairs } => match_auto(alloc, pairs, version),
+        Answer::Reconcile {
+            reconciliation,
+            marked,
+        } => reconciled(alloc, Word::Reconcile, *reconciliation, marked, version),
+        Answer::ReconcileStatement {
+            reconciliation,
+            marked,
+        } => reconciled(
+            alloc,
+            Word::ReconcileStatement,
+            *reconciliation,
+            marked,
+            version,
+        ),
         Answer::Lines { lines } => listed_lines(alloc, lines, version),
         Answer::Statements { statements } => listed_statements(alloc, statements, version),
+        Answer::Recons { recons } => listed_recons(alloc, recons, version),
         Answer::Due { due: days } => due(alloc, days, version),
         Answer::Undo => Fields::answered(alloc, Word::Undo, version),
         Answer::Redo => Fields::answered(alloc, Word::Redo, version),

@@ -10,6 +10,7 @@ mod fields;
 mod history;
 mod posting;
 mod prices;
+mod reconciliations;
 mod refused;
 mod reports;
 mod rules;

@@ -17,7 +17,6 @@ pub fn wire_text(alloc: Global, fault: &WireError) -> Result<Bytes, OutOfMemory>
     match fault {
         WireError::NotJson => refused(alloc, "not json"),
         WireError::NotCommand { field } => not_command(alloc, field.as_str()),
-        WireError::NotBuilt => refused(alloc, "not built"),
         WireError::OutOfMemory => Err(OutOfMemory),
     }
 }

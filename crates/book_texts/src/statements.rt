@@ -3,11 +3,13 @@ ghost use Rattle.book_texts.specs.Fields.{members_of, with_all};
 ghost use Rattle.book_texts.specs.Statements.{body_members, held_data, held_members, held-plain, import, line_add};
 ghost use Rattle.book_texts.specs.Statements.{line_data, line_members, line-plain, lines, matched_split, part_data};
 ghost use Rattle.book_texts.specs.Statements.{part-plain, state_word, statements};
+ghost use Rattle.book_texts.specs.Statements.{match_auto, pair_data, pair-plain};
 
 use crate::fields::Fields;
 use crate::shown::Shown;
 use book_command::{HeldShown, LineShown, Word};
 use book_commodity::Many;
+use book_match::Matched;
 use book_statement::{LineState, Part, StatementLine};
 use serde_json::Value;
 use std::alloc::{AllocError, Global};
@@ -42,6 +44,18 @@ pub(crate) fn line_add(
     Ok(fields.with("transaction", &transaction)?)
 }
 
+/// The answer of `match_auto`.
+pub(crate) fn match_auto(
+    alloc: Global,
+    pairs: &Many<Matched>,
+    version: u64,
+) -> Result<Fields, AllocError>
+    ensures { IfOk result (λ fields. members_of fields ≡ match_auto pairs.now version) }
+{
+    let fields = Fields::answered(alloc, Word::MatchAuto, version)?;
+    Ok(fields.with("pairs", pairs)?)
+}
+
 /// The answer of `lines`.
 pub(crate) fn listed_lines(
     alloc: Global,
@@ -64,6 +78,20 @@ pub(crate) fn listed_statements(
 {
     let fields = Fields::answered(alloc, Word::Statements, version)?;
     Ok(fields.with("statements", shown)?)
+}
+
+/// A line with the split that it takes, as their two numbers.
+impl Shown for Matched {
+    ghost shown = { pair_data };
+
+    ghost plain = { pair-plain };
+
+    fn value(&self, alloc: Global) -> Result<Value, AllocError> {
+        let mut numbers = Vec::new(alloc);
+        numbers.push(Value::from(self.line))?;
+        numbers.push(Value::from(self.split))?;
+        Ok(Value::Array(numbers))
+    }
 }
 
 /// A line of a statement, by its members.

@@ -2,7 +2,7 @@
 use Rattle.std.proofs.Common.{◌≡◌, ◌∙◌, ◌⊎◌, ℕ, List, Some, inl, inr, refl, sym, ap}
 use Rattle.serde_json.specs.Data.{Data}
 use Rattle.book_json.specs.Line.{IsJson}
-use Rattle.book_wire.specs.Asked.{Asked, Asks, NotJson, NotCommand, NotBuilt, LineAsks, DataAsks, asked_of_data}
+use Rattle.book_wire.specs.Asked.{Asked, Asks, NotJson, NotCommand, LineAsks, DataAsks, asked_of_data}
 
 same_data : (bytes : List ℕ) (one other : Data) → IsJson bytes one → IsJson bytes other → one ≡ other
 same_data bytes one other p q = let e : Some one ≡ Some other = sym p.1 ∙ q.1 in cc
@@ -16,7 +16,6 @@ pub LineAsks-cases : (bytes : List ℕ) (asked : Asked) → LineAsks bytes asked
 LineAsks-cases bytes (Asks command) is = inl is
 LineAsks-cases bytes NotJson none = inr (none, refl)
 LineAsks-cases bytes (NotCommand name) is = inl is
-LineAsks-cases bytes NotBuilt is = inl is
 
 -- No line asks two things.
 pub asked-unique : (bytes : List ℕ) (one other : Asked) → LineAsks bytes one → LineAsks bytes other → one ≡ other

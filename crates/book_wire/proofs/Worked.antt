@@ -1,13 +1,17 @@
 -- What lines ask at values written by hand.
 use Rattle.std.proofs.Common.{◌≡◌, [], Some, None, Ok, Err, codes, false, refl, pos}
+use Rattle.std.proofs.Common.{true}
 use Rattle.serde_json.specs.Data.{Members, null, number, string, array, object, no_items, no_members, member, unsigned}
+use Rattle.serde_json.specs.Data.{boolean}
 use Rattle.book_command.specs.declared.command.Update.TheVariants as update
 use Rattle.book_command.specs.declared.command.What.TheVariants.{Redo, Update}
+use Rattle.book_command.specs.declared.command.What.TheVariants.{Recons}
 use Rattle.book_command.specs.declared.command.Format.TheVariants.{QifDayFirst}
-use Rattle.book_wire.specs.Asked.{Asks, NotCommand, NotBuilt, asked_of_data}
+use Rattle.book_wire.specs.Asked.{Asks, NotCommand, asked_of_data}
 use Rattle.book_wire.specs.Commands.{word_form}
 use Rattle.book_wire.specs.Formats.{format_form}
 use Rattle.book_wire.specs.Posting.{split, kept_split}
+use Rattle.book_wire.specs.Posting.{mark_form}
 use Rattle.book_wire.specs.Statements.{other}
 use Rattle.book_json.specs.Members.{absent, complete, ends, flag, needed, optional, text}
 use Rattle.book_json.specs.Forms.{whole, whole_signed}
@@ -18,12 +22,6 @@ no_object = refl
 no_word : asked_of_data (object no_members) ≡ NotCommand (codes "do")
 unfolding needed
 no_word = refl
-
--- whether a command is built is asked before its other members are read
-later_word : asked_of_data
-    (object (member (codes "at") null (member (codes "do") (string (codes "mark")) no_members))) ≡ NotBuilt
-unfolding needed word_form
-later_word = refl
 
 -- the version is read before the members of the command
 version_first : asked_of_data
@@ -39,6 +37,53 @@ unforced : asked_of_data
     ≡ Asks (record { at = None; what = Update (update.Drop 5 false) })
 unfolding needed optional flag ends word_form whole
 unforced = refl
+
+abbrev cleared : Members
+cleared =
+    member (codes "do") (string (codes "mark"))
+    (member (codes "split") (number (unsigned 7)) (member (codes "state") (string (codes "c")) no_members))
+
+marked_as_cleared : asked_of_data (object cleared)
+    ≡ Asks (record { at = None; what = Update (update.Mark 7 true false) })
+unfolding needed optional flag ends word_form mark_form whole
+marked_as_cleared = refl
+
+abbrev renewed : Members
+renewed =
+    member (codes "do") (string (codes "mark"))
+    (member (codes "force") (boolean true)
+    (member (codes "split") (number (unsigned 7)) (member (codes "state") (string (codes "n")) no_members)))
+
+marked_as_new : asked_of_data (object renewed)
+    ≡ Asks (record { at = None; what = Update (update.Mark 7 false true) })
+unfolding needed optional flag ends word_form mark_form whole
+marked_as_new = refl
+
+abbrev reconciled : Members
+reconciled =
+    member (codes "do") (string (codes "mark"))
+    (member (codes "split") (number (unsigned 7)) (member (codes "state") (string (codes "y")) no_members))
+
+-- a split is marked as reconciled by a reconciliation alone
+no_reconciled_by_hand : asked_of_data (object reconciled) ≡ NotCommand (codes "state")
+unfolding needed optional word_form mark_form whole
+no_reconciled_by_hand = refl
+
+abbrev of_no_word : Members
+of_no_word =
+    member (codes "do") (string (codes "mark"))
+    (member (codes "split") (number (unsigned 7)) (member (codes "state") (string (codes "x")) no_members))
+
+no_such_state : asked_of_data (object of_no_word) ≡ NotCommand (codes "state")
+unfolding needed optional word_form mark_form whole
+no_such_state = refl
+
+no_state : asked_of_data
+    (object
+    (member (codes "do") (string (codes "mark")) (member (codes "split") (number (unsigned 7)) no_members)))
+    ≡ NotCommand (codes "state")
+unfolding needed optional word_form mark_form whole
+no_state = refl
 
 -- a command on the history has no member but the version
 redone : asked_of_data
@@ -138,3 +183,49 @@ with_quantity =
 quantity_against_a_line : complete other with_quantity ≡ Err (codes "quantity")
 unfolding needed text optional ends other whole whole_signed
 quantity_against_a_line = refl
+
+line_before_split : asked_of_data (object (member (codes "do") (string (codes "line_match")) no_members))
+    ≡ NotCommand (codes "line")
+unfolding needed optional word_form
+line_before_split = refl
+
+matched_with_a_split : asked_of_data
+    (object
+    (member (codes "do") (string (codes "line_match"))
+    (member (codes "line") (number (unsigned 5)) (member (codes "split") (number (unsigned 7)) no_members))))
+    ≡ Asks (record { at = None; what = Update (update.LineMatch 5 7) })
+unfolding needed optional ends word_form whole
+matched_with_a_split = refl
+
+matched_in_a_week : asked_of_data
+    (object
+    (member (codes "account") (number (unsigned 3))
+    (member (codes "do") (string (codes "match_auto")) (member (codes "window") (number (unsigned 7)) no_members))))
+    ≡ Asks (record { at = None; what = Update (update.MatchAuto 3 7) })
+unfolding needed optional ends word_form whole
+matched_in_a_week = refl
+
+-- the day is read before the closing balance
+day_before_closing : asked_of_data
+    (object
+    (member (codes "account") (number (unsigned 3)) (member (codes "do") (string (codes "reconcile")) no_members)))
+    ≡ NotCommand (codes "day")
+unfolding needed optional word_form whole
+day_before_closing = refl
+
+-- the day and the closing balance are those of the statement, and may not be given
+closing_of_the_statement : asked_of_data
+    (object
+    (member (codes "closing") (number (unsigned 100))
+    (member (codes "do") (string (codes "reconcile_statement"))
+    (member (codes "statement") (number (unsigned 6)) no_members))))
+    ≡ NotCommand (codes "closing")
+unfolding needed optional ends word_form whole
+closing_of_the_statement = refl
+
+recons_asked : asked_of_data
+    (object
+    (member (codes "account") (number (unsigned 3)) (member (codes "do") (string (codes "recons")) no_members)))
+    ≡ Asks (record { at = None; what = Recons 3 })
+unfolding needed optional ends word_form whole
+recons_asked = refl

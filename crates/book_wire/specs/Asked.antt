@@ -1,44 +1,29 @@
 -- What a line asks.
-use Rattle.std.specs.Prelude.{◌≡◌, ℕ, List, [], Option, Some, None, codes, Result, Ok, Err, IfSome}
+use Rattle.std.specs.Prelude.{◌≡◌, ℕ, List, [], Option, Some, None, Result, Ok, Err, IfSome}
 use Rattle.serde_json.specs.Data.{Data, Members}
 use Rattle.serde_json.specs.Find.{as_object}
 use Rattle.book_json.specs.Line.{IsJson}
-use Rattle.book_json.specs.Members.{needed}
 use Rattle.book_json.specs.declared.fault.Fault.{Fault}
 use Rattle.book_json.specs.declared.fault.Fault.TheVariants as fault
 use Rattle.book_command.specs.declared.command.Command.{Command}
 use Rattle.book_command.specs.declared.wire_error.WireError.{WireError}
 use Rattle.book_command.specs.declared.wire_error.WireError.TheVariants as wire
-use Rattle.book_command.specs.declared.word.Word.{Word}
-use Rattle.book_wire.specs.Commands.{built_of, command, word_form}
-use Rattle.book_wire.specs.declared.commands.Built.{Built}
+use Rattle.book_wire.specs.Commands.{command}
 
--- A line asks for a command; or it is no JSON, or no command, where the member of this name fails; or its command is
--- not built yet.
+-- A line asks for a command; or it is no JSON, or no command, where the member of this name fails.
 pub data Asked : Type 0 where
   Asks : Command → Asked
   NotJson : Asked
   NotCommand : List ℕ → Asked
-  NotBuilt : Asked
 
 -- Members that were read to the end, or up to the first that fails.
 abbrev pub asked_of_command : Result (Command × Members) (List ℕ) → Asked
 asked_of_command (Ok found) = Asks found.0
 asked_of_command (Err name) = NotCommand name
 
--- What the members after the word ask, by the command that the word names.
-abbrev pub asked_of_built : Option Built → Members → Asked
-asked_of_built (Some built) left = asked_of_command (command built left)
-asked_of_built None left = NotBuilt
-
--- What is asked once the word was read, or failed.
-abbrev pub asked_of_word : Result (Word × Members) (List ℕ) → Asked
-asked_of_word (Ok found) = asked_of_built (built_of found.0) found.1
-asked_of_word (Err name) = NotCommand name
-
--- What an object asks: its word is read before all else.
+-- What an object asks: the command that its members spell, or that none does.
 abbrev pub asked_of_members : Members → Asked
-asked_of_members members = asked_of_word (needed word_form (codes "do") members)
+asked_of_members members = asked_of_command (command members)
 
 -- What data asks that may be an object; where it is none, the member with the empty name fails.
 abbrev pub asked_of_object : Option Members → Asked
@@ -58,13 +43,11 @@ abbrev pub LineAsks : List ℕ → Asked → Type 0
 LineAsks bytes (Asks command) = DataAsks bytes (Asks command)
 LineAsks bytes NotJson = (d : Data) → IsJson bytes d → ⊥
 LineAsks bytes (NotCommand name) = DataAsks bytes (NotCommand name)
-LineAsks bytes NotBuilt = DataAsks bytes NotBuilt
 
 -- What was asked where there is a fault; out of memory does not say.
 abbrev pub asked_of_fault : WireError → Option Asked
 asked_of_fault wire.NotJson = Some NotJson
 asked_of_fault (wire.NotCommand name) = Some (NotCommand name)
-asked_of_fault wire.NotBuilt = Some NotBuilt
 asked_of_fault wire.OutOfMemory = None
 
 -- What was asked by a result of reading.

@@ -1,6 +1,6 @@
 -- The commands: the members that each reads after its word.
-use Rattle.std.specs.Prelude.{Option, Some, None, codes}
-use Rattle.book_json.specs.Members.{Form, Reader, optional, ends, gives, ◌>>=◌}
+use Rattle.std.specs.Prelude.{codes}
+use Rattle.book_json.specs.Members.{Form, Reader, needed, optional, ends, gives, ◌>>=◌}
 use Rattle.book_json.specs.Forms.{whole, among}
 use Rattle.book_command.specs.Words.{words}
 use Rattle.book_command.specs.declared.command.Command.{Command}
@@ -15,60 +15,71 @@ use Rattle.book_wire.specs.Commodities.{commodity_members}
 use Rattle.book_wire.specs.History.{history_asked}
 use Rattle.book_wire.specs.Posting.{posting_members}
 use Rattle.book_wire.specs.Prices.{price_members}
+use Rattle.book_wire.specs.Reconciliations.{reconcile_members}
 use Rattle.book_wire.specs.Reports.{report_members}
 use Rattle.book_wire.specs.Schedules.{schedule_members}
 use Rattle.book_wire.specs.Statements.{statement_members}
 use Rattle.book_wire.specs.declared.accounts.AccountCommand.TheVariants.{AccountAdd, AccountEdit, AccountDrop}
-use Rattle.book_wire.specs.declared.commands.Built.{Built}
-use Rattle.book_wire.specs.declared.commands.Built.TheVariants.{Commodities, Accounts, Posting, Prices, Reports, History}
-use Rattle.book_wire.specs.declared.commands.Built.TheVariants.{Schedules, BankStatements}
+use Rattle.book_wire.specs.declared.commands.Family.{Family}
+use Rattle.book_wire.specs.declared.commands.Family.TheVariants.{Commodities, Accounts, Posting, Prices}
+use Rattle.book_wire.specs.declared.commands.Family.TheVariants.{Reports, Schedules, BankStatements}
+use Rattle.book_wire.specs.declared.commands.Family.TheVariants.{Reconciliations, History}
 use Rattle.book_wire.specs.declared.commodities.CommodityCommand.TheVariants.{BookCurrency, CommodityAdd}
 use Rattle.book_wire.specs.declared.history.HistoryCommand.TheVariants.{Undo, Redo, Status}
 use Rattle.book_wire.specs.declared.posting.PostingCommand.TheVariants.{Post, Edit, Drop}
+use Rattle.book_wire.specs.declared.posting.PostingCommand.TheVariants.{Mark}
 use Rattle.book_wire.specs.declared.prices.PriceCommand.TheVariants.{Price, PriceDrop, PriceSet}
+use Rattle.book_wire.specs.declared.reconciliations.ReconcileCommand.TheVariants.{Reconcile, ReconcileStatement}
+use Rattle.book_wire.specs.declared.reconciliations.ReconcileCommand.TheVariants.{Recons}
 use Rattle.book_wire.specs.declared.reports.ReportCommand.TheVariants.{Register, Trial, Sheet, Income, Lots, Gains}
 use Rattle.book_wire.specs.declared.schedules.ScheduleCommand.TheVariants.{ScheduleAdd, ScheduleDrop, ScheduleRun, Due}
 use Rattle.book_wire.specs.declared.statements.StatementCommand.TheVariants.{Bind, Import, LineAdd, LineDismiss}
 use Rattle.book_wire.specs.declared.statements.StatementCommand.TheVariants.{LineReopen, Lines, Statements}
+use Rattle.book_wire.specs.declared.statements.StatementCommand.TheVariants.{LineMatch, MatchAuto}
 
 -- The text of a command's word.
 unfoldable pub word_form : Form Word
 word_form = among words
 
--- The command of a word, none where it is not built yet.
-abbrev pub built_of : Word → Option Built
-built_of word.BookCurrency = Some (Commodities BookCurrency)
-built_of word.CommodityAdd = Some (Commodities CommodityAdd)
-built_of word.AccountAdd = Some (Accounts AccountAdd)
-built_of word.AccountEdit = Some (Accounts AccountEdit)
-built_of word.AccountDrop = Some (Accounts AccountDrop)
-built_of word.Post = Some (Posting Post)
-built_of word.Edit = Some (Posting Edit)
-built_of word.Drop = Some (Posting Drop)
-built_of word.PriceSet = Some (Prices PriceSet)
-built_of word.PriceDrop = Some (Prices PriceDrop)
-built_of word.Price = Some (Prices Price)
-built_of word.Register = Some (Reports Register)
-built_of word.Trial = Some (Reports Trial)
-built_of word.Sheet = Some (Reports Sheet)
-built_of word.Income = Some (Reports Income)
-built_of word.Lots = Some (Reports Lots)
-built_of word.Gains = Some (Reports Gains)
-built_of word.ScheduleAdd = Some (Schedules ScheduleAdd)
-built_of word.ScheduleDrop = Some (Schedules ScheduleDrop)
-built_of word.ScheduleRun = Some (Schedules ScheduleRun)
-built_of word.Due = Some (Schedules Due)
-built_of word.Bind = Some (BankStatements Bind)
-built_of word.Import = Some (BankStatements Import)
-built_of word.LineAdd = Some (BankStatements LineAdd)
-built_of word.LineDismiss = Some (BankStatements LineDismiss)
-built_of word.LineReopen = Some (BankStatements LineReopen)
-built_of word.Lines = Some (BankStatements Lines)
-built_of word.Statements = Some (BankStatements Statements)
-built_of word.Undo = Some (History Undo)
-built_of word.Redo = Some (History Redo)
-built_of word.Status = Some (History Status)
-built_of _ = None
+-- The command of a word, in its family.
+abbrev pub family_of : Word → Family
+family_of word.BookCurrency = Commodities BookCurrency
+family_of word.CommodityAdd = Commodities CommodityAdd
+family_of word.AccountAdd = Accounts AccountAdd
+family_of word.AccountEdit = Accounts AccountEdit
+family_of word.AccountDrop = Accounts AccountDrop
+family_of word.Post = Posting Post
+family_of word.Edit = Posting Edit
+family_of word.Drop = Posting Drop
+family_of word.Mark = Posting Mark
+family_of word.PriceSet = Prices PriceSet
+family_of word.PriceDrop = Prices PriceDrop
+family_of word.Price = Prices Price
+family_of word.Register = Reports Register
+family_of word.Trial = Reports Trial
+family_of word.Sheet = Reports Sheet
+family_of word.Income = Reports Income
+family_of word.Lots = Reports Lots
+family_of word.Gains = Reports Gains
+family_of word.ScheduleAdd = Schedules ScheduleAdd
+family_of word.ScheduleDrop = Schedules ScheduleDrop
+family_of word.ScheduleRun = Schedules ScheduleRun
+family_of word.Due = Schedules Due
+family_of word.Bind = BankStatements Bind
+family_of word.Import = BankStatements Import
+family_of word.LineMatch = BankStatements LineMatch
+family_of word.LineAdd = BankStatements LineAdd
+family_of word.LineDismiss = BankStatements LineDismiss
+family_of word.LineReopen = BankStatements LineReopen
+family_of word.MatchAuto = BankStatements MatchAuto
+family_of word.Lines = BankStatements Lines
+family_of word.Statements = BankStatements Statements
+family_of word.Reconcile = Reconciliations Reconcile
+family_of word.ReconcileStatement = Reconciliations ReconcileStatement
+family_of word.Recons = Reconciliations Recons
+family_of word.Undo = History Undo
+family_of word.Redo = History Redo
+family_of word.Status = History Status
 
 -- A command that asks for a change of the book, whose members are read so.
 abbrev pub changing : Reader Update → Reader What
@@ -83,7 +94,7 @@ reporting members = do
   gives (what.Report report)
 
 -- What a command asks, by its family.
-abbrev pub what_of : Built → Reader What
+abbrev pub what_of : Family → Reader What
 what_of (Commodities command) = changing (commodity_members command)
 what_of (Accounts command) = changing (account_members command)
 what_of (Posting command) = changing (posting_members command)
@@ -91,11 +102,14 @@ what_of (Prices command) = price_members command
 what_of (Reports command) = reporting (report_members command)
 what_of (Schedules command) = schedule_members command
 what_of (BankStatements command) = statement_members command
+what_of (Reconciliations command) = reconcile_members command
 what_of (History command) = gives (history_asked command)
 
--- A command, read to the end of its line: the version that it is for may be given, and is read before its own members.
-abbrev pub command : Built → Reader Command
-command built = do
+-- A command, read to the end of its line: its word comes first, then the version that it is for, which may be absent,
+-- and then its own members.
+abbrev pub command : Reader Command
+command = do
+  word ← needed word_form (codes "do")
   at ← optional whole (codes "at")
-  what ← what_of built
+  what ← what_of (family_of word)
   ends (record { at = at; what = what })

@@ -8,6 +8,7 @@ pub mod Kinds
 pub mod Posting
 pub mod Prices
 pub mod Reports
+pub mod Reconciliations
 pub mod Recurrences
 pub mod Schedules
 pub mod Statements

@@ -1,13 +1,15 @@
 -- The members of the commands on transactions, in the order in which they are read.
 use Rattle.std.specs.Prelude.{None, codes, unwrap_or}
-use Rattle.book_json.specs.Members.{Reader, needed, optional, text, flag, gives, ◌>>=◌}
-use Rattle.book_json.specs.Forms.{whole, whole_signed, day_form, list, inner}
+use Rattle.std.specs.Prelude.{ℕ, Bool, false, true, List, [], ◌∷◌}
+use Rattle.book_json.specs.Members.{Form, Reader, needed, optional, text, flag, gives, ◌>>=◌}
+use Rattle.book_json.specs.Forms.{whole, whole_signed, day_form, list, inner, among}
 use Rattle.book_command.specs.declared.command.GivenSplit.{GivenSplit}
 use Rattle.book_command.specs.declared.command.GivenTxn.{GivenTxn}
 use Rattle.book_command.specs.declared.command.Update.{Update}
 use Rattle.book_command.specs.declared.command.Update.TheVariants as update
 use Rattle.book_wire.specs.declared.posting.PostingCommand.{PostingCommand}
 use Rattle.book_wire.specs.declared.posting.PostingCommand.TheVariants.{Post, Edit, Drop}
+use Rattle.book_wire.specs.declared.posting.PostingCommand.TheVariants.{Mark}
 
 -- A split without a number; where it gives no quantity, its quantity is its value.
 unfoldable pub split : Reader GivenSplit
@@ -42,8 +44,17 @@ transaction split = do
   splits ← needed (list (inner split)) (codes "splits")
   gives (record { currency = currency; num = num; description = description; splits = splits })
 
+-- The words for the marks that are set by hand, new and cleared, and whether the split is cleared. That a split is
+-- reconciled is no such mark (a rule of this project).
+abbrev pub marks : List (List ℕ × Bool)
+marks = (codes "n", false) ∷ (codes "c", true) ∷ []
+
+-- The text of such a word.
+unfoldable pub mark_form : Form Bool
+mark_form = among marks
+
 -- A new transaction on a day; a transaction with what it is to be from now on, on a day; the transaction that is
--- deleted. Only an edit gives numbers of splits. An absent `force` is false.
+-- deleted; the split that is marked. Only an edit gives numbers of splits. An absent `force` is false.
 abbrev pub posting_members : PostingCommand → Reader Update
 posting_members Post = do
   day ← needed day_form (codes "day")
@@ -59,3 +70,8 @@ posting_members Drop = do
   number ← needed whole (codes "transaction")
   force ← flag (codes "force")
   gives (update.Drop number force)
+posting_members Mark = do
+  number ← needed whole (codes "split")
+  cleared ← needed mark_form (codes "state")
+  force ← flag (codes "force")
+  gives (update.Mark number cleared force)

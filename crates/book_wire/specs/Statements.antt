@@ -10,6 +10,7 @@ use Rattle.book_wire.specs.Formats.{format, format_form}
 use Rattle.book_wire.specs.declared.statements.StatementCommand.{StatementCommand}
 use Rattle.book_wire.specs.declared.statements.StatementCommand.TheVariants.{Bind, Import, LineAdd, LineDismiss}
 use Rattle.book_wire.specs.declared.statements.StatementCommand.TheVariants.{LineReopen, Lines, Statements}
+use Rattle.book_wire.specs.declared.statements.StatementCommand.TheVariants.{LineMatch, MatchAuto}
 
 -- What stands against a line in the transaction that is posted for it.
 unfoldable pub other : Reader GivenOther
@@ -20,8 +21,10 @@ other = do
   gives (record { account = account; value = value; memo = memo })
 
 -- An account text with the account that it stands for; a statement file, whose currency is read after its other
--- members; the line for which a transaction is posted, where an absent description is none and an empty one stays
--- empty; the line that is dismissed; the line that is open again; the account whose lines or statements are asked for.
+-- members; the line that is matched with the split; the line for which a transaction is posted, where an absent
+-- description is none and an empty one stays empty; the line that is dismissed; the line that is open again; the
+-- account whose open lines are matched, and how many days a split may be away; the account whose lines or statements
+-- are asked for.
 abbrev pub statement_members : StatementCommand → Reader What
 statement_members Bind = do
   words ← needed text_form (codes "text")
@@ -33,6 +36,10 @@ statement_members Import = do
   account ← optional whole (codes "account")
   named ← format word
   gives (what.Update (update.Import named file account))
+statement_members LineMatch = do
+  line ← needed whole (codes "line")
+  split ← needed whole (codes "split")
+  gives (what.Update (update.LineMatch line split))
 statement_members LineAdd = do
   line ← needed whole (codes "line")
   others ← needed (list (inner other)) (codes "others")
@@ -44,6 +51,10 @@ statement_members LineDismiss = do
 statement_members LineReopen = do
   line ← needed whole (codes "line")
   gives (what.Update (update.LineReopen line))
+statement_members MatchAuto = do
+  account ← needed whole (codes "account")
+  window ← needed whole (codes "window")
+  gives (what.Update (update.MatchAuto account window))
 statement_members Lines = do
   account ← needed whole (codes "account")
   gives (what.Lines account)

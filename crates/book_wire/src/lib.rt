@@ -12,6 +12,7 @@ mod kinds;
 mod line;
 mod posting;
 mod prices;
+mod reconciliations;
 mod recurrences;
 mod reports;
 mod schedules;

@@ -2,7 +2,7 @@ ghost use Rattle.std.specs.Prelude.{◌≡◌, IfSome};
 ghost use Rattle.book_json.specs.Reads.{rest};
 ghost use Rattle.book_wire.specs.Asked.{asked_of_members, asked_of_result, error_of_fault, IsRead};
 
-use crate::commands::{built_of, command, word};
+use crate::commands::command;
 use book_command::{Command, WireError};
 use book_commodity::Text;
 use book_json::{Fault, NotRead, Reading, object_of};
@@ -26,14 +26,7 @@ pub fn command_of(alloc: Global, line: &[u8]) -> Result<Command, WireError>
 fn command_of_members(mut members: Reading) -> Result<Command, WireError>
     ensures { IfSome (asked_of_result result) (λ asked. asked_of_members (rest members) ≡ asked) }
 {
-    let word = match word(&mut members) {
-        Ok(word) => word,
-        Err(fault) => return Err(error_of(fault)),
-    };
-    let Some(built) = built_of(word) else {
-        return Err(WireError::NotBuilt);
-    };
-    match command(built, &mut members) {
+    match command(&mut members) {
         Ok(command) => Ok(command),
         Err(fault) => Err(error_of(fault)),
     }

@@ -1,17 +1,22 @@
 ghost use Rattle.std.specs.Prelude.{codes};
-ghost use Rattle.book_json.specs.Members.{flag};
+ghost use Rattle.book_json.specs.Members.{flag, needed};
 ghost use Rattle.book_json.specs.Reads.{rest, Gives};
 ghost use Rattle.book_wire.specs.Posting.{kept_split, posting_members, split, transaction};
+ghost use Rattle.book_wire.specs.Posting.{mark_form};
 
 use book_command::{GivenSplit, GivenTxn, Update};
 use book_json::{Fault, Object, Reading};
 
-/// The commands on transactions.
+/// The words for the marks that are set by hand, and whether the split is cleared.
+const MARKS: [(&str, bool); 2] = [("n", false), ("c", true)];
+
+/// The commands on transactions and their splits.
 #[derive(Clone, Copy)]
 pub(crate) enum PostingCommand {
     Post,
     Edit,
     Drop,
+    Mark,
 }
 
 impl PostingCommand {
@@ -23,6 +28,7 @@ impl PostingCommand {
             PostingCommand::Post => post(members),
             PostingCommand::Edit => edit(members),
             PostingCommand::Drop => drop_transaction(members),
+            PostingCommand::Mark => mark(members),
         }
     }
 }
@@ -56,6 +62,27 @@ fn drop_transaction(members: &mut Reading) -> Result<Update, Fault>
     let transaction = members.needed("transaction")?;
     let force = forced(members)?;
     Ok(Update::Drop { transaction, force })
+}
+
+fn mark(members: &mut Reading) -> Result<Update, Fault>
+    ensures { Gives (posting_members PostingCommand.Mark (rest members.old)) result (rest members.new) }
+{
+    let split = members.needed("split")?;
+    let cleared = cleared(members)?;
+    let force = forced(members)?;
+    Ok(Update::Mark {
+        split,
+        cleared,
+        force,
+    })
+}
+
+/// Whether the split is cleared, and not new.
+#[tactic(auto, unfolding(crate::specs::Posting::mark_form))]
+fn cleared(members: &mut Reading) -> Result<bool, Fault>
+    ensures { Gives (needed mark_form (codes "state") (rest members.old)) result (rest members.new) }
+{
+    members.word("state", &MARKS)
 }
 
 /// Whether reconciled splits may change or go; where nothing is said they may not.

@@ -11,9 +11,11 @@ use book_statement::Binding;
 pub(crate) enum StatementCommand {
     Bind,
     Import,
+    LineMatch,
     LineAdd,
     LineDismiss,
     LineReopen,
+    MatchAuto,
     Lines,
     Statements,
 }
@@ -26,9 +28,11 @@ impl StatementCommand {
         match self {
             StatementCommand::Bind => bind(members),
             StatementCommand::Import => import(members),
+            StatementCommand::LineMatch => line_match(members),
             StatementCommand::LineAdd => line_add(members),
             StatementCommand::LineDismiss => line_dismiss(members),
             StatementCommand::LineReopen => line_reopen(members),
+            StatementCommand::MatchAuto => match_auto(members),
             StatementCommand::Lines => lines(members),
             StatementCommand::Statements => listed_statements(members),
         }
@@ -56,6 +60,14 @@ fn import(members: &mut Reading) -> Result<What, Fault>
         text,
         account,
     }))
+}
+
+fn line_match(members: &mut Reading) -> Result<What, Fault>
+    ensures { Gives (statement_members StatementCommand.LineMatch (rest members.old)) result (rest members.new) }
+{
+    let line = members.needed("line")?;
+    let split = members.needed("split")?;
+    Ok(What::Update(Update::LineMatch { line, split }))
 }
 
 fn line_add(members: &mut Reading) -> Result<What, Fault>
@@ -111,6 +123,14 @@ fn line_reopen(members: &mut Reading) -> Result<What, Fault>
 {
     let line = members.needed("line")?;
     Ok(What::Update(Update::LineReopen { line }))
+}
+
+fn match_auto(members: &mut Reading) -> Result<What, Fault>
+    ensures { Gives (statement_members StatementCommand.MatchAuto (rest members.old)) result (rest members.new) }
+{
+    let account = members.needed("account")?;
+    let window = members.needed("window")?;
+    Ok(What::Update(Update::MatchAuto { account, window }))
 }
 
 fn lines(members: &mut Reading) -> Result<What, Fault>

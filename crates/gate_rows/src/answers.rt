@@ -1,4 +1,4 @@
-ghost use Rattle.std.specs.Prelude.{◌≡◌, ◌↔◌, true, IsTrue};
+ghost use Rattle.std.specs.Prelude.{◌≡◌, ◌+◌, ◌↔◌, [], codes, false, length, true, IfOk, IsTrue, None, Ok, OnOk};
 ghost use Rattle.std.specs.String.{string_bytes};
 
 use crate::counters::{count, counted, expanded};
@@ -54,7 +54,11 @@ pub struct Wanted {
 
 impl Wanted {
     /// No answers, and that all is done.
-    pub fn new(alloc: Global) -> Result<Wanted, AllocError> {
+    pub fn new(alloc: Global) -> Result<Wanted, AllocError>
+        ensures nothing { IfOk result (λ wanted. (wanted.answers.items ≡ []) × (wanted.rows.items ≡ [])) }
+        ensures done { IfOk result (λ wanted. string_bytes wanted.status ≡ codes "done") }
+        ensures open { IfOk result (λ wanted. (wanted.unread ≡ None) × (wanted.count ≡ None)) }
+    {
         Ok(Wanted {
             answers: Vec::new(alloc),
             status: String::from_str(alloc, "done")?,
@@ -65,7 +69,9 @@ impl Wanted {
     }
 
     /// Takes in a line that says what is wanted. Whether it is such a line.
-    pub fn take(&mut self, alloc: Global, mark: &str, rest: &str, line: usize) -> io::Result<bool> {
+    pub fn take(&mut self, alloc: Global, mark: &str, rest: &str, line: usize) -> io::Result<bool>
+        ensures { result ≡ Ok false → self.new ≡ self.old }
+    {
         match mark {
             "<" => self.add_answer(alloc, rest, true, line)?,
             "<^" => self.add_answer(alloc, rest, false, line)?,
@@ -87,7 +93,10 @@ impl Wanted {
         text: &str,
         is_whole: bool,
         line: usize,
-    ) -> io::Result<()> {
+    ) -> io::Result<()>
+        ensures added { OnOk result (length self.new.answers.items ≡ length self.old.answers.items + 1) }
+        ensures rest { self.new ≡ record self.old { answers = self.new.answers } }
+    {
         self.answers.push(Answer {
             line,
             begins: String::from_str(alloc, text)?,

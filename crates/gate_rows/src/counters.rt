@@ -1,4 +1,4 @@
-ghost use Rattle.std.specs.Prelude.{◌≡◌};
+ghost use Rattle.std.specs.Prelude.{◌≡◌, IfErr};
 ghost use Rattle.std.specs.IoError.{error_kind};
 
 use std::alloc::Global;
@@ -20,7 +20,9 @@ pub fn memory() -> io::Error
 }
 
 /// The number that a word is.
-pub fn number(word: &str) -> io::Result<u64> {
+pub fn number(word: &str) -> io::Result<u64>
+    ensures { IfErr result (λ error. error_kind error ≡ ErrorKind.InvalidData) }
+{
     match word.parse() {
         Ok(number) => Ok(number),
         Err(_) => Err(unread()),
@@ -28,7 +30,9 @@ pub fn number(word: &str) -> io::Result<u64> {
 }
 
 /// The number that a word is.
-pub fn count(word: &str) -> io::Result<usize> {
+pub fn count(word: &str) -> io::Result<usize>
+    ensures { IfErr result (λ error. error_kind error ≡ ErrorKind.InvalidData) }
+{
     match word.parse() {
         Ok(number) => Ok(number),
         Err(_) => Err(unread()),
@@ -36,7 +40,9 @@ pub fn count(word: &str) -> io::Result<usize> {
 }
 
 /// The number that a text begins with, and what stands behind the blank after it.
-pub fn counted(text: &str) -> io::Result<(u64, &str)> {
+pub fn counted(text: &str) -> io::Result<(u64, &str)>
+    ensures { IfErr result (λ error. error_kind error ≡ ErrorKind.InvalidData) }
+{
     let (word, rest) = text.split_once(' ').unwrap_or((text, ""));
     match word.parse() {
         Ok(number) => Ok((number, rest)),

@@ -1,3 +1,5 @@
+ghost use Rattle.std.specs.Prelude.{◌≡◌, [], false, IfOk, None, Ok};
+
 use crate::answers::Wanted;
 use crate::counters::{count, counted, expanded, number, unread};
 use book_commodity::{Many, Text};
@@ -44,7 +46,11 @@ pub struct Run {
 
 impl Run {
     /// A run of `run household.book` without input, which begins at this line of the file.
-    pub fn new(alloc: Global, line: usize) -> io::Result<Run> {
+    pub fn new(alloc: Global, line: usize) -> io::Result<Run>
+        ensures at { IfOk result (λ run. run.line ≡ line) }
+        ensures nothing { IfOk result (λ run. (run.input.items ≡ []) × (run.faults.items ≡ [])) }
+        ensures plain { IfOk result (λ run. (run.each ≡ None) × (run.is_killed ≡ false)) }
+    {
         Ok(Run {
             line,
             words: words_of(alloc, "run household.book")?,
@@ -84,7 +90,9 @@ impl Run {
         mark: &str,
         rest: &str,
         line: usize,
-    ) -> io::Result<bool> {
+    ) -> io::Result<bool>
+        ensures { result ≡ Ok false → self.new ≡ self.old }
+    {
         match mark {
             "words" => self.words = words_of(alloc, rest)?,
             "piece" => self.piece = count(rest)?.max(1),

@@ -6,6 +6,7 @@ use Rattle.book_command.specs.declared.rule.Rule.{Rule}
 use Rattle.book_command.specs.Rates.{rate_on}
 use Rattle.book_opening.specs.State.{state_of}
 use Rattle.book_step.specs.BankLines.{account_asked, lines_of, statements_of}
+use Rattle.book_step.specs.Reconciling.{recons_of}
 use Rattle.book_engine.specs.Books.{machine_of}
 use Rattle.book_engine.specs.Machine.{Done, reply, unless_broken}
 use Rattle.book_engine.specs.Planned.{IsPlanTo, IsRefusal, Planned}
@@ -84,3 +85,20 @@ returns-in-Statements-clause-refused c =
     (found-refused state (account_asked state.book account)
     (answer.Statements (statements_of account state.book.statements)) c.plan_statements.result
     c.plan_statements.ensures)
+
+pub returns-in-Recons-clause-planned : goal.returns-in-Recons-clause-planned
+returns-in-Recons-clause-planned c =
+    let state = state_of c.args.state.now in
+    let account = c.in-Recons.account in
+    subst (λ (w : What). IfOk c.plan_recons.result (IsPlanTo state c.args.saved (reply (machine_of state) w)))
+    (sym c.in-Recons.is)
+    (found-planned state c.args.saved (account_asked state.book account)
+    (answer.Recons (recons_of account state.book)) c.plan_recons.result c.requires.whole c.plan_recons.ensures)
+
+pub returns-in-Recons-clause-refused : goal.returns-in-Recons-clause-refused
+returns-in-Recons-clause-refused c =
+    let state = state_of c.args.state.now in
+    let account = c.in-Recons.account in
+    subst (λ (w : What). IfErr c.plan_recons.result (IsRefusal (reply (machine_of state) w))) (sym c.in-Recons.is)
+    (found-refused state (account_asked state.book account) (answer.Recons (recons_of account state.book))
+    c.plan_recons.result c.plan_recons.ensures)
