@@ -15,10 +15,10 @@ with_balances-requires c =
       kept = c.requires.registers;
       sound = c.requires.sound.book;
       after = (outcome-sound state c.args.update after _ c.requires.sound
-          (whole_outcome state c.args.update after c.in-Ok.step.answer c.in-Ok.ensures.leads)).book;
-      allowed = c.in-Ok.ensures.exact.allowed;
+          (whole_outcome state c.args.update after c.in-Ok.step.answer c.in-Ok.ensures.steps.leads)).book;
+      allowed = c.in-Ok.ensures.steps.exact.allowed;
       puts = puts_answered state c.args.update (state_after_step state c.in-Ok.step) c.in-Ok.step.edit
-          c.in-Ok.step.answer c.requires.sound refl c.in-Ok.ensures.leads;
+          c.in-Ok.step.answer c.requires.sound refl c.in-Ok.ensures.steps.leads;
     }
 
 pub returns-in-Ok-with_balances-clause-done : goal.returns-in-Ok-with_balances-clause-done
@@ -26,6 +26,6 @@ returns-in-Ok-with_balances-clause-done c =
     let state = state_of c.args.plain.now c.args.next c.args.version in
     let taken = c.in-Ok.step in
     subst (λ (s : Step). IsWholeStep state c.args.update s) (sym c.in-Ok-with_balances.ensures) (record {
-      done = whole_outcome state c.args.update (state_after_step state taken) taken.answer c.in-Ok.ensures.leads;
-      exact = c.in-Ok.ensures.exact;
+      done = whole_outcome state c.args.update (state_after_step state taken) taken.answer c.in-Ok.ensures.steps.leads;
+      exact = c.in-Ok.ensures.steps.exact;
     })
