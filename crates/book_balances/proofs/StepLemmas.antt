@@ -242,6 +242,7 @@ reconcile_statement_moves :
 reconcile_statement_moves state n None new reply e = absurd cc
 reconcile_statement_moves state n (Some statement) new reply e =
     reconcile_closed_moves state n statement statement.closing new reply e
+
 mark_moves :
     (state : State) (number : ℕ) (to : marks.Mark) (force : Bool) (found : Option Split) (new : State) (reply : Answer)
     → mark_at state number to force found ≡ Done new reply → Moves state new
