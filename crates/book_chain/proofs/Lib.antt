@@ -1,1 +1,4 @@
+pub mod ChainChanges
+pub mod ChainCommands
+pub mod KeptSplits
 pub mod ListSums
