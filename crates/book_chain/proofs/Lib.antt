@@ -1,4 +1,5 @@
 pub mod ChainChanges
 pub mod ChainCommands
+pub mod ChainLaws
 pub mod KeptSplits
 pub mod ListSums

@@ -1,6 +1,6 @@
 -- The reconciliations of an account form a chain (GnuCash Manual, reconciling; that they form a chain is a rule of this
 -- project).
-use Rattle.std.specs.Prelude.{◌≡◌, ℕ, ℤ, nat_lt, not, Bool, true, false, ◌&&◌, List, filter, map, Some}
+use Rattle.std.specs.Prelude.{◌≡◌, ℕ, ◌≤◌, ℤ, nat_lt, not, Bool, true, false, ◌&&◌, List, filter, map, Some}
 use Rattle.std.specs.List.{list_all}
 use Rattle.book_commodity.specs.Table.{value_of}
 use Rattle.book_splits.specs.Balance.{total}
@@ -39,6 +39,12 @@ pub record IsChained (book : Book) : Type 0 where
   pub each : (number : ℕ) (reconciliation : Recon) → value_of number book.reconciliations ≡ Some reconciliation
       → are_intact book.transactions (up_to number reconciliation.account book.reconciliations) ≡ true
       → sum_of_lists (up_to number reconciliation.account book.reconciliations) ≡ reconciliation.closing
+
+-- A reconciliation stands in a book, and is the last of its account: none with a greater number is of that account.
+pub record IsLast (book : Book) (number : ℕ) (reconciliation : Recon) : Type 0 where
+  pub there : value_of number book.reconciliations ≡ Some reconciliation
+  pub last : (other : ℕ) (found : Recon) → value_of other book.reconciliations ≡ Some found
+      → found.account ≡ reconciliation.account → other ≤ number
 
 -- ---- what a change leaves
 
