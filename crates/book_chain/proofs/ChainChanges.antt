@@ -1,6 +1,5 @@
 -- What a change leaves of the reconciliations, whatever command it is of.
 use Rattle.std.proofs.Common.{◌≡◌, ℕ, ℤ, pos, Bool, true, false, if◌then◌else◌, List, Option, refl, subst}
-use Rattle.book_splits.specs.declared.transaction.Txn.{Txn}
 use Rattle.book_undo.specs.Book.{Book}
 use Rattle.book_reconcile.specs.Reconciliation.{difference}
 use Rattle.book_command.specs.declared.answer.Answer.{Answer}

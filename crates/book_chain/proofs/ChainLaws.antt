@@ -1,6 +1,6 @@
 -- No command makes a broken record of a reconciliation intact, and each leads from a chained book to a chained one.
-use Rattle.std.proofs.Common.{◌≡◌, ◌⊎◌, inl, inr, ◌≢◌, ℕ, ◌≤◌, ◌<◌, ◌==◌, ◌&&◌, nat_lt, not, ℤ, pos, ◌+ℤ◌, Bool, true}
-use Rattle.std.proofs.Common.{false, All, List, [], ◌∷◌, ◌++◌, filter, map, if◌then◌else◌, Some, None, Ok, Err, Result}
+use Rattle.std.proofs.Common.{◌≡◌, ◌⊎◌, inl, inr, ℕ, ◌<◌, ◌==◌, ◌&&◌, nat_lt, not, ℤ, pos, ◌+ℤ◌, Bool, true}
+use Rattle.std.proofs.Common.{false, All, List, [], ◌∷◌, ◌++◌, filter, map, if◌then◌else◌, Some, Ok, Err, Result}
 use Rattle.std.proofs.Common.{refl, sym, ap, subst, ◌∙◌, eq-eqb, arith}
 use Rattle.std.specs.List.{list_all, list_any}
 use Rattle.std.specs.Prelude.{IfOk}
@@ -17,11 +17,10 @@ use Rattle.book_splits.specs.Balance.{splits_of, total}
 use Rattle.book_splits.proofs.BalanceLemmas.{total-append}
 use Rattle.book_splits.specs.declared.reconciliation.MarkedSplit.{MarkedSplit}
 use Rattle.book_splits.specs.declared.reconciliation.Recon.{Recon}
-use Rattle.book_splits.specs.declared.split.Split.{Split}
 use Rattle.book_splits.specs.declared.transaction.Txn.{Txn}
 use Rattle.book_undo.specs.Book.{Book}
 use Rattle.book_undo.specs.Edit.{edited}
-use Rattle.book_reconcile.specs.Reconciliation.{difference, is_intact, is_kept, is_kept_by, opening}
+use Rattle.book_reconcile.specs.Reconciliation.{difference, is_intact, is_kept, is_kept_by}
 use Rattle.book_reconcile.proofs.OrderLemmas.{closes}
 use Rattle.book_sound.specs.Naming.{reconciliation_names}
 use Rattle.book_sound.specs.ReconciliationRules.{marked_sum}
@@ -29,7 +28,7 @@ use Rattle.book_sound.proofs.OwnFrames.{all_of_each}
 use Rattle.book_command.specs.declared.answer.Answer.{Answer}
 use Rattle.book_command.specs.declared.command.Update.{Update}
 use Rattle.book_command.specs.declared.refusal.Refusal.{Refusal}
-use Rattle.book_step.specs.Outcome.{Done, IsStepTo, StepsTo, after}
+use Rattle.book_step.specs.Outcome.{Done, StepsTo, after}
 use Rattle.book_step.specs.Reconciling.{book_reconciled, finished, marked_under}
 use Rattle.book_step.specs.Soundness.{IsSound, IsSoundBook}
 use Rattle.book_step.specs.State.{State, fresh_book}
@@ -40,7 +39,7 @@ use Rattle.book_chain.specs.Chain.{IsChained, IsLast, KeepsBroken, all_of, are_i
 use Rattle.book_chain.specs.Chain.{up_to}
 use Rattle.book_chain.proofs.ChainChanges.{Finishes, Leaves}
 use Rattle.book_chain.proofs.ChainCommands.{outcome-changes}
-use Rattle.book_chain.proofs.KeptSplits.{IsOther, MakesNone, marking-makes, none-remarked}
+use Rattle.book_chain.proofs.KeptSplits.{MakesNone, marking-makes, none-remarked}
 use Rattle.book_chain.proofs.ListSums.{opening-sums}
 
 -- ---- what isn't intact stays so

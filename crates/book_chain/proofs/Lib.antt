@@ -3,3 +3,4 @@ pub mod ChainCommands
 pub mod ChainLaws
 pub mod KeptSplits
 pub mod ListSums
+pub mod Worked
