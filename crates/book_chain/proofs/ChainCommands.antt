@@ -225,7 +225,8 @@ line_reopen-leaves state n (Some line) new answered e =
 line_add-leaves :
     (state : State) (n : ℕ) (others : List GivenOther) (description : Option (List ℕ)) (found : Option Line)
     (new : State) (answered : Answer)
-    → line_adding.line_add_at state n others description found ≡ Done new answered → Leaves state.next state.book new.book
+    → line_adding.line_add_at state n others description found ≡ Done new answered
+    → Leaves state.next state.book new.book
 line_add-leaves state n others description None new answered e = absurd cc
 line_add-leaves state n others description (Some line) new answered e =
     let all = state.book.accounts in
@@ -385,7 +386,8 @@ outcome-changes state (AccountDrop account) new answered e =
 outcome-changes state (Post day given) new answered e =
     inl (post-leaves state day given new answered e)
 outcome-changes state (Edit transaction force day given) new answered e =
-    inl (edit-leaves state transaction force day given (value_of transaction state.book.transactions) new answered refl e)
+    inl (edit-leaves state transaction force day given (value_of transaction state.book.transactions) new answered
+    refl e)
 outcome-changes state (Drop transaction force) new answered e =
     inl (drop-leaves state transaction force (value_of transaction state.book.transactions) new answered e)
 outcome-changes state (PriceSet price) new answered e =
@@ -398,8 +400,8 @@ outcome-changes state (ScheduleAdd given) new answered e =
     inl (schedule_add-leaves state given given.recurrences new answered e)
 outcome-changes state (ScheduleDrop schedule) new answered e =
     let later = without_thing thing_kind.Schedule schedule state.book in
-    inl (after-change state (schedules.unknown_schedule state.book.schedules schedule ∷ []) later 0 answer.ScheduleDrop new
-    answered (same-tables state.next state.book later refl refl) e)
+    inl (after-change state (schedules.unknown_schedule state.book.schedules schedule ∷ []) later 0
+    answer.ScheduleDrop new answered (same-tables state.next state.book later refl refl) e)
 outcome-changes state (ScheduleRun upto only) new answered e =
     inl (schedule_run-leaves state (runs.asked_rules state upto only)
     (schedules.runs_of upto (runs.asked only state.book.schedules)) new answered e)
@@ -415,12 +417,13 @@ outcome-changes state (Import format text given) new answered e =
     inl (import-leaves state (importing.given_rules state.book format given) given
     (importing.said state.book.commodities text format) new answered e)
 outcome-changes state (Mark split cleared force) new answered e =
-    inl (mark-leaves state split (marking.mark_asked cleared) force (split_at split state.book.transactions) new answered
-    (asked-open cleared) e)
+    inl (mark-leaves state split (marking.mark_asked cleared) force (split_at split state.book.transactions) new
+    answered (asked-open cleared) e)
 outcome-changes state (LineMatch line split) new answered e =
     inl (line_match-leaves state line split (value_of line state.book.lines) new answered e)
 outcome-changes state (MatchAuto account window) new answered e =
-    inl (match_pairs-leaves state (auto.match_rules state.book account window) (auto.matches state.book account window) new answered e)
+    inl (match_pairs-leaves state (auto.match_rules state.book account window)
+    (auto.matches state.book account window) new answered e)
 outcome-changes state (Reconcile account day closing) new answered e =
     inr (reconcile-finishes state (Reconcile account day closing)
     (accounts.unknown_account state.book.accounts account ∷ []) (λ number marked. answer.Reconcile number marked)

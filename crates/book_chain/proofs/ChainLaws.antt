@@ -302,8 +302,8 @@ pub outcome-chained :
 outcome-chained state update new answered is chained e =
     change-chained state update new.book is chained (outcome-changes state update new answered e)
 
--- Where all reconciliations of an account are intact in a chained book, the quantities of their lists sum to the closing
--- balance of the last one.
+-- Where all reconciliations of an account are intact in a chained book, the quantities of their lists sum to the
+-- closing balance of the last one.
 pub chained-sums :
     (book : Book) (n : ℕ) (r : Recon) → IsSoundBook book → IsChained book → IsLast book n r
     → are_intact book.transactions (all_of r.account book.reconciliations) ≡ true

@@ -62,7 +62,9 @@ open-other n account m split is =
     (and_left (has_mark Reconciled account split) named
     (and_right (split.account == account) (is_mark split.mark Reconciled) (open-mark split.mark is)))
 
-all-open : (n account : ℕ) (m : MarkedSplit) (splits : List Split) → All IsOpen splits → All (IsOther n account m) splits
+all-open :
+    (n account : ℕ) (m : MarkedSplit) (splits : List Split) → All IsOpen splits
+    → All (IsOther n account m) splits
 all-open n account m splits all = All-weaker IsOpen (IsOther n account m) (open-other n account m) splits all
 
 -- those of a post

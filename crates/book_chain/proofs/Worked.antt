@@ -1,8 +1,8 @@
 -- Worked rows: an account 3 that is reconciled at the end of January at 800.00, and at the end of February at 850.00.
 -- Days count from 1970-01-01, so that 19723 is 2024-01-01, 19753 is 2024-01-31, 19760 is 2024-02-07 and 19782 is
 -- 2024-02-29. Account 4 stands against it.
-use Rattle.std.proofs.Common.{◌≡◌, ℕ, ◌≤◌, ◌==◌, ℤ, pos, negsuc, Bool, true, false, if◌then◌else◌, List, [], ◌∷◌, Option}
-use Rattle.std.proofs.Common.{Some, None, refl, sym, subst, arith}
+use Rattle.std.proofs.Common.{◌≡◌, ℕ, ◌≤◌, ◌==◌, ℤ, pos, negsuc, Bool, true, false, if◌then◌else◌, List, [], ◌∷◌}
+use Rattle.std.proofs.Common.{Option, Some, None, refl, sym, subst, arith}
 use Rattle.std.proofs.lemmas.Bool.{eqb-true}
 use Rattle.std.proofs.lemmas.Int.{ints}
 use Rattle.book_commodity.specs.Table.{value_of}
