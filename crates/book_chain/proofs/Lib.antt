@@ -1,0 +1,6 @@
+pub mod ChainChanges
+pub mod ChainCommands
+pub mod ChainLaws
+pub mod KeptSplits
+pub mod ListSums
+pub mod Worked
