@@ -1,5 +1,5 @@
 -- What a change leaves of the reconciliations, whatever command it is of.
-use Rattle.std.proofs.Common.{◌≡◌, ℕ, ℤ, pos, Bool, true, false, if◌then◌else◌, List, Option, refl, subst}
+use Rattle.std.proofs.Common.{◌≡◌, ◌⊎◌, ℕ, ℤ, pos, Bool, true, false, if◌then◌else◌, List, Option, refl, subst}
 use Rattle.book_undo.specs.Book.{Book}
 use Rattle.book_reconcile.specs.Reconciliation.{difference}
 use Rattle.book_command.specs.declared.answer.Answer.{Answer}
@@ -25,6 +25,11 @@ pub record Finishes (state : State) (update : Update) (new : Book) : Type 0 wher
   pub reconciles : is_reconciling update ≡ true
   pub none : difference account day closing state.book.transactions ≡ pos 0
   pub is : book_reconciled state.book state.next (finished state.book account day closing) ≡ new
+
+-- A change is one of the two.
+abbrev pub Change : State → Update → Book → Type 0
+Change state update new =
+    ((is_reconciling update ≡ false) × Leaves state.next state.book new) ⊎ Finishes state update new
 
 pub same-tables :
     (next : ℕ) (old new : Book) → old.transactions ≡ new.transactions → new.reconciliations ≡ old.reconciliations

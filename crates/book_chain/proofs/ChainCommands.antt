@@ -1,6 +1,6 @@
 -- Each command leaves the reconciliations of the book, and makes no split one that they marked; or it is a
 -- reconciliation.
-use Rattle.std.proofs.Common.{◌≡◌, ◌⊎◌, inl, inr, ℕ, ℤ, pos, ◌+◌, ◌==◌, Bool, true, false, if◌then◌else◌, List, [], ◌∷◌}
+use Rattle.std.proofs.Common.{◌≡◌, inl, inr, ℕ, ℤ, pos, ◌+◌, ◌==◌, Bool, true, false, if◌then◌else◌, List, [], ◌∷◌}
 use Rattle.std.proofs.Common.{◌++◌, length, map, Option, Some, None, Ok, Err, Result, refl, ap}
 use Rattle.std.proofs.lemmas.Bool.{not-false}
 use Rattle.std.proofs.lemmas.Bool.Decides.{Decides-int_eq}
@@ -70,7 +70,8 @@ use Rattle.book_step.specs.State.{State}
 use Rattle.book_step.specs.Step.{outcome}
 use Rattle.book_step.proofs.SoundOutcome.{changing_done, unless_done}
 use Rattle.book_chain.specs.Chain.{is_reconciling}
-use Rattle.book_chain.proofs.ChainChanges.{Finishes, Leaves, after-change, after-either, after-leaving, same-tables}
+use Rattle.book_chain.proofs.ChainChanges.{Change, Finishes, Leaves, after-change, after-either, after-leaving}
+use Rattle.book_chain.proofs.ChainChanges.{same-tables}
 use Rattle.book_chain.proofs.KeptSplits.{clearing-makes, none-added, none-edited, none-left, none-marked, none-posted}
 use Rattle.book_chain.proofs.KeptSplits.{none-remarked, none-run}
 
@@ -368,61 +369,61 @@ statement-finishes state n (Some statement) new answered e =
 
 pub outcome-changes :
     (state : State) (update : Update) (new : State) (answered : Answer) → outcome state update ≡ Done new answered
-    → Leaves state.next state.book new.book ⊎ Finishes state update new.book
+    → Change state update new.book
 outcome-changes state (BookCurrency commodity) new answered e =
-    inl (currency-leaves state commodity new answered e)
+    inl (refl, currency-leaves state commodity new answered e)
 outcome-changes state (CommodityAdd commodity) new answered e =
     let later = with_thing state.next (thing.Commodity commodity) state.book in
-    inl (after-change state (commodities.add_rules state.book commodity) later 1 (answer.CommodityAdd state.next) new
-    answered (same-tables state.next state.book later refl refl) e)
+    inl (refl, after-change state (commodities.add_rules state.book commodity) later 1 (answer.CommodityAdd state.next)
+    new answered (same-tables state.next state.book later refl refl) e)
 outcome-changes state (AccountAdd account) new answered e =
     let later = with_thing state.next (thing.Account account) state.book in
-    inl (after-change state (accounts.add_rules state.book account) later 1 (answer.AccountAdd state.next) new answered
-    (same-tables state.next state.book later refl refl) e)
+    inl (refl, after-change state (accounts.add_rules state.book account) later 1 (answer.AccountAdd state.next) new
+    answered (same-tables state.next state.book later refl refl) e)
 outcome-changes state (AccountEdit account given) new answered e =
-    inl (account_edit-leaves state account given (value_of account state.book.accounts) new answered e)
+    inl (refl, account_edit-leaves state account given (value_of account state.book.accounts) new answered e)
 outcome-changes state (AccountDrop account) new answered e =
-    inl (account_drop-leaves state account (value_of account state.book.accounts) new answered e)
+    inl (refl, account_drop-leaves state account (value_of account state.book.accounts) new answered e)
 outcome-changes state (Post day given) new answered e =
-    inl (post-leaves state day given new answered e)
+    inl (refl, post-leaves state day given new answered e)
 outcome-changes state (Edit transaction force day given) new answered e =
-    inl (edit-leaves state transaction force day given (value_of transaction state.book.transactions) new answered
+    inl (refl, edit-leaves state transaction force day given (value_of transaction state.book.transactions) new answered
     refl e)
 outcome-changes state (Drop transaction force) new answered e =
-    inl (drop-leaves state transaction force (value_of transaction state.book.transactions) new answered e)
+    inl (refl, drop-leaves state transaction force (value_of transaction state.book.transactions) new answered e)
 outcome-changes state (PriceSet price) new answered e =
-    inl (price_set-leaves state price (prices.price_of_day state.book.prices price) new answered e)
+    inl (refl, price_set-leaves state price (prices.price_of_day state.book.prices price) new answered e)
 outcome-changes state (PriceDrop price) new answered e =
     let later = without_thing thing_kind.Price price state.book in
-    inl (after-change state (prices.unknown_price state.book.prices price ∷ []) later 0 answer.PriceDrop new answered
-    (same-tables state.next state.book later refl refl) e)
+    inl (refl, after-change state (prices.unknown_price state.book.prices price ∷ []) later 0 answer.PriceDrop new
+    answered (same-tables state.next state.book later refl refl) e)
 outcome-changes state (ScheduleAdd given) new answered e =
-    inl (schedule_add-leaves state given given.recurrences new answered e)
+    inl (refl, schedule_add-leaves state given given.recurrences new answered e)
 outcome-changes state (ScheduleDrop schedule) new answered e =
     let later = without_thing thing_kind.Schedule schedule state.book in
-    inl (after-change state (schedules.unknown_schedule state.book.schedules schedule ∷ []) later 0
+    inl (refl, after-change state (schedules.unknown_schedule state.book.schedules schedule ∷ []) later 0
     answer.ScheduleDrop new answered (same-tables state.next state.book later refl refl) e)
 outcome-changes state (ScheduleRun upto only) new answered e =
-    inl (schedule_run-leaves state (runs.asked_rules state upto only)
+    inl (refl, schedule_run-leaves state (runs.asked_rules state upto only)
     (schedules.runs_of upto (runs.asked only state.book.schedules)) new answered e)
 outcome-changes state (LineAdd n others description) new answered e =
-    inl (line_add-leaves state n others description (value_of n state.book.lines) new answered e)
+    inl (refl, line_add-leaves state n others description (value_of n state.book.lines) new answered e)
 outcome-changes state (Bind binding) new answered e =
-    inl (bind-leaves state binding (bindings.binding_of binding.text state.book.bindings) new answered e)
+    inl (refl, bind-leaves state binding (bindings.binding_of binding.text state.book.bindings) new answered e)
 outcome-changes state (LineDismiss line) new answered e =
-    inl (line_dismiss-leaves state line (value_of line state.book.lines) new answered e)
+    inl (refl, line_dismiss-leaves state line (value_of line state.book.lines) new answered e)
 outcome-changes state (LineReopen line) new answered e =
-    inl (line_reopen-leaves state line (value_of line state.book.lines) new answered e)
+    inl (refl, line_reopen-leaves state line (value_of line state.book.lines) new answered e)
 outcome-changes state (Import format text given) new answered e =
-    inl (import-leaves state (importing.given_rules state.book format given) given
+    inl (refl, import-leaves state (importing.given_rules state.book format given) given
     (importing.said state.book.commodities text format) new answered e)
 outcome-changes state (Mark split cleared force) new answered e =
-    inl (mark-leaves state split (marking.mark_asked cleared) force (split_at split state.book.transactions) new
+    inl (refl, mark-leaves state split (marking.mark_asked cleared) force (split_at split state.book.transactions) new
     answered (asked-open cleared) e)
 outcome-changes state (LineMatch line split) new answered e =
-    inl (line_match-leaves state line split (value_of line state.book.lines) new answered e)
+    inl (refl, line_match-leaves state line split (value_of line state.book.lines) new answered e)
 outcome-changes state (MatchAuto account window) new answered e =
-    inl (match_pairs-leaves state (auto.match_rules state.book account window)
+    inl (refl, match_pairs-leaves state (auto.match_rules state.book account window)
     (auto.matches state.book account window) new answered e)
 outcome-changes state (Reconcile account day closing) new answered e =
     inr (reconcile-finishes state (Reconcile account day closing)

@@ -1,5 +1,5 @@
 -- No command makes a broken record of a reconciliation intact, and each leads from a chained book to a chained one.
-use Rattle.std.proofs.Common.{◌≡◌, ◌⊎◌, inl, inr, ℕ, ◌<◌, ◌==◌, ◌&&◌, nat_lt, not, ℤ, pos, ◌+ℤ◌, Bool, true}
+use Rattle.std.proofs.Common.{◌≡◌, inl, inr, ℕ, ◌<◌, ◌==◌, ◌&&◌, nat_lt, not, ℤ, pos, ◌+ℤ◌, Bool, true}
 use Rattle.std.proofs.Common.{false, All, List, [], ◌∷◌, ◌++◌, filter, map, if◌then◌else◌, Some, Ok, Err, Result}
 use Rattle.std.proofs.Common.{refl, sym, ap, subst, ◌∙◌, eq-eqb, arith}
 use Rattle.std.specs.List.{list_all, list_any}
@@ -35,12 +35,13 @@ use Rattle.book_step.specs.State.{State, fresh_book}
 use Rattle.book_step.specs.Step.{outcome}
 use Rattle.book_step.specs.declared.step.Step.{Step}
 use Rattle.book_step.proofs.AnswerLemmas.{whole_of}
-use Rattle.book_chain.specs.Chain.{IsChained, IsLast, KeepsBroken, all_of, are_intact, is_reconciling, sum_of_lists}
-use Rattle.book_chain.specs.Chain.{up_to}
-use Rattle.book_chain.proofs.ChainChanges.{Finishes, Leaves}
+use Rattle.book_chain.specs.Chain.{AddsIntact, IsChained, IsLast, KeepsBroken, are_intact, is_reconciling, of_account}
+use Rattle.book_chain.specs.Chain.{sum_of_lists, up_to}
+use Rattle.book_chain.proofs.ChainChanges.{Change, Leaves}
 use Rattle.book_chain.proofs.ChainCommands.{outcome-changes}
 use Rattle.book_chain.proofs.KeptSplits.{MakesNone, marking-makes, none-remarked}
 use Rattle.book_chain.proofs.ListSums.{opening-sums}
+use Rattle.book_chain.proofs.NewRecord.{marked-intact}
 
 -- ---- what isn't intact stays so
 
@@ -86,9 +87,9 @@ all-were next old new (e ∷ es) makes below intact =
 -- ---- the transactions and the reconciliations after a change
 
 makes-none :
-    (state : State) (update : Update) (new : Book) → Leaves state.next state.book new ⊎ Finishes state update new
+    (state : State) (update : Update) (new : Book) → Change state update new
     → MakesNone state.next state.book.transactions new.transactions
-makes-none state update new (inl leaves) = leaves.transactions
+makes-none state update new (inl leaves) = leaves.1.transactions
 makes-none state update new (inr finish) =
     let recon = finished state.book finish.account finish.day finish.closing in
     subst (λ (b : Book). MakesNone state.next state.book.transactions b.transactions) finish.is
@@ -97,9 +98,9 @@ makes-none state update new (inr finish) =
 
 stays :
     (state : State) (update : Update) (new : Book) (n : ℕ) (r : Recon) → IsSound state
-    → Leaves state.next state.book new ⊎ Finishes state update new → value_of n state.book.reconciliations ≡ Some r
+    → Change state update new → value_of n state.book.reconciliations ≡ Some r
     → value_of n new.reconciliations ≡ Some r
-stays state update new n r is (inl leaves) there = ap (value_of n) leaves.reconciliations ∙ there
+stays state update new n r is (inl leaves) there = ap (value_of n) leaves.1.reconciliations ∙ there
 stays state update new n r is (inr finish) there =
     let recon = finished state.book finish.account finish.day finish.closing in
     let all = state.book.reconciliations in
@@ -123,9 +124,9 @@ outcome-stays-broken state update new answered is e =
     }
 
 adds-none :
-    (state : State) (update : Update) (new : Book) → Leaves state.next state.book new ⊎ Finishes state update new
+    (state : State) (update : Update) (new : Book) → Change state update new
     → is_reconciling update ≡ false → new.reconciliations ≡ state.book.reconciliations
-adds-none state update new (inl leaves) other = leaves.reconciliations
+adds-none state update new (inl leaves) other = leaves.1.reconciliations
 adds-none state update new (inr finish) other = absurd (let both = sym finish.reconciles ∙ other in cc)
 
 -- Only a reconciliation adds one.
@@ -134,6 +135,27 @@ pub outcome-adds-no-reconciliation :
     → outcome state update ≡ Done new answered → new.book.reconciliations ≡ state.book.reconciliations
 outcome-adds-no-reconciliation state update new answered other e =
     adds-none state update new.book (outcome-changes state update new answered e) other
+
+adds-intact :
+    (state : State) (update : Update) (new : Book) → IsSound state → Change state update new
+    → is_reconciling update ≡ true → AddsIntact state.next state.book new
+adds-intact state update new is (inl leaves) reconciles = absurd (let both = sym reconciles ∙ leaves.0 in cc)
+adds-intact state update new is (inr finish) reconciles =
+    let recon = finished state.book finish.account finish.day finish.closing in
+    subst (AddsIntact state.next state.book) finish.is
+    (record {
+      reconciliation = recon;
+      behind = with_last state.next recon state.book.reconciliations is.drawn.reconciliations;
+      intact = marked-intact state.next finish.account finish.day state.book.transactions;
+    })
+
+-- A reconciliation that is done in a sound state adds one, under the next number, and its record is intact.
+pub outcome-adds-intact :
+    (state : State) (update : Update) (new : State) (answered : Answer) → IsSound state
+    → is_reconciling update ≡ true → outcome state update ≡ Done new answered
+    → AddsIntact state.next state.book new.book
+outcome-adds-intact state update new answered is reconciles e =
+    adds-intact state update new.book is (outcome-changes state update new answered e) reconciles
 
 -- ---- the chain
 
@@ -163,7 +185,7 @@ old-up_to n account next recon es below =
 -- all numbers below one are among those up to it
 up_to-all :
     (n account : ℕ) (es : List (ℕ × Recon)) → All (λ (e : ℕ × Recon). e.0 < n) es
-    → up_to n account es ≡ all_of account es
+    → up_to n account es ≡ of_account account es
 up_to-all n account [] below = refl
 up_to-all n account (e ∷ es) below =
     let Below : ℕ × Recon → Type 0 = λ x. x.0 < n in
@@ -181,7 +203,7 @@ up_to-all n account (e ∷ es) below =
 -- the new one stands behind those of its account
 new-up_to :
     (next : ℕ) (recon : Recon) (es : List (ℕ × Recon)) → All (λ (e : ℕ × Recon). e.0 < next) es
-    → up_to next recon.account (es ++ (next, recon) ∷ []) ≡ all_of recon.account es ++ (next, recon) ∷ []
+    → up_to next recon.account (es ++ (next, recon) ∷ []) ≡ of_account recon.account es ++ (next, recon) ∷ []
 new-up_to next recon es below =
     let test : ℕ × Recon → Bool = λ e. reconciliation_names recon.account e.1 && not (nat_lt next e.0) in
     let itself : nat_lt next next ≡ false = grind (arith, nat_tests) in
@@ -232,13 +254,13 @@ new-chained :
     (state : State) (account : ℕ) (day closing : ℤ) (new : List (ℕ × Txn)) → IsSound state
     → difference account day closing state.book.transactions ≡ pos 0
     → MakesNone state.next state.book.transactions new
-    → are_intact new (all_of account state.book.reconciliations
+    → are_intact new (of_account account state.book.reconciliations
     ++ (state.next, finished state.book account day closing) ∷ []) ≡ true
-    → sum_of_lists (all_of account state.book.reconciliations
+    → sum_of_lists (of_account account state.book.reconciliations
     ++ (state.next, finished state.book account day closing) ∷ []) ≡ closing
 new-chained state account day closing new is none makes intact =
     let old = state.book.reconciliations in
-    let own = all_of account old in
+    let own = of_account account old in
     let recon = finished state.book account day closing in
     let Below : ℕ × Recon → Type 0 = λ x. x.0 < state.next in
     let few = All-filter (λ (e : ℕ × Recon). reconciliation_names account e.1) Below old is.drawn.reconciliations in
@@ -270,7 +292,7 @@ finish-chained state account day closing is chained none makes = record {
             let Comes : ℕ → Recon → Type 0 = λ k x.
             are_intact new.transactions (up_to k x.account (with_entry next recon old)) ≡ true
             → sum_of_lists (up_to k x.account (with_entry next recon old)) ≡ x.closing in
-            let all : up_to next account (with_entry next recon old) ≡ all_of account old ++ (next, recon) ∷ [] =
+            let all : up_to next account (with_entry next recon old) ≡ of_account account old ++ (next, recon) ∷ [] =
             ap (up_to next account) behind ∙ new-up_to next recon old is.drawn.reconciliations in
             let comes : Comes next recon = λ now.
             ap sum_of_lists all
@@ -286,8 +308,8 @@ finish-chained state account day closing is chained none makes = record {
 
 change-chained :
     (state : State) (update : Update) (new : Book) → IsSound state → IsChained state.book
-    → Leaves state.next state.book new ⊎ Finishes state update new → IsChained new
-change-chained state update new is chained (inl leaves) = leaves-chained state new is chained leaves
+    → Change state update new → IsChained new
+change-chained state update new is chained (inl leaves) = leaves-chained state new is chained leaves.1
 change-chained state update new is chained (inr finish) =
     let recon = finished state.book finish.account finish.day finish.closing in
     let makes = none-remarked state.next (marked_under state.next recon.account recon.day) state.book.transactions
@@ -306,13 +328,13 @@ outcome-chained state update new answered is chained e =
 -- closing balance of the last one.
 pub chained-sums :
     (book : Book) (n : ℕ) (r : Recon) → IsSoundBook book → IsChained book → IsLast book n r
-    → are_intact book.transactions (all_of r.account book.reconciliations) ≡ true
-    → sum_of_lists (all_of r.account book.reconciliations) ≡ r.closing
+    → are_intact book.transactions (of_account r.account book.reconciliations) ≡ true
+    → sum_of_lists (of_account r.account book.reconciliations) ≡ r.closing
 chained-sums book n r is chained last intact =
     let es = book.reconciliations in
     let one : ℕ × Recon → Bool = λ e. reconciliation_names r.account e.1 && not (nat_lt n e.0) in
     let other : ℕ × Recon → Bool = λ e. reconciliation_names r.account e.1 in
-    let same : up_to n r.account es ≡ all_of r.account es =
+    let same : up_to n r.account es ≡ of_account r.account es =
     same-filter one other es
     (all_of_each (λ (e : ℕ × Recon). one e ≡ other e) es is.reconciliations.rise
     (λ k x there.

@@ -3,4 +3,5 @@ pub mod ChainCommands
 pub mod ChainLaws
 pub mod KeptSplits
 pub mod ListSums
+pub mod NewRecord
 pub mod Worked

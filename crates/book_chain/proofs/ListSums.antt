@@ -29,7 +29,7 @@ use Rattle.book_sound.specs.Soundness.{IsSoundBook}
 use Rattle.book_sound.proofs.MarkLemmas.{reconciled_is_marked}
 use Rattle.book_sound.proofs.OwnFrames.{all_of_each}
 use Rattle.book_step.proofs.SplitsOnce.{splits_once}
-use Rattle.book_chain.specs.Chain.{all_of, are_intact, sum_of_lists}
+use Rattle.book_chain.specs.Chain.{are_intact, of_account, sum_of_lists}
 
 -- ---- the sum of the quantities of the splits that pass a test
 
@@ -177,7 +177,7 @@ sum-listed n account (m ∷ listed) splits once alone kept =
 
 -- ---- the lists of an account's reconciliations
 
--- Whether a split is one of the list of a reconciliation of an account, as it was when that marked it.
+-- Whether a reconciliation is of an account, and a split is one of its list, as it was when that marked it.
 abbrev is_of : ℕ → ℕ × Recon → Split → Bool
 is_of account e s = (e.1.account == account) && is_listed e.0 account e.1.marked s
 
@@ -233,13 +233,13 @@ sum-chain :
     (account : ℕ) (reconciliations : List (ℕ × Recon)) (ts : List (ℕ × Txn)) → Rises reconciliations
     → All (λ (e : ℕ × Recon). are_once (marked_numbers e.1.marked) ≡ true) reconciliations
     → are_once (numbers_of (splits_of ts)) ≡ true
-    → are_intact ts (all_of account reconciliations) ≡ true
-    → sum_where (is_of_some account reconciliations) (splits_of ts) ≡ sum_of_lists (all_of account reconciliations)
+    → are_intact ts (of_account account reconciliations) ≡ true
+    → sum_where (is_of_some account reconciliations) (splits_of ts) ≡ sum_of_lists (of_account account reconciliations)
 sum-chain account [] ts r once alone intact = sum-none (λ s. false) (splits_of ts) (no-test (splits_of ts))
 sum-chain account (e ∷ reconciliations) ts r once alone intact =
     let Once : ℕ × Recon → Type 0 = λ x. are_once (marked_numbers x.1.marked) ≡ true in
     let own = e.1.account == account in
-    let behind = all_of account reconciliations in
+    let behind = of_account account reconciliations in
     let Parts : Bool → Type 0 = λ b. are_intact ts (if b then e ∷ behind else behind) ≡ true
     → (b ≡ true → is_intact e.0 e.1 ts ≡ true) × (are_intact ts behind ≡ true) in
     let parts : (own ≡ true → is_intact e.0 e.1 ts ≡ true) × (are_intact ts behind ≡ true) = (elim own as Parts [
@@ -252,7 +252,7 @@ sum-chain account (e ∷ reconciliations) ts r once alone intact =
     (λ s is. apart-above account e.0 reconciliations s r.0 (of-one account e s is)) in
     let Sum : Bool → Type 0 = λ b. sum_of_lists (if b then e ∷ behind else behind)
     ≡ counted b (marked_sum e.1.marked) +ℤ sum_of_lists behind in
-    let whole : sum_of_lists (all_of account (e ∷ reconciliations))
+    let whole : sum_of_lists (of_account account (e ∷ reconciliations))
     ≡ counted own (marked_sum e.1.marked) +ℤ sum_of_lists behind =
     elim own as Sum [ true ↦ refl | false ↦ omega (arith, ints) ] in
     omega (arith, ints, rest, first, sum, whole)
@@ -360,8 +360,8 @@ all-splits test (e ∷ ts) all =
 -- the sum of their lists.
 pub opening-sums :
     (book : Book) (account : ℕ) → IsSoundBook book
-    → are_intact book.transactions (all_of account book.reconciliations) ≡ true
-    → opening account book.transactions ≡ sum_of_lists (all_of account book.reconciliations)
+    → are_intact book.transactions (of_account account book.reconciliations) ≡ true
+    → opening account book.transactions ≡ sum_of_lists (of_account account book.reconciliations)
 opening-sums book account is intact =
     let reconciliations = book.reconciliations in
     let ts = book.transactions in

@@ -16,7 +16,7 @@ use Rattle.book_undo.specs.Book.{Book}
 use Rattle.book_reconcile.specs.Reconciliation.{is_intact}
 use Rattle.book_step.specs.Reconciling.{book_reconciled, finished}
 use Rattle.book_step.specs.State.{fresh_book}
-use Rattle.book_chain.specs.Chain.{IsChained, IsLast, all_of, are_intact, sum_of_lists, up_to}
+use Rattle.book_chain.specs.Chain.{IsChained, IsLast, are_intact, of_account, sum_of_lists, up_to}
 
 abbrev split : ℕ → ℕ → Mark → Option ℕ → ℤ → Split
 split id account mark recon amount = record {
@@ -91,7 +91,7 @@ up_to_january = refl
 up_to_february : sum_of_lists (up_to 21 3 reconciled.reconciliations) ≡ pos 85000
 up_to_february = refl
 
-both_intact : are_intact reconciled.transactions (all_of 3 reconciled.reconciliations) ≡ true
+both_intact : are_intact reconciled.transactions (of_account 3 reconciled.reconciliations) ≡ true
 both_intact = refl
 
 -- what holds of the two holds of each

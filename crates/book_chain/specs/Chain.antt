@@ -1,6 +1,7 @@
 -- The reconciliations of an account form a chain (GnuCash Manual, reconciling; that they form a chain is a rule of this
 -- project).
-use Rattle.std.specs.Prelude.{◌≡◌, ℕ, ◌≤◌, ℤ, nat_lt, not, Bool, true, false, ◌&&◌, List, filter, map, Some}
+use Rattle.std.specs.Prelude.{◌≡◌, ℕ, ◌≤◌, ℤ, nat_lt, not, Bool, true, false, ◌&&◌, List, [], ◌∷◌, ◌++◌, filter}
+use Rattle.std.specs.Prelude.{map, Some}
 use Rattle.std.specs.List.{list_all}
 use Rattle.book_commodity.specs.Table.{value_of}
 use Rattle.book_splits.specs.Balance.{total}
@@ -16,10 +17,10 @@ use Rattle.book_command.specs.declared.command.Update.TheVariants.{Reconcile, Re
 -- ---- the chain
 
 -- The reconciliations of an account, in the order of their numbers.
-abbrev pub all_of : ℕ → List (ℕ × Recon) → List (ℕ × Recon)
-all_of account reconciliations = filter (λ entry. reconciliation_names account entry.1) reconciliations
+abbrev pub of_account : ℕ → List (ℕ × Recon) → List (ℕ × Recon)
+of_account account reconciliations = filter (λ entry. reconciliation_names account entry.1) reconciliations
 
--- Those of them whose numbers are at most one.
+-- Those of them up to a number: none has a greater one.
 abbrev pub up_to : ℕ → ℕ → List (ℕ × Recon) → List (ℕ × Recon)
 up_to number account reconciliations =
     filter (λ entry. reconciliation_names account entry.1 && not (nat_lt number entry.0)) reconciliations
@@ -56,6 +57,12 @@ pub record KeepsBroken (old new : Book) : Type 0 where
   pub broken : (number : ℕ) (reconciliation : Recon) → value_of number old.reconciliations ≡ Some reconciliation
       → is_intact number reconciliation old.transactions ≡ false
       → is_intact number reconciliation new.transactions ≡ false
+
+-- A book has one reconciliation more, under a number and behind the others, and it is intact there.
+pub record AddsIntact (number : ℕ) (old new : Book) : Type 0 where
+  pub reconciliation : Recon
+  pub behind : new.reconciliations ≡ old.reconciliations ++ (number, reconciliation) ∷ []
+  pub intact : is_intact number reconciliation new.transactions ≡ true
 
 -- Whether a change is a reconciliation.
 abbrev pub is_reconciling : Update → Bool
