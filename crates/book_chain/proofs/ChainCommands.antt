@@ -374,12 +374,18 @@ outcome-changes state (BookCurrency commodity) new answered e =
     inl (refl, currency-leaves state commodity new answered e)
 outcome-changes state (CommodityAdd commodity) new answered e =
     let later = with_thing state.next (thing.Commodity commodity) state.book in
-    inl (refl, after-change state (commodities.add_rules state.book commodity) later 1 (answer.CommodityAdd state.next)
-    new answered (same-tables state.next state.book later refl refl) e)
+    inl (
+      refl,
+      after-change state (commodities.add_rules state.book commodity) later 1 (answer.CommodityAdd state.next)
+          new answered (same-tables state.next state.book later refl refl) e,
+    )
 outcome-changes state (AccountAdd account) new answered e =
     let later = with_thing state.next (thing.Account account) state.book in
-    inl (refl, after-change state (accounts.add_rules state.book account) later 1 (answer.AccountAdd state.next) new
-    answered (same-tables state.next state.book later refl refl) e)
+    inl (
+      refl,
+      after-change state (accounts.add_rules state.book account) later 1 (answer.AccountAdd state.next) new
+          answered (same-tables state.next state.book later refl refl) e,
+    )
 outcome-changes state (AccountEdit account given) new answered e =
     inl (refl, account_edit-leaves state account given (value_of account state.book.accounts) new answered e)
 outcome-changes state (AccountDrop account) new answered e =
@@ -387,25 +393,37 @@ outcome-changes state (AccountDrop account) new answered e =
 outcome-changes state (Post day given) new answered e =
     inl (refl, post-leaves state day given new answered e)
 outcome-changes state (Edit transaction force day given) new answered e =
-    inl (refl, edit-leaves state transaction force day given (value_of transaction state.book.transactions) new answered
-    refl e)
+    inl (
+      refl,
+      edit-leaves state transaction force day given (value_of transaction state.book.transactions) new answered
+          refl e,
+    )
 outcome-changes state (Drop transaction force) new answered e =
     inl (refl, drop-leaves state transaction force (value_of transaction state.book.transactions) new answered e)
 outcome-changes state (PriceSet price) new answered e =
     inl (refl, price_set-leaves state price (prices.price_of_day state.book.prices price) new answered e)
 outcome-changes state (PriceDrop price) new answered e =
     let later = without_thing thing_kind.Price price state.book in
-    inl (refl, after-change state (prices.unknown_price state.book.prices price ∷ []) later 0 answer.PriceDrop new
-    answered (same-tables state.next state.book later refl refl) e)
+    inl (
+      refl,
+      after-change state (prices.unknown_price state.book.prices price ∷ []) later 0 answer.PriceDrop new
+          answered (same-tables state.next state.book later refl refl) e,
+    )
 outcome-changes state (ScheduleAdd given) new answered e =
     inl (refl, schedule_add-leaves state given given.recurrences new answered e)
 outcome-changes state (ScheduleDrop schedule) new answered e =
     let later = without_thing thing_kind.Schedule schedule state.book in
-    inl (refl, after-change state (schedules.unknown_schedule state.book.schedules schedule ∷ []) later 0
-    answer.ScheduleDrop new answered (same-tables state.next state.book later refl refl) e)
+    inl (
+      refl,
+      after-change state (schedules.unknown_schedule state.book.schedules schedule ∷ []) later 0
+          answer.ScheduleDrop new answered (same-tables state.next state.book later refl refl) e,
+    )
 outcome-changes state (ScheduleRun upto only) new answered e =
-    inl (refl, schedule_run-leaves state (runs.asked_rules state upto only)
-    (schedules.runs_of upto (runs.asked only state.book.schedules)) new answered e)
+    inl (
+      refl,
+      schedule_run-leaves state (runs.asked_rules state upto only)
+          (schedules.runs_of upto (runs.asked only state.book.schedules)) new answered e,
+    )
 outcome-changes state (LineAdd n others description) new answered e =
     inl (refl, line_add-leaves state n others description (value_of n state.book.lines) new answered e)
 outcome-changes state (Bind binding) new answered e =
@@ -415,16 +433,25 @@ outcome-changes state (LineDismiss line) new answered e =
 outcome-changes state (LineReopen line) new answered e =
     inl (refl, line_reopen-leaves state line (value_of line state.book.lines) new answered e)
 outcome-changes state (Import format text given) new answered e =
-    inl (refl, import-leaves state (importing.given_rules state.book format given) given
-    (importing.said state.book.commodities text format) new answered e)
+    inl (
+      refl,
+      import-leaves state (importing.given_rules state.book format given) given
+          (importing.said state.book.commodities text format) new answered e,
+    )
 outcome-changes state (Mark split cleared force) new answered e =
-    inl (refl, mark-leaves state split (marking.mark_asked cleared) force (split_at split state.book.transactions) new
-    answered (asked-open cleared) e)
+    inl (
+      refl,
+      mark-leaves state split (marking.mark_asked cleared) force (split_at split state.book.transactions) new
+          answered (asked-open cleared) e,
+    )
 outcome-changes state (LineMatch line split) new answered e =
     inl (refl, line_match-leaves state line split (value_of line state.book.lines) new answered e)
 outcome-changes state (MatchAuto account window) new answered e =
-    inl (refl, match_pairs-leaves state (auto.match_rules state.book account window)
-    (auto.matches state.book account window) new answered e)
+    inl (
+      refl,
+      match_pairs-leaves state (auto.match_rules state.book account window)
+          (auto.matches state.book account window) new answered e,
+    )
 outcome-changes state (Reconcile account day closing) new answered e =
     inr (reconcile-finishes state (Reconcile account day closing)
     (accounts.unknown_account state.book.accounts account ∷ []) (λ number marked. answer.Reconcile number marked)
