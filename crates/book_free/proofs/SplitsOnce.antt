@@ -14,7 +14,7 @@ use Rattle.book_splits.specs.declared.split.Split.{Split}
 use Rattle.book_splits.specs.declared.transaction.Txn.{Txn}
 use Rattle.book_undo.specs.Book.{Book}
 use Rattle.book_sound.proofs.SplitFrames.{above_there}
-use Rattle.book_step.specs.Soundness.{IsSoundBook}
+use Rattle.book_sound.specs.Soundness.{IsSoundBook}
 
 -- ---- lists that share no number
 

@@ -1,0 +1,5 @@
+pub mod Following
+pub mod FreeSplits
+pub mod Kept
+pub mod Moves
+pub mod Seen

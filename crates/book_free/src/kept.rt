@@ -1,0 +1,105 @@
+ghost use Rattle.std.specs.Prelude.{◌≡◌, ◌≤◌, ◌+◌, OnOk};
+ghost use Rattle.book_free.specs.Following.{CanFollow, CanSet, HasFollowed, IsSet, SomeFollow};
+ghost use Rattle.book_free.specs.Following.{same_free, with_line};
+ghost use Rattle.book_free.specs.Kept.{HasRoomFor, IsSameKept};
+
+use crate::Moves;
+use book_commodity::{OutOfMemory, Table};
+use book_match::{AmountIndex, Free};
+use std::marker::Model;
+
+/// The free splits of a book by account and amount, and the lines that splits are matched with. Contracts see the index,
+/// and the entries of the lines' numbers by those of the splits.
+#[derive(Drop)]
+pub struct FreeSplits {
+    pub(crate) index: AmountIndex,
+    pub(crate) matched: Table<u64>,
+}
+
+impl Model for FreeSplits {
+    ghost use Rattle.book_free.specs.Kept.{Kept};
+    ghost use Rattle.book_commodity.specs.Table.{Rises};
+    ghost use Rattle.book_match.specs.AmountIndex.{Rises as IndexRises};
+
+    ghost Value = { Kept };
+
+    ghost view = { λ f. record { index = f.index; matched = f.matched } };
+
+    ghost invariant = { λ f. IndexRises f.index.entries × Rises f.matched.entries };
+}
+
+impl FreeSplits {
+    /// The free splits by account and amount.
+    pub fn index(&self) -> &AmountIndex
+        ensures { result.now ≡ self.now.index }
+    {
+        let _ = self.matched.len();
+        &self.index
+    }
+
+    /// Makes room for what becomes of some splits. What is kept stays.
+    pub fn reserve_for(&mut self, moves: &Moves) -> Result<(), OutOfMemory>
+        ensures room { OnOk result (HasRoomFor self.new moves.now) }
+        ensures same { IsSameKept self.old self.new }
+    {
+        let count = moves.len();
+        self.matched.reserve(count)?;
+        self.index.reserve(count)
+    }
+
+    /// Makes what is kept of a book what is kept of another, where the moves say what becomes of the splits from the one
+    /// to the other. It can't fail and takes no memory. Splits that are free in both stay untouched: the changes of the
+    /// index rise by the splits that are free in one of the two books alone.
+    pub fn follow(&mut self, moves: &Moves)
+        requires room { HasRoomFor self.old moves.now }
+        requires ready { SomeFollow self.old moves.now }
+        ensures { (old new : _) → CanFollow self.old moves.now old new → HasFollowed self.old self.new old new }
+    {
+        for (split, change) in moves.splits.as_slice() {
+            self.set_line(*split, change.line);
+            self.set_free(change.before, change.after);
+        }
+    }
+
+    /// The split is matched with this line from now on, or with none.
+    fn set_line(&mut self, split: u64, line: Option<u64>)
+        requires { 1 ≤ self.old.matched.spare }
+        ensures matched { self.new.matched.entries ≡ with_line split line self.old.matched.entries }
+        ensures spare { self.old.matched.spare ≤ self.new.matched.spare + 1 }
+        ensures index { self.new.index ≡ self.old.index }
+    {
+        match line {
+            Some(line) => drop(self.matched.put(split, line)),
+            None => drop(self.matched.take(split)),
+        }
+    }
+
+    /// A split that was free, if one is given, is free as another one from now on, or not any more.
+    fn set_free(&mut self, before: Option<Free>, after: Option<Free>)
+        requires room { 1 ≤ self.old.index.spare }
+        requires ready { CanSet before after self.old.index.entries }
+        ensures set { IsSet before after self.old.index self.new.index }
+        ensures matched { self.new.matched ≡ self.old.matched }
+    {
+        if is_same(before, after) {
+            return;
+        }
+        if let Some(free) = before {
+            let _ = self.index.take(free);
+        }
+        if let Some(free) = after {
+            self.index.put(free);
+        }
+    }
+}
+
+/// Whether the two are the same split of the same account, amount and day, or neither is one.
+fn is_same(before: Option<Free>, after: Option<Free>) -> bool
+    ensures { result ≡ same_free before after }
+{
+    match (before, after) {
+        (Some(before), Some(after)) => before.is_same(&after),
+        (None, None) => true,
+        _ => false,
+    }
+}

@@ -1,0 +1,14 @@
+//! The free splits of a book, those that a line of a bank statement may be matched with: they aren't reconciled, and no
+//! line is matched with them (GnuCash Manual, import matcher). They are kept beside the book, by account and amount,
+//! and changed by what an edit changes, so that no command passes over all transactions to find them. `FreeSplits` is
+//! what is kept, and `Moves` what becomes of it by an edit.
+#![tactic(auto)]
+
+mod collecting;
+mod kept;
+mod moves;
+mod opening;
+mod seen;
+
+pub use kept::FreeSplits;
+pub use moves::{Move, Moves};
