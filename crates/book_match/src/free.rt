@@ -31,14 +31,16 @@ pub(crate) fn precedes(one: &Free, other: &Free) -> bool
     one.split < other.split
 }
 
-/// Whether two splits are the same.
-pub(crate) fn is_same(one: &Free, other: &Free) -> bool
-    ensures { result ≡ is_same_free one.now other.now }
-{
-    one.account == other.account
-        && one.amount == other.amount
-        && one.day.number() == other.day.number()
-        && one.split == other.split
+impl Free {
+    /// Whether the two are the same split of the same account, amount and day.
+    pub fn is_same(&self, other: &Free) -> bool
+        ensures { result ≡ is_same_free self.now other.now }
+    {
+        self.account == other.account
+            && self.amount == other.amount
+            && self.day.number() == other.day.number()
+            && self.split == other.split
+    }
 }
 
 /// Whether the split comes before those of the account with this amount.

@@ -8,7 +8,7 @@ ghost use Rattle.book_match.specs.Cut.{is_under_amount as under, is_under_days a
 
 use crate::Free;
 use crate::free::{
-    is_past_amount, is_past_days, is_same, is_under_amount, is_under_days, precedes,
+    is_past_amount, is_past_days, is_under_amount, is_under_days, precedes,
 };
 use book_commodity::{Day, OutOfMemory};
 use std::alloc::Global;
@@ -117,7 +117,7 @@ impl AmountIndex {
         if place == self.entries.len() {
             return false;
         }
-        if !is_same(&free, &self.entries[place]) {
+        if !free.is_same(&self.entries[place]) {
             return false;
         }
         let _ = self.entries.remove(place);
