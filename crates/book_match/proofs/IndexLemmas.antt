@@ -44,13 +44,13 @@ precedes-trans a b c e f =
     (less-trans a.split b.split c.split)))
     e f
 
-before-other : (free entry : Free) → precedes entry free ≡ true → is_same free entry ≡ false
+pub before-other : (free entry : Free) → precedes entry free ≡ true → is_same free entry ≡ false
 before-other free entry before = grind (arith, ints, nat_tests, Decides-int_eq)
 
-after-other : (free entry : Free) → precedes free entry ≡ true → is_same free entry ≡ false
+pub after-other : (free entry : Free) → precedes free entry ≡ true → is_same free entry ≡ false
 after-other free entry after = grind (arith, ints, nat_tests, Decides-int_eq)
 
-after-neither : (free entry : Free) → precedes entry free ≡ false → is_same free entry ≡ false
+pub after-neither : (free entry : Free) → precedes entry free ≡ false → is_same free entry ≡ false
     → precedes free entry ≡ true
 after-neither free entry before other = grind (arith, ints, nat_tests, Decides-int_eq)
 
@@ -179,12 +179,12 @@ there free (e ∷ es) (suc i) d cut lt same =
     ap (λ (t : Bool). t || is_there free es) (before-other free e cut.0)
     ∙ there free es i d cut.1 (omega (arith, lt)) same
 
-none-behind : (free : Free) (es : List Free) → PrecedesAll free es → is_there free es ≡ false
+pub none-behind : (free : Free) (es : List Free) → PrecedesAll free es → is_there free es ≡ false
 none-behind free [] all = refl
 none-behind free (e ∷ es) all =
     ap (λ (t : Bool). t || is_there free es) (after-other free e all.0) ∙ none-behind free es all.1
 
-all-behind : (a b : Free) (es : List Free) → precedes a b ≡ true → PrecedesAll b es → PrecedesAll a es
+pub all-behind : (a b : Free) (es : List Free) → precedes a b ≡ true → PrecedesAll b es → PrecedesAll a es
 all-behind a b [] less all = tt
 all-behind a b (e ∷ es) less all = (precedes-trans a b e less all.0, all-behind a b es less all.1)
 

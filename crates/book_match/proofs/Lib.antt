@@ -1,3 +1,4 @@
+pub mod IndexLaws
 pub mod IndexLemmas
 pub mod KeptLemmas
 pub mod NearestLemmas

@@ -1,5 +1,5 @@
 -- All splits of an index at once: what a sort by account, amount, day and number gives.
-use Rattle.std.proofs.Common.{◌≡◌, ℕ, ◌==◌, nat_lt, ℤ, Bool, true, false, ◌||◌, if◌then◌else◌, List, [], ◌∷◌, refl}
+use Rattle.std.proofs.Common.{◌≡◌, ℕ, ◌==◌, nat_lt, ℤ, Bool, true, false, if◌then◌else◌, List, [], ◌∷◌, refl}
 use Rattle.std.proofs.Common.{sym, ap, ◌∙◌, arith}
 use Rattle.std.proofs.lemmas.Bool.Decides.{nat_tests}
 use Rattle.std.proofs.lemmas.Int.{ints}
@@ -8,51 +8,20 @@ use Rattle.std.specs.Ordering.{int_cmp, is_lt, nat_cmp, ordering_then}
 use Rattle.std.specs.Prelude.{int_lt}
 use Rattle.std.specs.declared.cmp.Ordering.{Ordering}
 use Rattle.std.specs.declared.cmp.Ordering.TheVariants.{Less, Equal, Greater}
-use Rattle.book_match.specs.AmountIndex.{AreApart, Rises, is_same, is_there, ordered, precedes, with_free}
+use Rattle.book_match.specs.AmountIndex.{AreApart, Rises, ordered, precedes, with_free}
 use Rattle.book_match.specs.Proposal.{in_turn}
 use Rattle.book_match.specs.declared.free.Free.{Free}
+use Rattle.book_match.proofs.IndexLaws.{before-itself, one-before, there-ordered}
 use Rattle.book_match.proofs.IndexLemmas.{precedes-trans, rises-with}
 use Rattle.book_match.proofs.OrderLemmas.{sorted, with_row}
 
 -- ---- they rise
-or-swap : (a b c : Bool) → (b || (a || c)) ≡ (a || (b || c))
-or-swap true true c = refl
-or-swap true false c = refl
-or-swap false true c = refl
-or-swap false false c = refl
-
-there-with : (x free : Free) (es : List Free) → is_there x (with_free free es) ≡ (is_same x free || is_there x es)
-there-with x free [] = refl
-there-with x free (e ∷ es) = by_test (precedes e free) (there-with x free es)
-  where
-    by_test : (t : Bool) → is_there x (with_free free es) ≡ (is_same x free || is_there x es)
-        → is_there x (if t then e ∷ with_free free es else free ∷ e ∷ es)
-        ≡ (is_same x free || (is_same x e || is_there x es))
-    by_test true more =
-        ap (λ (b : Bool). is_same x e || b) more ∙ or-swap (is_same x free) (is_same x e) (is_there x es)
-    by_test false more = refl
-
-there-ordered : (x : Free) (es : List Free) → is_there x (ordered es) ≡ is_there x es
-there-ordered x [] = refl
-there-ordered x (e ∷ es) =
-    there-with x e (ordered es) ∙ ap (λ (b : Bool). is_same x e || b) (there-ordered x es)
-
 pub rises-ordered : (es : List Free) → AreApart es → Rises (ordered es)
 rises-ordered [] apart = tt
 rises-ordered (e ∷ es) apart =
     rises-with e (ordered es) (rises-ordered es apart.1) (there-ordered e es ∙ apart.0)
 
 -- ---- the order is one in which any two compare
-before-itself : (a : Free) → precedes a a ≡ false
-before-itself a = grind (arith, ints, nat_tests)
-
-one-before : (a b : Free) → precedes a b ≡ true → precedes b a ≡ false
-one-before a b e = by_test (precedes b a) refl
-  where
-    by_test : (t : Bool) → precedes b a ≡ t → precedes b a ≡ false
-    by_test true f = absurd (let both = precedes-trans a b a e f in let none = before-itself a in cc)
-    by_test false f = f
-
 nat-chain : (a b c : ℕ) (u v w : Bool) → (u ≡ false → v ≡ false → w ≡ false) → in_turn (nat_lt a b) (nat_lt b a) u ≡ false
     → in_turn (nat_lt b c) (nat_lt c b) v ≡ false → in_turn (nat_lt a c) (nat_lt c a) w ≡ false
 nat-chain a b c false false w next e f = let is = next refl refl in grind (arith, nat_tests, is)
