@@ -1,5 +1,5 @@
 -- The one entry of a table that passes a test, in a table and in another that differs from it at some numbers.
-use Rattle.std.proofs.Common.{◌≡◌, ℕ, ◌<◌, ◌==◌, Bool, true, false, cond, if◌then◌else◌, List, [], ◌∷◌, find}
+use Rattle.std.proofs.Common.{◌≡◌, ℕ, ◌<◌, ◌==◌, ◌||◌, Bool, true, false, cond, if◌then◌else◌, List, [], ◌∷◌, find}
 use Rattle.std.proofs.Common.{Option, Some, None, is_some, option_map, refl, sym, ap, subst, ◌∙◌, arith, eq-eqb}
 use Rattle.std.specs.List.{list_any}
 use Rattle.std.proofs.lemmas.Bool.{or_parts}
@@ -82,12 +82,15 @@ found_none {X} has (e ∷ es) n x is there =
           ] there
     ] refl is
 
+abbrev at : {X : Type 0} → ℕ → X → ℕ × X
+at n x = (n, x)
+
 same_some : {X : Type 0} (n m : ℕ) (x y : X) (es : List (ℕ × X)) → n ≡ m → value_of n es ≡ Some x
-    → value_of m es ≡ Some y → (m, y) ≡ (n, x)
+    → value_of m es ≡ Some y → at m y ≡ at n x
 same_some {X} n m x y es is one other =
     let both : value_of m es ≡ Some x = ap (λ (k : ℕ). value_of k es) (sym is) ∙ one in
     let value : y ≡ x = cc in
-    ap (λ (k : ℕ). (k, y)) (sym is) ∙ ap (λ (z : X). (n, z)) value
+    ap (λ (k : ℕ). at k y) (sym is) ∙ ap (at n) value
 
 -- the one that passes the test is found
 pub found_is : {X : Type 0} (has : X → Bool) (es : List (ℕ × X)) (n : ℕ) (x : X) → Rises es → IsOne has es

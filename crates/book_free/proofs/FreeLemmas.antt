@@ -27,7 +27,7 @@ last_differs true false c d e = refl
 last_differs true true false d e = refl
 last_differs true true true d e = e
 
-not_there :
+pub not_there :
     (free : Free) (es : List Free) → is_among (map (λ (e : Free). e.split) es) free.split ≡ false
     → is_there free es ≡ false
 not_there free [] none = refl
@@ -46,13 +46,13 @@ apart_of_once (e ∷ es) once =
     let parts = and_parts (not (is_among numbers e.split)) (are_once numbers) once in
     (not_there e es (not-true _ parts.0), apart_of_once es parts.1)
 
-numbers_free :
+pub numbers_free :
     (day : _) (splits : List Split)
     → map (λ (e : Free). e.split) (map (free_split day) splits) ≡ numbers_of splits
 numbers_free day [] = refl
 numbers_free day (s ∷ splits) = ap (λ (ns : List ℕ). s.id ∷ ns) (numbers_free day splits)
 
-numbers_among :
+pub numbers_among :
     (taken : ℕ → Bool) (ts : List (ℕ × Txn))
     → map (λ (e : Free). e.split) (free_among taken ts) ≡ numbers_of (filter (is_free taken) (splits_of ts))
 numbers_among taken [] = refl
@@ -66,7 +66,7 @@ numbers_among taken (e ∷ ts) =
     ∙ sym (map-append (λ (s : Split). s.id) own others)
     ∙ sym (ap numbers_of (filter-append (is_free taken) e.1.splits (splits_of ts)))
 
-not_among_fewer :
+pub not_among_fewer :
     (test : Split → Bool) (n : ℕ) (splits : List Split) → is_among (numbers_of splits) n ≡ false
     → is_among (numbers_of (filter test splits)) n ≡ false
 not_among_fewer test n [] none = refl

@@ -1,4 +1,6 @@
+pub mod FollowLemmas
 pub mod FoundLaws
+pub mod FreeAtLemmas
 pub mod FreeLemmas
 pub mod MovesLemmas
 pub mod NotedLemmas

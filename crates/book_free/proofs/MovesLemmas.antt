@@ -349,8 +349,8 @@ line_after b e s is later = by_new (seen_lines e (edited e b) s) refl
 -- What was seen of an edit, on both sides.
 abbrev pub seen_of : Edit → Book → Seen
 seen_of e b = record {
-  old = noted (splits_on e b) [];
-  new = noted (splits_on e (edited e b)) [];
+  before = noted (splits_on e b) [];
+  after = noted (splits_on e (edited e b)) [];
   lost = noted (lines_on e b) [];
   gained = noted (lines_on e (edited e b)) [];
 }
@@ -358,7 +358,7 @@ seen_of e b = record {
 taken_is : (s : ℕ) (b : Book) (o : Option ℕ) → o ≡ line_of s b.lines → is_some o ≡ is_matched b.lines s
 taken_is s b o is = ap is_some is ∙ found_any (has_line s) b.lines
 
-move_with : Option Free → Option Free → Option ℕ → Move
+abbrev move_with : Option Free → Option Free → Option ℕ → Move
 move_with before after line = record { before = before; after = after; line = line }
 
 pub move_is : (b : Book) (e : Edit) (matched : List (ℕ × ℕ)) (s : ℕ) → IsSoundBook b → IsSoundBook (edited e b)
@@ -369,8 +369,8 @@ move_is b e matched s is later kept =
     let now = line_now (value_of s seen.gained) (is_some (value_of s seen.lost)) (value_of s matched) in
     let line : now ≡ line_of s (edited e b).lines =
     ap (line_now (value_of s seen.gained) (is_some (value_of s seen.lost))) kept ∙ line_after b e s is later in
-    let split = side_of (value_of s seen.old) (is_some (value_of s seen.new)) (open_at s b.transactions) in
-    let other = side_of (value_of s seen.new) (is_some (value_of s seen.old)) (open_at s b.transactions) in
+    let split = side_of (value_of s seen.before) (is_some (value_of s seen.after)) (open_at s b.transactions) in
+    let other = side_of (value_of s seen.after) (is_some (value_of s seen.before)) (open_at s b.transactions) in
     let before : unless_taken (is_taken matched s) split ≡ free_at s b =
     ap (λ (t : Bool). unless_taken t split) (taken_is s b (value_of s matched) kept)
     ∙ ap (unless_taken (is_matched b.lines s)) (side_before b e s is later) in
@@ -421,20 +421,20 @@ pub moves_are : (b : Book) (e : Edit) (matched : List (ℕ × ℕ)) → IsSoundB
     (all_moves (λ s. move_seen (seen_of e b) matched (open_at s b.transactions) s) (seen_of e b))
 moves_are b e matched is later kept = record {
   moved = λ s move there.
-      holds seen.gained (noted (moves_seen becomes seen.lost) (noted (moves_seen becomes seen.new) (noted
-      (moves_seen becomes seen.old) [])))
-      (holds seen.lost (noted (moves_seen becomes seen.new) (noted (moves_seen becomes seen.old) []))
-      (holds seen.new (noted (moves_seen becomes seen.old) []) (holds seen.old [] (λ n v none. absurd cc))))
+      holds seen.gained (noted (moves_seen becomes seen.lost) (noted (moves_seen becomes seen.after) (noted
+      (moves_seen becomes seen.before) [])))
+      (holds seen.lost (noted (moves_seen becomes seen.after) (noted (moves_seen becomes seen.before) []))
+      (holds seen.after (noted (moves_seen becomes seen.before) []) (holds seen.before [] (λ n v none. absurd cc))))
       s move there
       ∙ move_is b e matched s is later (kept s);
   others = λ s none.
       let four = noted_none s (moves_seen becomes seen.gained) (noted (moves_seen becomes seen.lost)
-      (noted (moves_seen becomes seen.new) (noted (moves_seen becomes seen.old) []))) none in
+      (noted (moves_seen becomes seen.after) (noted (moves_seen becomes seen.before) []))) none in
       let three = noted_none s (moves_seen becomes seen.lost)
-      (noted (moves_seen becomes seen.new) (noted (moves_seen becomes seen.old) [])) four.1 in
-      let two = noted_none s (moves_seen becomes seen.new) (noted (moves_seen becomes seen.old) []) three.1 in
-      let one = noted_none s (moves_seen becomes seen.old) [] two.1 in
-      unmoved b e s is later (none_in s becomes seen.old one.0) (none_in s becomes seen.new two.0)
+      (noted (moves_seen becomes seen.after) (noted (moves_seen becomes seen.before) [])) four.1 in
+      let two = noted_none s (moves_seen becomes seen.after) (noted (moves_seen becomes seen.before) []) three.1 in
+      let one = noted_none s (moves_seen becomes seen.before) [] two.1 in
+      unmoved b e s is later (none_in s becomes seen.before one.0) (none_in s becomes seen.after two.0)
       (none_in s becomes seen.lost three.0) (none_in s becomes seen.gained four.0);
 }
   where

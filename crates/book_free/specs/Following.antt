@@ -1,5 +1,5 @@
 -- How what is kept of the free splits of a book becomes what is kept of another.
-use Rattle.std.specs.Prelude.{◌≡◌, ◌≤◌, ⊤, ℕ, ◌+◌, ◌^◌, min, if◌then◌else◌, Bool, true, false, not, List, [], ◌∷◌}
+use Rattle.std.specs.Prelude.{◌≡◌, ◌≤◌, ⊤, ℕ, ◌+◌, ◌-◌, ◌^◌, min, if◌then◌else◌, Bool, true, false, not, List, [], ◌∷◌}
 use Rattle.std.specs.Prelude.{Option, Some, None}
 use Rattle.book_commodity.specs.Table.{with_entry, without_entry}
 use Rattle.book_match.specs.AmountIndex.{Index, is_same, is_there, with_free, without_free}

@@ -94,23 +94,23 @@ noted (entry ∷ more) entries = noted more (with_entry entry.0 entry.1 entries)
 -- What was seen: the splits that stood in changed transactions and those that stand there now, as the index has them
 -- unless they are reconciled; and the changed lines that were matched and that are now, by the numbers of the splits.
 pub record Seen : Type 0 where
-  pub old : List (ℕ × Option Free)
-  pub new : List (ℕ × Option Free)
+  pub before : List (ℕ × Option Free)
+  pub after : List (ℕ × Option Free)
   pub lost : List (ℕ × ℕ)
   pub gained : List (ℕ × ℕ)
 
 -- What leaves say of a book is noted beside what was seen before.
 abbrev pub seen_after : Book → List Leaf → Seen → Seen
 seen_after book leaves seen = record {
-  old = noted (flat_map (old_splits book) leaves) seen.old;
-  new = noted (flat_map new_splits leaves) seen.new;
+  before = noted (flat_map (old_splits book) leaves) seen.before;
+  after = noted (flat_map new_splits leaves) seen.after;
   lost = noted (flat_map (old_lines book) leaves) seen.lost;
   gained = noted (flat_map new_lines leaves) seen.gained;
 }
 
 -- Nothing was seen.
 abbrev pub seen_none : Seen
-seen_none = record { old = []; new = []; lost = []; gained = [] }
+seen_none = record { before = []; after = []; lost = []; gained = [] }
 
 -- ---- what becomes of a split
 
@@ -132,10 +132,10 @@ unless_taken taken split = if taken then None else split
 abbrev pub move_seen : Seen → List (ℕ × ℕ) → Option Free → ℕ → Move
 move_seen seen matched elsewhere number = record {
   before = unless_taken (is_taken matched number)
-      (side_of (value_of number seen.old) (is_some (value_of number seen.new)) elsewhere);
+      (side_of (value_of number seen.before) (is_some (value_of number seen.after)) elsewhere);
   after = unless_taken
       (is_some (line_now (value_of number seen.gained) (is_some (value_of number seen.lost)) (value_of number matched)))
-      (side_of (value_of number seen.new) (is_some (value_of number seen.old)) elsewhere);
+      (side_of (value_of number seen.after) (is_some (value_of number seen.before)) elsewhere);
   line = line_now (value_of number seen.gained) (is_some (value_of number seen.lost)) (value_of number matched);
 }
 
@@ -147,4 +147,4 @@ moves_seen becomes entries = map (λ entry. (entry.0, becomes entry.0)) entries
 abbrev pub all_moves : (ℕ → Move) → Seen → List (ℕ × Move)
 all_moves becomes seen =
     noted (moves_seen becomes seen.gained) (noted (moves_seen becomes seen.lost)
-    (noted (moves_seen becomes seen.new) (noted (moves_seen becomes seen.old) [])))
+    (noted (moves_seen becomes seen.after) (noted (moves_seen becomes seen.before) [])))

