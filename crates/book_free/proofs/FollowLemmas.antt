@@ -1,9 +1,9 @@
 -- What is kept of the free splits of a book and follows moves to another is what is kept of that one, and the index is
 -- changed by the splits that are free in one of the two alone.
-use Rattle.std.proofs.Common.{◌≡◌, ℕ, ◌+◌, ◌==◌, Bool, true, false, not, ◌&&◌, ◌||◌, if◌then◌else◌, List, [], ◌∷◌}
+use Rattle.std.proofs.Common.{◌≡◌, ℕ, ◌+◌, ◌-◌, ◌^◌, ◌<◌, ◌≤◌, min, ◌==◌, Bool, true, false, not, ◌&&◌, ◌||◌, if◌then◌else◌, List, [], ◌∷◌}
 use Rattle.std.proofs.Common.{All, cond, count_by, get_or, length, Option, Some, None, refl, sym, ap, subst, ◌∙◌, arith}
 use Rattle.std.specs.Prelude.{⊤}
-use Rattle.std.proofs.lemmas.Bool.{eqb-true}
+use Rattle.std.proofs.lemmas.Bool.{eqb-true, or_from, or_parts}
 use Rattle.std.proofs.lemmas.Bool.Decides.{nat_tests}
 use Rattle.std.proofs.lemmas.List.Elements.{All-cons, All-head, All-nil, All-tail, All-weaker}
 use Rattle.std.proofs.lemmas.List.Sums.{sum_by-cons}
@@ -18,10 +18,11 @@ use Rattle.book_match.proofs.OrderedLemmas.{rises-ordered}
 use Rattle.book_sound.specs.Soundness.{IsSoundBook}
 use Rattle.book_sound.proofs.SplitFrames.{above_there}
 use Rattle.book_undo.specs.Book.{Book}
+use Rattle.book_free.specs.Following.{HasFollowed, IsSet, SomeFollow}
 use Rattle.book_free.specs.Following.{CanFollow, CanSet, CanSetAll, IsIn, cost, cost_of, count_of, followed, same_free}
 use Rattle.book_free.specs.Following.{set, with, with_line, with_lines, without}
 use Rattle.book_free.specs.FreeSplits.{free_among, free_at, free_splits, is_matched, line_of}
-use Rattle.book_free.specs.Kept.{differing, Keeps, Kept}
+use Rattle.book_free.specs.Kept.{differing, HasRoomFor, Keeps, Kept}
 use Rattle.book_free.specs.Moves.{AreMoves, IsUnmoved, move_of}
 use Rattle.book_free.specs.declared.moves.Move.{Move}
 use Rattle.book_free.proofs.FreeAtLemmas.{free_number, free_there, is_entry}
@@ -543,3 +544,93 @@ comes_to kept ms old new lines_up up can =
     by_lines : (s : ℕ) (o : Option Move) → value_of s ms ≡ o → line_move o (line_of s old.lines) ≡ line_of s new.lines
     by_lines s (Some m) e = ap (λ (x : Move). x.line) (can.moves_are.moved s m e)
     by_lines s None e = sym (can.moves_are.others s e).line
+
+-- a split that isn't there isn't there without another
+lacks_without : (g f : Free) (es : List Free) → is_there g es ≡ false → is_there g (without_free f es) ≡ false
+lacks_without g f [] none = refl
+lacks_without g f (e ∷ es) none =
+    let parts = or_parts (is_same g e) (is_there g es) none in
+    elim (is_same f e) as (λ (t : Bool). is_there g (if t then es else e ∷ without_free f es) ≡ false) [
+      | true ↦ parts.1
+      | false ↦ or_from (is_same g e) (is_there g (without_free f es)) parts.0 (lacks_without g f es parts.1)
+    ]
+
+pub lacking_without : (o p : Option Free) (es : List Free) → IsIn false o es → IsIn false o (without p es)
+lacking_without None p es none = tt
+lacking_without (Some g) None es none = none
+lacking_without (Some g) (Some f) es none = lacks_without g f es none
+
+-- ---- the way through the moves
+
+-- What is kept has followed some moves, and those that are left lead on from there.
+pub record IsOnWay (all : List (ℕ × Move)) (start : Kept) (left : List (ℕ × Move)) (now : Kept) : Type 0 where
+  pub can : CanSetAll left now.index.entries
+  pub entries : followed left now.index.entries ≡ followed all start.index.entries
+  pub lines : with_lines left now.matched.entries ≡ with_lines all start.matched.entries
+  pub changes :
+      min (now.index.changes + cost left) (2 ^ 64 - 1) ≡ min (start.index.changes + cost all) (2 ^ 64 - 1)
+  pub index_room : length left ≤ now.index.spare
+  pub lines_room : length left ≤ now.matched.spare
+
+pub way_starts : (kept : Kept) (all : List (ℕ × Move)) → Rises kept.matched.entries → Rises all → SomeFollow kept all
+    → HasRoomFor kept all → IsOnWay all kept all kept
+way_starts kept all lines_up up some room = record {
+  can = (comes_to kept all some.old some.new lines_up up some.can).can;
+  entries = refl;
+  lines = refl;
+  changes = refl;
+  index_room = room.index;
+  lines_room = room.matched;
+}
+
+pub way_steps : (all : List (ℕ × Move)) (start : Kept) (m : ℕ × Move) (left more : List (ℕ × Move)) (now later : Kept)
+    → left ≡ m ∷ more → IsOnWay all start left now
+    → later.matched.entries ≡ with_line m.0 m.1.line now.matched.entries
+    → now.matched.spare ≤ later.matched.spare + 1 → IsSet m.1.before m.1.after now.index later.index
+    → IsOnWay all start more later
+way_steps all start m left more now later is way lines spare set_ =
+    let can = subst (λ (ms : List (ℕ × Move)). CanSetAll ms now.index.entries) is way.can in
+    let index_room = subst (λ (ms : List (ℕ × Move)). length ms ≤ now.index.spare) is way.index_room in
+    let lines_room = subst (λ (ms : List (ℕ × Move)). length ms ≤ now.matched.spare) is way.lines_room in
+    let changes = subst (λ (ms : List (ℕ × Move)).
+    min (now.index.changes + cost ms) (2 ^ 64 - 1) ≡ min (start.index.changes + cost all) (2 ^ 64 - 1)) is way.changes in
+    let here = set_.changes in
+    let count = length_cons m more in
+    let index_spare = set_.spare in
+    record {
+      can = subst (CanSetAll more) (sym set_.entries) can.1;
+      entries = ap (followed more) set_.entries
+          ∙ sym (ap (λ (ms : List (ℕ × Move)). followed ms now.index.entries) is) ∙ way.entries;
+      lines = ap (with_lines more) lines
+          ∙ sym (ap (λ (ms : List (ℕ × Move)). with_lines ms now.matched.entries) is) ∙ way.lines;
+      changes = less_twice now.index.changes later.index.changes (cost_of m.1.before m.1.after) (cost more) here
+          ∙ changes;
+      index_room = omega (arith, index_room, index_spare, count);
+      lines_room = omega (arith, lines_room, spare, count);
+    }
+  where
+    length_cons : (x : ℕ × Move) (xs : List (ℕ × Move)) → length (x ∷ xs) ≡ length xs + 1
+    length_cons x xs = omega arith
+
+    less_twice : (a b c d : ℕ) → b ≡ min (a + c) (2 ^ 64 - 1)
+        → min (b + d) (2 ^ 64 - 1) ≡ min (a + (c + d)) (2 ^ 64 - 1)
+    less_twice a b c d e = omega (arith, e)
+
+pub way_ends : (all : List (ℕ × Move)) (start now : Kept) (old new : Book) → Rises start.matched.entries → Rises all
+    → now.index.changes < 2 ^ 64 → IsOnWay all start [] now → CanFollow start all old new
+    → HasFollowed start now old new
+way_ends all start now old new lines_up up bounded way can =
+    let comes = comes_to start all old new lines_up up can in
+    let changes = way.changes in
+    let total = comes.cost_is in
+    record {
+      kept_of = record {
+          free = way.entries ∙ comes.entries;
+          lines = λ s. ap (value_of s) way.lines ∙ comes.lines s;
+        };
+      changes = at_most now.index.changes (start.index.changes + cost all) bounded changes
+          ∙ ap (λ (n : ℕ). min (start.index.changes + n) (2 ^ 64 - 1)) total;
+    }
+  where
+    at_most : (a b : ℕ) → a < 2 ^ 64 → min (a + 0) (2 ^ 64 - 1) ≡ min b (2 ^ 64 - 1) → a ≡ min b (2 ^ 64 - 1)
+    at_most a b less e = omega (arith, less, e)

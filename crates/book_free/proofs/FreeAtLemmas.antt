@@ -1,5 +1,5 @@
 -- Which splits are among the free ones of a sound book: those that are found free by their number.
-use Rattle.std.proofs.Common.{◌≡◌, ℕ, ◌==◌, ℤ, Bool, true, false, not, ◌&&◌, ◌||◌, if◌then◌else◌, cond, List, [], ◌∷◌}
+use Rattle.std.proofs.Common.{◌≡◌, ℕ, zero, suc, ◌<◌, get_or, length, ◌==◌, ℤ, Bool, true, false, not, ◌&&◌, ◌||◌, if◌then◌else◌, cond, List, [], ◌∷◌}
 use Rattle.std.proofs.Common.{◌++◌, filter, find, flat_map, map, Option, Some, None, refl, sym, ap, subst, ◌∙◌, arith}
 use Rattle.std.specs.List.{list_any}
 use Rattle.std.specs.Option.{option_and_then}
@@ -19,7 +19,7 @@ use Rattle.book_match.proofs.IndexLaws.{same-is, there-ordered}
 use Rattle.book_sound.specs.LineRules.{split_among}
 use Rattle.book_sound.specs.MarkedTransactionRules.{is_reconciled}
 use Rattle.book_sound.specs.Soundness.{IsSoundBook}
-use Rattle.book_sound.proofs.SplitFrames.{found_number}
+use Rattle.book_sound.proofs.SplitFrames.{found_among, found_number}
 use Rattle.book_undo.specs.Book.{Book}
 use Rattle.book_free.specs.FreeSplits.{free_among, free_at, free_of, free_split, free_splits, is_free, is_matched}
 use Rattle.book_free.specs.FreeSplits.{open_at, open_in, open_split}
@@ -218,3 +218,63 @@ free_number n book g is = by_matched (is_matched book.lines n) is
     by_matched : (t : Bool) → (if t then None else open_at n book.transactions) ≡ Some g → g.split ≡ n
     by_matched true there = absurd cc
     by_matched false there = by_found (find (has_split n) book.transactions) there
+
+-- the split that is found in the first of some transactions that has it
+pub open_here : (n : ℕ) (e : ℕ × Txn) (ts : List (ℕ × Txn)) (x : Split) → split_among n e.1.splits ≡ Some x
+    → open_at n (e ∷ ts) ≡ open_split e.1.day x
+open_here n e ts x found =
+    ap (λ (t : Bool). option_and_then (open_in n) (cond t (Some e) (find (has_split n) ts)))
+    (found_among n e.1.splits x found)
+    ∙ ap (option_and_then (open_split e.1.day)) found
+
+none_found : (n : ℕ) (splits : List Split) → split_among n splits ≡ None → is_among (numbers_of splits) n ≡ false
+none_found n [] none = refl
+none_found n (x ∷ splits) none =
+    elim (x.id == n) as (λ (t : Bool). cond t (Some x) (split_among n splits) ≡ None
+    → (t || is_among (numbers_of splits) n) ≡ false) [
+      | true ↦ λ here. absurd cc
+      | false ↦ λ rest. none_found n splits rest
+    ] none
+
+-- a transaction that doesn't have the split is passed over
+pub open_past : (n : ℕ) (e : ℕ × Txn) (ts : List (ℕ × Txn)) → split_among n e.1.splits ≡ None
+    → open_at n (e ∷ ts) ≡ open_at n ts
+open_past n e ts none =
+    ap (λ (t : Bool). option_and_then (open_in n) (cond t (Some e) (find (has_split n) ts)))
+    (none_found n e.1.splits none)
+
+among_at : (n : ℕ) (ts : List (ℕ × Txn)) (i : ℕ) (d : ℕ × Txn) (x : Split) → i < length ts
+    → split_among n (get_or ts i d).1.splits ≡ Some x → is_among (numbers_of (splits_of ts)) n ≡ true
+among_at n [] i d x below found = absurd (omega (arith, below))
+among_at n (e ∷ ts) zero d x below found =
+    ap (λ (ns : List ℕ). is_among ns n) (map-append (λ (s : Split). s.id) e.1.splits (splits_of ts))
+    ∙ list_any-append (λ (k : ℕ). k == n) (numbers_of e.1.splits) (numbers_of (splits_of ts))
+    ∙ ap (λ (t : Bool). t || is_among (numbers_of (splits_of ts)) n) (found_among n e.1.splits x found)
+among_at n (e ∷ ts) (suc i) d x below found =
+    ap (λ (ns : List ℕ). is_among ns n) (map-append (λ (s : Split). s.id) e.1.splits (splits_of ts))
+    ∙ list_any-append (λ (k : ℕ). k == n) (numbers_of e.1.splits) (numbers_of (splits_of ts))
+    ∙ ap (λ (t : Bool). is_among (numbers_of e.1.splits) n || t)
+    (among_at n ts i d x (omega (arith, below)) found)
+    ∙ or_last (is_among (numbers_of e.1.splits) n)
+  where
+    or_last : (t : Bool) → (t || true) ≡ true
+    or_last true = refl
+    or_last false = refl
+
+-- where each split has a number of its own, the split that a transaction has is the one of the number
+pub open_at_place : (n : ℕ) (ts : List (ℕ × Txn)) (i : ℕ) (d : ℕ × Txn) (x : Split)
+    → are_once (numbers_of (splits_of ts)) ≡ true → i < length ts
+    → split_among n (get_or ts i d).1.splits ≡ Some x → open_at n ts ≡ open_split (get_or ts i d).1.day x
+open_at_place n [] i d x once below found = absurd (omega (arith, below))
+open_at_place n (e ∷ ts) zero d x once below found = open_here n e ts x found
+open_at_place n (e ∷ ts) (suc i) d x once below found =
+    let own = numbers_of e.1.splits in
+    let others = numbers_of (splits_of ts) in
+    let both : are_once (own ++ others) ≡ true =
+    sym (ap are_once (map-append (λ (s : Split). s.id) e.1.splits (splits_of ts))) ∙ once in
+    let there = among_at n ts i d x (omega (arith, below)) found in
+    elim (is_among own n) as (λ (t : Bool). is_among own n ≡ t
+    → option_and_then (open_in n) (cond t (Some e) (find (has_split n) ts)) ≡ open_split (get_or ts i d).1.day x) [
+      | true ↦ λ has. absurd (let none = once_apart n own others both has in cc)
+      | false ↦ λ lacks. open_at_place n ts i d x (once_behind own others both) (omega (arith, below)) found
+    ] refl

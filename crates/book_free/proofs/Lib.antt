@@ -4,5 +4,6 @@ pub mod FreeAtLemmas
 pub mod FreeLemmas
 pub mod MovesLemmas
 pub mod NotedLemmas
+pub mod OpeningLemmas
 pub mod SideLemmas
 pub mod SplitsOnce

@@ -33,13 +33,14 @@ use Rattle.book_undo.proofs.EditLaws.{after_leaves, edited-leaves, untouched}
 use Rattle.book_free.specs.FreeSplits.{free_at, has_matched, is_matched, line_of, open_at, open_in, open_split}
 use Rattle.book_free.specs.Moves.{AreMoves, IsUnmoved, move_of}
 use Rattle.book_free.specs.Seen.{Seen, all_moves, entry_of_line, is_taken, line_entries, line_now, move_seen, moves_seen}
-use Rattle.book_free.specs.Seen.{noted, old_lines, old_splits, side_of, split_entries, unless_taken}
+use Rattle.book_free.specs.Seen.{new_lines, noted, old_lines, old_splits, seen_after, seen_none, side_of, split_entries}
+use Rattle.book_free.specs.Seen.{unless_taken}
 use Rattle.book_free.specs.declared.moves.Move.{Move}
 use Rattle.book_free.proofs.FoundLaws.{DiffersAt, IsOne, NoneAt, any_there, found_any, found_is, found_lost, found_same}
 use Rattle.book_free.proofs.FoundLaws.{turned}
 use Rattle.book_free.proofs.FreeLemmas.{found_by_number, own_numbers}
-use Rattle.book_free.proofs.NotedLemmas.{noted_holds, noted_none}
-use Rattle.book_free.proofs.SideLemmas.{all_lines, all_splits, lines_at, splits_at}
+use Rattle.book_free.proofs.NotedLemmas.{noted_holds, noted_none, seen_with}
+use Rattle.book_free.proofs.SideLemmas.{all_lines, all_splits, lines_at, lines_put, splits_at, splits_put}
 
 by_order : (n m : ℕ) → (nat_lt n m ≡ true → ⊥) → (nat_lt m n ≡ true → ⊥) → n ≡ m
 by_order n m below above = by_tests (nat_lt n m) (nat_lt m n) refl refl
@@ -448,3 +449,12 @@ moves_are b e matched is later kept = record {
         → ((n : ℕ) (v : Move) → value_of n es ≡ Some v → v ≡ becomes n)
         → (n : ℕ) (v : Move) → value_of n (noted (moves_seen becomes xs) es) ≡ Some v → v ≡ becomes n
     holds xs es each = noted_holds (λ n v. v ≡ becomes n) (moves_seen becomes xs) es (becomes_holds becomes xs) each
+
+-- what an edit was seen to say is what stands on both sides where its leaves are
+pub seen_is : (b : Book) (e : Edit) → IsSoundBook b → IsAllowed b e
+    → seen_after b (leaves e) seen_none ≡ seen_of e b
+seen_is b e is allowed =
+    ap (λ xs. seen_with (noted (splits_on e b) []) (noted xs []) (noted (lines_on e b) [])
+    (noted (flat_map new_lines (leaves e)) [])) (splits_put b e (tables_rise b is) allowed)
+    ∙ ap (λ xs. seen_with (noted (splits_on e b) []) (noted (splits_on e (edited e b)) []) (noted (lines_on e b) [])
+    (noted xs [])) (lines_put b e (tables_rise b is) allowed)

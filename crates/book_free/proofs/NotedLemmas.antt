@@ -1,11 +1,15 @@
 -- What stands in a table where entries were put into it one after another.
 use Rattle.std.proofs.Common.{◌≡◌, ℕ, ◌==◌, Bool, true, false, if◌then◌else◌, All, List, [], ◌∷◌, ◌++◌, Some, None}
-use Rattle.std.proofs.Common.{refl, sym, ap, subst, ◌∙◌, Option}
+use Rattle.std.proofs.Common.{refl, sym, ap, subst, ◌∙◌, flat_map, Option}
 use Rattle.std.proofs.lemmas.Bool.{eqb-true}
+use Rattle.std.proofs.lemmas.List.Concat.{flat_map-append}
 use Rattle.std.proofs.lemmas.List.Elements.{All-cons, All-head, All-nil, All-tail}
 use Rattle.book_commodity.specs.Table.{Rises, value_of, with_entry}
 use Rattle.book_commodity.proofs.TableLemmas.{rises_with, value_of_with}
-use Rattle.book_free.specs.Seen.{noted}
+use Rattle.book_match.specs.declared.free.Free.{Free}
+use Rattle.book_undo.specs.Book.{Book}
+use Rattle.book_undo.specs.Edit.{Leaf}
+use Rattle.book_free.specs.Seen.{Seen, new_lines, new_splits, noted, old_lines, old_splits, seen_after}
 
 pub noted_append : {V : Type 0} (xs ys es : List (ℕ × V)) → noted (xs ++ ys) es ≡ noted ys (noted xs es)
 noted_append [] ys es = refl
@@ -46,3 +50,31 @@ noted_none {V} n (x ∷ xs) es none =
     beside : (t : Bool) (o : Option V) → (if t then Some x.1 else o) ≡ None → (t ≡ false) × (o ≡ None)
     beside true o e = absurd cc
     beside false o e = (refl, e)
+
+-- What was seen, part by part.
+abbrev pub seen_with : List (ℕ × Option Free) → List (ℕ × Option Free) → List (ℕ × ℕ) → List (ℕ × ℕ) → Seen
+seen_with before after lost gained = record { before = before; after = after; lost = lost; gained = gained }
+
+-- what leaves say is what the first of them say and then the others
+pub seen_append : (b : Book) (xs ys : List Leaf) (s : Seen)
+    → seen_after b (xs ++ ys) s ≡ seen_after b ys (seen_after b xs s)
+seen_append b xs ys s =
+    ap (λ es. seen_with es (noted (flat_map new_splits (xs ++ ys)) s.after)
+    (noted (flat_map (old_lines b) (xs ++ ys)) s.lost) (noted (flat_map new_lines (xs ++ ys)) s.gained))
+    (both (old_splits b) xs ys s.before)
+    ∙ ap (λ es. seen_with (noted (flat_map (old_splits b) ys) (noted (flat_map (old_splits b) xs) s.before)) es
+    (noted (flat_map (old_lines b) (xs ++ ys)) s.lost) (noted (flat_map new_lines (xs ++ ys)) s.gained))
+    (both new_splits xs ys s.after)
+    ∙ ap (λ es. seen_with (noted (flat_map (old_splits b) ys) (noted (flat_map (old_splits b) xs) s.before))
+    (noted (flat_map new_splits ys) (noted (flat_map new_splits xs) s.after)) es
+    (noted (flat_map new_lines (xs ++ ys)) s.gained))
+    (both (old_lines b) xs ys s.lost)
+    ∙ ap (seen_with (noted (flat_map (old_splits b) ys) (noted (flat_map (old_splits b) xs) s.before))
+    (noted (flat_map new_splits ys) (noted (flat_map new_splits xs) s.after))
+    (noted (flat_map (old_lines b) ys) (noted (flat_map (old_lines b) xs) s.lost)))
+    (both new_lines xs ys s.gained)
+  where
+    both : {V : Type 0} (f : Leaf → List (ℕ × V)) (xs ys : List Leaf) (es : List (ℕ × V))
+        → noted (flat_map f (xs ++ ys)) es ≡ noted (flat_map f ys) (noted (flat_map f xs) es)
+    both {V} f xs ys es =
+        ap (λ zs. noted zs es) (flat_map-append f xs ys) ∙ noted_append (flat_map f xs) (flat_map f ys) es

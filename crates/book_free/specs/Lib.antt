@@ -2,4 +2,5 @@ pub mod Following
 pub mod FreeSplits
 pub mod Kept
 pub mod Moves
+pub mod Opening
 pub mod Seen

@@ -1,7 +1,7 @@
-ghost use Rattle.std.specs.Prelude.{◌≡◌, ◌≤◌, ◌+◌, OnOk};
+ghost use Rattle.std.specs.Prelude.{◌≡◌, ◌<◌, ◌≤◌, ◌+◌, ◌-◌, ◌^◌, false, min, true, OnOk};
 ghost use Rattle.book_commodity.specs.Table.{Rises};
 ghost use Rattle.book_free.specs.Following.{CanFollow, CanSet, HasFollowed, IsSet, SomeFollow};
-ghost use Rattle.book_free.specs.Following.{same_free, with_line};
+ghost use Rattle.book_free.specs.Following.{IsIn, count_of, same_free, with, with_line, without};
 ghost use Rattle.book_free.specs.Kept.{HasRoomFor, IsSameKept};
 
 use crate::{Move, Moves};
@@ -57,6 +57,7 @@ impl FreeSplits {
             self.set_line(*split, change.line);
             self.set_free(change);
         }
+        self.in_order();
     }
 
     /// The split is matched with this line from now on, or with none.
@@ -72,11 +73,13 @@ impl FreeSplits {
         }
     }
 
-    /// The numbers of the splits rise.
+    /// The numbers of the splits rise, and the count of changes is a number of 64 bits.
     fn in_order(&self)
-        ensures { Rises self.now.matched.entries }
+        ensures rises { Rises self.now.matched.entries }
+        ensures bounded { self.now.index.changes < 2 ^ 64 }
     {
         let _ = self.matched.len();
+        let _ = self.index.changes();
     }
 
     /// A split that was free, if it was, is free as it is now, if it is.
@@ -86,13 +89,41 @@ impl FreeSplits {
         ensures set { IsSet change.now.before change.now.after self.old.index self.new.index }
         ensures matched { self.new.matched ≡ self.old.matched }
     {
+        self.in_order();
         if is_same(&change.before, &change.after) {
             return;
         }
-        if let Some(free) = &change.before {
+        self.take(&change.before);
+        self.put(&change.after);
+    }
+
+    /// Takes a split out of the free ones, if one is given.
+    fn take(&mut self, free: &Option<Free>)
+        requires there { IsIn true free.now self.old.index.entries }
+        ensures entries { self.new.index.entries ≡ without free.now self.old.index.entries }
+        ensures changes { self.new.index.changes
+            ≡ min (self.old.index.changes + count_of free.now) (2 ^ 64 - 1) }
+        ensures spare { self.old.index.spare ≤ self.new.index.spare }
+        ensures matched { self.new.matched ≡ self.old.matched }
+    {
+        self.in_order();
+        if let Some(free) = free {
             let _ = self.index.take(*free);
         }
-        if let Some(free) = &change.after {
+    }
+
+    /// Puts a split among the free ones, if one is given.
+    fn put(&mut self, free: &Option<Free>)
+        requires room { 1 ≤ self.old.index.spare }
+        requires absent { IsIn false free.now self.old.index.entries }
+        ensures entries { self.new.index.entries ≡ with free.now self.old.index.entries }
+        ensures changes { self.new.index.changes
+            ≡ min (self.old.index.changes + count_of free.now) (2 ^ 64 - 1) }
+        ensures spare { self.old.index.spare ≤ self.new.index.spare + 1 }
+        ensures matched { self.new.matched ≡ self.old.matched }
+    {
+        self.in_order();
+        if let Some(free) = free {
             self.index.put(*free);
         }
     }

@@ -1,10 +1,10 @@
-ghost use Rattle.std.specs.Prelude.{◌≡◌, ℕ, ◌++◌, ◌∷◌, [], filter, flat_map, is_some, map, IfOk, OnOk};
-ghost use Rattle.std.specs.Option.{option_copied};
+ghost use Rattle.std.specs.Prelude.{◌≡◌, ℕ, ◌++◌, ◌∷◌, [], filter, map, IfOk, OnOk, Some};
 ghost use Rattle.book_commodity.specs.Table.{value_of};
 ghost use Rattle.book_sound.specs.Soundness.{IsSoundBook};
 ghost use Rattle.book_undo.specs.Book.{book_of};
 ghost use Rattle.book_free.specs.FreeSplits.{free_among, free_of, free_split, is_free as is_free_split, line_of};
 ghost use Rattle.book_free.specs.Kept.{Keeps};
+ghost use Rattle.book_free.specs.Opening.{AreMatchedOnce, in_order, line_pairs};
 ghost use Rattle.book_free.specs.Seen.{is_taken, line_entries, noted};
 
 use crate::FreeSplits;
@@ -31,28 +31,53 @@ impl FreeSplits {
 
 /// The numbers of the lines that splits are matched with, by those of the splits.
 fn matched_lines(alloc: Global, lines: &[(u64, Line)]) -> Result<Table<u64>, OutOfMemory>
+    requires { AreMatchedOnce lines.now }
     ensures { IfOk result (λ table. (number : ℕ) → value_of number table.entries ≡ line_of number lines.now) }
 {
-    let pairs = matched_pairs(alloc, lines)?;
-    let mut table = Table::new(alloc);
-    table.reserve(pairs.len())?;
-    for (split, line) in pairs.as_slice() {
-        drop(table.put(*split, *line));
-    }
-    Ok(table)
+    let mut pairs = matched_pairs(alloc, lines)?;
+    sort(&mut pairs)?;
+    table_of(alloc, pairs.as_slice())
 }
 
-/// The numbers of the matched splits, each with that of the line that is matched with it.
+/// The numbers of the matched splits, each with that of the line that is matched with it, in the order of the lines.
 fn matched_pairs(alloc: Global, lines: &[(u64, Line)]) -> Result<Vec<(u64, u64)>, OutOfMemory>
+    ensures { IfOk result (λ pairs. pairs.items ≡ line_pairs lines.now) }
 {
     let mut pairs = Vec::new(alloc);
     for (number, line) in lines {
-        if let LineState::Matched(split) = line.state {
-            pairs.push((split, *number))?;
-        }
+        add_pair(&mut pairs, *number, line)?;
     }
-    pairs.sort_by_key(|pair| pair.0)?;
     Ok(pairs)
+}
+
+/// Adds that of a line, if it is matched.
+fn add_pair(pairs: &mut Vec<(u64, u64)>, number: u64, line: &Line) -> Result<(), OutOfMemory>
+    ensures { OnOk result (pairs.new.items ≡ pairs.old.items ++ line_entries number (Some line.now)) }
+{
+    if let LineState::Matched(split) = line.state {
+        pairs.push((split, number))?;
+    }
+    Ok(())
+}
+
+/// Sorts them by the numbers of the splits, so that each can be put behind the others.
+fn sort(pairs: &mut Vec<(u64, u64)>) -> Result<(), OutOfMemory>
+    ensures { OnOk result (pairs.new.items ≡ in_order pairs.old.items) }
+{
+    pairs.sort_by_key(|pair| pair.0)?;
+    Ok(())
+}
+
+/// The table of them.
+fn table_of(alloc: Global, pairs: &[(u64, u64)]) -> Result<Table<u64>, OutOfMemory>
+    ensures { IfOk result (λ table. table.entries ≡ noted pairs.now []) }
+{
+    let mut table = Table::new(alloc);
+    table.reserve(pairs.len())?;
+    for (split, line) in pairs {
+        drop(table.put(*split, *line));
+    }
+    Ok(table)
 }
 
 /// The splits of the transactions that may be matched, where lines are matched with those of the table.
