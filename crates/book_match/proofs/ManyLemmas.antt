@@ -42,6 +42,20 @@ pub rises-without_all : (gs es : List Free) → Rises es → Rises (without_all 
 rises-without_all [] es up = up
 rises-without_all (g ∷ gs) es up = rises-without_all gs (without_free g es) (rises-without g es up)
 
+neither : (a b c : Bool) → (not b && (not a && c)) ≡ (not (a || b) && c)
+neither true true c = refl
+neither true false c = refl
+neither false true c = refl
+neither false false c = refl
+
+pub there-without_all : (x : Free) (gs es : List Free) → Rises es
+    → is_there x (without_all gs es) ≡ (not (is_there x gs) && is_there x es)
+there-without_all x [] es up = refl
+there-without_all x (g ∷ gs) es up =
+    there-without_all x gs (without_free g es) (rises-without g es up)
+    ∙ ap (λ (b : Bool). not (is_there x gs) && b) (there-without x g es up)
+    ∙ neither (is_same x g) (is_there x gs) (is_there x es)
+
 rises-drop : (n : ℕ) (es : List Free) → Rises es → Rises (drop n es)
 rises-drop zero es up = up
 rises-drop (suc n) [] up = tt
@@ -299,6 +313,18 @@ absent-with c (x ∷ xs) es all are =
       there-with x c es ∙ ap (λ (b : Bool). b || is_there x es) (before-other x c all.0) ∙ are.0,
       absent-with c xs es all.1 are.1,
     )
+
+either : (a b c : Bool) → (b || (a || c)) ≡ ((a || b) || c)
+either true true c = refl
+either true false c = refl
+either false true c = refl
+either false false c = refl
+
+pub there-with_all : (x : Free) (cs es : List Free) → is_there x (with_all cs es) ≡ (is_there x cs || is_there x es)
+there-with_all x [] es = refl
+there-with_all x (c ∷ cs) es =
+    there-with_all x cs (with_free c es) ∙ ap (λ (b : Bool). is_there x cs || b) (there-with x c es)
+    ∙ either (is_same x c) (is_there x cs) (is_there x es)
 
 pub rises-with_all : (cs es : List Free) → Rises cs → Rises es → AreAbsent cs es → Rises (with_all cs es)
 rises-with_all [] es up_c up_e are = up_e
