@@ -1,7 +1,7 @@
 -- Many splits put in or taken out at once: what a pass over the index leaves.
 use Rattle.std.proofs.Common.{◌≡◌, ℕ, zero, suc, ◌+◌, ◌-◌, ◌<◌, ◌≤◌, Bool, true, false, not, ◌&&◌, ◌||◌}
-use Rattle.std.proofs.Common.{if◌then◌else◌, List, [], ◌∷◌, ◌++◌, length, get_or, take, drop, set, refl, sym, ap, ◌∙◌}
-use Rattle.std.proofs.Common.{subst, arith, append_assoc}
+use Rattle.std.proofs.Common.{if◌then◌else◌, List, [], ◌∷◌, ◌++◌, length, get_or, min, take, drop, set, refl, sym, ap}
+use Rattle.std.proofs.Common.{◌∙◌, subst, arith, append_assoc}
 use Rattle.std.proofs.lemmas.List.{append-nil, drop-set-lt, drop_all, drop_more, get_or-set_same, get_or-take, get_or_default, length-set}
 use Rattle.std.proofs.lemmas.List.{length-drop, length-take-le, take-append-drop, take-set-le, take-take, take_all, take_more, take_more_set}
 use Rattle.std.specs.Prelude.{⊤}
@@ -487,3 +487,52 @@ merged-end come es ys read h =
     sym (take-append-drop read ys)
     ∙ ap (λ (l : List Free). l ++ drop read ys) h.kept
     ∙ ap (λ (n : ℕ). take read es ++ drop n ys) (omega arith) ∙ h.done
+
+-- ---- two of them, one after the other
+pub two-are : (one other : Free) (fs : List Free) → 2 ≤ length fs → length fs < 3 → one ≡ get_or fs 0 one
+    → other ≡ get_or fs 1 other → fs ≡ one ∷ other ∷ []
+two-are one other [] least most first second = absurd (omega (arith, least))
+two-are one other (f ∷ []) least most first second = absurd (omega (arith, least))
+two-are one other (f ∷ g ∷ []) least most first second =
+    ap (λ (x : Free). x ∷ g ∷ []) (sym first) ∙ ap (λ (x : Free). one ∷ x ∷ []) (sym second)
+two-are one other (f ∷ g ∷ h ∷ fs) least most first second = absurd (omega (arith, most))
+
+pub second-absent : (one other : Free) (fs es : List Free) → fs ≡ one ∷ other ∷ [] → Rises fs → AreAbsent fs es
+    → is_there other (with_free one es) ≡ false
+second-absent one other fs es is up are =
+    let less = subst Rises is up in
+    let none = subst (λ (l : List Free). AreAbsent l es) is are in
+    there-with other one es
+    ∙ ap (λ (b : Bool). b || is_there other es) (before-other other one less.0.0) ∙ none.1.0
+
+there-other : (x free : Free) (es : List Free) → is_same x free ≡ false
+    → is_there x (without_free free es) ≡ is_there x es
+there-other x free [] other = refl
+there-other x free (e ∷ es) other = by_test (is_same free e) refl (there-other x free es other)
+  where
+    by_test : (t : Bool) → is_same free e ≡ t → is_there x (without_free free es) ≡ is_there x es
+        → is_there x (if t then es else e ∷ without_free free es) ≡ (is_same x e || is_there x es)
+    by_test true t more =
+        ap (λ (b : Bool). b || is_there x es) (sym (ap (is_same x) (sym (same-is free e t)) ∙ other))
+    by_test false t more = ap (λ (b : Bool). is_same x e || b) more
+
+pub first-there : (one other : Free) (fs es : List Free) → fs ≡ one ∷ other ∷ [] → AreThere fs es
+    → is_there one es ≡ true
+first-there one other fs es is are = let all = subst (λ (l : List Free). AreThere l es) is are in all.0
+
+pub second-there : (one other : Free) (fs es : List Free) → fs ≡ one ∷ other ∷ [] → Rises fs → AreThere fs es
+    → is_there other (without_free one es) ≡ true
+second-there one other fs es is up are =
+    let less = subst Rises is up in
+    let all = subst (λ (l : List Free). AreThere l es) is are in
+    there-other other one es (before-other other one less.0.0) ∙ all.1.0
+
+pub counted-twice : (before first second most count : ℕ) (r s : Bool) → r ≡ true → s ≡ true
+    → first ≡ (if r then min (before + 1) most else before)
+    → second ≡ (if s then min (first + 1) most else first) → count ≡ 2 → second ≡ min (before + count) most
+counted-twice before first second most count r s r_is s_is one two is =
+    let once : first ≡ min (before + 1) most =
+    one ∙ ap (λ (t : Bool). if t then min (before + 1) most else before) r_is in
+    let twice : second ≡ min (first + 1) most =
+    two ∙ ap (λ (t : Bool). if t then min (first + 1) most else first) s_is in
+    omega (arith, once, twice, is)

@@ -138,6 +138,10 @@ impl AmountIndex {
     {
         match come {
             [free] => self.put(*free),
+            [one, other] => {
+                self.put(*one);
+                self.put(*other);
+            }
             _ => {
                 put_in(&mut self.entries, come);
                 self.changes = self.changes.saturating_add(come.len() as u64);
@@ -157,6 +161,10 @@ impl AmountIndex {
         match gone {
             [free] => {
                 let _ = self.take(*free);
+            }
+            [one, other] => {
+                let _ = self.take(*one);
+                let _ = self.take(*other);
             }
             _ => {
                 take_out(&mut self.entries, gone);
