@@ -2,8 +2,9 @@
 use Rattle.std.proofs.Common.{◌≡◌, ℕ, zero, suc, ◌+◌, ◌-◌, ◌<◌, ◌≤◌, Bool, true, false, not, ◌&&◌, ◌||◌}
 use Rattle.std.proofs.Common.{if◌then◌else◌, List, [], ◌∷◌, ◌++◌, length, get_or, min, take, drop, set, refl, sym, ap}
 use Rattle.std.proofs.Common.{◌∙◌, subst, arith, append_assoc}
-use Rattle.std.proofs.lemmas.List.{append-nil, drop-set-lt, drop_all, drop_more, get_or-set_same, get_or-take, get_or_default, length-set}
-use Rattle.std.proofs.lemmas.List.{length-drop, length-take-le, take-append-drop, take-set-le, take-take, take_all, take_more, take_more_set}
+use Rattle.std.proofs.lemmas.List.{append-nil, drop-set-lt, drop_all, drop_more, get_or-set_same, get_or-take}
+use Rattle.std.proofs.lemmas.List.{get_or_default, length-drop, length-set, length-take-le, take-append-drop}
+use Rattle.std.proofs.lemmas.List.{take-set-le, take-take, take_all, take_more, take_more_set}
 use Rattle.std.specs.Prelude.{⊤}
 use Rattle.book_match.specs.AmountIndex.{AreAbsent, AreThere, PrecedesAll, Rises, is_same, is_there, precedes}
 use Rattle.book_match.specs.AmountIndex.{with_all, with_free, without_all, without_free}
@@ -32,11 +33,10 @@ there-before g e (x ∷ xs) all is = by_test (is_same g x) refl is (there-before
 
 there-behind : (e : Free) (hs es : List Free) → PrecedesAll e hs → AreThere hs (e ∷ es) → AreThere hs es
 there-behind e [] es all are = tt
-there-behind e (h ∷ hs) es all are =
-    (
-      ap (λ (b : Bool). b || is_there h es) (sym (before-other h e all.0)) ∙ are.0,
-      there-behind e hs es all.1 are.1,
-    )
+there-behind e (h ∷ hs) es all are = (
+  ap (λ (b : Bool). b || is_there h es) (sym (before-other h e all.0)) ∙ are.0,
+  there-behind e hs es all.1 are.1,
+)
 
 pub rises-without_all : (gs es : List Free) → Rises es → Rises (without_all gs es)
 rises-without_all [] es up = up
@@ -69,11 +69,10 @@ some-there (g ∷ gs) (e ∷ es) are lt = omega arith
 -- the first entry is the first that is taken out, or it stays
 first-same : (g e : Free) (gs es : List Free) → Rises (g ∷ gs) → is_same g e ≡ true → AreThere (g ∷ gs) (e ∷ es)
     → (without_all (g ∷ gs) (e ∷ es) ≡ without_all gs es) × AreThere gs es
-first-same g e gs es up same are =
-    (
-      ap (λ (t : Bool). without_all gs (if t then es else e ∷ without_free g es)) same,
-      there-behind e gs es (subst (λ (f : Free). PrecedesAll f gs) (same-is g e same) up.0) are.1,
-    )
+first-same g e gs es up same are = (
+  ap (λ (t : Bool). without_all gs (if t then es else e ∷ without_free g es)) same,
+  there-behind e gs es (subst (λ (f : Free). PrecedesAll f gs) (same-is g e same) up.0) are.1,
+)
 
 first-other : (g e : Free) (gs es : List Free) → Rises (g ∷ gs) → Rises (e ∷ es) → is_same g e ≡ false
     → AreThere (g ∷ gs) (e ∷ es)
@@ -154,8 +153,8 @@ closed-same gone es ys read next g e up h lt g_is e_is same =
     ∙ ap (without_all (g ∷ drop (next + 1) gone)) at.0 ∙ step.0 in
     record {
       front =
-      ap (λ (n : ℕ). take n ys ++ without_all (drop (next + 1) gone) (drop (read + 1) es)) (omega arith)
-      ∙ ap (λ (l : List Free). take (read - next) ys ++ l) (sym alike) ∙ h.front;
+          ap (λ (n : ℕ). take n ys ++ without_all (drop (next + 1) gone) (drop (read + 1) es)) (omega arith)
+          ∙ ap (λ (l : List Free). take (read - next) ys ++ l) (sym alike) ∙ h.front;
       rest = at.1;
       there = step.1;
       behind = omega (arith, h.behind);
@@ -184,10 +183,10 @@ closed-other gone es ys read next g e up_g up_e h lt g_is e_is other =
     let place : read + 1 - next ≡ (read - next) + 1 = omega (arith, h.behind) in
     record {
       front =
-      ap (λ (n : ℕ). take n (set ys (read - next) e) ++ after) place
-      ∙ ap (λ (l : List Free). l ++ after) (take_more_set ys (read - next) e (omega (arith, within)))
-      ∙ append_assoc (take (read - next) ys) (e ∷ []) after
-      ∙ ap (λ (l : List Free). take (read - next) ys ++ l) alike ∙ h.front;
+          ap (λ (n : ℕ). take n (set ys (read - next) e) ++ after) place
+          ∙ ap (λ (l : List Free). l ++ after) (take_more_set ys (read - next) e (omega (arith, within)))
+          ∙ append_assoc (take (read - next) ys) (e ∷ []) after
+          ∙ ap (λ (l : List Free). take (read - next) ys ++ l) alike ∙ h.front;
       rest = drop-set-lt (read + 1) ys (read - next) e (omega arith) ∙ at.1;
       there = subst (λ (l : List Free). AreThere l (drop (read + 1) es)) (sym gs) step.1;
       behind = omega (arith, h.behind);
@@ -300,7 +299,8 @@ differs-at c (e ∷ es) zero d none lt = by_test (is_same e c) refl
         let some : (is_same c e || is_there c es) ≡ true = ap (λ (b : Bool). b || is_there c es) is in
         absurd cc
     by_test false t = t
-differs-at c (e ∷ es) (suc i) d none lt = differs-at c es i d (rest (is_same c e) (is_there c es) none) (omega (arith, lt))
+differs-at c (e ∷ es) (suc i) d none lt =
+    differs-at c es i d (rest (is_same c e) (is_there c es) none) (omega (arith, lt))
   where
     rest : (s t : Bool) → (s || t) ≡ false → t ≡ false
     rest true t e = absurd cc
@@ -308,11 +308,10 @@ differs-at c (e ∷ es) (suc i) d none lt = differs-at c es i d (rest (is_same c
 
 absent-with : (c : Free) (cs es : List Free) → PrecedesAll c cs → AreAbsent cs es → AreAbsent cs (with_free c es)
 absent-with c [] es all are = tt
-absent-with c (x ∷ xs) es all are =
-    (
-      there-with x c es ∙ ap (λ (b : Bool). b || is_there x es) (before-other x c all.0) ∙ are.0,
-      absent-with c xs es all.1 are.1,
-    )
+absent-with c (x ∷ xs) es all are = (
+  there-with x c es ∙ ap (λ (b : Bool). b || is_there x es) (before-other x c all.0) ∙ are.0,
+  absent-with c xs es all.1 are.1,
+)
 
 either : (a b c : Bool) → (b || (a || c)) ≡ ((a || b) || c)
 either true true c = refl
@@ -348,9 +347,10 @@ merged-start come ys count long =
     let all : take (length come) come ≡ come = take_all (length come) come (omega arith) in
     record {
       done =
-      ap (λ (l : List Free). with_all l (take count (take count ys)) ++ drop (count + length come) ys) all
-      ∙ ap (λ (l : List Free). with_all come l ++ drop (count + length come) ys) same
-      ∙ ap (λ (l : List Free). with_all come (take count ys) ++ l) none ∙ append-nil (with_all come (take count ys));
+          ap (λ (l : List Free). with_all l (take count (take count ys)) ++ drop (count + length come) ys) all
+          ∙ ap (λ (l : List Free). with_all come l ++ drop (count + length come) ys) same
+          ∙ ap (λ (l : List Free). with_all come (take count ys) ++ l) none
+          ∙ append-nil (with_all come (take count ys));
       kept = sym same;
       within = omega (arith, size);
       most = omega arith;
@@ -380,7 +380,8 @@ entry-step : (come es ys : List Free) (r m : ℕ) (c e : Free) → Rises come �
     → IsMerged come es (set ys (r + (m + 1)) e) r (m + 1)
 entry-step come es ys r m c e up h c_is less e_is =
     let cs : take (m + 1) come ≡ take m come ++ c ∷ [] = take-more-is come m c (omega (arith, h.most)) c_is in
-    let before_c : AllBefore (take m come) c = rises-last (take m come) c (subst Rises cs (rises-take (m + 1) come up)) in
+    let before_c : AllBefore (take m come) c =
+    rises-last (take m come) c (subst Rises cs (rises-take (m + 1) come up)) in
     let before_e : AllBefore (take (m + 1) come) e =
     subst (λ (l : List Free). AllBefore l e) (sym cs)
     (before-push (take m come) c e (before-more (take m come) c e before_c less) less) in
@@ -392,11 +393,11 @@ entry-step come es ys r m c e up h c_is less e_is =
     let behind : List Free = drop (r + 1 + (m + 1)) ys in
     record {
       done =
-      ap (λ (l : List Free). all ++ l) put
-      ∙ ap (λ (n : ℕ). all ++ e ∷ drop n ys) (omega arith)
-      ∙ sym (append_assoc all (e ∷ []) behind)
-      ∙ ap (λ (l : List Free). l ++ behind) (sym (with_all-before (take (m + 1) come) (take r es) e before_e))
-      ∙ ap (λ (l : List Free). with_all (take (m + 1) come) l ++ behind) (sym front) ∙ h.done;
+          ap (λ (l : List Free). all ++ l) put
+          ∙ ap (λ (n : ℕ). all ++ e ∷ drop n ys) (omega arith)
+          ∙ sym (append_assoc all (e ∷ []) behind)
+          ∙ ap (λ (l : List Free). l ++ behind) (sym (with_all-before (take (m + 1) come) (take r es) e before_e))
+          ∙ ap (λ (l : List Free). with_all (take (m + 1) come) l ++ behind) (sym front) ∙ h.done;
       kept = take-set-le r ys (r + (m + 1)) e (omega arith) ∙ fewer r (r + 1) ys es (omega arith) h.kept;
       within = omega (arith, h.within);
       most = h.most;
@@ -464,9 +465,9 @@ split-step come es ys read m c up_c up_e are h c_is not_less =
     let behind : List Free = drop (read + (m + 1)) ys in
     record {
       done =
-      ap (λ (l : List Free). all ++ l) put
-      ∙ ap (λ (n : ℕ). all ++ c ∷ drop n ys) (omega arith)
-      ∙ sym (append_assoc all (c ∷ []) behind) ∙ ap (λ (l : List Free). l ++ behind) (sym last) ∙ h.done;
+          ap (λ (l : List Free). all ++ l) put
+          ∙ ap (λ (n : ℕ). all ++ c ∷ drop n ys) (omega arith)
+          ∙ sym (append_assoc all (c ∷ []) behind) ∙ ap (λ (l : List Free). l ++ behind) (sym last) ∙ h.done;
       kept = take-set-le read ys (read + m) c (omega arith) ∙ h.kept;
       within = h.within;
       most = omega (arith, h.most);

@@ -2,14 +2,13 @@ ghost use Rattle.std.specs.Prelude.{◌≡◌, ◌+◌, ◌-◌, ◌^◌, ◌<�
 ghost use Rattle.std.specs.Prelude.{IfOk, if◌then◌else◌};
 ghost use Rattle.std.specs.List.{slice_range};
 ghost use Rattle.book_match.specs.AmountIndex.{Rises, is_there, of_amount, precedes as stands_before, with_free};
-ghost use Rattle.book_match.specs.AmountIndex.{AreAbsent, AreApart, AreThere, ordered, with_all, without_all, without_free};
+ghost use Rattle.book_match.specs.AmountIndex.{AreAbsent, AreApart, AreThere, ordered, with_all, without_all};
+ghost use Rattle.book_match.specs.AmountIndex.{without_free};
 ghost use Rattle.book_match.specs.Cut.{IsCut, is_near, is_past_amount as past, is_past_days as past_near};
 ghost use Rattle.book_match.specs.Cut.{is_under_amount as under, is_under_days as under_near};
 
 use crate::Free;
-use crate::free::{
-    is_past_amount, is_past_days, is_under_amount, is_under_days, precedes,
-};
+use crate::free::{is_past_amount, is_past_days, is_under_amount, is_under_days, precedes};
 use crate::many::{put_in, take_out};
 use book_commodity::{Day, OutOfMemory};
 use std::alloc::Global;
@@ -126,8 +125,8 @@ impl AmountIndex {
         true
     }
 
-    /// Puts splits in of which none is there. They are given in the order of the index. It takes no memory, and moves
-    /// each split behind the first of them once.
+    /// Puts splits in of which none is there. They are given in the order of the index. It takes no memory. More than
+    /// two go in by one pass over the splits behind the first of them.
     pub fn put_all(&mut self, come: &[Free])
         requires room { length come.now ≤ self.old.spare }
         requires rises { Rises come.now }
@@ -149,8 +148,8 @@ impl AmountIndex {
         }
     }
 
-    /// Takes splits out that are all there. They are given in the order of the index. It takes no memory, and moves each
-    /// split behind the first of them once.
+    /// Takes splits out that are all there. They are given in the order of the index. It takes no memory. More than
+    /// two go out by one pass over the splits behind the first of them.
     pub fn take_all(&mut self, gone: &[Free])
         requires rises { Rises gone.now }
         requires there { AreThere gone.now self.old.entries }

@@ -50,8 +50,10 @@ fn merge(entries: &mut [Free], come: &[Free], count: usize)
 /// Whether there are entries before a place, and the last of them comes behind a split.
 fn is_behind(entries: &[Free], place: usize, free: &Free) -> bool
     requires { place ≤ length entries.now }
-    ensures yes { result ≡ true → (0 < place) × (stands_before free.now (get_or entries.now (place - 1) free.now) ≡ true) }
-    ensures other { result ≡ false → 0 < place → stands_before free.now (get_or entries.now (place - 1) free.now) ≡ false }
+    ensures yes { result ≡ true
+        → (0 < place) × (stands_before free.now (get_or entries.now (place - 1) free.now) ≡ true) }
+    ensures other { result ≡ false
+        → 0 < place → stands_before free.now (get_or entries.now (place - 1) free.now) ≡ false }
 {
     if place == 0 {
         return false;

@@ -20,7 +20,8 @@ loop-next-preserved c =
           rw (w.entries-is, w.next-is)
           (closed-same c.args.gone.now c.args.entries.now c.loop-next.entries c.loop-next.read c.loop-next.next
           c.index-gone-next.result c.index-entries-read.result c.requires.gone_rises c.loop-next.invariant
-          c.loop-next-test.true c.index-gone-next.is c.index-entries-read.is (sym c.is_same.ensures ∙ w.if-is_same.true))
+          c.loop-next-test.true c.index-gone-next.is c.index-entries-read.is
+          (sym c.is_same.ensures ∙ w.if-is_same.true))
       | else-is_same w ↦
           rw (w.entries-is, w.next-is)
           (closed-other c.args.gone.now c.args.entries.now c.loop-next.entries c.loop-next.read c.loop-next.next

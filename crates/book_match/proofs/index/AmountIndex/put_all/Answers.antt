@@ -1,4 +1,4 @@
-use Rattle.std.proofs.Common.{◌≡◌, false, List, ap, sym, ◌∙◌, subst}
+use Rattle.std.proofs.Common.{◌≡◌, List, ap, sym, ◌∙◌, subst}
 use Rattle.book_match.specs.AmountIndex.{AreAbsent, Index, Rises, is_there}
 use Rattle.book_match.specs.declared.free.Free.{Free}
 use Rattle.book_match.proofs.ManyLemmas.{rises-with_all, second-absent, two-are}

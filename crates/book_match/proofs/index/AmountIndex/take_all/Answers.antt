@@ -1,4 +1,4 @@
-use Rattle.std.proofs.Common.{◌≡◌, ◌∷◌, [], List, ap, arith, length, subst, sym, ◌∙◌}
+use Rattle.std.proofs.Common.{◌≡◌, ◌∷◌, [], List, ap, length, subst, sym, ◌∙◌}
 use Rattle.book_match.specs.AmountIndex.{Rises, is_there}
 use Rattle.book_match.specs.declared.free.Free.{Free}
 use Rattle.book_match.proofs.ManyLemmas.{counted-twice, first-there, rises-without_all, second-there, two-are}
