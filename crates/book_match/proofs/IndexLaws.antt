@@ -8,7 +8,7 @@ use Rattle.std.specs.Ordering.{int_eq}
 use Rattle.book_match.specs.AmountIndex.{PrecedesAll, Rises, is_same, is_there, ordered, precedes, with_free}
 use Rattle.book_match.specs.AmountIndex.{without_free}
 use Rattle.book_match.specs.declared.free.Free.{Free}
-use Rattle.book_match.proofs.IndexLemmas.{after-neither, after-other, all-behind, before-other, none-behind}
+use Rattle.book_match.proofs.IndexLemmas.{after-neither, all-behind, none-behind}
 use Rattle.book_match.proofs.IndexLemmas.{precedes-trans}
 
 -- ---- what stands in an index

@@ -1,6 +1,7 @@
 pub mod IndexLaws
 pub mod IndexLemmas
 pub mod KeptLemmas
+pub mod ManyLemmas
 pub mod NearestLemmas
 pub mod OrderLemmas
 pub mod OrderedLemmas

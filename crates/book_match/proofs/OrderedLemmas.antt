@@ -11,8 +11,8 @@ use Rattle.std.specs.declared.cmp.Ordering.TheVariants.{Less, Equal, Greater}
 use Rattle.book_match.specs.AmountIndex.{AreApart, Rises, ordered, precedes, with_free}
 use Rattle.book_match.specs.Proposal.{in_turn}
 use Rattle.book_match.specs.declared.free.Free.{Free}
-use Rattle.book_match.proofs.IndexLaws.{before-itself, one-before, there-ordered}
-use Rattle.book_match.proofs.IndexLemmas.{precedes-trans, rises-with}
+use Rattle.book_match.proofs.IndexLaws.{one-before, there-ordered}
+use Rattle.book_match.proofs.IndexLemmas.{rises-with}
 use Rattle.book_match.proofs.OrderLemmas.{sorted, with_row}
 
 -- ---- they rise

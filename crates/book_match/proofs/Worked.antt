@@ -3,7 +3,7 @@
 use Rattle.std.proofs.Common.{◌≡◌, ℕ, ℤ, pos, negsuc, false, List, [], ◌∷◌, None, refl}
 use Rattle.book_splits.specs.declared.split.Mark.TheVariants.{New}
 use Rattle.book_splits.specs.declared.transaction.Txn.{Txn}
-use Rattle.book_match.specs.AmountIndex.{is_there, of_amount, ordered, with_free, without_free}
+use Rattle.book_match.specs.AmountIndex.{is_there, of_amount, ordered, with_all, with_free, without_all, without_free}
 use Rattle.book_match.specs.Kept.{views_on}
 use Rattle.book_match.specs.Proposal.{proposal}
 use Rattle.book_match.specs.declared.free.Free.{Free}
@@ -138,6 +138,16 @@ of_one_amount = refl
 taken_out : without_free (free 3 (negsuc 499) (pos 19733) 5) index
     ≡ free 2 (negsuc 499) (pos 19733) 9 ∷ free 3 (negsuc 499) (pos 19742) 6 ∷ []
 taken_out = refl
+
+-- two more put in at once, and two taken out at once
+two_more : with_all (free 2 (negsuc 499) (pos 19740) 8 ∷ free 4 (pos 100) (pos 19733) 7 ∷ []) index
+    ≡ free 2 (negsuc 499) (pos 19733) 9 ∷ free 2 (negsuc 499) (pos 19740) 8 ∷ free 3 (negsuc 499) (pos 19733) 5
+    ∷ free 3 (negsuc 499) (pos 19742) 6 ∷ free 4 (pos 100) (pos 19733) 7 ∷ []
+two_more = refl
+
+two_fewer : without_all (free 2 (negsuc 499) (pos 19733) 9 ∷ free 3 (negsuc 499) (pos 19742) 6 ∷ []) index
+    ≡ free 3 (negsuc 499) (pos 19733) 5 ∷ []
+two_fewer = refl
 
 -- a split that was moved to another day isn't there
 moved : is_there (free 3 (negsuc 499) (pos 19734) 5) index ≡ false

@@ -59,6 +59,26 @@ abbrev pub without_free : Free → List Free → List Free
 without_free free [] = []
 without_free free (entry ∷ more) = if is_same free entry then more else entry ∷ without_free free more
 
+-- The splits with all of these more, each put in where it stands.
+abbrev pub with_all : List Free → List Free → List Free
+with_all [] entries = entries
+with_all (free ∷ more) entries = with_all more (with_free free entries)
+
+-- The splits without any of these.
+abbrev pub without_all : List Free → List Free → List Free
+without_all [] entries = entries
+without_all (free ∷ more) entries = without_all more (without_free free entries)
+
+-- Each of these is one of the splits.
+abbrev pub AreThere : List Free → List Free → Type 0
+AreThere [] entries = ⊤
+AreThere (free ∷ more) entries = (is_there free entries ≡ true) × AreThere more entries
+
+-- None of these is one of the splits.
+abbrev pub AreAbsent : List Free → List Free → Type 0
+AreAbsent [] entries = ⊤
+AreAbsent (free ∷ more) entries = (is_there free entries ≡ false) × AreAbsent more entries
+
 -- Whether a split is one of an account with an amount.
 abbrev pub is_of_amount : ℕ → ℤ → Free → Bool
 is_of_amount account amount entry = (entry.account == account) && int_eq entry.amount amount

@@ -2,14 +2,14 @@ ghost use Rattle.std.specs.Prelude.{◌≡◌, ◌+◌, ◌-◌, ◌^◌, ◌<�
 ghost use Rattle.std.specs.Prelude.{IfOk, if◌then◌else◌};
 ghost use Rattle.std.specs.List.{slice_range};
 ghost use Rattle.book_match.specs.AmountIndex.{Rises, is_there, of_amount, precedes as stands_before, with_free};
-ghost use Rattle.book_match.specs.AmountIndex.{AreApart, ordered, without_free};
+ghost use Rattle.book_match.specs.AmountIndex.{AreAbsent, AreApart, AreThere, ordered, with_all, without_all};
+ghost use Rattle.book_match.specs.AmountIndex.{without_free};
 ghost use Rattle.book_match.specs.Cut.{IsCut, is_near, is_past_amount as past, is_past_days as past_near};
 ghost use Rattle.book_match.specs.Cut.{is_under_amount as under, is_under_days as under_near};
 
 use crate::Free;
-use crate::free::{
-    is_past_amount, is_past_days, is_under_amount, is_under_days, precedes,
-};
+use crate::free::{is_past_amount, is_past_days, is_under_amount, is_under_days, precedes};
+use crate::many::{put_in, take_out};
 use book_commodity::{Day, OutOfMemory};
 use std::alloc::Global;
 use std::marker::Model;
@@ -125,6 +125,53 @@ impl AmountIndex {
         true
     }
 
+    /// Puts splits in of which none is there. They are given in the order of the index. It takes no memory. More than
+    /// two go in by one pass over the splits behind the first of them.
+    pub fn put_all(&mut self, come: &[Free])
+        requires room { length come.now ≤ self.old.spare }
+        requires rises { Rises come.now }
+        requires absent { AreAbsent come.now self.old.entries }
+        ensures entries { self.new.entries ≡ with_all come.now self.old.entries }
+        ensures changes { self.new.changes ≡ min (self.old.changes + length come.now) (2 ^ 64 - 1) }
+        ensures spare { self.old.spare ≤ self.new.spare + length come.now }
+    {
+        match come {
+            [free] => self.put(*free),
+            [one, other] => {
+                self.put(*one);
+                self.put(*other);
+            }
+            _ => {
+                put_in(&mut self.entries, come);
+                self.changes = self.changes.saturating_add(come.len() as u64);
+            }
+        }
+    }
+
+    /// Takes splits out that are all there. They are given in the order of the index. It takes no memory. More than
+    /// two go out by one pass over the splits behind the first of them.
+    pub fn take_all(&mut self, gone: &[Free])
+        requires rises { Rises gone.now }
+        requires there { AreThere gone.now self.old.entries }
+        ensures entries { self.new.entries ≡ without_all gone.now self.old.entries }
+        ensures changes { self.new.changes ≡ min (self.old.changes + length gone.now) (2 ^ 64 - 1) }
+        ensures spare { self.old.spare ≤ self.new.spare }
+    {
+        match gone {
+            [free] => {
+                let _ = self.take(*free);
+            }
+            [one, other] => {
+                let _ = self.take(*one);
+                let _ = self.take(*other);
+            }
+            _ => {
+                take_out(&mut self.entries, gone);
+                self.changes = self.changes.saturating_add(gone.len() as u64);
+            }
+        }
+    }
+
     /// The splits of the account with this amount, by day and number.
     pub fn of(&self, account: u64, amount: i64) -> &[Free]
         ensures { result.now ≡ of_amount account amount self.now.entries }
@@ -151,7 +198,7 @@ fn sort(entries: &mut Vec<Free>) -> Result<(), OutOfMemory>
 }
 
 /// How many of the splits come before this one.
-fn place_of(entries: &[Free], free: &Free) -> usize
+pub(crate) fn place_of(entries: &[Free], free: &Free) -> usize
     requires { Rises entries.now }
     ensures cut { IsCut (λ entry. stands_before entry free.now) entries.now result }
     ensures within { result ≤ length entries.now }

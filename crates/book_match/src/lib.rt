@@ -7,6 +7,7 @@
 mod free;
 mod index;
 mod kept;
+mod many;
 mod nearest;
 mod order;
 mod proposal;
