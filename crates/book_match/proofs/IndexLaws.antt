@@ -5,8 +5,8 @@ use Rattle.std.proofs.lemmas.Bool.{and_parts}
 use Rattle.std.proofs.lemmas.Bool.Decides.{nat_tests, Decides-int_eq}
 use Rattle.std.proofs.lemmas.Int.{ints}
 use Rattle.std.specs.Ordering.{int_eq}
-use Rattle.book_match.specs.AmountIndex.{PrecedesAll, Rises, is_same, is_there, ordered, precedes, with_free}
-use Rattle.book_match.specs.AmountIndex.{without_free}
+use Rattle.book_match.specs.AmountIndex.{AreAbsent, AreThere, PrecedesAll, Rises, is_same, is_there, ordered}
+use Rattle.book_match.specs.AmountIndex.{precedes, with_free, without_free}
 use Rattle.book_match.specs.declared.free.Free.{Free}
 use Rattle.book_match.proofs.IndexLemmas.{after-neither, all-behind, none-behind}
 use Rattle.book_match.proofs.IndexLemmas.{precedes-trans}
@@ -94,8 +94,25 @@ there-without x free (e ∷ es) up =
     by_tests false false s t more = ap (λ (b : Bool). is_same x e || b) more
 
 -- ---- rising splits are known by which stand there
-first-there : (x : Free) (xs : List Free) → is_there x (x ∷ xs) ≡ true
+pub first-there : (x : Free) (xs : List Free) → is_there x (x ∷ xs) ≡ true
 first-there x xs = ap (λ (b : Bool). b || is_there x xs) (same-itself x)
+
+behind-there : (f x : Free) (xs : List Free) → is_there f xs ≡ true → is_there f (x ∷ xs) ≡ true
+behind-there f x xs is = ap (λ (b : Bool). is_same f x || b) is ∙ by_test (is_same f x)
+  where
+    by_test : (t : Bool) → (t || true) ≡ true
+    by_test true = refl
+    by_test false = refl
+
+pub are-there : (fs es : List Free) → ((f : Free) → is_there f fs ≡ true → is_there f es ≡ true) → AreThere fs es
+are-there [] es each = tt
+are-there (x ∷ xs) es each =
+    (each x (first-there x xs), are-there xs es (λ f is. each f (behind-there f x xs is)))
+
+pub are-absent : (fs es : List Free) → ((f : Free) → is_there f fs ≡ true → is_there f es ≡ false) → AreAbsent fs es
+are-absent [] es each = tt
+are-absent (x ∷ xs) es each =
+    (each x (first-there x xs), are-absent xs es (λ f is. each f (behind-there f x xs is)))
 
 behind-not : (x y : Free) (ys : List Free) → Rises (y ∷ ys) → precedes x y ≡ true → is_there x (y ∷ ys) ≡ false
 behind-not x y ys up less = none-behind x (y ∷ ys) (less, all-behind x y ys less up.0)

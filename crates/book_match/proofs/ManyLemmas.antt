@@ -517,9 +517,9 @@ there-other x free (e ∷ es) other = by_test (is_same free e) refl (there-other
         ap (λ (b : Bool). b || is_there x es) (sym (ap (is_same x) (sym (same-is free e t)) ∙ other))
     by_test false t more = ap (λ (b : Bool). is_same x e || b) more
 
-pub first-there : (one other : Free) (fs es : List Free) → fs ≡ one ∷ other ∷ [] → AreThere fs es
+pub one-there : (one other : Free) (fs es : List Free) → fs ≡ one ∷ other ∷ [] → AreThere fs es
     → is_there one es ≡ true
-first-there one other fs es is are = let all = subst (λ (l : List Free). AreThere l es) is are in all.0
+one-there one other fs es is are = let all = subst (λ (l : List Free). AreThere l es) is are in all.0
 
 pub second-there : (one other : Free) (fs es : List Free) → fs ≡ one ∷ other ∷ [] → Rises fs → AreThere fs es
     → is_there other (without_free one es) ≡ true
