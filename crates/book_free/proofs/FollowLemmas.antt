@@ -411,13 +411,16 @@ follows ones first says after (m ∷ ms) es held of_first holds numbered of_afte
     (differs_set n m.1.after first says ones es held of_first holds numbered (sym say_first.0.0 ∙ say.0.0) number) in
     let more = rest.differs in
     record {
-      can = (subst (λ (o : Option Free). CanSet o m.1.after es) before
-          (can_set n m.1.after says es holds numbered number), rest.can);
+      can = (
+        subst (λ (o : Option Free). CanSet o m.1.after es) before
+            (can_set n m.1.after says es holds numbered number),
+        rest.can,
+      );
       holds = record {
-          rise = rest.holds.rise;
-          there = λ f.
-              rest.holds.there f ∙ ap (λ (o : Option Free). is_entry o f) (by_number f.split (f.split == n) refl);
-        };
+        rise = rest.holds.rise;
+        there = λ f.
+            rest.holds.there f ∙ ap (λ (o : Option Free). is_entry o f) (by_number f.split (f.split == n) refl);
+      };
       differs = omega (arith, one, more);
     }
   where
@@ -466,19 +469,19 @@ lines_are (m ∷ ms) es s r up =
 
 -- ---- what is kept of one book becomes what is kept of the other
 
-
 said_moves : (old new : Book) (all ms : List (ℕ × Move)) → AreMoves old new all → Rises ms
     → ((n : ℕ) (m : Move) → value_of n ms ≡ Some m → value_of n all ≡ Some m)
     → Say (λ s. free_at s old) (λ s. free_at s new) ms
 said_moves old new all [] are r each = tt
 said_moves old new all (m ∷ ms) are r each =
     let first : value_of m.0 (m ∷ ms) ≡ Some m.1 = grind (arith, nat_tests) in
-    let is = are.moved m.0 m.1 (each m.0 m.1 first) in
-    ((ap (λ (x : Move). x.before) is, ap (λ (x : Move). x.after) is),
-    said_moves old new all ms are r.1
-    (λ n x there.
-    let past = above_there m.0 n x ms r.0 there in
-    each n x (grind (arith, nat_tests, past, there))))
+    let is = are.moved m.0 m.1 (each m.0 m.1 first) in (
+      (ap (λ (x : Move). x.before) is, ap (λ (x : Move). x.after) is),
+      said_moves old new all ms are r.1
+          (λ n x there.
+          let past = above_there m.0 n x ms r.0 there in
+          each n x (grind (arith, nat_tests, past, there))),
+    )
 
 -- What a list of free splits and lines of splits come to, where they are those of a book and follow moves to another.
 pub record ComesTo (kept : Kept) (ms : List (ℕ × Move)) (old new : Book) : Type 0 where
@@ -625,9 +628,9 @@ way_ends all start now old new lines_up up bounded way can =
     let total = comes.cost_is in
     record {
       kept_of = record {
-          free = way.entries ∙ comes.entries;
-          lines = λ s. ap (value_of s) way.lines ∙ comes.lines s;
-        };
+        free = way.entries ∙ comes.entries;
+        lines = λ s. ap (value_of s) way.lines ∙ comes.lines s;
+      };
       changes = at_most now.index.changes (start.index.changes + cost all) bounded changes
           ∙ ap (λ (n : ℕ). min (start.index.changes + n) (2 ^ 64 - 1)) total;
     }

@@ -25,12 +25,7 @@ use std::alloc::Global;
 impl FreeSplits {
     /// What becomes of the splits of a book by an edit: of those of the transactions that it changes, and of those that
     /// the lines are matched with that it changes.
-    pub fn moves(
-        &self,
-        alloc: Global,
-        plain: &Plain,
-        edit: &Edit,
-    ) -> Result<Moves, OutOfMemory>
+    pub fn moves(&self, alloc: Global, plain: &Plain, edit: &Edit) -> Result<Moves, OutOfMemory>
         requires kept { Keeps self.now (book_of plain.now) }
         requires sound { IsSoundBook (book_of plain.now) }
         requires allowed { IsAllowed (book_of plain.now) edit.now }
@@ -45,7 +40,12 @@ impl FreeSplits {
     }
 
     /// What becomes of all splits that were seen.
-    fn moves_of(&self, alloc: Global, transactions: &Txns, seen: &Seen) -> Result<Moves, OutOfMemory>
+    fn moves_of(
+        &self,
+        alloc: Global,
+        transactions: &Txns,
+        seen: &Seen,
+    ) -> Result<Moves, OutOfMemory>
         requires { are_once (numbers_of (splits_of transactions.now.entries)) ≡ true }
         ensures { IfOk result (λ moves. moves ≡ all_moves (λ number. move_seen seen.now
             self.now.matched.entries (open_at number transactions.now.entries) number) seen.now) }

@@ -59,7 +59,14 @@ impl Moves {
         let before: Option<Free> = change.before;
         let after: Option<Free> = change.after;
         let line = change.line;
-        let _ = self.splits.put(split, Move { before, after, line });
+        let _ = self.splits.put(
+            split,
+            Move {
+                before,
+                after,
+                line,
+            },
+        );
         Ok(())
     }
 }

@@ -118,7 +118,10 @@ impl Seen {
 }
 
 /// Notes the splits of a transaction, if there is one.
-fn note_splits(table: &mut Table<Option<Free>>, transaction: Option<&Txn>) -> Result<(), OutOfMemory>
+fn note_splits(
+    table: &mut Table<Option<Free>>,
+    transaction: Option<&Txn>,
+) -> Result<(), OutOfMemory>
     ensures { OnOk result
         (table.new.entries ≡ noted (split_entries (option_copied transaction.entry)) table.old.entries) }
 {
@@ -133,11 +136,7 @@ fn note_splits(table: &mut Table<Option<Free>>, transaction: Option<&Txn>) -> Re
 }
 
 /// Notes the number of a line, if there is one and it is matched with a split.
-fn note_line(
-    table: &mut Table<u64>,
-    number: u64,
-    line: Option<&Line>,
-) -> Result<(), OutOfMemory>
+fn note_line(table: &mut Table<u64>, number: u64, line: Option<&Line>) -> Result<(), OutOfMemory>
     ensures { OnOk result
         (table.new.entries ≡ noted (line_entries number (option_copied line.entry)) table.old.entries) }
 {
