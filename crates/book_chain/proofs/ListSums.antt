@@ -28,7 +28,7 @@ use Rattle.book_sound.specs.ReconciliationRules.{marked_numbers, marked_sum}
 use Rattle.book_sound.specs.Soundness.{IsSoundBook}
 use Rattle.book_sound.proofs.MarkLemmas.{reconciled_is_marked}
 use Rattle.book_sound.proofs.OwnFrames.{all_of_each}
-use Rattle.book_step.proofs.SplitsOnce.{splits_once}
+use Rattle.book_free.proofs.SplitsOnce.{splits_once}
 use Rattle.book_chain.specs.Chain.{are_intact, of_account, sum_of_lists}
 
 -- ---- the sum of the quantities of the splits that pass a test

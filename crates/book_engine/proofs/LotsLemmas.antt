@@ -9,6 +9,7 @@ use Rattle.std.specs.Option.{option_map_or}
 use Rattle.book_accounts.specs.Group.{is_security}
 use Rattle.book_accounts.specs.declared.account.Account.{Account}
 use Rattle.book_commodity.specs.Table.{value_of}
+use Rattle.book_free.specs.Kept.{Kept as FreeKept}
 use Rattle.book_ledger.specs.Changes.{changes_in, changes_of}
 use Rattle.book_ledger.specs.Ledger.{Keeps, register_of, rows_in}
 use Rattle.book_ledger.specs.Lots.{IsBroughtUp, reckoned_in, reckoned_of, work_in, work_of}
@@ -135,8 +136,9 @@ some_is one other is = ap (λ (o : Option ℕ). option_or_else o one) is
 pub kept_up :
     (before now : Kept) (account : ℕ) (done : Bool) (asked : Option ℕ) → asked ≡ Some account
     → Keeps before.registers before.state.book → IsBroughtUp account done before.registers now.registers
-    → AreKeptUp before now asked
-kept_up before now account done asked asks keeps is = record {
+    → now.free ≡ before.free → AreKeptUp before now asked
+kept_up before now account done asked asks keeps is free = record {
+  free = ap (λ (kept : FreeKept). kept.index.changes) free;
   each = λ a. ap changes_in (is.values a) ∙ changes a (a == account) refl;
   others = λ a other. others a other (a == account) refl;
   one = λ a this.
@@ -175,9 +177,10 @@ are_reckoned before now account asked asks keeps is = record {
 -- where no account is asked for nothing is brought up
 pub none_asked :
     (before now : Kept) (asked : Option ℕ) → asked ≡ None → now.registers ≡ before.registers
-    → AreKeptUp before now asked × AreReckoned before now asked
-none_asked before now asked none same = (
+    → now.free ≡ before.free → AreKeptUp before now asked × AreReckoned before now asked
+none_asked before now asked none same free = (
   record {
+    free = ap (λ (kept : FreeKept). kept.index.changes) free;
     each = λ a. ap (changes_of a) same;
     others = λ a other. record { reckoned = ap (reckoned_of a) same; work = ap (work_of a) same };
     one = λ a this. absurd (let both = sym none ∙ this in cc);
@@ -190,6 +193,7 @@ pub kept_up_left :
     (before mid now : Kept) (asked : Option ℕ) → AreKeptUp before mid asked → AreLeft mid now
     → AreKeptUp before now asked
 kept_up_left before mid now asked up left = record {
+  free = left.free ∙ up.free;
   each = λ a. left.each a ∙ up.each a;
   others = λ a other.
       let same = up.others a other in

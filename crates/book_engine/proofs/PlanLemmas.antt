@@ -3,6 +3,7 @@
 use Rattle.std.proofs.Common.{◌≡◌, ◌≢◌, ℕ, ◌+◌, ◌==◌, ◌||◌, Bool, true, false, if◌then◌else◌, IsTrue}
 use Rattle.std.proofs.Common.{List, [], None, Option, Result, Ok, Err, IfOk, inl, inr, refl, sym, ap, ◌∙◌, subst, arith}
 use Rattle.std.proofs.lemmas.Bool.Decides.{nat_tests}
+use Rattle.book_free.specs.declared.moves.Move.{Move}
 use Rattle.book_keeper.specs.declared.row.Change.{Change}
 use Rattle.book_undo.specs.Edit.{Leaf, edited, is_nothing, outline}
 use Rattle.book_undo.specs.EditRules.{IsAllowed}
@@ -42,6 +43,7 @@ use Rattle.book_turns.proofs.TurnLemmas.{changed_whole, kept_can, kept_saved, ke
 use Rattle.book_engine.specs.Books.{machine_of}
 use Rattle.book_engine.specs.Machine.{Done, Machine, Reply, asked, changed, reply, unless_broken, updated}
 use Rattle.book_engine.specs.Planned.{IsExactTurn, IsPlanTo, IsRefusal, IsTurnPlan, Planned, stay_plan, turn_plan}
+use Rattle.book_engine.specs.Planned.{with_moves}
 use Rattle.book_engine.proofs.MachineLemmas.{changed_machine, redone_machine, undone_machine}
 
 -- Each turn that moves raises the version by one.
@@ -301,3 +303,22 @@ pub ok_with :
     → IfOk result P → IfOk result Q → IfOk result R
 ok_with (Ok value) P Q R both p q = both value p q
 ok_with (Err why) P Q R both p q = tt
+
+-- A plan comes to the same reply with what becomes of the free splits.
+pub plan_with : (state : State) (saved : Bool) (reply : Reply) (plan : Planned) (moves : List (ℕ × Move))
+    → IsPlanTo state saved reply plan → IsPlanTo state saved reply (with_moves moves plan)
+plan_with state saved reply plan moves is = record {
+  made = is.made;
+  whole = is.whole;
+  allowed = is.allowed;
+  book = is.book;
+  shallow = is.shallow;
+  can = is.can;
+  exact = is.exact;
+  back = is.back;
+  version_is = is.version_is;
+  changes_where = is.changes_where;
+  changes_are = is.changes_are;
+  rise = is.rise;
+  stand = is.stand;
+}

@@ -1,5 +1,6 @@
 -- What an engine keeps, seen as the state whose rows a keeper holds.
 use Rattle.std.specs.Prelude.{ℕ, Bool, List}
+use Rattle.book_free.specs.Kept as free
 use Rattle.book_ledger.specs.Ledger.{Keeps}
 use Rattle.book_ledger.specs.Page.{Page}
 use Rattle.book_undo.specs.Book.{book_of}
@@ -9,13 +10,14 @@ use Rattle.book_turns.specs.Whole.{IsWhole}
 use Rattle.book_engine.specs.declared.engine.Engine.TheInside.{Inside}
 
 -- The state, with its steps; whether a keeper was given the rows of a state, which until then is the fresh one; the
--- tables that hold the book; the registers of its accounts, with their lots; and for how many more steps back and forth
--- there is room.
+-- tables that hold the book; the registers of its accounts, with their lots; what is kept of its free splits; and for how
+-- many more steps back and forth there is room.
 pub record Kept : Type 0 where
   pub state : State
   pub saved : Bool
   pub plain : Plain
   pub registers : List (ℕ × Page)
+  pub free : free.Kept
   pub back_room : ℕ
   pub forth_room : ℕ
 
@@ -26,11 +28,14 @@ kept_by engine = record {
   saved = engine.saved;
   plain = engine.state.plain;
   registers = engine.registers.entries;
+  free = engine.free;
   back_room = engine.state.back.spare;
   forth_room = engine.state.forth.spare;
 }
 
--- What holds of every engine: its state is whole, and its registers are those of its book.
+-- What holds of every engine: its state is whole, its registers are those of its book, and so is what it keeps of the free
+-- splits.
 pub record IsKept (engine : Inside) : Type 0 where
   pub whole : IsWhole (state_of engine.state) engine.saved
   pub registers : Keeps engine.registers.entries (book_of engine.state.plain)
+  pub free : free.Keeps engine.free (book_of engine.state.plain)

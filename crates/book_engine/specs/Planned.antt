@@ -4,6 +4,9 @@ use Rattle.std.specs.Prelude.{Some}
 use Rattle.book_keeper.specs.Rows.{AreRising, after_changes}
 use Rattle.book_keeper.specs.declared.row.Change.{Change}
 use Rattle.book_keeper.specs.declared.row.Row.{Row}
+use Rattle.book_free.specs.Kept.{HasRoomFor as HasFreeRoomFor}
+use Rattle.book_free.specs.Moves.{AreMoves}
+use Rattle.book_free.specs.declared.moves.Move.{Move}
 use Rattle.book_ledger.specs.Room.{IsReady}
 use Rattle.book_undo.specs.Edit.{depth, edited, leaves, outline}
 use Rattle.book_undo.specs.EditRules.{IsAllowed}
@@ -29,16 +32,24 @@ use Rattle.book_engine.specs.Books.{machine_of}
 use Rattle.book_engine.specs.Machine.{Broken, Done, Reply, step}
 use Rattle.book_engine.specs.declared.plan.Plan.TheInside.{Inside}
 
--- What becomes of the state; the version after it; the answer; and the changes of the rows.
+-- What becomes of the state; the version after it; the answer; the changes of the rows; and what becomes of the free
+-- splits.
 pub record Planned : Type 0 where
   pub turn : Turn
   pub version : ℕ
   pub answer : Answer
   pub changes : List Change
+  pub moves : List (ℕ × Move)
 
 -- What a plan holds.
 abbrev pub planned_by : Inside → Planned
-planned_by plan = record { turn = plan.turn; version = plan.version; answer = plan.answer; changes = plan.changes }
+planned_by plan = record {
+  turn = plan.turn;
+  version = plan.version;
+  answer = plan.answer;
+  changes = plan.changes;
+  moves = plan.moves;
+}
 
 -- The state after a plan.
 abbrev pub after : State → Planned → State
@@ -55,6 +66,7 @@ stay_plan state answer = record {
   version = state.version;
   answer = answer;
   changes = [];
+  moves = [];
 }
 
 -- The plan of a turn.
@@ -64,6 +76,7 @@ turn_plan saved state turn answer = record {
   version = (turned turn state).version;
   answer = answer;
   changes = changes_to saved state turn;
+  moves = [];
 }
 
 -- A change of the book has a leaf for each key at which the books before and after it differ, and for no other; and so
@@ -97,15 +110,30 @@ abbrev pub IsPlanOf : State → Bool → Command → Planned → Type 0
 IsPlanOf state saved command plan = IsPlanTo state saved (step (machine_of state) command) plan
 
 -- The plan is that of some command.
-pub record IsPlanFor (state : State) (saved : Bool) (plan : Planned) : Type 0 where
+pub record IsPlanned (state : State) (saved : Bool) (plan : Planned) : Type 0 where
   pub command : Command
   pub plan_of : IsPlanOf state saved command plan
 
--- There is room for what a plan puts: in the tables of the book and in the registers, and for one more step back or
--- forth.
+-- The plan with what becomes of the free splits.
+abbrev pub with_moves : List (ℕ × Move) → Planned → Planned
+with_moves moves plan = record plan { moves = moves }
+
+-- What becomes of the free splits is what the edit of a plan makes of them.
+abbrev pub HasMoves : State → Planned → Type 0
+HasMoves state plan = AreMoves state.book (edited plan.turn.edit state.book) plan.moves
+
+-- The plan is that of some command, and has what becomes of the free splits.
+pub record IsPlanFor (state : State) (saved : Bool) (plan : Planned) : Type 0 where
+  pub command : Command
+  pub plan_of : IsPlanOf state saved command plan
+  pub moves_are : HasMoves state plan
+
+-- There is room for what a plan puts: in the tables of the book, in the registers and in what is kept of the free splits,
+-- and for one more step back or forth.
 pub record HasRoomFor (kept : Kept) (plan : Planned) : Type 0 where
   pub things : HasRoom kept.plain plan.turn.edit
   pub rows : IsReady kept.registers (leaves plan.turn.edit)
+  pub free : HasFreeRoomFor kept.free plan.moves
   pub back : 1 ≤ kept.back_room
   pub forth : 1 ≤ kept.forth_room
 

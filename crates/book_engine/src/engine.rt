@@ -1,5 +1,7 @@
 ghost use Rattle.std.specs.Prelude.{◌≡◌, ◌||◌, List, IfOk, IfErr, OnOk, OnErr, IsTrue, option_map};
 ghost use Rattle.std.specs.Option.{option_copied};
+ghost use Rattle.book_free.specs.FreeSplits.{free_splits};
+ghost use Rattle.book_free.specs.Kept.{Keeps as KeepsFree};
 ghost use Rattle.book_keeper.specs.Keeping.{HasKeepCause};
 ghost use Rattle.book_keeper.specs.declared.row.Row.{Row as HeldRow};
 ghost use Rattle.book_ledger.specs.Ledger.{Keeps, live_register};
@@ -14,7 +16,8 @@ ghost use Rattle.book_engine.specs.Changed.{live_changes, live_lots};
 ghost use Rattle.book_engine.specs.Books.{machine_of};
 ghost use Rattle.book_engine.specs.Machine.{Done, step as step_from};
 ghost use Rattle.book_engine.specs.Opening.{HasOpenCause, IsOpenedAs, Opened};
-ghost use Rattle.book_engine.specs.Planned.{after, commits, HasRoomFor, IsPlanFor, IsPlanOf, IsRefusal};
+ghost use Rattle.book_engine.specs.Planned.{after, commits, HasMoves, HasRoomFor, IsPlanFor, IsPlanned, IsPlanOf};
+ghost use Rattle.book_engine.specs.Planned.{IsRefusal, with_moves};
 ghost use Rattle.book_engine.specs.Standing.{Stands};
 
 use crate::opening::{begin, checked, open_error};
@@ -22,9 +25,11 @@ use crate::planning::plan_of;
 use crate::{OpenError, Plan};
 use book_command::What;
 use book_commodity::{OutOfMemory, discard};
+use book_free::FreeSplits;
 use book_keeper::{KeepError, Keeper};
 use book_ledger::Registers;
 use book_lots::Lots;
+use book_match::AmountIndex;
 use book_opening::{Saved, read_rows};
 use book_register::Register;
 use book_report_answers::{is_security, lots_asked};
@@ -41,6 +46,7 @@ pub struct Engine {
     pub(crate) alloc: Global,
     pub(crate) state: Saved,
     pub(crate) registers: Registers,
+    pub(crate) free: FreeSplits,
     pub(crate) saved: bool,
 }
 
@@ -115,6 +121,16 @@ impl Engine {
         self.registers.lots(account)
     }
 
+    /// The splits of the present book that a line of a bank statement may be matched with, by account and amount: those
+    /// that aren't reconciled and that no line is matched with.
+    pub fn free(&self) -> &AmountIndex
+        ensures entries { result.now.entries ≡ free_splits self.now.state.book }
+        ensures changes { result.now.changes ≡ self.now.free.index.changes }
+    {
+        let _ = &self.saved;
+        self.free.index()
+    }
+
     /// The present book.
     pub fn plain(&self) -> &Plain
         ensures { result.now ≡ self.now.plain }
@@ -127,6 +143,7 @@ impl Engine {
     /// they are brought up to its register. Refused by the first rule that the command breaks, or out of memory.
     pub fn prepare(&mut self, command: Command) -> Result<Plan, Refusal>
         ensures planned { IfOk result (IsPlanOf self.old.state self.old.saved command) }
+        ensures moves { IfOk result (HasMoves self.old.state) }
         ensures room { IfOk result (HasRoomFor self.new) }
         ensures refused { IfErr result (IsRefusal (step_from (machine_of self.old.state) command)) }
         ensures unchanged { IsUnchanged self.old self.new }
@@ -142,15 +159,37 @@ impl Engine {
             self.alloc,
             &self.state,
             &self.registers,
+            &self.free,
             self.saved,
             command,
         ) {
             Ok(plan) => plan,
             Err(refusal) => return Err(refusal),
         };
+        match self.ready(plan) {
+            Ok(plan) => Ok(plan),
+            Err(OutOfMemory) => Err(Refusal::OutOfMemory),
+        }
+    }
+
+    /// Adds to a plan what becomes of the free splits, and makes room for what it puts.
+    fn ready(&mut self, plan: Plan) -> Result<Plan, OutOfMemory>
+        requires { IsPlanned self.old.state self.old.saved plan }
+        ensures plan { IfOk result (λ ready. ready ≡ with_moves ready.moves plan) }
+        ensures moves { IfOk result (HasMoves self.old.state) }
+        ensures room { IfOk result (HasRoomFor self.new) }
+        ensures unchanged { IsUnchanged self.old self.new }
+        ensures left { AreLeft self.old self.new }
+        ensures sound { IsSound (step_state self.new.state) }
+    {
+        let moves = match self.free.moves(self.alloc, &self.state.plain, plan.edit()) {
+            Ok(moves) => moves,
+            Err(error) => return Err(discard(plan, error)),
+        };
+        let plan = plan.with_moves(moves);
         match self.make_room(&plan) {
             Ok(()) => Ok(plan),
-            Err(OutOfMemory) => Err(discard(plan, Refusal::OutOfMemory)),
+            Err(error) => Err(discard(plan, error)),
         }
     }
 
@@ -168,7 +207,7 @@ impl Engine {
         }
     }
 
-    /// Makes room for what the plan puts: things, rows of registers, and a step back or forth.
+    /// Makes room for what the plan puts: things, rows of registers, free splits, and a step back or forth.
     fn make_room(&mut self, plan: &Plan) -> Result<(), OutOfMemory>
         ensures room { OnOk result (HasRoomFor self.new plan.now) }
         ensures unchanged { IsUnchanged self.old self.new }
@@ -177,12 +216,13 @@ impl Engine {
         self.state.plain.reserve_for(plan.edit())?;
         self.state.back.reserve(1)?;
         self.state.forth.reserve(1)?;
-        self.registers.reserve_for(plan.edit())
+        self.registers.reserve_for(plan.edit())?;
+        self.free.reserve_for(&plan.moves)
     }
 
     /// Finishes what was prepared and hands out its answer: where the plan commits, the keeper makes its changes of
     /// rows, and then the state is changed, which can't fail and takes no memory: in each register only the rows that
-    /// differ are taken out and put in. An error is that of the commit, and then all is as before, the keeper's rows
+    /// differ are taken out and put in, and in the index only the splits that are free before it or after it alone. An error is that of the commit, and then all is as before, the keeper's rows
     /// too.
     pub fn finish<K: Keeper>(&mut self, keeper: &mut K, plan: Plan) -> Result<Answer, KeepError>
         requires made { IsPlanFor self.old.state self.old.saved plan }
@@ -216,6 +256,7 @@ impl Engine {
     fn sound(&self)
         ensures whole { IsWhole self.now.state self.now.saved }
         ensures registers { Keeps self.now.registers self.now.state.book }
+        ensures free { KeepsFree self.now.free self.now.state.book }
     {
         let _ = &self.saved;
     }
@@ -236,8 +277,10 @@ impl Engine {
             version: _,
             answer,
             changes: _,
+            moves,
         } = plan;
         self.registers.apply(&self.state.plain, &turn.edit);
+        self.free.follow(&moves);
         make_turn(self.alloc, &mut self.state, turn);
         self.saved = saved;
         answer

@@ -1,17 +1,23 @@
 ghost use Rattle.std.specs.Prelude.{◌≡◌, IfOk, IfErr, true};
+ghost use Rattle.book_free.specs.Kept.{Keeps as KeepsFree};
+ghost use Rattle.book_ledger.specs.Ledger.{Keeps};
 ghost use Rattle.book_opening.specs.Reading.{IsReadable};
 ghost use Rattle.book_opening.specs.State.{state_of};
+ghost use Rattle.book_sound.specs.Soundness.{IsSoundBook};
 ghost use Rattle.book_state_check.specs.SoundState.{IsSoundState};
 ghost use Rattle.book_step.specs.Soundness.{IsSound};
 ghost use Rattle.book_turns.specs.Whole.{step_state};
+ghost use Rattle.book_undo.specs.Book.{book_of};
 ghost use Rattle.book_engine.specs.Opening.{IsBegun, IsChecked, open_error};
 
 use crate::{Engine, OpenError};
-use book_commodity::{OutOfMemory, Table};
+use book_commodity::{OutOfMemory, Table, discard};
+use book_free::FreeSplits;
 use book_ledger::Registers;
 use book_opening::{OpenFault, Saved};
 use book_state_check::first_unsound_key;
 use book_turns::{FIRST_NUMBER, fresh_book};
+use book_undo::Plain;
 use std::alloc::Global;
 
 /// The engine of the fresh state, before a keeper was given rows.
@@ -33,11 +39,12 @@ pub(crate) fn begin(alloc: Global) -> Result<Engine, OpenError>
         back: Table::new(alloc),
         forth: Table::new(alloc),
     };
-    match Registers::of(alloc, &state.plain) {
-        Ok(registers) => Ok(Engine {
+    match kept_of(alloc, &state.plain) {
+        Ok((registers, free)) => Ok(Engine {
             alloc,
             state,
             registers,
+            free,
             saved: false,
         }),
         Err(OutOfMemory) => Err(OpenError::OutOfMemory),
@@ -67,14 +74,28 @@ fn kept(alloc: Global, state: Saved) -> Result<Engine, OpenError>
     ensures kept { IfOk result (λ engine. (engine.state ≡ state_of state) × (engine.saved ≡ true)) }
     ensures memory { IfErr result (λ error. error ≡ OpenError.OutOfMemory) }
 {
-    match Registers::of(alloc, &state.plain) {
-        Ok(registers) => Ok(Engine {
+    match kept_of(alloc, &state.plain) {
+        Ok((registers, free)) => Ok(Engine {
             alloc,
             state,
             registers,
+            free,
             saved: true,
         }),
         Err(OutOfMemory) => Err(OpenError::OutOfMemory),
+    }
+}
+
+/// What is kept beside a sound book: the registers of its accounts, and its free splits.
+fn kept_of(alloc: Global, plain: &Plain) -> Result<(Registers, FreeSplits), OutOfMemory>
+    requires { IsSoundBook (book_of plain.now) }
+    ensures registers { IfOk result (λ kept. Keeps kept.0.entries (book_of plain.now)) }
+    ensures free { IfOk result (λ kept. KeepsFree kept.1 (book_of plain.now)) }
+{
+    let registers = Registers::of(alloc, plain)?;
+    match FreeSplits::of(alloc, plain) {
+        Ok(free) => Ok((registers, free)),
+        Err(error) => Err(discard(registers, error)),
     }
 }
 

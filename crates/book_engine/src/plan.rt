@@ -1,7 +1,8 @@
 ghost use Rattle.std.specs.Prelude.{◌≡◌};
-ghost use Rattle.book_engine.specs.Planned.{commits};
+ghost use Rattle.book_engine.specs.Planned.{commits, with_moves};
 
-use book_commodity::Many;
+use book_commodity::{Many, discard};
+use book_free::Moves;
 use book_keeper::Change;
 use book_step::Answer;
 use book_turns::Turn;
@@ -9,13 +10,14 @@ use book_undo::Edit;
 use std::marker::Model;
 
 /// A command that breaks no rule, ready to be finished: how it moves from the state, the version after it, the whole
-/// answer, and the changes of the rows. Contracts see exactly these.
+/// answer, the changes of the rows, and what becomes of the free splits. Contracts see exactly these.
 #[derive(Drop)]
 pub struct Plan {
     pub(crate) turn: Turn,
     pub(crate) version: u64,
     pub(crate) answer: Answer,
     pub(crate) changes: Many<Change>,
+    pub(crate) moves: Moves,
 }
 
 impl Model for Plan {
@@ -50,6 +52,27 @@ impl Plan {
         ensures { result ≡ self.now.version }
     {
         self.version
+    }
+
+    /// The plan with what becomes of the free splits.
+    pub(crate) fn with_moves(self, moves: Moves) -> Plan
+        ensures { result ≡ with_moves moves self }
+    {
+        let Plan {
+            turn,
+            version,
+            answer,
+            changes,
+            moves: none,
+        } = self;
+        let moves = discard(none, moves);
+        Plan {
+            turn,
+            version,
+            answer,
+            changes,
+            moves,
+        }
     }
 
     /// What changes in the book.

@@ -1,4 +1,5 @@
 ghost use Rattle.std.specs.Prelude.{◌≡◌, true, Ok, None, Some, IfOk, IfErr};
+ghost use Rattle.book_free.specs.Kept.{Keeps as KeepsFree};
 ghost use Rattle.book_ledger.specs.Ledger.{Keeps};
 ghost use Rattle.book_undo.specs.Edit.{outline};
 ghost use Rattle.book_undo.specs.EditRules.{IsAllowed};
@@ -27,6 +28,7 @@ use crate::Plan;
 use book_balances::answered_step;
 use book_command::{Report, What};
 use book_commodity::{Counted, Day, Many, OutOfMemory, discard};
+use book_free::{FreeSplits, Moves};
 use book_ledger::Registers;
 use book_opening::Saved;
 use book_report_answers::report_answer;
@@ -46,18 +48,20 @@ pub(crate) fn plan_of(
     alloc: Global,
     state: &Saved,
     registers: &Registers,
+    free: &FreeSplits,
     saved: bool,
     command: Command,
 ) -> Result<Plan, Refusal>
     requires whole { IsWhole (state_of state.now) saved }
     requires registers { Keeps registers.now.entries (state_of state.now).book }
+    requires free { KeepsFree free.now (state_of state.now).book }
     ensures planned { IfOk result (IsPlanOf (state_of state.now) saved command) }
     ensures refused { IfErr result (IsRefusal (step_from (machine_of (state_of state.now)) command)) }
 {
     if let Err(rule) = check_version(state.version, command.at) {
         return Err(Refusal::Broken(rule));
     }
-    plan_at(alloc, state, registers, saved, command.what)
+    plan_at(alloc, state, registers, free, saved, command.what)
 }
 
 /// The plan of what is asked at the present version.
@@ -65,17 +69,19 @@ fn plan_at(
     alloc: Global,
     state: &Saved,
     registers: &Registers,
+    free: &FreeSplits,
     saved: bool,
     what: What,
 ) -> Result<Plan, Refusal>
     requires whole { IsWhole (state_of state.now) saved }
     requires registers { Keeps registers.now.entries (state_of state.now).book }
+    requires free { KeepsFree free.now (state_of state.now).book }
     ensures planned { IfOk result (IsPlanTo (state_of state.now) saved
         (reply (machine_of (state_of state.now)) what)) }
     ensures refused { IfErr result (IsRefusal (reply (machine_of (state_of state.now)) what)) }
 {
     match what {
-        What::Update(update) => plan_update(alloc, state, registers, saved, update),
+        What::Update(update) => plan_update(alloc, state, registers, free, saved, update),
         What::Undo => plan_undo(alloc, state, saved),
         What::Redo => plan_redo(alloc, state, saved),
         What::Price {
@@ -199,6 +205,7 @@ fn plan_stay(alloc: Global, state: &Saved, answer: Answer) -> Plan
         version: state.version,
         answer,
         changes: Many::new(alloc),
+        moves: Moves::none(alloc),
     }
 }
 
@@ -207,11 +214,13 @@ fn plan_update(
     alloc: Global,
     state: &Saved,
     registers: &Registers,
+    free: &FreeSplits,
     saved: bool,
     update: Update,
 ) -> Result<Plan, Refusal>
     requires whole { IsWhole (state_of state.now) saved }
     requires registers { Keeps registers.now.entries (state_of state.now).book }
+    requires free { KeepsFree free.now (state_of state.now).book }
     ensures planned { IfOk result (IsPlanTo (state_of state.now) saved
         (updated (machine_of (state_of state.now)) (outcome (step_state (state_of state.now)) update))) }
     ensures refused { IfErr result (IsRefusal
@@ -223,6 +232,7 @@ fn plan_update(
         state.next,
         state.version,
         registers,
+        free.index(),
         update,
     ) {
         Ok(step) => step,
@@ -285,6 +295,7 @@ fn plan_turn(
             version: state.version + 1,
             answer,
             changes,
+            moves: Moves::none(alloc),
         }),
         Err(error) => Err(discard(turn, discard(answer, error))),
     }

@@ -59,7 +59,6 @@ pub mod SoundRuns
 pub mod SoundSchedules
 pub mod SoundStep
 pub mod SplitSearchLemmas
-pub mod SplitsOnce
 pub mod TableWalkLemmas
 pub mod ThereLemmas
 pub mod Worked

@@ -19,9 +19,10 @@ use Rattle.book_match.specs.declared.views.Matched.{Matched}
 use Rattle.book_sound.specs.LineRules.{fits_line, split_at}
 use Rattle.book_sound.specs.Soundness.{IsSoundBook}
 use Rattle.book_undo.specs.Book.{Book}
+use Rattle.book_free.specs.FreeSplits.{free_splits, has_matched, is_matched}
 use Rattle.book_step.specs.AutoMatching.{matches, split_of}
 use Rattle.book_step.specs.BankLines.{is_open}
-use Rattle.book_step.specs.Matchable.{free_splits, has_matched, is_matched, open_lines}
+use Rattle.book_step.specs.Matchable.{open_lines}
 use Rattle.book_step.proofs.MatchableLemmas.{IsFreeSplit, IsOpenLine, lines_hold, splits_hold}
 use Rattle.book_step.proofs.PairedEdits.{TakeOpen}
 use Rattle.book_step.proofs.PairedLines.{TakeFree}

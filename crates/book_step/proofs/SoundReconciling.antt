@@ -38,7 +38,7 @@ use Rattle.book_step.proofs.ExactReconciling.{marks_alone}
 use Rattle.book_step.proofs.ReconcileLemmas.{AreListed, cleared_are_listed, marked_below, marked_once}
 use Rattle.book_step.proofs.RemarkTable.{all_remarked-drawn, all_remarked-sound}
 use Rattle.book_step.proofs.SoundOutcome.{changing_done, sound_after}
-use Rattle.book_step.proofs.SplitsOnce.{splits_once}
+use Rattle.book_free.proofs.SplitsOnce.{splits_once}
 
 -- ---- the splits are rightly marked
 

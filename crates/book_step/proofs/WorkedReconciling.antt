@@ -119,7 +119,7 @@ a_day_before = refl
 no_account : reply (outcome cleared (Reconcile 7 (pos 19753) (pos 0))) ≡ Refused (Unknown kind.Account 7)
 no_account = refl
 
--- nothing is cleared: an account without splits closes at 0, and one that is reconciled at what is
+-- nothing is cleared or reconciled: the account closes at 0, and nothing is marked
 nothing_cleared :
     reply (outcome (with (winter New New None)) (Reconcile 3 (pos 19753) (pos 0)))
     ≡ Answered (answer.Reconcile 20 []) 5

@@ -14,13 +14,14 @@ use Rattle.book_match.specs.declared.views.Matched.{Matched}
 use Rattle.book_undo.specs.Book.{Book}
 use Rattle.book_undo.specs.declared.edit.Edit.{Edit}
 use Rattle.book_import.specs.Edits.{line_edits}
+use Rattle.book_free.specs.FreeSplits.{free_splits}
 use Rattle.book_command.specs.declared.answer.Answer.TheVariants as answer
 use Rattle.book_command.specs.declared.rule.Rule.{Rule}
 use Rattle.book_command.specs.declared.rule.Rule.TheVariants.{Limit}
 use Rattle.book_step.specs.Accounts.{unknown_account}
 use Rattle.book_step.specs.Importing.{whole_edit}
 use Rattle.book_step.specs.LineAdding.{matched_with}
-use Rattle.book_step.specs.Matchable.{free_splits, open_lines}
+use Rattle.book_step.specs.Matchable.{open_lines}
 use Rattle.book_step.specs.Outcome.{Outcome, changing, leaving}
 use Rattle.book_step.specs.Remarking.{all_remarked, remarking}
 use Rattle.book_step.specs.State.{State}

@@ -1,9 +1,10 @@
 //! The step that each change of a book takes. In `specs/` stands what such a command comes to, family by family, and
 //! the state that it is asked in; `step_of` reports what it comes to in a book, and changes nothing. `check_version`
 //! asks of any command whether it is for the present version. `rate_answer` answers what a commodity is worth on a
-//! day, `due_answer` which days of the schedules are due, and `lines_answer` and `statements_answer` what the bank
-//! statements of an account are. The types of commands, answers and rules come from `book_command`. Public are these,
-//! `Step`, `step_of`, `check_version` and the four functions that answer.
+//! day, `due_answer` which days of the schedules are due, `lines_answer` and `statements_answer` what the bank
+//! statements of an account are, and `recons_answer` what its reconciliations are. The types of commands, answers and
+//! rules come from `book_command`. Public are these, `Step`, `step_of`, `check_version` and the five functions that
+//! answer.
 #![tactic(auto)]
 
 mod account_edit;

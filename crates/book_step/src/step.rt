@@ -5,6 +5,7 @@ ghost use Rattle.book_command.specs.declared.command.Update.TheVariants.{Import}
 ghost use Rattle.book_undo.specs.Book.{book_of};
 ghost use Rattle.book_undo.specs.Edit.{edited, is_nothing};
 ghost use Rattle.book_undo.specs.Exact.{IsExact};
+ghost use Rattle.book_free.specs.FreeSplits.{free_splits};
 ghost use Rattle.book_step.specs.Laws.{HasFile, KeepsLines, KeepsStatements};
 ghost use Rattle.book_step.specs.Outcome.{ChangesBy, LeavesBy, StepsTo, numbers};
 ghost use Rattle.book_step.specs.Soundness.{IsSound};
@@ -30,6 +31,7 @@ use crate::schedule_runs::schedule_run;
 use crate::schedules::{schedule_add, schedule_drop};
 use crate::{Answer, Refusal, Rule, Update};
 use book_commodity::{Counted, discard};
+use book_match::AmountIndex;
 use book_undo::{Edit, Plain};
 use std::alloc::Global;
 
@@ -84,7 +86,8 @@ impl Step {
 /// are. It is broken with the first rule in its order that it breaks; else it is done by the step, whose edit has a
 /// leaf for each key at which the book becomes different and for no other. The version is the same after it if the edit
 /// changes nothing, and one more if not. The answer is whole but for its balances. Out of memory where there is none
-/// for texts, for the edit or for the answer. Whether the change is for this version is asked by `check_version`.
+/// for texts, for the edit or for the answer. Whether the change is for this version is asked by `check_version`. The
+/// index holds exactly the splits of the book that may be matched.
 ///
 /// Whatever the change is, the edit leaves each bank statement of the book as it is, and each of their lines but for
 /// what became of it. An import of a file that is all in the book changes nothing.
@@ -93,9 +96,11 @@ pub fn step_of(
     plain: &Plain,
     next: u64,
     version: u64,
+    index: &AmountIndex,
     update: Update,
 ) -> Result<Step, Refusal>
-    requires { IsSound (state_of plain.now next version) }
+    requires sound { IsSound (state_of plain.now next version) }
+    requires index { index.now.entries ≡ free_splits (book_of plain.now) }
     ensures steps { StepsTo (state_of plain.now next version) (outcome (state_of plain.now next version) update) result }
     ensures lines { IfOk result (λ step. KeepsLines (book_of plain.now) (edited step.edit (book_of plain.now))) }
     ensures statements { IfOk result (λ step. KeepsStatements (book_of plain.now) (edited step.edit (book_of plain.now))) }
@@ -108,11 +113,12 @@ pub fn step_of(
         next,
         version,
     };
-    step_at(present, update)
+    step_at(present, index, update)
 }
 
 /// What a change comes to that is asked of the present state.
-fn step_at(present: &Present, update: Update) -> Result<Step, Refusal>
+fn step_at(present: &Present, index: &AmountIndex, update: Update) -> Result<Step, Refusal>
+    requires { index.now.entries ≡ free_splits present.now.book }
     ensures { StepsTo present.now (outcome present.now update) result }
 {
     match update {
@@ -153,7 +159,7 @@ fn step_at(present: &Present, update: Update) -> Result<Step, Refusal>
             force,
         } => mark(present, split, cleared, force),
         Update::LineMatch { line, split } => line_match(present, line, split),
-        Update::MatchAuto { account, window } => match_auto(present, account, window),
+        Update::MatchAuto { account, window } => match_auto(present, index, account, window),
         Update::Reconcile {
             account,
             day,

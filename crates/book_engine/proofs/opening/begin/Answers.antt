@@ -27,7 +27,8 @@ invariant_of-result c =
           ∙ ap (λ (back : List (ℕ × Edit)). Of fresh_book back c.new-2.result.entries) c.new.ensures
           ∙ ap (Of fresh_book []) c.new-2.ensures))
           fresh_whole;
-      registers = c.in-Ok-of.ensures;
+      registers = c.in-Ok-kept_of.ensures.registers;
+      free = c.in-Ok-kept_of.ensures.free;
     }
 
 pub returns-in-Ok-of-clause-sound : goal.returns-in-Ok-of-clause-sound

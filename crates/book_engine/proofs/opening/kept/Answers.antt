@@ -1,13 +1,13 @@
-use Rattle.book_balances.proofs.MoveLemmas.{has_places}
 use Rattle.book_opening.specs.State.{state_of}
 use Rattle.book_engine.proofs.WholeLemmas.{sound_whole}
 use Rattle.book_engine.proofs.opening.kept.Goals as goal
 
-pub of-requires : goal.of-requires
-of-requires c = has_places (state_of c.args.state).book c.requires.book
+pub kept_of-requires : goal.kept_of-requires
+kept_of-requires c = c.requires.book
 
 pub invariant_of-result : goal.invariant_of-result
 invariant_of-result c = record {
   whole = sound_whole (state_of c.args.state) c.requires;
-  registers = c.in-Ok.ensures;
+  registers = c.in-Ok.ensures.registers;
+  free = c.in-Ok.ensures.free;
 }

@@ -1,5 +1,5 @@
 use Rattle.book_undo.specs.Book.{book_of}
-use Rattle.book_step.proofs.SplitsOnce.{splits_once}
+use Rattle.book_free.proofs.SplitsOnce.{splits_once}
 use Rattle.book_step.proofs.reconciling.recons_answer.Goals as goal
 
 pub recons_of-requires : goal.recons_of-requires

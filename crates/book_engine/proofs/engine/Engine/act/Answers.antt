@@ -25,7 +25,7 @@ returns-in-Err-OutOfMemory-clause-stands g c = λ stands.
 pub returns-in-Ok-finish-clause-changes : goal.returns-in-Ok-finish-clause-changes
 returns-in-Ok-finish-clause-changes g c =
     risen_from c.args.self.now c.prepare.new.self c.finish.new.self c.prepare.ensures.unchanged.same_state
-    c.prepare.ensures.kept_up.each c.in-Ok-finish.ensures.changes
+    c.prepare.ensures.kept_up.each c.prepare.ensures.kept_up.free c.in-Ok-finish.ensures.changes
 
 pub returns-in-Ok-finish-clause-acted : goal.returns-in-Ok-finish-clause-acted
 returns-in-Ok-finish-clause-acted g c = record {

@@ -37,8 +37,9 @@ returns-clause-changes c =
       alloc = c.self.inside.alloc;
       state = c.make_turn.new.state;
       registers = c.apply.new.self;
+      free = c.follow.new.self;
       saved = c.if-self.saved;
     }) in
     subst (λ (k : Kept). AreChanged k new) c.self.view_is
     (changed_by (kept_by c.self.inside) new turn c.make_turn.ensures book c.apply.ensures.changes
-    c.apply.ensures.left c.apply.ensures.work)
+    c.apply.ensures.left c.apply.ensures.work ?)

@@ -2,20 +2,20 @@ use Rattle.book_report_answers.specs.LotsAsked.{lots_asked}
 use Rattle.book_engine.proofs.LotsLemmas.{kept_up_left, reckoned_left}
 use Rattle.book_engine.proofs.engine.Engine.prepare.Goals as goal
 
-pub returns-in-Ok-make_room-clause-kept_up : goal.returns-in-Ok-make_room-clause-kept_up
-returns-in-Ok-make_room-clause-kept_up c =
-    kept_up_left c.args.self.now c.reckon_for.new.self c.make_room.new.self
+pub returns-in-Ok-ready-clause-kept_up : goal.returns-in-Ok-ready-clause-kept_up
+returns-in-Ok-ready-clause-kept_up c =
+    kept_up_left c.args.self.now c.reckon_for.new.self c.ready.new.self
     (lots_asked c.args.self.now.state.book.accounts c.args.command.what) c.reckon_for.ensures.kept_up
-    c.make_room.ensures.left
+    c.ready.ensures.left
 
-pub returns-in-Ok-make_room-clause-reckoned : goal.returns-in-Ok-make_room-clause-reckoned
-returns-in-Ok-make_room-clause-reckoned c =
-    reckoned_left c.args.self.now c.reckon_for.new.self c.make_room.new.self
+pub returns-in-Ok-ready-clause-reckoned : goal.returns-in-Ok-ready-clause-reckoned
+returns-in-Ok-ready-clause-reckoned c =
+    reckoned_left c.args.self.now c.reckon_for.new.self c.ready.new.self
     (lots_asked c.args.self.now.state.book.accounts c.args.command.what) c.in_default.ensures.reckoned
-    c.make_room.ensures.left
+    c.ready.ensures.left
 
-pub returns-in-Err-make_room-clause-kept_up : goal.returns-in-Err-make_room-clause-kept_up
-returns-in-Err-make_room-clause-kept_up c =
-    kept_up_left c.args.self.now c.reckon_for.new.self c.make_room.new.self
+pub returns-in-Err-ready-clause-kept_up : goal.returns-in-Err-ready-clause-kept_up
+returns-in-Err-ready-clause-kept_up c =
+    kept_up_left c.args.self.now c.reckon_for.new.self c.ready.new.self
     (lots_asked c.args.self.now.state.book.accounts c.args.command.what) c.reckon_for.ensures.kept_up
-    c.make_room.ensures.left
+    c.ready.ensures.left

@@ -1,4 +1,4 @@
-use Rattle.std.proofs.Common.{◌≡◌, ◌≤◌, All, Bool, List, Some, length, is_ok, sym, subst, ◌∙◌}
+use Rattle.std.proofs.Common.{◌≡◌, ◌≤◌, All, Bool, List, Some, length, is_ok, refl, sym, subst, ◌∙◌}
 use Rattle.book_ledger.specs.Lots.{IsBroughtUp}
 use Rattle.book_lots.specs.Lots.{IsSmall}
 use Rattle.book_opening.specs.State.{state_of}
@@ -29,13 +29,14 @@ returns-in-Some-clause-kept_up c =
       alloc = c.self.inside.alloc;
       state = c.self.inside.state;
       registers = c.reckon.new.self;
+      free = c.self.inside.free;
       saved = c.self.inside.saved;
     }) in
     let asks : lots_asked old.state.book.accounts c.args.what.now ≡ Some c.in-Some.account =
     sym c.lots_asked.ensures ∙ c.in-Some.is in
     subst (λ (k : Kept). AreKeptUp k new (lots_asked k.state.book.accounts c.args.what.now)) c.self.view_is
     (kept_up old new c.in-Some.account (is_ok c.reckon.result) (lots_asked old.state.book.accounts c.args.what.now)
-    asks c.self.invariant.registers c.reckon.ensures)
+    asks c.self.invariant.registers c.reckon.ensures refl)
 
 pub returns-in-Some-clause-reckoned : goal.returns-in-Some-clause-reckoned
 returns-in-Some-clause-reckoned c =
@@ -44,6 +45,7 @@ returns-in-Some-clause-reckoned c =
       alloc = c.self.inside.alloc;
       state = c.self.inside.state;
       registers = c.reckon.new.self;
+      free = c.self.inside.free;
       saved = c.self.inside.saved;
     }) in
     let asks : lots_asked old.state.book.accounts c.args.what.now ≡ Some c.in-Some.account =
