@@ -184,12 +184,12 @@ impl Engine {
     {
         let moves = match self.free.moves(self.alloc, &self.state.plain, plan.edit()) {
             Ok(moves) => moves,
-            Err(error) => return Err(discard(plan, error)),
+            Err(OutOfMemory) => return Err(discard(plan, OutOfMemory)),
         };
         let plan = plan.with_moves(moves);
         match self.make_room(&plan) {
             Ok(()) => Ok(plan),
-            Err(error) => Err(discard(plan, error)),
+            Err(OutOfMemory) => Err(discard(plan, OutOfMemory)),
         }
     }
 

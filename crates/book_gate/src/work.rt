@@ -51,11 +51,10 @@ fn check_lines(
 ) -> io::Result<u64> {
     let mut rows: u64 = 0;
     for line in lines {
-        let (mark, rest) = line.text.split_once(' ').unwrap_or((line.text, ""));
-        if mark == ">" {
+        if line.text.starts_with('>') {
             do_line(report, case, engine, keeper, *line)?;
         } else {
-            compare_work(report, case, engine, *line, rest)?;
+            compare_work(report, case, engine, *line)?;
             rows = rows.saturating_add(1);
         }
     }
@@ -85,23 +84,16 @@ fn act(alloc: Global, engine: &mut Engine, keeper: &mut MemKeeper, line: &str) -
     }
 }
 
-/// Compares the work of a register or of lots with what a line says: `register ACCOUNT CHANGES ROWS`, or
-/// `lots ACCOUNT RECKONED ROWS`.
+/// Compares the work of a register, of lots or of the index of free splits with what a line says:
+/// `register ACCOUNT CHANGES ROWS`, `lots ACCOUNT RECKONED ROWS`, or `free CHANGES SPLITS`.
 fn compare_work(
     report: &mut Report<'_>,
     case: Case<'_>,
     engine: &Engine,
     line: Line<'_>,
-    rest: &str,
 ) -> io::Result<()> {
-    let is_lots = match line.text.split_once(' ') {
-        Some(("lots", _)) => true,
-        Some(("register", _)) => false,
-        _ => return Err(unread()),
-    };
-    let (account, wanted) = rest.split_once(' ').unwrap_or((rest, ""));
-    let account = number(account)?;
-    let Some((work, rows)) = work_of(engine, account, is_lots)? else {
+    let (work, wanted) = asked_for(engine, line.text)?;
+    let Some((work, rows)) = work else {
         return report.fail(case.at(line.number), wanted, "none");
     };
     let came = format!(in report.alloc(); "{work} {rows}")?;
@@ -111,19 +103,32 @@ fn compare_work(
     report.fail(case.at(line.number), wanted, came.as_str())
 }
 
-/// Of the lots of an account, how many rows were reckoned so far and how many are now; of its register, how often it
-/// was changed, and how many rows it has.
-fn work_of(engine: &Engine, account: u64, is_lots: bool) -> io::Result<Option<(u64, usize)>> {
-    if is_lots {
-        return Ok(
-            engine
-                .lots(account)
-                .map(|lots| (lots.work(), lots.reckoned())),
-        );
+/// The work that a line asks for, if there is such a thing, and what the line wants of it.
+fn asked_for<'a>(engine: &Engine, text: &'a str) -> io::Result<(Option<(u64, usize)>, &'a str)> {
+    let (mark, rest) = text.split_once(' ').unwrap_or((text, ""));
+    if mark == "free" {
+        let free = engine.free();
+        return Ok((Some((free.changes(), free.as_slice().len())), rest));
     }
-    Ok(
-        engine
-            .register(account)
-            .map(|register| (register.changes(), register.len())),
-    )
+    let (account, wanted) = rest.split_once(' ').unwrap_or((rest, ""));
+    let account = number(account)?;
+    match mark {
+        "lots" => Ok((lots_work(engine, account), wanted)),
+        "register" => Ok((register_work(engine, account), wanted)),
+        _ => Err(unread()),
+    }
+}
+
+/// Of the lots of an account, how many rows were reckoned so far and how many are now.
+fn lots_work(engine: &Engine, account: u64) -> Option<(u64, usize)> {
+    engine
+        .lots(account)
+        .map(|lots| (lots.work(), lots.reckoned()))
+}
+
+/// Of the register of an account, how often it was changed, and how many rows it has.
+fn register_work(engine: &Engine, account: u64) -> Option<(u64, usize)> {
+    engine
+        .register(account)
+        .map(|register| (register.changes(), register.len()))
 }
