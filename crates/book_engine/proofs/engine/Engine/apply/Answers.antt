@@ -1,12 +1,16 @@
 use Rattle.std.proofs.Common.{◌≡◌, sym, subst}
+use Rattle.book_free.specs.Following.{CanFollow}
+use Rattle.book_free.specs.Kept.{HasRoomFor as HasFreeRoom, Keeps}
 use Rattle.book_ledger.specs.Ledger.{HasPlaces}
 use Rattle.book_opening.specs.State.{state_of}
 use Rattle.book_undo.specs.Book.{Book}
 use Rattle.book_undo.specs.Edit.{edited}
 use Rattle.book_engine.specs.Changed.{AreChanged}
 use Rattle.book_engine.specs.Kept.{Kept, kept_by}
-use Rattle.book_engine.specs.Planned.{Planned}
+use Rattle.book_engine.specs.Planned.{IsPlanFor, Planned, planned_by}
+use Rattle.book_sound.specs.Soundness.{IsSoundBook}
 use Rattle.book_turns.specs.Turned.{turned}
+use Rattle.book_turns.specs.Whole.{IsWhole}
 use Rattle.book_turns.specs.declared.turn.Turn.{Turn}
 use Rattle.book_engine.proofs.ChangedLemmas.{changed_by}
 use Rattle.book_balances.proofs.MoveLemmas.{has_places}
@@ -23,6 +27,42 @@ apply-requires-clause-new_places c =
     subst (λ (k : Kept). HasPlaces (edited c.plan-2.inside.turn.edit k.state.book).transactions) (sym c.self.view_is)
     (subst (λ (p : Planned). HasPlaces (edited p.turn.edit c.args.self.now.state.book).transactions)
     (sym c.plan-2.view_is) led)
+
+-- The moves are those of the edit, and both books are sound.
+can_at : (now : Kept) (plan : Planned) → IsPlanFor now.state now.saved plan → IsWhole now.state now.saved
+    → Keeps now.free now.state.book
+    → CanFollow now.free plan.moves now.state.book (edited plan.turn.edit now.state.book)
+can_at now plan made whole keeps = record {
+  kept_of = keeps;
+  sound = whole.sound.book;
+  later_sound = subst IsSoundBook made.plan_of.book made.plan_of.whole.sound.book;
+  moves_are = made.moves_are;
+}
+
+follows_from : (c : goal.After-apply)
+    → CanFollow c.self.inside.free c.plan-2.inside.moves (state_of c.self.inside.state).book
+    (edited c.plan-2.inside.turn.edit (state_of c.self.inside.state).book)
+follows_from c =
+    let now = c.args.self.now in
+    let Can : Kept → Planned → Type 0 = λ k p.
+    CanFollow k.free p.moves k.state.book (edited p.turn.edit k.state.book) in
+    subst (λ (k : Kept). Can k (planned_by c.plan-2.inside)) (sym c.self.view_is)
+    (subst (Can now) (sym c.plan-2.view_is)
+    (can_at now c.args.plan c.requires.made
+    (subst (λ (k : Kept). IsWhole k.state k.saved) c.self.view_is c.self.invariant.whole)
+    (subst (λ (k : Kept). Keeps k.free k.state.book) c.self.view_is c.self.invariant.free)))
+
+pub follow-requires-clause-room : goal.follow-requires-clause-room
+follow-requires-clause-room c =
+    subst (λ (k : Kept). HasFreeRoom k.free c.plan-2.inside.moves) (sym c.self.view_is)
+    (subst (λ (p : Planned). HasFreeRoom c.args.self.now.free p.moves) (sym c.plan-2.view_is) c.requires.room.free)
+
+pub follow-requires-clause-ready : goal.follow-requires-clause-ready
+follow-requires-clause-ready c = record {
+  old = (state_of c.self.inside.state).book;
+  new = edited c.plan-2.inside.turn.edit (state_of c.self.inside.state).book;
+  can = follows_from c;
+}
 
 pub returns-clause-changes : goal.returns-clause-changes
 returns-clause-changes c =
@@ -42,4 +82,6 @@ returns-clause-changes c =
     }) in
     subst (λ (k : Kept). AreChanged k new) c.self.view_is
     (changed_by (kept_by c.self.inside) new turn c.make_turn.ensures book c.apply.ensures.changes
-    c.apply.ensures.left c.apply.ensures.work ?)
+    c.apply.ensures.left c.apply.ensures.work
+    (c.follow.ensures (state_of c.self.inside.state).book (edited turn.edit (state_of c.self.inside.state).book)
+    (follows_from c)).changes)
