@@ -187,8 +187,8 @@ impl AmountIndex {
     }
 }
 
-/// Sorts splits by account, amount, day and number.
-fn sort(entries: &mut Vec<Free>) -> Result<(), OutOfMemory>
+/// Sorts splits by account, amount, day and number, as the index has them.
+pub fn sort(entries: &mut Vec<Free>) -> Result<(), OutOfMemory>
     ensures { OnOk result (entries.new.items ≡ ordered entries.old.items) }
 {
     entries.sort_by_key(|entry| {

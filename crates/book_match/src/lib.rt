@@ -15,7 +15,7 @@ mod rank;
 mod views;
 
 pub use free::Free;
-pub use index::AmountIndex;
+pub use index::{AmountIndex, sort};
 pub use kept::propose_kept;
 pub use proposal::propose;
 pub use views::{LineView, Matched, SplitView};
