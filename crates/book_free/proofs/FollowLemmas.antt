@@ -20,8 +20,8 @@ use Rattle.book_undo.specs.Book.{Book}
 use Rattle.book_free.specs.Following.{CanFollow, HasFollowed, come_of, coming, gone_of, leaving, listed, picked, same_free}
 use Rattle.book_free.specs.Following.{with_line, with_lines}
 use Rattle.book_free.specs.FreeSplits.{free_among, free_at, free_splits, is_matched, line_of}
-use Rattle.book_free.specs.Kept.{differing, Keeps, Kept}
-use Rattle.book_free.specs.Moves.{AreMoves, move_of}
+use Rattle.book_free.specs.Kept.{differing, Kept}
+use Rattle.book_free.specs.Moves.{AreMoves}
 use Rattle.book_free.specs.declared.moves.Move.{Move}
 use Rattle.book_free.proofs.DifferLemmas.{differs_with_all, differs_without_all, no_difference}
 use Rattle.book_free.proofs.FreeAtLemmas.{free_number, free_there, is_entry}

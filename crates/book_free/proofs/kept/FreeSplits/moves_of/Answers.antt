@@ -1,5 +1,5 @@
 -- The moves of the splits that were seen, table by table.
-use Rattle.std.proofs.Common.{ℕ, List, [], ap, ◌∙◌}
+use Rattle.std.proofs.Common.{ℕ, ap, ◌∙◌}
 use Rattle.std.proofs.lemmas.Result.{IfOk-weaker}
 use Rattle.book_free.specs.FreeSplits.{open_at}
 use Rattle.book_free.specs.Seen.{Seen, move_seen, moves_seen, noted}
