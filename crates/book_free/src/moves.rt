@@ -105,11 +105,7 @@ impl Moves {
 }
 
 /// Says what becomes of a split.
-pub(crate) fn add(
-    splits: &mut Table<Move>,
-    split: u64,
-    change: &Move,
-) -> Result<(), OutOfMemory>
+pub(crate) fn add(splits: &mut Table<Move>, split: u64, change: &Move) -> Result<(), OutOfMemory>
     ensures { OnOk result (splits.new.entries ≡ with_entry split change.now splits.old.entries) }
 {
     splits.reserve(1)?;
