@@ -1,54 +1,34 @@
 -- What is kept of the free splits of a book and follows moves to another is what is kept of that one, and the index is
 -- changed by the splits that are free in one of the two alone.
-use Rattle.std.proofs.Common.{◌≡◌, ℕ, ◌+◌, ◌-◌, ◌^◌, ◌<◌, ◌≤◌, min, ◌==◌, Bool, true, false, not, ◌&&◌, ◌||◌, if◌then◌else◌, List, [], ◌∷◌}
-use Rattle.std.proofs.Common.{All, cond, count_by, get_or, length, Option, Some, None, refl, sym, ap, subst, ◌∙◌, arith}
+use Rattle.std.proofs.Common.{◌≡◌, ℕ, ◌+◌, ◌-◌, ◌^◌, ◌≤◌, min, ◌==◌, Bool, true, false, not, ◌&&◌, ◌||◌, if◌then◌else◌}
+use Rattle.std.proofs.Common.{List, [], ◌∷◌, ◌++◌, length, Option, Some, None, refl, sym, ap, subst, ◌∙◌, arith}
 use Rattle.std.specs.Prelude.{⊤}
-use Rattle.std.proofs.lemmas.Bool.{eqb-true, or_from, or_parts}
+use Rattle.std.specs.Option.{option_and_then}
+use Rattle.std.proofs.lemmas.Bool.{eqb-true}
 use Rattle.std.proofs.lemmas.Bool.Decides.{nat_tests}
-use Rattle.std.proofs.lemmas.List.Elements.{All-cons, All-head, All-nil, All-tail, All-weaker}
-use Rattle.std.proofs.lemmas.List.Sums.{sum_by-cons}
-use Rattle.book_commodity.specs.Table.{AllAbove, Rises, value_of}
+use Rattle.book_commodity.specs.Table.{Rises, value_of}
 use Rattle.book_commodity.proofs.TableLemmas.{above_value, rises_with, rises_without, value_of_with, value_of_without}
-use Rattle.book_match.specs.AmountIndex.{PrecedesAll, is_same, is_there, precedes, with_free, without_free}
-use Rattle.book_match.specs.AmountIndex.{Rises as IndexRises}
+use Rattle.book_match.specs.AmountIndex.{AreAbsent, AreApart, AreThere, Index, Rises as IndexRises, is_same, is_there}
+use Rattle.book_match.specs.AmountIndex.{ordered, precedes, with_all, with_free, without_all}
 use Rattle.book_match.specs.declared.free.Free.{Free}
-use Rattle.book_match.proofs.IndexLaws.{before-itself, same-is, same-itself, same-rises, there-with, there-without}
-use Rattle.book_match.proofs.IndexLemmas.{rises-with, rises-without}
+use Rattle.book_match.proofs.IndexLaws.{are-absent, are-there, same-is, same-rises, there-ordered}
+use Rattle.book_match.proofs.ManyLemmas.{rises-with_all, rises-without_all, there-with_all, there-without_all}
 use Rattle.book_match.proofs.OrderedLemmas.{rises-ordered}
 use Rattle.book_sound.specs.Soundness.{IsSoundBook}
 use Rattle.book_sound.proofs.SplitFrames.{above_there}
 use Rattle.book_undo.specs.Book.{Book}
-use Rattle.book_free.specs.Following.{HasFollowed, IsSet, SomeFollow}
-use Rattle.book_free.specs.Following.{CanFollow, CanSet, CanSetAll, IsIn, cost, cost_of, count_of, followed, same_free}
-use Rattle.book_free.specs.Following.{set, with, with_line, with_lines, without}
+use Rattle.book_free.specs.Following.{CanFollow, HasFollowed, come_of, coming, gone_of, leaving, listed, picked, same_free}
+use Rattle.book_free.specs.Following.{with_line, with_lines}
 use Rattle.book_free.specs.FreeSplits.{free_among, free_at, free_splits, is_matched, line_of}
-use Rattle.book_free.specs.Kept.{differing, HasRoomFor, Keeps, Kept}
-use Rattle.book_free.specs.Moves.{AreMoves, IsUnmoved, move_of}
+use Rattle.book_free.specs.Kept.{differing, Kept}
+use Rattle.book_free.specs.Moves.{AreMoves}
 use Rattle.book_free.specs.declared.moves.Move.{Move}
+use Rattle.book_free.proofs.DifferLemmas.{differs_with_all, differs_without_all, no_difference}
 use Rattle.book_free.proofs.FreeAtLemmas.{free_number, free_there, is_entry}
 use Rattle.book_free.proofs.FreeLemmas.{free_apart}
 use Rattle.book_free.proofs.SplitsOnce.{splits_once}
 
--- ---- lists of splits that hold at most one of each number
-
--- A list holds what a function says of each number: at most one split, which has the number.
-pub record Holds (es : List Free) (says : ℕ → Option Free) : Type 0 where
-  pub rise : IndexRises es
-  pub there : (f : Free) → is_there f es ≡ is_entry (says f.split) f
-
--- What a function says of each number has the number.
-abbrev pub Numbered : (ℕ → Option Free) → Type 0
-Numbered says = (n : ℕ) (g : Free) → says n ≡ Some g → g.split ≡ n
-
--- What it says, but for one number.
-abbrev but : ℕ → Option Free → (ℕ → Option Free) → ℕ → Option Free
-but n o says s = if s == n then o else says s
-
-pub free_is : (o p : Option Free) → same_free o p ≡ true → o ≡ p
-free_is (Some a) (Some b) e = ap (λ (x : Free). Some x) (same-is a b e)
-free_is None None e = refl
-free_is (Some a) None e = absurd cc
-free_is None (Some b) e = absurd cc
+-- ---- what is picked of moves
 
 -- a split of another number is another
 apart : (f g : Free) (n : ℕ) → g.split ≡ n → (f.split == n) ≡ false → is_same f g ≡ false
@@ -64,380 +44,152 @@ entry_apart : (f : Free) (o : Option Free) (n : ℕ) → ((g : Free) → o ≡ S
 entry_apart f None n number other = refl
 entry_apart f (Some g) n number other = apart f g n (number g refl) other
 
-there_without : (f : Free) (o : Option Free) (es : List Free) → IndexRises es
-    → is_there f (without o es) ≡ (not (is_entry o f) && is_there f es)
-there_without f None es r = refl
-there_without f (Some g) es r = there-without f g es r
+-- What a function picks of each move has the number of the move.
+abbrev pub Own : (Move → Option Free) → List (ℕ × Move) → Type 0
+Own pick [] = ⊤
+Own pick (m ∷ ms) = ((g : Free) → pick m.1 ≡ Some g → g.split ≡ m.0) × Own pick ms
 
-there_with : (f : Free) (o : Option Free) (es : List Free) → is_there f (with o es) ≡ (is_entry o f || is_there f es)
-there_with f None es = refl
-there_with f (Some g) es = there-with f g es
+there_listed : (f : Free) (o : Option Free) (es : List Free)
+    → is_there f (listed o ++ es) ≡ (is_entry o f || is_there f es)
+there_listed f None es = refl
+there_listed f (Some g) es = refl
 
-rise_without : (o : Option Free) (es : List Free) → IndexRises es → IndexRises (without o es)
-rise_without None es r = r
-rise_without (Some g) es r = rises-without g es r
+or_none : (b : Bool) → (b || false) ≡ b
+or_none true = refl
+or_none false = refl
 
-rise_with : (o : Option Free) (es : List Free) → IndexRises es → IsIn false o es → IndexRises (with o es)
-rise_with None es r none = r
-rise_with (Some g) es r none = rises-with g es r none
-
--- ---- one split is set
-
--- where a list holds what a function says, the split of a number can be set
-pub can_set : (n : ℕ) (after : Option Free) (says : ℕ → Option Free) (es : List Free) → Holds es says → Numbered says
-    → ((g : Free) → after ≡ Some g → g.split ≡ n) → CanSet (says n) after es
-can_set n after says es holds numbered number = record {
-  there = stands (says n) refl;
-  absent = lacks after refl;
-}
+-- a split is picked where the move of its number has it
+there_picked : (pick : Move → Option Free) (ms : List (ℕ × Move)) (f : Free) → Rises ms → Own pick ms
+    → is_there f (picked pick ms) ≡ is_entry (option_and_then pick (value_of f.split ms)) f
+there_picked pick [] f r own = refl
+there_picked pick (m ∷ ms) f r own =
+    there_listed f (pick m.1) (picked pick ms)
+    ∙ ap (λ (b : Bool). is_entry (pick m.1) f || b) (there_picked pick ms f r.1 own.1)
+    ∙ by_number (f.split == m.0) refl
   where
-    stands : (o : Option Free) → says n ≡ o → IsIn true o es
-    stands None e = tt
-    stands (Some g) e =
-        holds.there g ∙ ap (λ (s : ℕ). is_entry (says s) g) (numbered n g e) ∙ ap (λ (o : Option Free). is_entry o g) e
-        ∙ same-itself g
+    by_number : (t : Bool) → (f.split == m.0) ≡ t
+        → (is_entry (pick m.1) f || is_entry (option_and_then pick (value_of f.split ms)) f)
+        ≡ is_entry (option_and_then pick (if t then Some m.1 else value_of f.split ms)) f
+    by_number true e =
+        let none : value_of f.split ms ≡ None =
+        ap (λ (k : ℕ). value_of k ms) (eqb-true f.split m.0 e) ∙ above_value m.0 ms r.0 in
+        ap (λ (o : Option Move). is_entry (pick m.1) f || is_entry (option_and_then pick o) f) none
+        ∙ or_none (is_entry (pick m.1) f)
+    by_number false e =
+        ap (λ (b : Bool). b || is_entry (option_and_then pick (value_of f.split ms)) f)
+        (entry_apart f (pick m.1) m.0 own.0 e)
 
-    other : (g : Free) (o : Option Free) → same_free o (Some g) ≡ false → is_entry o g ≡ false
-    other g None e = refl
-    other g (Some b) e = by_test (is_same g b) refl
-      where
-        by_test : (t : Bool) → is_same g b ≡ t → t ≡ false
-        by_test true f =
-            let one : is_same b g ≡ true = ap (is_same b) (same-is g b f) ∙ same-itself b in
-            absurd (let none = e in cc)
-        by_test false f = refl
-
-    lacks : (o : Option Free) → after ≡ o → same_free (says n) o ≡ false → IsIn false o es
-    lacks None e differs = tt
-    lacks (Some g) e differs =
-        holds.there g ∙ ap (λ (s : ℕ). is_entry (says s) g) (number g e) ∙ other g (says n) differs
-
--- and then it holds what the function says but for that number
-pub set_holds : (n : ℕ) (after : Option Free) (says : ℕ → Option Free) (es : List Free) → Holds es says → Numbered says
-    → ((g : Free) → after ≡ Some g → g.split ≡ n) → Holds (set (says n) after es) (but n after says)
-set_holds n after says es holds numbered number = by_same (same_free (says n) after) refl
+-- none is picked twice
+apart_picked : (pick : Move → Option Free) (ms : List (ℕ × Move)) → Rises ms → Own pick ms
+    → AreApart (picked pick ms)
+apart_picked pick [] r own = tt
+apart_picked pick (m ∷ ms) r own = one (pick m.1) own.0 (apart_picked pick ms r.1 own.1)
   where
-    can : CanSet (says n) after es
-    can = can_set n after says es holds numbered number
+    one : (o : Option Free) → ((g : Free) → o ≡ Some g → g.split ≡ m.0) → AreApart (picked pick ms)
+        → AreApart (listed o ++ picked pick ms)
+    one None number more = more
+    one (Some g) number more = (
+      there_picked pick ms g r.1 own.1
+          ∙ ap (λ (k : ℕ). is_entry (option_and_then pick (value_of k ms)) g) (number g refl)
+          ∙ ap (λ (o : Option Move). is_entry (option_and_then pick o) g) (above_value m.0 ms r.0),
+      more,
+    )
 
-    taken : List Free
-    taken = without (says n) es
-
-    still : says n ≡ after → (f : Free) (t : Bool) → (f.split == n) ≡ t
-        → is_there f es ≡ is_entry (if t then after else says f.split) f
-    still is f true e =
-        holds.there f ∙ ap (λ (s : ℕ). is_entry (says s) f) (eqb-true f.split n e)
-        ∙ ap (λ (o : Option Free). is_entry o f) is
-    still is f false e = holds.there f
-
-    none_left : (b : Bool) → (not b && b) ≡ false
-    none_left true = refl
-    none_left false = refl
-
-    or_none : (b : Bool) → (b || false) ≡ b
-    or_none true = refl
-    or_none false = refl
-
-    changed : (f : Free) (t : Bool) → (f.split == n) ≡ t
-        → (is_entry after f || (not (is_entry (says n) f) && is_there f es))
-        ≡ is_entry (if t then after else says f.split) f
-    changed f true e =
-        let here : is_there f es ≡ is_entry (says n) f =
-        holds.there f ∙ ap (λ (s : ℕ). is_entry (says s) f) (eqb-true f.split n e) in
-        ap (λ (b : Bool). is_entry after f || (not (is_entry (says n) f) && b)) here
-        ∙ ap (λ (b : Bool). is_entry after f || b) (none_left (is_entry (says n) f)) ∙ or_none (is_entry after f)
-    changed f false e =
-        ap (λ (b : Bool). b || (not (is_entry (says n) f) && is_there f es)) (entry_apart f after n number e)
-        ∙ ap (λ (b : Bool). not b && is_there f es) (entry_apart f (says n) n (numbered n) e) ∙ holds.there f
-
-    lacking : same_free (says n) after ≡ false → (o : Option Free) → after ≡ o → IsIn false o taken
-    lacking differs None e = tt
-    lacking differs (Some g) e =
-        let absent : is_there g es ≡ false =
-        subst (λ (o : Option Free). IsIn false o es) e (can.absent differs) in
-        there_without g (says n) es holds.rise ∙ ap (λ (b : Bool). not (is_entry (says n) g) && b) absent
-        ∙ and_none (not (is_entry (says n) g))
-      where
-        and_none : (b : Bool) → (b && false) ≡ false
-        and_none true = refl
-        and_none false = refl
-
-    by_same : (t : Bool) → same_free (says n) after ≡ t
-        → Holds (if t then es else with after taken) (but n after says)
-    by_same true e = record {
-      rise = holds.rise;
-      there = λ f. still (free_is (says n) after e) f (f.split == n) refl;
-    }
-    by_same false e = record {
-      rise = rise_with after taken (rise_without (says n) es holds.rise) (lacking e after refl);
-      there = λ f.
-          there_with f after taken
-          ∙ ap (λ (b : Bool). is_entry after f || b) (there_without f (says n) es holds.rise)
-          ∙ changed f (f.split == n) refl;
-    }
-
--- ---- how far two lists differ
-
--- how many of a rising list stand there
-none_same : (g : Free) (es : List Free) → PrecedesAll g es → is_there g es ≡ false
-none_same g [] before = refl
-none_same g (e ∷ es) before =
-    ap (λ (b : Bool). b || is_there g es) (by_test (is_same g e) refl) ∙ none_same g es before.1
+-- as many are picked as there are moves, at most
+length_picked : (pick : Move → Option Free) (ms : List (ℕ × Move)) → length (picked pick ms) ≤ length ms
+length_picked pick [] = omega arith
+length_picked pick (m ∷ ms) = one (pick m.1) (length_picked pick ms)
   where
-    by_test : (t : Bool) → is_same g e ≡ t → t ≡ false
-    by_test true same =
-        absurd (let is = same-is g e same in
-        let less = subst (λ (x : Free). precedes g x ≡ true) (sym is) before.0 in
-        let none = before-itself g in cc)
-    by_test false same = refl
+    one : (o : Option Free) → length (picked pick ms) ≤ length ms
+        → length (listed o ++ picked pick ms) ≤ length (m ∷ ms)
+    one None less = omega (arith, less)
+    one (Some g) less = omega (arith, less)
 
-abbrev one_if : Bool → ℕ
-one_if true = 1
-one_if false = 0
-
-same_turned : (a b : Free) (t : Bool) → is_same a b ≡ t → is_same b a ≡ t
-same_turned a b true e = ap (is_same b) (same-is a b e) ∙ same-itself b
-same_turned a b false e = by_test (is_same b a) refl
-  where
-    by_test : (t : Bool) → is_same b a ≡ t → t ≡ false
-    by_test true f =
-        absurd (let one = ap (is_same a) (same-is b a f) ∙ same-itself a in cc)
-    by_test false f = refl
-
-count_cons : (p : Free → Bool) (x : Free) (xs : List Free) → count_by p (x ∷ xs) ≡ cond (p x) 1 0 + count_by p xs
-count_cons p x xs = sum_by-cons (λ (y : Free). cond (p y) 1 0) x xs
-
-counted : (p : Free → Bool) (x : Free) (xs : List Free) (b : Bool) → p x ≡ b
-    → count_by p (x ∷ xs) ≡ cond b 1 0 + count_by p xs
-counted p x xs b is = count_cons p x xs ∙ ap (λ (t : Bool). cond t 1 0 + count_by p xs) is
-
-same_count : (p q : Free → Bool) (xs : List Free) → All (λ (x : Free). p x ≡ q x) xs → count_by p xs ≡ count_by q xs
-same_count p q [] all = refl
-same_count p q (x ∷ xs) all =
-    let Same : Free → Type 0 = λ y. p y ≡ q y in
-    counted p x xs (q x) (All-head Same x xs all)
-    ∙ ap (λ (n : ℕ). cond (q x) 1 0 + n) (same_count p q xs (All-tail Same x xs all))
-    ∙ sym (count_cons q x xs)
-
--- those of a rising list that are not in another, which loses one that both have
-lost_more : (g : Free) (test : Free → Bool) (xs : List Free) → IndexRises xs → test g ≡ true
-    → count_by (λ x. not (not (is_same x g) && test x)) xs
-    ≡ count_by (λ x. not (test x)) xs + one_if (is_there g xs)
-lost_more g test [] r passes = refl
-lost_more g test (x ∷ xs) r passes =
-    let more : Free → Bool = λ y. not (not (is_same y g) && test y) in
-    let fewer : Free → Bool = λ y. not (test y) in
-    let rest = lost_more g test xs r.1 passes in
-    elim (is_same g x) as (λ (t : Bool). is_same g x ≡ t
-    → count_by more (x ∷ xs) ≡ count_by fewer (x ∷ xs) + one_if (t || is_there g xs)) [
-      | true ↦ λ same.
-          let is = same-is g x same in
-          let own : test x ≡ true = ap test (sym is) ∙ passes in
-          let none : one_if (is_there g xs) ≡ 0 =
-          ap one_if (none_same g xs (subst (λ (y : Free). PrecedesAll y xs) (sym is) r.0)) in
-          let one = counted more x xs true (ap (λ (b : Bool). not (not b && test x)) (same_turned g x true same)) in
-          let other = counted fewer x xs false (ap not own) in
-          omega (arith, one, other, rest, none)
-      | false ↦ λ differs.
-          let is : more x ≡ fewer x = ap (λ (b : Bool). not (not b && test x)) (same_turned g x false differs) in
-          let one = counted more x xs (fewer x) is in
-          let other = count_cons fewer x xs in
-          omega (arith, one, other, rest)
-    ] refl
-
--- those that pass no test are counted as before where one that doesn't is taken out,
-counted_without : (g : Free) (test : Free → Bool) (es : List Free) → test g ≡ false
-    → count_by test (without_free g es) ≡ count_by test es
-counted_without g test [] fails = refl
-counted_without g test (e ∷ es) fails =
-    elim (is_same g e) as (λ (t : Bool). is_same g e ≡ t
-    → count_by test (if t then es else e ∷ without_free g es) ≡ count_by test (e ∷ es)) [
-      | true ↦ λ same.
-          let own : test e ≡ false = ap test (sym (same-is g e same)) ∙ fails in
-          omega (arith, counted test e es false own)
-      | false ↦ λ differs.
-          count_cons test e (without_free g es)
-          ∙ ap (λ (n : ℕ). cond (test e) 1 0 + n) (counted_without g test es fails)
-          ∙ sym (count_cons test e es)
-    ] refl
-
--- and one more where one that does is put in
-counted_with : (g : Free) (test : Free → Bool) (es : List Free) → test g ≡ true
-    → count_by test (with_free g es) ≡ 1 + count_by test es
-counted_with g test [] passes = counted test g [] true passes
-counted_with g test (e ∷ es) passes =
-    elim (precedes e g) as (λ (t : Bool).
-    count_by test (if t then e ∷ with_free g es else g ∷ e ∷ es) ≡ 1 + count_by test (e ∷ es)) [
-      | true ↦
-          let one = count_cons test e (with_free g es) in
-          let rest = counted_with g test es passes in
-          let other = count_cons test e es in
-          omega (arith, one, rest, other)
-      | false ↦ counted test g (e ∷ es) true passes
+length_with : (f : Free) (es : List Free) → length (with_free f es) ≡ length es + 1
+length_with f [] = omega arith
+length_with f (e ∷ es) =
+    let rest = length_with f es in
+    elim (precedes e f) as (λ (t : Bool).
+    length (if t then e ∷ with_free f es else f ∷ e ∷ es) ≡ length (e ∷ es) + 1) [
+      | true ↦ omega (arith, rest)
+      | false ↦ omega arith
     ]
 
--- each of a list stands there
-all_there : (xs : List Free) → All (λ (x : Free). is_there x xs ≡ true) xs
-all_there [] = All-nil (λ (x : Free). is_there x [] ≡ true)
-all_there (x ∷ xs) =
-    All-cons (λ (y : Free). is_there y (x ∷ xs) ≡ true) x xs
-    (ap (λ (b : Bool). b || is_there x xs) (same-itself x))
-    (All-weaker (λ (y : Free). is_there y xs ≡ true) (λ (y : Free). is_there y (x ∷ xs) ≡ true)
-    (λ y there. ap (λ (b : Bool). is_same y x || b) there ∙ or_last (is_same y x)) xs (all_there xs))
-  where
-    or_last : (b : Bool) → (b || true) ≡ true
-    or_last true = refl
-    or_last false = refl
+length_ordered : (es : List Free) → length (ordered es) ≡ length es
+length_ordered [] = refl
+length_ordered (e ∷ es) =
+    let one = length_with e (ordered es) in
+    let more = length_ordered es in
+    omega (arith, one, more)
 
--- a split that both lists have, and that is taken out of one, makes one more difference,
-differs_without : (ones es : List Free) (o : Option Free) → IndexRises ones → IndexRises es → IsIn true o ones
-    → IsIn true o es → differing ones (without o es) ≡ differing ones es + count_of o
-differs_without ones es None ra re here there = omega arith
-differs_without ones es (Some g) ra re here there =
-    let first = same_count (λ x. not (is_there x (without_free g es)))
-    (λ x. not (not (is_same x g) && is_there x es)) ones
-    (λ k d lt. ap not (there-without (get_or ones k d) g es re)) in
-    let more = lost_more g (λ x. is_there x es) ones ra there in
-    let one : one_if (is_there g ones) ≡ 1 = ap one_if here in
-    let second = counted_without g (λ x. not (is_there x ones)) es (ap not here) in
-    omega (arith, first, more, one, second)
+pub come_fits : (ms : List (ℕ × Move)) → length (come_of ms) ≤ length ms
+come_fits ms =
+    let same = length_ordered (picked coming ms) in
+    let most = length_picked coming ms in
+    omega (arith, same, most)
 
--- and so does one that neither has and that is put into one
-differs_with : (ones es : List Free) (o : Option Free) → IsIn false o ones
-    → differing ones (with o es) ≡ differing ones es + count_of o
-differs_with ones es None here = omega arith
-differs_with ones es (Some g) here =
-    let first = same_count (λ x. not (is_there x (with_free g es))) (λ x. not (is_there x es)) ones
-    (All-weaker (λ (x : Free). is_there x ones ≡ true)
-    (λ (x : Free). not (is_there x (with_free g es)) ≡ not (is_there x es))
-    (λ x there. ap not (there-with x g es ∙ ap (λ (b : Bool). b || is_there x es) (other x there))) ones (all_there ones)) in
-    let second = counted_with g (λ x. not (is_there x ones)) es (ap not here) in
-    omega (arith, first, second)
+-- ---- what a move takes out of the index and puts into it
+
+free_is : (o p : Option Free) → same_free o p ≡ true → o ≡ p
+free_is (Some a) (Some b) e = ap (λ (x : Free). Some x) (same-is a b e)
+free_is None None e = refl
+free_is (Some a) None e = absurd cc
+free_is None (Some b) e = absurd cc
+
+none_given : {P : Type 0} (f : Free) → is_entry None f ≡ true → P
+none_given f e = absurd cc
+
+-- what leaves it was there,
+left_was : (t : Bool) (before : Option Free) (f : Free) → is_entry (if t then None else before) f ≡ true
+    → is_entry before f ≡ true
+left_was true before f is = none_given f is
+left_was false before f is = is
+
+-- what comes into it wasn't,
+came_new : (before after : Option Free) (f : Free)
+    → is_entry (if same_free before after then None else after) f ≡ true → is_entry before f ≡ false
+came_new before after f is = by_test (same_free before after) refl is
   where
-    other : (x : Free) → is_there x ones ≡ true → is_same x g ≡ false
-    other x there = by_test (is_same x g) refl
+    other : (b a : Option Free) → same_free b a ≡ false → is_entry a f ≡ true → is_entry b f ≡ false
+    other None a differs is = refl
+    other (Some g) None differs is = none_given f is
+    other (Some g) (Some h) differs is = by_same (is_same f g) refl
       where
-        by_test : (t : Bool) → is_same x g ≡ t → t ≡ false
-        by_test true same =
-            absurd (let is = ap (λ (y : Free). is_there y ones) (same-is x g same) in let none = here in cc)
-        by_test false same = refl
+        by_same : (t : Bool) → is_same f g ≡ t → t ≡ false
+        by_same true same =
+            absurd (let one : is_same g h ≡ true = ap (λ (x : Free). is_same x h) (sym (same-is f g same)) ∙ is in cc)
+        by_same false same = refl
 
--- ---- one more difference for each split that is set
+    by_test : (t : Bool) → same_free before after ≡ t → is_entry (if t then None else after) f ≡ true
+        → is_entry before f ≡ false
+    by_test true e is = none_given f is
+    by_test false e is = other before after e is
 
--- where both lists hold the same of a number, and what is set is of that number
-differs_set : (n : ℕ) (after : Option Free) (first says : ℕ → Option Free) (ones es : List Free) → Holds ones first
-    → Numbered first → Holds es says → Numbered says → first n ≡ says n → ((g : Free) → after ≡ Some g → g.split ≡ n)
-    → differing ones (set (says n) after es) ≡ differing ones es + cost_of (says n) after
-differs_set n after first says ones es held of_first holds numbered same number =
-    by_same (same_free (says n) after) refl
+-- and what is there then is what the move says of its number
+moved_is : (before after : Option Free) (f : Free)
+    → (is_entry (if same_free before after then None else after) f
+    || (not (is_entry (if same_free before after then None else before) f) && is_entry before f))
+    ≡ is_entry after f
+moved_is before after f = by_test (same_free before after) refl
   where
-    can : CanSet (says n) after es
-    can = can_set n after says es holds numbered number
+    none_left : (a b : Bool) → (a || (not b && b)) ≡ a
+    none_left true true = refl
+    none_left true false = refl
+    none_left false true = refl
+    none_left false false = refl
 
-    -- the same of that number can be set in the first list
-    other : CanSet (says n) after ones
-    other = subst (λ (o : Option Free). CanSet o after ones) same (can_set n after first ones held of_first number)
+    by_test : (t : Bool) → same_free before after ≡ t
+        → (is_entry (if t then None else after) f || (not (is_entry (if t then None else before) f) && is_entry before f))
+        ≡ is_entry after f
+    by_test true e = ap (λ (o : Option Free). is_entry o f) (free_is before after e)
+    by_test false e = none_left (is_entry after f) (is_entry before f)
 
-    by_same : (t : Bool) → same_free (says n) after ≡ t
-        → differing ones (if t then es else with after (without (says n) es))
-        ≡ differing ones es + (if t then 0 else count_of (says n) + count_of after)
-    by_same true e = omega arith
-    by_same false e =
-        let one = differs_without ones es (says n) held.rise holds.rise other.there can.there in
-        let more = differs_with ones (without (says n) es) after (other.absent e) in
-        omega (arith, one, more)
+-- ---- the lines of the splits
 
--- ---- one move after another
-
--- What a move says of its number, if there is one, and else what was said before; its line likewise.
-abbrev pub after_move : Option Move → Option Free → Option Free
-after_move (Some move) other = move.after
-after_move None other = other
-
+-- What a move says of the line of its split, if there is one, and else what was said before.
 abbrev pub line_move : Option Move → Option ℕ → Option ℕ
 line_move (Some move) other = move.line
 line_move None other = other
-
--- Each of some moves says of its number what a function says before it, and of it after it.
-abbrev pub Say : (ℕ → Option Free) → (ℕ → Option Free) → List (ℕ × Move) → Type 0
-Say before after [] = ⊤
-Say before after (m ∷ ms) = ((m.1.before ≡ before m.0) × (m.1.after ≡ after m.0)) × Say before after ms
-
--- what is said of a number below those of the moves plays no part
-say_but : (n : ℕ) (o : Option Free) (before after : ℕ → Option Free) (ms : List (ℕ × Move)) → AllAbove n ms
-    → Say before after ms → Say (but n o before) after ms
-say_but n o before after [] above say = tt
-say_but n o before after (m ∷ ms) above say =
-    let less = above.0 in
-    let other : (m.0 == n) ≡ false = grind (arith, nat_tests, less) in
-    let same : but n o before m.0 ≡ before m.0 =
-    ap (λ (t : Bool). if t then o else before m.0) other in
-    ((say.0.0 ∙ sym same, say.0.1), say_but n o before after ms above.1 say.1)
-
-but_numbered : (n : ℕ) (o : Option Free) (says : ℕ → Option Free) → Numbered says
-    → ((g : Free) → o ≡ Some g → g.split ≡ n) → Numbered (but n o says)
-but_numbered n o says numbered number s g is = by_test (s == n) refl is
-  where
-    by_test : (t : Bool) → (s == n) ≡ t → (if t then o else says s) ≡ Some g → g.split ≡ s
-    by_test true e there = number g there ∙ sym (eqb-true s n e)
-    by_test false e there = numbered s g there
-
--- What a list comes to that holds what a function says, where moves are followed.
-pub record Follows (ones : List Free) (ms : List (ℕ × Move)) (says : ℕ → Option Free) (es : List Free) : Type 0 where
-  pub can : CanSetAll ms es
-  pub holds : Holds (followed ms es) (λ s. after_move (value_of s ms) (says s))
-  pub differs : differing ones (followed ms es) ≡ differing ones es + cost ms
-
-pub follows : (ones : List Free) (first says after : ℕ → Option Free) (ms : List (ℕ × Move)) (es : List Free)
-    → Holds ones first → Numbered first → Holds es says → Numbered says → Numbered after → Rises ms
-    → Say first after ms → Say says after ms → Follows ones ms says es
-follows ones first says after [] es held of_first holds numbered of_after r say_first say = record {
-  can = tt;
-  holds = holds;
-  differs = omega arith;
-}
-follows ones first says after (m ∷ ms) es held of_first holds numbered of_after r say_first say =
-    let n = m.0 in
-    let number : (g : Free) → m.1.after ≡ Some g → g.split ≡ n = λ g is. of_after n g (sym say.0.1 ∙ is) in
-    let before : says n ≡ m.1.before = sym say.0.0 in
-    let later = but n m.1.after says in
-    let next = subst (λ (o : Option Free). Holds (set o m.1.after es) later) before
-    (set_holds n m.1.after says es holds numbered number) in
-    let rest = follows ones first later after ms (set m.1.before m.1.after es) held of_first next
-    (but_numbered n m.1.after says numbered number) of_after r.1 say_first.1
-    (say_but n m.1.after says after ms r.0 say.1) in
-    let one = subst (λ (o : Option Free). differing ones (set o m.1.after es) ≡ differing ones es + cost_of o m.1.after)
-    before
-    (differs_set n m.1.after first says ones es held of_first holds numbered (sym say_first.0.0 ∙ say.0.0) number) in
-    let more = rest.differs in
-    record {
-      can = (
-        subst (λ (o : Option Free). CanSet o m.1.after es) before
-            (can_set n m.1.after says es holds numbered number),
-        rest.can,
-      );
-      holds = record {
-        rise = rest.holds.rise;
-        there = λ f.
-            rest.holds.there f ∙ ap (λ (o : Option Free). is_entry o f) (by_number f.split (f.split == n) refl);
-      };
-      differs = omega (arith, one, more);
-    }
-  where
-    -- the first move alone is of its number
-    by_number : (s : ℕ) (t : Bool) → (s == m.0) ≡ t
-        → after_move (value_of s ms) (but m.0 m.1.after says s) ≡ after_move (value_of s (m ∷ ms)) (says s)
-    by_number s true e =
-        let none : value_of s ms ≡ None =
-        ap (λ (k : ℕ). value_of k ms) (eqb-true s m.0 e) ∙ above_value m.0 ms r.0 in
-        ap (λ (o : Option Move). after_move o (but m.0 m.1.after says s)) none
-        ∙ ap (λ (t : Bool). if t then m.1.after else says s) e
-        ∙ sym (ap (λ (t : Bool). after_move (if t then Some m.1 else value_of s ms) (says s)) e)
-    by_number s false e =
-        ap (λ (t : Bool). after_move (value_of s ms) (if t then m.1.after else says s)) e
-        ∙ sym (ap (λ (t : Bool). after_move (if t then Some m.1 else value_of s ms) (says s)) e)
-
--- ---- the lines of the splits
 
 pub lines_rise : (ms : List (ℕ × Move)) (es : List (ℕ × ℕ)) → Rises es → Rises (with_lines ms es)
 lines_rise [] es r = r
@@ -469,171 +221,203 @@ lines_are (m ∷ ms) es s r up =
 
 -- ---- what is kept of one book becomes what is kept of the other
 
-said_moves : (old new : Book) (all ms : List (ℕ × Move)) → AreMoves old new all → Rises ms
+own_moves : (pick : Move → Option Free) (all ms : List (ℕ × Move)) → Rises ms
     → ((n : ℕ) (m : Move) → value_of n ms ≡ Some m → value_of n all ≡ Some m)
-    → Say (λ s. free_at s old) (λ s. free_at s new) ms
-said_moves old new all [] are r each = tt
-said_moves old new all (m ∷ ms) are r each =
-    let first : value_of m.0 (m ∷ ms) ≡ Some m.1 = grind (arith, nat_tests) in
-    let is = are.moved m.0 m.1 (each m.0 m.1 first) in (
-      (ap (λ (x : Move). x.before) is, ap (λ (x : Move). x.after) is),
-      said_moves old new all ms are r.1
+    → ((n : ℕ) (m : Move) (g : Free) → value_of n all ≡ Some m → pick m ≡ Some g → g.split ≡ n) → Own pick ms
+own_moves pick all [] r each numbered = tt
+own_moves pick all (m ∷ ms) r each numbered =
+    let first : value_of m.0 (m ∷ ms) ≡ Some m.1 = grind (arith, nat_tests) in (
+      λ g is. numbered m.0 m.1 g (each m.0 m.1 first) is,
+      own_moves pick all ms r.1
           (λ n x there.
           let past = above_there m.0 n x ms r.0 there in
-          each n x (grind (arith, nat_tests, past, there))),
+          each n x (grind (arith, nat_tests, past, there)))
+          numbered,
     )
 
--- What a list of free splits and lines of splits come to, where they are those of a book and follow moves to another.
-pub record ComesTo (kept : Kept) (ms : List (ℕ × Move)) (old new : Book) : Type 0 where
-  pub can : CanSetAll ms kept.index.entries
-  pub entries : followed ms kept.index.entries ≡ free_splits new
-  pub lines : (s : ℕ) → value_of s (with_lines ms kept.matched.entries) ≡ line_of s new.lines
-  pub cost_is : cost ms ≡ differing (free_splits old) (free_splits new)
+-- one of two that is given is the second
+given : (t : Bool) (o : Option Free) (g : Free) → (if t then None else o) ≡ Some g → o ≡ Some g
+given true o g e = absurd cc
+given false o g e = e
 
-no_difference : (ones : List Free) → differing ones ones ≡ 0
-no_difference ones =
-    let none = none_counted ones ones (all_there ones) in
-    omega (arith, none)
-  where
-    none_counted : (xs ys : List Free) → All (λ (x : Free). is_there x ys ≡ true) xs
-        → count_by (λ x. not (is_there x ys)) xs ≡ 0
-    none_counted [] ys all = refl
-    none_counted (x ∷ xs) ys all =
-        let There : Free → Type 0 = λ y. is_there y ys ≡ true in
-        let one = counted (λ y. not (is_there y ys)) x xs false (ap not (All-head There x xs all)) in
-        let rest = none_counted xs ys (All-tail There x xs all) in
-        omega (arith, one, rest)
+own_leaving : (old new : Book) (ms : List (ℕ × Move)) → Rises ms → AreMoves old new ms → Own leaving ms
+own_leaving old new ms up are =
+    own_moves leaving ms ms up (λ n m there. there)
+    (λ n m g there is.
+    free_number n old g (sym (ap (λ (x : Move). x.before) (are.moved n m there))
+    ∙ given (same_free m.before m.after) m.before g is))
+
+own_coming : (old new : Book) (ms : List (ℕ × Move)) → Rises ms → AreMoves old new ms → Own coming ms
+own_coming old new ms up are =
+    own_moves coming ms ms up (λ n m there. there)
+    (λ n m g there is.
+    free_number n new g (sym (ap (λ (x : Move). x.after) (are.moved n m there))
+    ∙ given (same_free m.before m.after) m.after g is))
 
 free_rise : (book : Book) → IsSoundBook book → IndexRises (free_splits book)
 free_rise book is =
     rises-ordered (free_among (is_matched book.lines) book.transactions)
     (free_apart (is_matched book.lines) book.transactions (splits_once book is))
 
-free_holds : (book : Book) → IsSoundBook book → Holds (free_splits book) (λ s. free_at s book)
-free_holds book is = record { rise = free_rise book is; there = λ f. free_there book f is }
+-- What the free splits of a book come to, where moves to another take out what leaves and put in what comes.
+pub record Becomes (es : List Free) (ms : List (ℕ × Move)) (old new : Book) : Type 0 where
+  pub gone_rise : IndexRises (gone_of ms)
+  pub come_rise : IndexRises (come_of ms)
+  pub there : AreThere (gone_of ms) es
+  pub absent : AreAbsent (come_of ms) (without_all (gone_of ms) es)
+  pub entries : with_all (come_of ms) (without_all (gone_of ms) es) ≡ free_splits new
+  pub count : length (gone_of ms) + length (come_of ms) ≡ differing (free_splits old) (free_splits new)
 
-pub comes_to : (kept : Kept) (ms : List (ℕ × Move)) (old new : Book) → Rises kept.matched.entries → Rises ms
-    → CanFollow kept ms old new → ComesTo kept ms old new
-comes_to kept ms old new lines_up up can =
-    let says : ℕ → Option Free = λ s. free_at s old in
-    let after : ℕ → Option Free = λ s. free_at s new in
-    let ones = free_splits old in
-    let held = free_holds old can.sound in
-    let new_rise = free_rise new can.later_sound in
-    let say = said_moves old new ms ms can.moves_are up (λ n m there. there) in
-    let all = follows ones says says after ms ones held (λ n g. free_number n old g) held (λ n g. free_number n old g)
-    (λ n g. free_number n new g) up say say in
-    let other = free_holds new can.later_sound in
-    let same = same-rises (followed ms ones) (free_splits new) all.holds.rise new_rise
-    (λ f.
-    all.holds.there f ∙ ap (λ (o : Option Free). is_entry o f) (by_moves f.split (value_of f.split ms) refl)
-    ∙ sym (other.there f)) in
-    let none = no_difference ones in
-    let differs = all.differs in
-    let total : cost ms ≡ differing ones (followed ms ones) = omega (arith, none, differs) in
+becomes : (ms : List (ℕ × Move)) (old new : Book) → Rises ms → IsSoundBook old → IsSoundBook new → AreMoves old new ms
+    → Becomes (free_splits old) ms old new
+becomes ms old new up sound later_sound are =
+    let one = differs_without_all es es gs rise rise gone_rise was_there was_there in
+    let more = differs_with_all es (without_all gs es) cs was_absent in
+    let none = no_difference es in
     record {
-      can = subst (CanSetAll ms) (sym can.kept_of.free) all.can;
-      entries = ap (followed ms) can.kept_of.free ∙ same;
-      lines = λ s.
-          lines_are ms kept.matched.entries s up lines_up
-          ∙ ap (line_move (value_of s ms)) (can.kept_of.lines s) ∙ by_lines s (value_of s ms) refl;
-      cost_is = total ∙ ap (differing ones) same;
+      gone_rise = gone_rise;
+      come_rise = come_rise;
+      there = are-there gs es was_there;
+      absent = absent;
+      entries = same;
+      count = total (length gs) (length cs) (differing es es) _ _ none one more ∙ ap (differing es) same;
     }
   where
-    by_moves : (s : ℕ) (o : Option Move) → value_of s ms ≡ o → after_move o (free_at s old) ≡ free_at s new
-    by_moves s (Some m) e = ap (λ (x : Move). x.after) (can.moves_are.moved s m e)
-    by_moves s None e = sym (can.moves_are.others s e).free
+    es : List Free
+    es = free_splits old
 
-    by_lines : (s : ℕ) (o : Option Move) → value_of s ms ≡ o → line_move o (line_of s old.lines) ≡ line_of s new.lines
-    by_lines s (Some m) e = ap (λ (x : Move). x.line) (can.moves_are.moved s m e)
-    by_lines s None e = sym (can.moves_are.others s e).line
+    gs : List Free
+    gs = gone_of ms
 
--- a split that isn't there isn't there without another
-lacks_without : (g f : Free) (es : List Free) → is_there g es ≡ false → is_there g (without_free f es) ≡ false
-lacks_without g f [] none = refl
-lacks_without g f (e ∷ es) none =
-    let parts = or_parts (is_same g e) (is_there g es) none in
-    elim (is_same f e) as (λ (t : Bool). is_there g (if t then es else e ∷ without_free f es) ≡ false) [
-      | true ↦ parts.1
-      | false ↦ or_from (is_same g e) (is_there g (without_free f es)) parts.0 (lacks_without g f es parts.1)
-    ]
+    cs : List Free
+    cs = come_of ms
 
-pub lacking_without : (o p : Option Free) (es : List Free) → IsIn false o es → IsIn false o (without p es)
-lacking_without None p es none = tt
-lacking_without (Some g) None es none = none
-lacking_without (Some g) (Some f) es none = lacks_without g f es none
+    rise : IndexRises es
+    rise = free_rise old sound
 
--- ---- the way through the moves
+    own_gone : Own leaving ms
+    own_gone = own_leaving old new ms up are
 
--- What is kept has followed some moves, and those that are left lead on from there.
-pub record IsOnWay (all : List (ℕ × Move)) (start : Kept) (left : List (ℕ × Move)) (now : Kept) : Type 0 where
-  pub can : CanSetAll left now.index.entries
-  pub entries : followed left now.index.entries ≡ followed all start.index.entries
-  pub lines : with_lines left now.matched.entries ≡ with_lines all start.matched.entries
-  pub changes :
-      min (now.index.changes + cost left) (2 ^ 64 - 1) ≡ min (start.index.changes + cost all) (2 ^ 64 - 1)
-  pub index_room : length left ≤ now.index.spare
-  pub lines_room : length left ≤ now.matched.spare
+    own_come : Own coming ms
+    own_come = own_coming old new ms up are
 
-pub way_starts : (kept : Kept) (all : List (ℕ × Move)) → Rises kept.matched.entries → Rises all → SomeFollow kept all
-    → HasRoomFor kept all → IsOnWay all kept all kept
-way_starts kept all lines_up up some room = record {
-  can = (comes_to kept all some.old some.new lines_up up some.can).can;
-  entries = refl;
-  lines = refl;
-  changes = refl;
-  index_room = room.index;
-  lines_room = room.matched;
-}
+    gone_rise : IndexRises gs
+    gone_rise = rises-ordered (picked leaving ms) (apart_picked leaving ms up own_gone)
 
-pub way_steps : (all : List (ℕ × Move)) (start : Kept) (m : ℕ × Move) (left more : List (ℕ × Move)) (now later : Kept)
-    → left ≡ m ∷ more → IsOnWay all start left now
-    → later.matched.entries ≡ with_line m.0 m.1.line now.matched.entries
-    → now.matched.spare ≤ later.matched.spare + 1 → IsSet m.1.before m.1.after now.index later.index
-    → IsOnWay all start more later
-way_steps all start m left more now later is way lines spare set_ =
-    let can = subst (λ (ms : List (ℕ × Move)). CanSetAll ms now.index.entries) is way.can in
-    let index_room = subst (λ (ms : List (ℕ × Move)). length ms ≤ now.index.spare) is way.index_room in
-    let lines_room = subst (λ (ms : List (ℕ × Move)). length ms ≤ now.matched.spare) is way.lines_room in
-    let changes = subst (λ (ms : List (ℕ × Move)).
-    min (now.index.changes + cost ms) (2 ^ 64 - 1) ≡ min (start.index.changes + cost all) (2 ^ 64 - 1)) is way.changes in
-    let here = set_.changes in
-    let count = length_cons m more in
-    let index_spare = set_.spare in
-    record {
-      can = subst (CanSetAll more) (sym set_.entries) can.1;
-      entries = ap (followed more) set_.entries
-          ∙ sym (ap (λ (ms : List (ℕ × Move)). followed ms now.index.entries) is) ∙ way.entries;
-      lines = ap (with_lines more) lines
-          ∙ sym (ap (λ (ms : List (ℕ × Move)). with_lines ms now.matched.entries) is) ∙ way.lines;
-      changes = less_twice now.index.changes later.index.changes (cost_of m.1.before m.1.after) (cost more) here
-          ∙ changes;
-      index_room = omega (arith, index_room, index_spare, count);
-      lines_room = omega (arith, lines_room, spare, count);
-    }
+    come_rise : IndexRises cs
+    come_rise = rises-ordered (picked coming ms) (apart_picked coming ms up own_come)
+
+    there_gone : (f : Free) → is_there f gs ≡ is_entry (option_and_then leaving (value_of f.split ms)) f
+    there_gone f = there-ordered f (picked leaving ms) ∙ there_picked leaving ms f up own_gone
+
+    there_come : (f : Free) → is_there f cs ≡ is_entry (option_and_then coming (value_of f.split ms)) f
+    there_come f = there-ordered f (picked coming ms) ∙ there_picked coming ms f up own_come
+
+    before_is : (s : ℕ) (m : Move) → value_of s ms ≡ Some m → m.before ≡ free_at s old
+    before_is s m e = ap (λ (x : Move). x.before) (are.moved s m e)
+
+    was_there : (f : Free) → is_there f gs ≡ true → is_there f es ≡ true
+    was_there f is = free_there old f sound ∙ by_move (value_of f.split ms) refl (sym (there_gone f) ∙ is)
+      where
+        by_move : (o : Option Move) → value_of f.split ms ≡ o → is_entry (option_and_then leaving o) f ≡ true
+            → is_entry (free_at f.split old) f ≡ true
+        by_move None e is = none_given f is
+        by_move (Some m) e is =
+            ap (λ (p : Option Free). is_entry p f) (sym (before_is f.split m e))
+            ∙ left_was (same_free m.before m.after) m.before f is
+
+    was_absent : (f : Free) → is_there f cs ≡ true → is_there f es ≡ false
+    was_absent f is = free_there old f sound ∙ by_move (value_of f.split ms) refl (sym (there_come f) ∙ is)
+      where
+        by_move : (o : Option Move) → value_of f.split ms ≡ o → is_entry (option_and_then coming o) f ≡ true
+            → is_entry (free_at f.split old) f ≡ false
+        by_move None e is = none_given f is
+        by_move (Some m) e is =
+            ap (λ (p : Option Free). is_entry p f) (sym (before_is f.split m e))
+            ∙ came_new m.before m.after f is
+
+    and_none : (b : Bool) → (b && false) ≡ false
+    and_none true = refl
+    and_none false = refl
+
+    absent : AreAbsent cs (without_all gs es)
+    absent =
+        are-absent cs (without_all gs es)
+        (λ f is.
+        there-without_all f gs es rise ∙ ap (λ (b : Bool). not (is_there f gs) && b) (was_absent f is)
+        ∙ and_none (not (is_there f gs)))
+
+    by_moves : (f : Free) (o : Option Move) → value_of f.split ms ≡ o
+        → (is_entry (option_and_then coming o) f
+        || (not (is_entry (option_and_then leaving o) f) && is_entry (free_at f.split old) f))
+        ≡ is_entry (free_at f.split new) f
+    by_moves f None e = ap (λ (p : Option Free). is_entry p f) (sym (are.others f.split e).free)
+    by_moves f (Some m) e =
+        ap (λ (p : Option Free). is_entry (coming m) f || (not (is_entry (leaving m) f) && is_entry p f))
+        (sym (before_is f.split m e))
+        ∙ moved_is m.before m.after f
+        ∙ ap (λ (x : Move). is_entry x.after f) (are.moved f.split m e)
+
+    there_then : (f : Free) → is_there f (with_all cs (without_all gs es)) ≡ is_there f (free_splits new)
+    there_then f =
+        there-with_all f cs (without_all gs es)
+        ∙ ap (λ (b : Bool). is_there f cs || b) (there-without_all f gs es rise)
+        ∙ ap (λ (b : Bool). b || (not (is_there f gs) && is_there f es)) (there_come f)
+        ∙ ap (λ (b : Bool). is_entry (option_and_then coming (value_of f.split ms)) f || (not b && is_there f es))
+        (there_gone f)
+        ∙ ap (λ (b : Bool). is_entry (option_and_then coming (value_of f.split ms)) f
+        || (not (is_entry (option_and_then leaving (value_of f.split ms)) f) && b))
+        (free_there old f sound)
+        ∙ by_moves f (value_of f.split ms) refl ∙ sym (free_there new f later_sound)
+
+    same : with_all cs (without_all gs es) ≡ free_splits new
+    same =
+        same-rises (with_all cs (without_all gs es)) (free_splits new)
+        (rises-with_all cs (without_all gs es) come_rise (rises-without_all gs es rise) absent)
+        (free_rise new later_sound) there_then
+
+    total : (g c n d e : ℕ) → n ≡ 0 → d ≡ n + g → e ≡ d + c → g + c ≡ e
+    total g c n d e none one more = omega (arith, none, one, more)
+
+pub becomes_of : (kept : Kept) (ms : List (ℕ × Move)) (old new : Book) → Rises ms → CanFollow kept ms old new
+    → Becomes kept.index.entries ms old new
+becomes_of kept ms old new up can =
+    subst (λ (es : List Free). Becomes es ms old new) (sym can.kept_of.free)
+    (becomes ms old new up can.sound can.later_sound can.moves_are)
+
+lines_come : (kept : Kept) (ms : List (ℕ × Move)) (old new : Book) (s : ℕ) → Rises kept.matched.entries → Rises ms
+    → CanFollow kept ms old new → value_of s (with_lines ms kept.matched.entries) ≡ line_of s new.lines
+lines_come kept ms old new s lines_up up can =
+    lines_are ms kept.matched.entries s up lines_up
+    ∙ ap (line_move (value_of s ms)) (can.kept_of.lines s) ∙ by_lines (value_of s ms) refl
   where
-    length_cons : (x : ℕ × Move) (xs : List (ℕ × Move)) → length (x ∷ xs) ≡ length xs + 1
-    length_cons x xs = omega arith
+    by_lines : (o : Option Move) → value_of s ms ≡ o → line_move o (line_of s old.lines) ≡ line_of s new.lines
+    by_lines (Some m) e = ap (λ (x : Move). x.line) (can.moves_are.moved s m e)
+    by_lines None e = sym (can.moves_are.others s e).line
 
-    less_twice : (a b c d : ℕ) → b ≡ min (a + c) (2 ^ 64 - 1)
-        → min (b + d) (2 ^ 64 - 1) ≡ min (a + (c + d)) (2 ^ 64 - 1)
-    less_twice a b c d e = omega (arith, e)
+-- What is kept has taken out what leaves by moves, and put in what comes, and has the lines of the moves.
+pub record Went (start now : Kept) (middle : Index) (ms : List (ℕ × Move)) : Type 0 where
+  pub taken : middle.entries ≡ without_all (gone_of ms) start.index.entries
+  pub taken_changes : middle.changes ≡ min (start.index.changes + length (gone_of ms)) (2 ^ 64 - 1)
+  pub put : now.index.entries ≡ with_all (come_of ms) middle.entries
+  pub put_changes : now.index.changes ≡ min (middle.changes + length (come_of ms)) (2 ^ 64 - 1)
+  pub lines : now.matched.entries ≡ with_lines ms start.matched.entries
 
-pub way_ends : (all : List (ℕ × Move)) (start now : Kept) (old new : Book) → Rises start.matched.entries → Rises all
-    → now.index.changes < 2 ^ 64 → IsOnWay all start [] now → CanFollow start all old new
+pub has_followed : (start now : Kept) (middle : Index) (ms : List (ℕ × Move)) (old new : Book)
+    → Rises start.matched.entries → Rises ms → CanFollow start ms old new → Went start now middle ms
     → HasFollowed start now old new
-way_ends all start now old new lines_up up bounded way can =
-    let comes = comes_to start all old new lines_up up can in
-    let changes = way.changes in
-    let total = comes.cost_is in
+has_followed start now middle ms old new lines_up up can went =
+    let is = becomes_of start ms old new up can in
     record {
       kept_of = record {
-        free = way.entries ∙ comes.entries;
-        lines = λ s. ap (value_of s) way.lines ∙ comes.lines s;
+        free = went.put ∙ ap (with_all (come_of ms)) went.taken ∙ is.entries;
+        lines = λ s. ap (value_of s) went.lines ∙ lines_come start ms old new s lines_up up can;
       };
-      changes = at_most now.index.changes (start.index.changes + cost all) bounded changes
-          ∙ ap (λ (n : ℕ). min (start.index.changes + n) (2 ^ 64 - 1)) total;
+      changes = counted start.index.changes middle.changes now.index.changes (length (gone_of ms))
+          (length (come_of ms)) (differing (free_splits old) (free_splits new)) went.taken_changes went.put_changes
+          is.count;
     }
   where
-    at_most : (a b : ℕ) → a < 2 ^ 64 → min (a + 0) (2 ^ 64 - 1) ≡ min b (2 ^ 64 - 1) → a ≡ min b (2 ^ 64 - 1)
-    at_most a b less e = omega (arith, less, e)
+    counted : (a b c gone come both : ℕ) → b ≡ min (a + gone) (2 ^ 64 - 1) → c ≡ min (b + come) (2 ^ 64 - 1)
+        → gone + come ≡ both → c ≡ min (a + both) (2 ^ 64 - 1)
+    counted a b c gone come both first next all = omega (arith, first, next, all)

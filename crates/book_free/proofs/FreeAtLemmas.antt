@@ -1,7 +1,6 @@
 -- Which splits are among the free ones of a sound book: those that are found free by their number.
 use Rattle.std.proofs.Common.{◌≡◌, ℕ, zero, suc, ◌<◌, get_or, length, ◌==◌, ℤ, Bool, true, false, not, ◌&&◌, ◌||◌, if◌then◌else◌, cond, List, [], ◌∷◌}
-use Rattle.std.proofs.Common.{◌++◌, filter, find, flat_map, map, Option, Some, None, refl, sym, ap, subst, ◌∙◌, arith}
-use Rattle.std.specs.List.{list_any}
+use Rattle.std.proofs.Common.{◌++◌, filter, find, map, Option, Some, None, refl, sym, ap, ◌∙◌, arith}
 use Rattle.std.specs.Option.{option_and_then}
 use Rattle.std.specs.Ordering.{int_eq}
 use Rattle.std.proofs.lemmas.Bool.{and_parts, eqb-true, not-true, or_parts}
@@ -12,10 +11,10 @@ use Rattle.book_splits.specs.Balance.{splits_of}
 use Rattle.book_splits.specs.TransactionRules.{are_once, is_among, numbers_of}
 use Rattle.book_splits.specs.declared.split.Split.{Split}
 use Rattle.book_splits.specs.declared.transaction.Txn.{Txn}
-use Rattle.book_match.specs.AmountIndex.{is_same, is_there, ordered}
+use Rattle.book_match.specs.AmountIndex.{is_same, is_there}
 use Rattle.book_match.specs.Kept.{has_split}
 use Rattle.book_match.specs.declared.free.Free.{Free}
-use Rattle.book_match.proofs.IndexLaws.{same-is, there-ordered}
+use Rattle.book_match.proofs.IndexLaws.{there-ordered}
 use Rattle.book_sound.specs.LineRules.{split_among}
 use Rattle.book_sound.specs.MarkedTransactionRules.{is_reconciled}
 use Rattle.book_sound.specs.Soundness.{IsSoundBook}

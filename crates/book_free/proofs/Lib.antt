@@ -1,3 +1,4 @@
+pub mod DifferLemmas
 pub mod FollowLemmas
 pub mod FoundLaws
 pub mod FreeAtLemmas

@@ -1,22 +1,19 @@
 -- What was seen of an edit says what becomes of the splits of a sound book that it leads to another.
-use Rattle.std.proofs.Common.{◌≡◌, ℕ, ◌==◌, ◌&&◌, nat_lt, nat_eq, Bool, true, false, not, if◌then◌else◌, All, List, []}
-use Rattle.std.proofs.Common.{◌∷◌, find, flat_map, map, Option, Some, None, is_some, option_map, refl, sym, ap, subst}
+use Rattle.std.proofs.Common.{◌≡◌, ℕ, ◌==◌, ◌&&◌, nat_lt, nat_eq, Bool, true, false, if◌then◌else◌, All, List, []}
+use Rattle.std.proofs.Common.{◌∷◌, flat_map, map, Option, Some, None, is_some, option_map, refl, sym, ap, subst}
 use Rattle.std.proofs.Common.{◌∙◌, arith, ℤ}
-use Rattle.std.specs.List.{list_any}
 use Rattle.std.specs.Option.{option_and_then, option_eq}
 use Rattle.std.proofs.lemmas.Bool.{eqb-true, not-true, or_from}
 use Rattle.std.proofs.lemmas.Bool.Decides.{nat_tests}
 use Rattle.std.proofs.lemmas.List.Elements.{All-head, All-map, All-nil, All-cons, All-tail, All-weaker}
-use Rattle.book_commodity.specs.Rules.{stands_before}
-use Rattle.book_commodity.specs.Table.{Rises, value_of}
-use Rattle.book_splits.specs.TransactionRules.{are_once, is_among, numbers_of, share_numbers}
+use Rattle.book_commodity.specs.Table.{value_of}
+use Rattle.book_splits.specs.TransactionRules.{is_among, numbers_of, share_numbers}
 use Rattle.book_splits.specs.declared.split.Split.{Split}
 use Rattle.book_splits.specs.declared.transaction.Txn.{Txn}
 use Rattle.book_splits.proofs.ReplacedLemmas.{fails_among}
 use Rattle.book_statement.specs.declared.line.Line.{Line}
 use Rattle.book_statement.specs.declared.line_state.LineState.{LineState}
 use Rattle.book_statement.specs.declared.line_state.LineState.TheVariants.{Open, Matched, Dismissed}
-use Rattle.book_match.specs.Kept.{has_split}
 use Rattle.book_match.specs.declared.free.Free.{Free}
 use Rattle.book_sound.specs.LineRules.{matched_split, shares_split, split_among}
 use Rattle.book_sound.specs.Soundness.{IsSoundBook}
@@ -29,7 +26,7 @@ use Rattle.book_undo.specs.Exact.{any_touches}
 use Rattle.book_undo.specs.declared.edit.Edit.{Edit}
 use Rattle.book_undo.specs.declared.thing.Thing.TheVariants as thing
 use Rattle.book_undo.specs.declared.thing.ThingKind.TheVariants as kind
-use Rattle.book_undo.proofs.EditLaws.{after_leaves, edited-leaves, untouched}
+use Rattle.book_undo.proofs.EditLaws.{edited-leaves, untouched}
 use Rattle.book_free.specs.FreeSplits.{free_at, has_matched, is_matched, line_of, open_at, open_in, open_split}
 use Rattle.book_free.specs.Moves.{AreMoves, IsUnmoved, move_of}
 use Rattle.book_free.specs.Seen.{Seen, all_moves, entry_of_line, is_taken, line_entries, line_now, move_seen, moves_seen}

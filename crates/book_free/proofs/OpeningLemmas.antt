@@ -1,7 +1,7 @@
 -- The table that is made of the lines of a whole book has the line of each matched split.
 use mathlib.Core.Path.{fun_ext}
 use Rattle.std.proofs.Common.{◌≡◌, ℕ, ◌==◌, cond, nat_eq, nat_lt, Bool, true, false, if◌then◌else◌, All, List, []}
-use Rattle.std.proofs.Common.{◌∷◌, ◌++◌, flat_map, find, Option, Some, None, option_map, is_some, refl, sym, ap, subst}
+use Rattle.std.proofs.Common.{◌∷◌, ◌++◌, Option, Some, None, option_map, is_some, refl, sym, ap}
 use Rattle.std.proofs.Common.{◌∙◌, arith}
 use Rattle.std.specs.Cmp.{IsStrictWeakOrder}
 use Rattle.std.specs.Option.{option_eq}
@@ -16,7 +16,7 @@ use Rattle.book_sound.specs.LineRules.{matched_split}
 use Rattle.book_sound.specs.Soundness.{IsSoundBook}
 use Rattle.book_sound.proofs.OwnFrames.{all_of_each}
 use Rattle.book_undo.specs.Book.{Book}
-use Rattle.book_free.specs.FreeSplits.{has_matched, is_matched, line_of}
+use Rattle.book_free.specs.FreeSplits.{is_matched, line_of}
 use Rattle.book_free.specs.Opening.{AreMatchedOnce, in_order, line_pairs, with_pair}
 use Rattle.book_free.specs.Seen.{entry_of_line, is_taken, line_entries, noted}
 use Rattle.book_free.proofs.FoundLaws.{IsOne, found, found_any, found_is}

@@ -1,6 +1,6 @@
 -- What the leaves of an edit say of the two books between which it leads: what stood where a leaf puts or deletes
 -- something, and what stands there then.
-use Rattle.std.proofs.Common.{◌≡◌, ℕ, ◌==◌, ◌&&◌, ◌||◌, Bool, true, false, if◌then◌else◌, All, List, [], ◌∷◌, ◌++◌}
+use Rattle.std.proofs.Common.{◌≡◌, ℕ, ◌==◌, ◌||◌, Bool, true, false, if◌then◌else◌, All, List, [], ◌∷◌, ◌++◌}
 use Rattle.std.proofs.Common.{flat_map, Option, Some, None, option_map, refl, sym, ap, subst, ◌∙◌, inr, arith}
 use Rattle.std.proofs.lemmas.Bool.{eqb-true}
 use Rattle.std.proofs.lemmas.Bool.Decides.{nat_tests}
@@ -13,18 +13,16 @@ use Rattle.book_undo.specs.Book.{Book, IsRising, thing_at}
 use Rattle.book_undo.specs.Edit.{edited, Leaf, OfCurrency, OfGone, OfPut, Key, key_at, key_of, leaves}
 use Rattle.book_undo.specs.EditRules.{IsAllowed, first_unordered}
 use Rattle.book_undo.specs.Exact.{any_touches, touches}
-use Rattle.book_undo.specs.Thing.{kind_of, row_kind}
+use Rattle.book_undo.specs.Thing.{row_kind}
 use Rattle.book_undo.specs.declared.edit.Edit.{Edit}
-use Rattle.book_undo.specs.declared.thing.Thing.{Thing}
 use Rattle.book_undo.specs.declared.thing.Thing.TheVariants as thing
 use Rattle.book_undo.specs.declared.thing.ThingKind.{ThingKind}
 use Rattle.book_undo.specs.declared.thing.ThingKind.TheVariants as kind
 use Rattle.book_undo.proofs.EditLaws.{after_leaf, after_leaves, edited-leaves, given, rising_after, thing_after, untouched}
 use Rattle.book_undo.proofs.ExactLaws.{allowed_order}
 use Rattle.book_undo.proofs.InverseLaws.{NotBelow, above_untouched, rises_first}
-use Rattle.book_undo.proofs.KindLaws.{no_head}
-use Rattle.book_free.specs.Seen.{line_entries, line_gone, line_in, new_lines, new_splits, old_lines, old_splits}
-use Rattle.book_free.specs.Seen.{line_before, split_entries, txn_before, txn_gone, txn_in}
+use Rattle.book_free.specs.Seen.{line_entries, new_lines, new_splits, old_lines, old_splits}
+use Rattle.book_free.specs.Seen.{split_entries}
 
 -- ---- what a leaf gives stands at its key after all of them
 

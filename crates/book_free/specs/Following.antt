@@ -1,8 +1,8 @@
 -- How what is kept of the free splits of a book becomes what is kept of another.
-use Rattle.std.specs.Prelude.{◌≡◌, ◌≤◌, ⊤, ℕ, ◌+◌, ◌-◌, ◌^◌, min, if◌then◌else◌, Bool, true, false, not, List, [], ◌∷◌}
+use Rattle.std.specs.Prelude.{◌≡◌, ℕ, ◌+◌, ◌-◌, ◌^◌, min, if◌then◌else◌, Bool, true, false, List, [], ◌∷◌, flat_map}
 use Rattle.std.specs.Prelude.{Option, Some, None}
-use Rattle.book_commodity.specs.Table.{with_entry, without_entry}
-use Rattle.book_match.specs.AmountIndex.{Index, is_same, is_there, with_free, without_free}
+use Rattle.book_commodity.specs.Table.{Rises, with_entry, without_entry}
+use Rattle.book_match.specs.AmountIndex.{is_same, ordered}
 use Rattle.book_match.specs.declared.free.Free.{Free}
 use Rattle.book_sound.specs.Soundness.{IsSoundBook}
 use Rattle.book_undo.specs.Book.{Book}
@@ -33,7 +33,7 @@ pub record HasFollowed (before now : Kept) (old new : Book) : Type 0 where
       now.index.changes
       ≡ min (before.index.changes + differing (free_splits old) (free_splits new)) (2 ^ 64 - 1)
 
--- ---- one split
+-- ---- what leaves the index and what comes into it
 
 -- Whether two splits are the same as the index has them, or there is neither.
 abbrev pub same_free : Option Free → Option Free → Bool
@@ -41,70 +41,43 @@ same_free (Some one) (Some other) = is_same one other
 same_free None None = true
 same_free _ _ = false
 
--- The splits without one, if it is given.
-abbrev pub without : Option Free → List Free → List Free
-without None entries = entries
-without (Some free) entries = without_free free entries
+-- What leaves the index by a move, and what comes into it: nothing, where the split is the same as the index has it.
+abbrev pub leaving : Move → Option Free
+leaving move = if same_free move.before move.after then None else move.before
 
--- The splits with one, if it is given.
-abbrev pub with : Option Free → List Free → List Free
-with None entries = entries
-with (Some free) entries = with_free free entries
+abbrev pub coming : Move → Option Free
+coming move = if same_free move.before move.after then None else move.after
 
--- The splits where one stands as another from now on.
-abbrev pub set : Option Free → Option Free → List Free → List Free
-set before after entries =
-    if same_free before after then entries else with after (without before entries)
+-- A split that may be given, in a list.
+abbrev pub listed : Option Free → List Free
+listed None = []
+listed (Some free) = free ∷ []
 
--- How many there are of a split that may be given.
-abbrev pub count_of : Option Free → ℕ
-count_of None = 0
-count_of (Some free) = 1
+-- What a function picks of moves, in their order.
+abbrev pub picked : (Move → Option Free) → List (ℕ × Move) → List Free
+picked pick moves = flat_map (λ entry. listed (pick entry.1)) moves
 
--- How often the index is changed where a split stands as another from now on.
-abbrev pub cost_of : Option Free → Option Free → ℕ
-cost_of before after = if same_free before after then 0 else count_of before + count_of after
+-- What leaves the index by moves, and what comes into it, in the order of the index.
+abbrev pub gone_of : List (ℕ × Move) → List Free
+gone_of moves = ordered (picked leaving moves)
 
--- The first of the two is there if it is given, and the other isn't.
-abbrev pub IsIn : Bool → Option Free → List Free → Type 0
-IsIn there None entries = ⊤
-IsIn there (Some free) entries = is_there free entries ≡ there
+abbrev pub come_of : List (ℕ × Move) → List Free
+come_of moves = ordered (picked coming moves)
 
--- A split can stand as another from now on: the one is there, and the other isn't, unless they are the same.
-pub record CanSet (before after : Option Free) (entries : List Free) : Type 0 where
-  pub there : IsIn true before entries
-  pub absent : same_free before after ≡ false → IsIn false after entries
+-- Moves by rising numbers, with what leaves the index by them and what comes into it.
+pub record AreListed (moves : List (ℕ × Move)) (gone come : List Free) : Type 0 where
+  pub rise : Rises moves
+  pub gone_is : gone ≡ gone_of moves
+  pub come_is : come ≡ come_of moves
 
--- A split stands in an index as another from now on.
-pub record IsSet (before after : Option Free) (old new : Index) : Type 0 where
-  pub entries : new.entries ≡ set before after old.entries
-  pub changes : new.changes ≡ min (old.changes + cost_of before after) (2 ^ 64 - 1)
-  pub spare : old.spare ≤ new.spare + 1
+-- ---- the lines of the splits
 
--- The lines of the splits, where one is matched with another line from now on, or with none.
+-- The lines of the splits, where one is matched with another line from now on, or with none,
 abbrev pub with_line : ℕ → Option ℕ → List (ℕ × ℕ) → List (ℕ × ℕ)
 with_line split (Some line) entries = with_entry split line entries
 with_line split None entries = without_entry split entries
 
--- ---- one move after another
-
--- The splits after moves.
-abbrev pub followed : List (ℕ × Move) → List Free → List Free
-followed [] entries = entries
-followed (entry ∷ more) entries = followed more (set entry.1.before entry.1.after entries)
-
--- How often these change the index.
-abbrev pub cost : List (ℕ × Move) → ℕ
-cost [] = 0
-cost (entry ∷ more) = cost_of entry.1.before entry.1.after + cost more
-
--- The lines of the splits after moves.
+-- and where they are matched as moves say.
 abbrev pub with_lines : List (ℕ × Move) → List (ℕ × ℕ) → List (ℕ × ℕ)
 with_lines [] entries = entries
 with_lines (entry ∷ more) entries = with_lines more (with_line entry.0 entry.1.line entries)
-
--- Each split can stand as its move says, after those before it.
-abbrev pub CanSetAll : List (ℕ × Move) → List Free → Type 0
-CanSetAll [] entries = ⊤
-CanSetAll (entry ∷ more) entries =
-    CanSet entry.1.before entry.1.after entries × CanSetAll more (set entry.1.before entry.1.after entries)

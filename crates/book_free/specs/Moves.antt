@@ -1,5 +1,5 @@
 -- What becomes of the free splits where a book becomes another.
-use Rattle.std.specs.Prelude.{◌≡◌, ℕ, List, Option, Some, None}
+use Rattle.std.specs.Prelude.{◌≡◌, ℕ, List, Some, None}
 use Rattle.book_commodity.specs.Table.{value_of}
 use Rattle.book_undo.specs.Book.{Book}
 use Rattle.book_free.specs.FreeSplits.{free_at, line_of}

@@ -1,5 +1,5 @@
 -- What an edit says of splits and of the lines that are matched with them: what they were, and what they become.
-use Rattle.std.specs.Prelude.{ℕ, ◌≡◌, if◌then◌else◌, Bool, List, [], ◌∷◌, flat_map, is_some, map, Option, Some, None}
+use Rattle.std.specs.Prelude.{ℕ, if◌then◌else◌, Bool, List, [], ◌∷◌, flat_map, is_some, map, Option, Some, None}
 use Rattle.book_commodity.specs.Table.{value_of, with_entry}
 use Rattle.book_splits.specs.declared.transaction.Txn.{Txn}
 use Rattle.book_statement.specs.declared.line.Line.{Line}
@@ -11,7 +11,7 @@ use Rattle.book_undo.specs.declared.thing.Thing.{Thing}
 use Rattle.book_undo.specs.declared.thing.Thing.TheVariants as thing
 use Rattle.book_undo.specs.declared.thing.ThingKind.{ThingKind}
 use Rattle.book_undo.specs.declared.thing.ThingKind.TheVariants as kind
-use Rattle.book_free.specs.FreeSplits.{open_at, open_split}
+use Rattle.book_free.specs.FreeSplits.{open_split}
 use Rattle.book_free.specs.declared.moves.Move.{Move}
 
 -- Whether a split has a line among the lines of splits.

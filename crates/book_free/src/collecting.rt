@@ -14,9 +14,10 @@ ghost use Rattle.book_free.specs.Kept.{Keeps};
 ghost use Rattle.book_free.specs.Moves.{AreMoves};
 ghost use Rattle.book_free.specs.Seen.{all_moves, line_now, move_seen, moves_seen, noted, side_of, unless_taken};
 
+use crate::moves::add;
 use crate::seen::{Seen, open_split};
 use crate::{FreeSplits, Move, Moves};
-use book_commodity::{OutOfMemory, discard};
+use book_commodity::{OutOfMemory, Table, discard};
 use book_match::Free;
 use book_splits::{Split, Txn, Txns};
 use book_undo::{Edit, Plain};
@@ -50,29 +51,29 @@ impl FreeSplits {
         ensures { IfOk result (λ moves. moves ≡ all_moves (λ number. move_seen seen.now
             self.now.matched.entries (open_at number transactions.now.entries) number) seen.now) }
     {
-        let mut moves = Moves::none(alloc);
-        self.add_all(&mut moves, transactions, seen, seen.before.as_slice())?;
-        self.add_all(&mut moves, transactions, seen, seen.after.as_slice())?;
-        self.add_all(&mut moves, transactions, seen, seen.lost.as_slice())?;
-        self.add_all(&mut moves, transactions, seen, seen.gained.as_slice())?;
-        Ok(moves)
+        let mut splits = Table::new(alloc);
+        self.add_all(&mut splits, transactions, seen, seen.before.as_slice())?;
+        self.add_all(&mut splits, transactions, seen, seen.after.as_slice())?;
+        self.add_all(&mut splits, transactions, seen, seen.lost.as_slice())?;
+        self.add_all(&mut splits, transactions, seen, seen.gained.as_slice())?;
+        Moves::of(alloc, splits)
     }
 
     /// Adds what becomes of the splits of these numbers.
     fn add_all<T>(
         &self,
-        moves: &mut Moves,
+        splits: &mut Table<Move>,
         transactions: &Txns,
         seen: &Seen,
         entries: &[(u64, T)],
     ) -> Result<(), OutOfMemory>
         requires { are_once (numbers_of (splits_of transactions.now.entries)) ≡ true }
-        ensures { OnOk result (moves.new ≡ noted (moves_seen
+        ensures { OnOk result (splits.new.entries ≡ noted (moves_seen
             (λ number. move_seen seen.now self.now.matched.entries (open_at number transactions.now.entries) number)
-            entries.now) moves.old) }
+            entries.now) splits.old.entries) }
     {
         for (split, _) in entries {
-            moves.add(*split, &self.move_of(transactions, seen, *split))?;
+            add(splits, *split, &self.move_of(transactions, seen, *split))?;
         }
         Ok(())
     }

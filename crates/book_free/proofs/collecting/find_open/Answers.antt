@@ -1,5 +1,5 @@
 -- A split has one transaction, which here is the nearest before it.
-use Rattle.std.proofs.Common.{◌≡◌, ◌-◌, ℕ, true, List, Some, ap, arith, sym, ◌∙◌}
+use Rattle.std.proofs.Common.{◌≡◌, ◌-◌, ℕ, true, List, ap, arith, sym, ◌∙◌}
 use Rattle.std.specs.Option.{option_copied}
 use Rattle.book_splits.specs.Balance.{splits_of}
 use Rattle.book_splits.specs.TransactionRules.{are_once, numbers_of}

@@ -1,8 +1,7 @@
 -- The first transaction that has the split is the one whose split is returned.
-use Rattle.std.proofs.Common.{◌≡◌, ◌+◌, ℕ, List, Option, Some, None, ap, sym, ◌∙◌, drop}
+use Rattle.std.proofs.Common.{◌≡◌, ◌+◌, Some, None, ap, sym, ◌∙◌, drop}
 use Rattle.std.specs.Option.{option_copied}
 use Rattle.book_commodity.proofs.ListLemmas.{from-item}
-use Rattle.book_splits.specs.declared.transaction.Txn.{Txn}
 use Rattle.book_sound.specs.LineRules.{split_among}
 use Rattle.book_free.specs.FreeSplits.{open_at}
 use Rattle.book_free.proofs.FreeAtLemmas.{open_here, open_past}

@@ -1,5 +1,5 @@
 -- The table of the sorted pairs has the line of each matched split.
-use Rattle.std.proofs.Common.{ℕ, [], ap, ◌∙◌}
+use Rattle.std.proofs.Common.{[], ap, ◌∙◌}
 use Rattle.std.proofs.lemmas.Result.{IfOk-weaker}
 use Rattle.book_commodity.specs.Table.{value_of}
 use Rattle.book_free.specs.Opening.{in_order}

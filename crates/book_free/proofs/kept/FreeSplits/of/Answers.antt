@@ -4,7 +4,6 @@ use Rattle.book_splits.specs.Balance.{splits_of}
 use Rattle.book_splits.specs.TransactionRules.{are_once, numbers_of}
 use Rattle.book_splits.specs.declared.transaction.Txn.{Txn}
 use Rattle.book_statement.specs.declared.line.Line.{Line}
-use Rattle.book_commodity.specs.Table.{value_of}
 use Rattle.book_match.specs.AmountIndex.{AreApart, ordered}
 use Rattle.book_undo.specs.Book.{book_of}
 use Rattle.book_free.specs.FreeSplits.{free_among, line_of}
