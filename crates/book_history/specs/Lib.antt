@@ -1,4 +1,6 @@
 pub mod History
+pub mod Leaving
 pub mod Numbers
+pub mod Passes
 pub mod Steps
 pub mod Turns
