@@ -3,17 +3,14 @@
 use Rattle.std.proofs.Common.{◌≡◌, ◌≢◌, ℕ, ◌==◌, not, Bool, true, false, if◌then◌else◌, List, [], ◌∷◌, Option, Some}
 use Rattle.std.proofs.Common.{None, refl, sym, ap, ◌∙◌}
 use Rattle.std.specs.List.{list_all}
-use Rattle.std.proofs.lemmas.Bool.{and_from, and_parts, eqb-false, ne_eqb, not-true, not_from_false}
+use Rattle.std.proofs.lemmas.Bool.{and_from, and_parts, eqb-false, not-true, not_from_false}
 use Rattle.book_commodity.specs.Rules.{IsSoundTable}
 use Rattle.book_commodity.specs.Table.{Rises, value_of, without_entry}
 use Rattle.book_commodity.proofs.DrawnLemmas.{some_stays, value_left}
 use Rattle.book_commodity.proofs.TableLemmas.{value_of_without}
-use Rattle.book_splits.specs.Balance.{splits_of}
 use Rattle.book_splits.specs.declared.reconciliation.Recon.{Recon}
 use Rattle.book_splits.specs.declared.split.Split.{Split}
 use Rattle.book_splits.specs.declared.transaction.Txn.{Txn}
-use Rattle.book_statement.specs.declared.binding.Binding.{Binding}
-use Rattle.book_statement.specs.declared.held.Held.{Held}
 use Rattle.book_statement.specs.declared.line.Line.{Line}
 use Rattle.book_sound.specs.BindingRules.{binding_rules, is_same_binding}
 use Rattle.book_sound.specs.LineRules.{has_same_key, line_rules, shares_split}

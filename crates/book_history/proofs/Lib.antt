@@ -5,7 +5,9 @@ pub mod LeftDrawn
 pub mod LeftSound
 pub mod MarkedSound
 pub mod NumberLaws
+pub mod NumberWalks
 pub mod PassLaws
+pub mod PlacedSound
 pub mod SplitSearch
 pub mod StateSound
 pub mod TurnLaws

@@ -1,12 +1,11 @@
 -- A sound book stays sound where a transaction is deleted with whose splits no line is matched, and where the splits of
 -- one are only marked otherwise.
-use Rattle.std.proofs.Common.{◌≡◌, ℕ, ◌<◌, ◌==◌, not, Bool, true, false, ◌&&◌, All, List, [], ◌∷◌, Option, Some, None}
+use Rattle.std.proofs.Common.{◌≡◌, ℕ, ◌<◌, ◌==◌, not, Bool, true, All, List, [], ◌∷◌, Option, Some, None}
 use Rattle.std.proofs.Common.{refl, sym, ap, subst, ◌∙◌}
-use Rattle.std.specs.List.{list_all}
 use Rattle.std.specs.Ordering.{int_eq}
 use Rattle.std.proofs.lemmas.Bool.{and_parts, eqb-true, not-true}
 use Rattle.std.proofs.lemmas.Bool.Decides.{Decides-int_eq}
-use Rattle.std.proofs.lemmas.List.Elements.{All-cons, All-head, All-nil, All-tail}
+use Rattle.std.proofs.lemmas.List.Elements.{All-cons, All-head, All-tail}
 use Rattle.book_commodity.specs.Table.{value_of, with_entry, without_entry}
 use Rattle.book_commodity.proofs.DrawnLemmas.{drawn_below}
 use Rattle.book_splits.specs.declared.split.Split.{Split}
@@ -14,7 +13,6 @@ use Rattle.book_splits.specs.declared.transaction.Txn.{Txn}
 use Rattle.book_splits.proofs.ReplacedLemmas.{all_of_one}
 use Rattle.book_statement.specs.declared.line.Line.{Line}
 use Rattle.book_sound.specs.Dismissal.{dismissed_if, lines_after, loses_split}
-use Rattle.book_sound.specs.MarkedTransactionRules.{is_rightly_marked}
 use Rattle.book_sound.specs.Soundness.{AreDrawn, IsSoundBook}
 use Rattle.book_sound.proofs.BookFrames.{transaction_taken}
 use Rattle.book_sound.proofs.DrawnFrames.{transaction_drawn, transaction_left_drawn}

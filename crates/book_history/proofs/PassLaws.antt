@@ -1,6 +1,6 @@
 -- An edit that may be applied leads to the same book in two passes over its leaves as in one: the keys of its leaves
 -- rise, so that no two of them change the same thing.
-use Rattle.std.proofs.Common.{◌≡◌, ℕ, ◌<◌, ◌==◌, Bool, true, false, ◌&&◌, if◌then◌else◌, List, [], ◌∷◌, ◌++◌, Option}
+use Rattle.std.proofs.Common.{◌≡◌, ℕ, Bool, true, false, ◌&&◌, if◌then◌else◌, List, [], ◌∷◌, ◌++◌, Option}
 use Rattle.std.proofs.Common.{None, inl, inr, refl, sym, ap, subst, ◌∙◌, arith}
 use Rattle.std.specs.Prelude.{⊤}
 use Rattle.std.proofs.lemmas.Bool.Decides.{nat_tests}
@@ -8,7 +8,6 @@ use Rattle.book_undo.specs.Book.{Book, IsRising, thing_at}
 use Rattle.book_undo.specs.Edit.{Key, Leaf, OfCurrency, OfPut, OfGone, edited, key_at, key_of, leaves}
 use Rattle.book_undo.specs.EditRules.{IsAllowed, first_unordered}
 use Rattle.book_undo.specs.Exact.{touches}
-use Rattle.book_undo.specs.Thing.{row_kind}
 use Rattle.book_undo.specs.declared.edit.Edit.{Edit}
 use Rattle.book_undo.specs.declared.thing.Thing.{Thing}
 use Rattle.book_undo.specs.declared.thing.ThingKind.{ThingKind}

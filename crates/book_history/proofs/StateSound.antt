@@ -1,9 +1,9 @@
 -- A sound book stays sound where a line only takes another state, as which it fits.
-use Rattle.std.proofs.Common.{◌≡◌, ◌≢◌, ℕ, ◌==◌, nat_eq, ◌&&◌, ◌||◌, not, Bool, true, false, List, [], ◌∷◌, Option}
-use Rattle.std.proofs.Common.{Some, None, is_some, refl, sym, ap, subst, ◌∙◌, arith}
+use Rattle.std.proofs.Common.{◌≡◌, ◌≢◌, ℕ, ◌==◌, nat_eq, ◌&&◌, ◌||◌, not, Bool, true, false, List, Option}
+use Rattle.std.proofs.Common.{Some, None, is_none, is_some, refl, sym, ap, ◌∙◌, arith}
 use Rattle.std.specs.Option.{option_eq}
 use Rattle.std.specs.Ordering.{int_eq}
-use Rattle.std.proofs.lemmas.Bool.{and_parts, eqb-true, ne_eqb, not-true, not_from_false, or_cases}
+use Rattle.std.proofs.lemmas.Bool.{and_parts, eqb-true, ne_eqb, not-true, not_from_false}
 use Rattle.std.proofs.lemmas.Bool.Decides.{Decides-int_eq, nat_tests}
 use Rattle.std.proofs.lemmas.Slice.Eq.{bytes_eq-Decides}
 use Rattle.book_commodity.specs.Rules.{IsSoundTable}
@@ -25,7 +25,8 @@ use Rattle.book_sound.proofs.OwnFrames.{none_of_others, others_again, own_again,
 use Rattle.book_sound.proofs.WalkLemmas.{passes_there}
 use Rattle.book_check.specs.LineWalk.{is_matched_with}
 use Rattle.book_undo.specs.Book.{Book}
-use Rattle.book_history.specs.Leaving.{is_free, may_be, only_state}
+use Rattle.book_history.specs.Leaving.{is_same_line}
+use Rattle.book_history.specs.Placing.{is_free, may_be}
 
 -- ---- keys
 
@@ -133,18 +134,17 @@ state_fits book n new Dismissed may = (refl, λ k x other there. refl)
 
 line_put :
     (book : Book) (n next : ℕ) (new : Line) (found : Option Line) → value_of n book.lines ≡ found
-    → only_state book n new found ≡ true → IsSoundBook book → AreDrawn book next
+    → is_same_line new found ≡ true → may_be book n new new.state ≡ true → IsSoundBook book → AreDrawn book next
     → IsSoundBook (record book { lines = with_entry n new book.lines })
     × AreDrawn (record book { lines = with_entry n new book.lines }) next
-line_put book n next new None there only is are = absurd cc
-line_put book n next new (Some old) there only is are =
-    let statement = and_parts (new.statement == old.statement) _ only in
-    let key = and_parts (has_same_key new old) (may_be book n new new.state) statement.1 in
-    let state = state_fits book n new new.state key.1 in
+line_put book n next new None there same may is are = absurd cc
+line_put book n next new (Some old) there same may is are =
+    let parts = and_parts (new.statement == old.statement) (has_same_key new old) same in
+    let state = state_fits book n new new.state may in
     let in_place : IsInPlace book n old new = record {
       there = there;
-      keys = sym (same_keys (key_of_line new) (key_of_line old) key.0);
-      statement = eqb-true new.statement old.statement statement.0;
+      keys = sym (same_keys (key_of_line new) (key_of_line old) parts.1);
+      statement = eqb-true new.statement old.statement parts.0;
       fits = state.0;
       apart = state.1;
     } in (
@@ -165,9 +165,18 @@ line_put book n next new (Some old) there only is are =
       line_drawn book n next new (drawn_below n next old book.lines are.lines there) are,
     )
 
+-- a line takes a state in which it may be
 pub line_restated :
-    (book : Book) (n next : ℕ) (new : Line) → only_state book n new (value_of n book.lines) ≡ true
-    → IsSoundBook book → AreDrawn book next
+    (book : Book) (n next : ℕ) (new : Line) → is_same_line new (value_of n book.lines) ≡ true
+    → may_be book n new new.state ≡ true → IsSoundBook book → AreDrawn book next
     → IsSoundBook (record book { lines = with_entry n new book.lines })
     × AreDrawn (record book { lines = with_entry n new book.lines }) next
 line_restated book n next new = line_put book n next new (value_of n book.lines) refl
+
+-- it may be in a state in which it is matched with no split
+pub free_may_be :
+    (book : Book) (n : ℕ) (new : Line) (state : LineState) → is_none (matched_split state) ≡ true
+    → may_be book n new state ≡ true
+free_may_be book n new Open free = refl
+free_may_be book n new (Matched split) free = absurd cc
+free_may_be book n new Dismissed free = refl

@@ -1,6 +1,6 @@
--- Which single changes leave a sound book sound. That is seen from what changes and, where something else may need it,
--- from one walk along the lines or along the splits. Whether other changes do is seen from the whole book alone.
-use Rattle.std.specs.Prelude.{ℕ, ◌==◌, not, Bool, true, false, ◌&&◌, ◌||◌, List, [], ◌∷◌, Option, Some, None}
+-- Which single changes leave a sound book sound, as is seen from what changes and, where something else may need what is
+-- deleted, from a walk along the lines or along the splits.
+use Rattle.std.specs.Prelude.{ℕ, ◌==◌, not, Bool, true, false, ◌&&◌, List, [], ◌∷◌, Option, Some, None, is_none}
 use Rattle.std.specs.List.{list_all}
 use Rattle.std.specs.Ordering.{int_eq}
 use Rattle.book_commodity.specs.Table.{value_of}
@@ -9,12 +9,9 @@ use Rattle.book_splits.specs.declared.reconciliation.Recon.{Recon}
 use Rattle.book_splits.specs.declared.split.Split.{Split}
 use Rattle.book_splits.specs.declared.transaction.Txn.{Txn}
 use Rattle.book_statement.specs.declared.line.Line.{Line}
-use Rattle.book_statement.specs.declared.line_state.LineState.{LineState}
-use Rattle.book_statement.specs.declared.line_state.LineState.TheVariants.{Open, Matched, Dismissed}
 use Rattle.book_sound.specs.Dismissal.{loses_split}
-use Rattle.book_sound.specs.LineRules.{fits_line, has_same_key, split_at}
+use Rattle.book_sound.specs.LineRules.{has_same_key, matched_split}
 use Rattle.book_sound.specs.MarkedTransactionRules.{is_rightly_marked}
-use Rattle.book_check.specs.LineWalk.{is_matched_with}
 use Rattle.book_undo.specs.Book.{Book}
 use Rattle.book_undo.specs.declared.edit.Edit.{Edit, Currency, Put, Gone, All'}
 use Rattle.book_undo.specs.declared.thing.Thing.{Thing}
@@ -79,34 +76,22 @@ only_marks reconciliations new (Some old) =
     (new.currency == old.currency) && (are_remarked old.splits new.splits
     && list_all (is_rightly_marked reconciliations) new.splits)
 
--- Whether no line but that of a number is matched with a split.
-abbrev pub is_free : ℕ → ℕ → List (ℕ × Line) → Bool
-is_free number split lines = list_all (λ entry. (entry.0 == number) || not (is_matched_with split entry.1)) lines
+-- Whether there is a line, and it has the key and the statement of a new one.
+abbrev pub is_same_line : Line → Option Line → Bool
+is_same_line new None = false
+is_same_line new (Some old) = (new.statement == old.statement) && has_same_key new old
 
--- Whether a line under a number may be in a state: where it is matched, it is with a split of the book that is what the
--- line says, and with which no other line is matched.
-abbrev pub may_be : Book → ℕ → Line → LineState → Bool
-may_be book number line Open = true
-may_be book number line (Matched split) =
-    fits_line line (split_at split book.transactions) && is_free number split book.lines
-may_be book number line Dismissed = true
-
--- Whether there is a line that has the key and the statement of a new one, which may be in its state.
-abbrev pub only_state : Book → ℕ → Line → Option Line → Bool
-only_state book number new None = false
-only_state book number new (Some old) =
-    (new.statement == old.statement) && (has_same_key new old && may_be book number new new.state)
-
--- Whether a thing that is put under a number only marks the splits of a transaction that stands there, or only sets the
--- state of a line.
+-- Whether a thing that is put under a number only marks the splits of the transaction there, or only sets the line there
+-- to a state in which it is matched with no split.
 abbrev pub is_harmless : ℕ → Thing → Book → Bool
 is_harmless number (thing.Txn new) book =
     only_marks book.reconciliations new (value_of number book.transactions)
-is_harmless number (thing.Line new) book = only_state book number new (value_of number book.lines)
+is_harmless number (thing.Line new) book =
+    is_none (matched_split new.state) && is_same_line new (value_of number book.lines)
 is_harmless number _ book = false
 
--- Whether a single change leads from a sound book to a sound one, wherever it may be applied: it only deletes a thing
--- that nothing else needs, marks the splits of a transaction, or sets the state of a line.
+-- Whether a single change leads from a sound book to a sound one, wherever it may be applied: it deletes a thing that
+-- nothing else needs, or puts a harmless one.
 abbrev pub leaves_sound : Book → Edit → Bool
 leaves_sound book (Currency currency) = false
 leaves_sound book (Put number thing) = is_harmless number thing book

@@ -1,8 +1,7 @@
 -- An edit in two passes over its leaves. The first takes those that free lines from the splits that they are matched
 -- with, or delete them, and the second the others. So a transaction is deleted only after the line that was matched
 -- with its split was opened, and a statement after its lines.
-use Rattle.std.specs.Prelude.{ℕ, not, Bool, true, false, if◌then◌else◌, List, [], ◌∷◌, is_none}
-use Rattle.book_statement.specs.declared.line.Line.{Line}
+use Rattle.std.specs.Prelude.{Bool, true, false, if◌then◌else◌, List, [], ◌∷◌, is_none}
 use Rattle.book_sound.specs.LineRules.{matched_split}
 use Rattle.book_undo.specs.Book.{Book}
 use Rattle.book_undo.specs.Edit.{edited, Leaf, OfCurrency, OfPut, OfGone}

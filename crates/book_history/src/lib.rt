@@ -2,13 +2,16 @@
 //! `first_fault_back` and `first_fault_forth` give the number of the first kept step that is broken, asked outward from
 //! the present book; they go along the steps on the book itself, and come back by their inverses. A step leads from a
 //! sound book to a sound one where each of its single changes does by itself; only after other steps is the book checked
-//! whole. `leaving` says which single changes do, with `marking` and `restating` for those that put a transaction or a
-//! line, and `passing` makes the changes of a step in an order in which they do.
+//! whole. `leaving` says which single changes do, with `marking` and `placing` for a transaction that is put, `restating`
+//! for a line, and `losing` for the lines that are matched with splits; `passing` makes the changes of a step in an order
+//! in which they do.
 #![tactic(auto)]
 
 mod leaving;
+mod losing;
 mod marking;
 mod passing;
+mod placing;
 mod restating;
 mod walk;
 

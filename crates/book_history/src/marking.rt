@@ -51,7 +51,7 @@ fn is_remarked(old: &Split, new: &Split) -> bool
 }
 
 /// Whether each split is reconciled exactly where it names a reconciliation that has marked it.
-fn are_rightly_marked(reconciliations: &Table<Recon>, splits: &[Split]) -> bool
+pub(crate) fn are_rightly_marked(reconciliations: &Table<Recon>, splits: &[Split]) -> bool
     ensures { result ≡ list_all (is_rightly_marked reconciliations.now.entries) splits.now }
 {
     splits

@@ -7,10 +7,23 @@ ghost use Rattle.book_undo.specs.EditRules.{IsAllowed};
 ghost use Rattle.book_history.specs.Passes.{changed, freed, frees_line, is_free_line};
 
 use crate::leaving::leaves_sound;
+use crate::placing::fits_there;
+use crate::restating::is_free_state;
 use book_commodity::{OutOfMemory, discard};
-use book_statement::LineState;
 use book_undo::{Edit, Plain, Thing, ThingKind};
 use std::alloc::Global;
+
+/// How many changes of a step are asked about by a walk along all transactions. A walk takes a small part of the time of
+/// a check of the whole book.
+const MOST_WALKS: u32 = 8;
+
+/// What is known on the way through the changes of a step: whether the book is sound, with its numbers drawn; and by how
+/// many walks more this may be found out later.
+#[derive(Clone, Copy)]
+struct Standing {
+    known: bool,
+    walks: u32,
+}
 
 /// Makes the book to which the edit leads, and says whether it is known to be sound with its numbers drawn: the book
 /// before it was known to be, and each single change leaves it so. First lines are freed from their splits or deleted,
@@ -29,8 +42,12 @@ pub(crate) fn pass(
         → IsSoundBook (book_of plain.new) × AreDrawn (book_of plain.new) next) }
 {
     rising(plain);
-    let known = free_lines(alloc, plain, next, edit, known)?;
-    change(alloc, plain, next, edit, known)
+    let start = Standing {
+        known,
+        walks: MOST_WALKS,
+    };
+    let standing = free_lines(alloc, plain, next, edit, start)?;
+    Ok(change(alloc, plain, next, edit, standing)?.known)
 }
 
 /// Makes the changes of the edit that free lines, from the last to the first.
@@ -41,20 +58,20 @@ fn free_lines(
     plain: &mut Plain,
     next: u64,
     edit: &Edit,
-    known: bool,
-) -> Result<bool, OutOfMemory>
-    requires { IsTrue known → IsSoundBook (book_of plain.old) × AreDrawn (book_of plain.old) next }
+    standing: Standing,
+) -> Result<Standing, OutOfMemory>
+    requires { IsTrue standing.known → IsSoundBook (book_of plain.old) × AreDrawn (book_of plain.old) next }
     ensures book { OnOk result (book_of plain.new ≡ freed (leaves edit.now) (book_of plain.old)) }
-    ensures known { IfOk result (λ known. IsTrue known
+    ensures known { IfOk result (λ standing. IsTrue standing.known
         → IsSoundBook (book_of plain.new) × AreDrawn (book_of plain.new) next) }
 {
     match edit {
-        Edit::All(parts) => free_all(alloc, plain, next, parts.as_slice(), known),
+        Edit::All(parts) => free_all(alloc, plain, next, parts.as_slice(), standing),
         Edit::Currency(_) | Edit::Put(_, _) | Edit::Gone(_, _) => {
             if frees_line(edit) {
-                make(alloc, plain, next, edit, known)
+                make(alloc, plain, next, edit, standing)
             } else {
-                Ok(known)
+                Ok(standing)
             }
         }
     }
@@ -67,18 +84,18 @@ fn free_all(
     plain: &mut Plain,
     next: u64,
     parts: &[Edit],
-    known: bool,
-) -> Result<bool, OutOfMemory>
-    requires { IsTrue known → IsSoundBook (book_of plain.old) × AreDrawn (book_of plain.old) next }
+    standing: Standing,
+) -> Result<Standing, OutOfMemory>
+    requires { IsTrue standing.known → IsSoundBook (book_of plain.old) × AreDrawn (book_of plain.old) next }
     ensures book { OnOk result (book_of plain.new ≡ freed (flat_map leaves parts.now) (book_of plain.old)) }
-    ensures known { IfOk result (λ known. IsTrue known
+    ensures known { IfOk result (λ standing. IsTrue standing.known
         → IsSoundBook (book_of plain.new) × AreDrawn (book_of plain.new) next) }
 {
-    let mut known = known;
+    let mut standing = standing;
     for place in (0..parts.len()).rev() {
-        known = free_lines(alloc, plain, next, &parts[place], known)?;
+        standing = free_lines(alloc, plain, next, &parts[place], standing)?;
     }
-    Ok(known)
+    Ok(standing)
 }
 
 /// Makes the changes of the edit that free no lines.
@@ -89,20 +106,20 @@ fn change(
     plain: &mut Plain,
     next: u64,
     edit: &Edit,
-    known: bool,
-) -> Result<bool, OutOfMemory>
-    requires { IsTrue known → IsSoundBook (book_of plain.old) × AreDrawn (book_of plain.old) next }
+    standing: Standing,
+) -> Result<Standing, OutOfMemory>
+    requires { IsTrue standing.known → IsSoundBook (book_of plain.old) × AreDrawn (book_of plain.old) next }
     ensures book { OnOk result (book_of plain.new ≡ changed (leaves edit.now) (book_of plain.old)) }
-    ensures known { IfOk result (λ known. IsTrue known
+    ensures known { IfOk result (λ standing. IsTrue standing.known
         → IsSoundBook (book_of plain.new) × AreDrawn (book_of plain.new) next) }
 {
     match edit {
-        Edit::All(parts) => change_all(alloc, plain, next, parts.as_slice(), known),
+        Edit::All(parts) => change_all(alloc, plain, next, parts.as_slice(), standing),
         Edit::Currency(_) | Edit::Put(_, _) | Edit::Gone(_, _) => {
             if frees_line(edit) {
-                Ok(known)
+                Ok(standing)
             } else {
-                make(alloc, plain, next, edit, known)
+                make(alloc, plain, next, edit, standing)
             }
         }
     }
@@ -115,47 +132,62 @@ fn change_all(
     plain: &mut Plain,
     next: u64,
     parts: &[Edit],
-    known: bool,
-) -> Result<bool, OutOfMemory>
-    requires { IsTrue known → IsSoundBook (book_of plain.old) × AreDrawn (book_of plain.old) next }
+    standing: Standing,
+) -> Result<Standing, OutOfMemory>
+    requires { IsTrue standing.known → IsSoundBook (book_of plain.old) × AreDrawn (book_of plain.old) next }
     ensures book { OnOk result (book_of plain.new ≡ changed (flat_map leaves parts.now) (book_of plain.old)) }
-    ensures known { IfOk result (λ known. IsTrue known
+    ensures known { IfOk result (λ standing. IsTrue standing.known
         → IsSoundBook (book_of plain.new) × AreDrawn (book_of plain.new) next) }
 {
-    let mut known = known;
+    let mut standing = standing;
     for part in parts {
-        known = change(alloc, plain, next, part, known)?;
+        standing = change(alloc, plain, next, part, standing)?;
     }
-    Ok(known)
+    Ok(standing)
 }
 
-/// Makes a single change, and says whether the book is known to be sound after it.
+/// Makes a single change, and says what is known after it.
 fn make(
     alloc: Global,
     plain: &mut Plain,
     next: u64,
     edit: &Edit,
-    known: bool,
-) -> Result<bool, OutOfMemory>
+    standing: Standing,
+) -> Result<Standing, OutOfMemory>
     requires shallow { depth edit.now ≤ 8 }
-    requires known { IsTrue known → IsSoundBook (book_of plain.old) × AreDrawn (book_of plain.old) next }
+    requires known { IsTrue standing.known → IsSoundBook (book_of plain.old) × AreDrawn (book_of plain.old) next }
     ensures book { OnOk result (book_of plain.new ≡ edited edit.now (book_of plain.old)) }
-    ensures known { IfOk result (λ known. IsTrue known
+    ensures known { IfOk result (λ standing. IsTrue standing.known
         → IsSoundBook (book_of plain.new) × AreDrawn (book_of plain.new) next) }
 {
-    let stays = stays_known(plain, next, edit, known);
+    let later = known_after(plain, next, edit, standing);
     let copy = edit.copy(alloc)?;
     go(plain, copy)?;
-    Ok(stays)
+    Ok(later)
 }
 
-/// Whether the book is known to be sound after the change: it is before it, and the change leaves it so.
-fn stays_known(plain: &Plain, next: u64, edit: &Edit, known: bool) -> bool
-    requires { IsTrue known → IsSoundBook (book_of plain.now) × AreDrawn (book_of plain.now) next }
-    ensures { IsTrue result
+/// What is known after the change: that the book is sound, where it is before it and the change leaves it so.
+fn known_after(plain: &Plain, next: u64, edit: &Edit, standing: Standing) -> Standing
+    requires { IsTrue standing.known → IsSoundBook (book_of plain.now) × AreDrawn (book_of plain.now) next }
+    ensures { IsTrue result.known
         → IsSoundBook (edited edit.now (book_of plain.now)) × AreDrawn (edited edit.now (book_of plain.now)) next }
 {
-    known && leaves_sound(plain, edit)
+    if !standing.known {
+        return standing;
+    }
+    if leaves_sound(plain, edit) {
+        return standing;
+    }
+    match standing.walks.checked_sub(1) {
+        Some(walks) => Standing {
+            known: fits_there(plain, next, edit),
+            walks,
+        },
+        None => Standing {
+            known: false,
+            walks: 0,
+        },
+    }
 }
 
 /// Whether the edit only deletes a line, or puts one that is matched with no split.
@@ -176,16 +208,6 @@ fn is_free_line(thing: &Thing) -> bool
     match thing {
         Thing::Line(line) => is_free_state(line.state),
         _ => false,
-    }
-}
-
-/// Whether a line in this state is matched with no split.
-fn is_free_state(state: LineState) -> bool
-    ensures { result ≡ is_none (matched_split state) }
-{
-    match state {
-        LineState::Open | LineState::Dismissed => true,
-        LineState::Matched(_) => false,
     }
 }
 

@@ -1,27 +1,35 @@
-ghost use Rattle.std.specs.Prelude.{◌≡◌, ◌==◌, ◌&&◌};
+ghost use Rattle.std.specs.Prelude.{◌≡◌, ◌==◌, ◌&&◌, is_none};
 ghost use Rattle.std.specs.Option.{option_copied};
 ghost use Rattle.book_statement.specs.Keys.{same_text};
-ghost use Rattle.book_sound.specs.LineRules.{fits_line, has_same_key, split_at};
+ghost use Rattle.book_sound.specs.LineRules.{fits_line, has_same_key, matched_split, split_at};
 ghost use Rattle.book_check.specs.LineWalk.{is_matched_with};
 ghost use Rattle.book_undo.specs.Book.{book_of};
-ghost use Rattle.book_commodity.specs.Table.{value_of};
-ghost use Rattle.book_history.specs.Leaving.{is_free, may_be, only_state};
+ghost use Rattle.book_history.specs.Leaving.{is_same_line};
+ghost use Rattle.book_history.specs.Placing.{is_free, may_be};
 
-use crate::leaving::find_split;
+use crate::losing::find_split;
 use book_commodity::Table;
 use book_splits::{Split, Txns};
 use book_statement::{Line, LineState};
 use book_undo::Plain;
 
-/// Whether the line stands under the number, with the same key and statement, and may be in the new one's state.
-pub(crate) fn only_state(plain: &Plain, number: u64, new: &Line) -> bool
-    ensures { result ≡ only_state (book_of plain.now) number new.now (value_of number plain.now.lines.entries) }
+/// Whether there is a line, and it has the key and the statement of the new one.
+pub(crate) fn is_same_line(new: &Line, found: Option<&Line>) -> bool
+    ensures { result ≡ is_same_line new.now (option_copied found.entry) }
 {
-    match plain.lines.find(number) {
-        Some(old) => {
-            new.statement == old.statement && has_same_key(new, old) && may_be(plain, number, new)
-        }
+    match found {
+        Some(old) => new.statement == old.statement && has_same_key(new, old),
         None => false,
+    }
+}
+
+/// Whether a line in this state is matched with no split.
+pub(crate) fn is_free_state(state: LineState) -> bool
+    ensures { result ≡ is_none (matched_split state) }
+{
+    match state {
+        LineState::Open | LineState::Dismissed => true,
+        LineState::Matched(_) => false,
     }
 }
 
@@ -52,7 +60,7 @@ fn has_same_texts(line: &Line, other: &Line) -> bool
 
 /// Whether the line under the number may be in its state: where it is matched, it is with a split of the book that is
 /// what the line says, and with which no other line is matched.
-fn may_be(plain: &Plain, number: u64, line: &Line) -> bool
+pub(crate) fn may_be(plain: &Plain, number: u64, line: &Line) -> bool
     ensures { result ≡ may_be (book_of plain.now) number line.now line.now.state }
 {
     match line.state {

@@ -1,5 +1,5 @@
 -- Lists of different lengths are not the same but for marks.
-use Rattle.std.proofs.Common.{◌≡◌, ◌≢◌, ℕ, suc, false, List, [], ◌∷◌, length, refl, sym, ap, arith}
+use Rattle.std.proofs.Common.{◌≡◌, ◌≢◌, ℕ, suc, false, List, [], ◌∷◌, length, refl, sym, ap}
 use Rattle.std.proofs.lemmas.Bool.{and_right}
 use Rattle.book_splits.specs.declared.split.Split.{Split}
 use Rattle.book_history.specs.Leaving.{are_remarked, is_remarked}

@@ -16,10 +16,10 @@ change_all-loop-part-preserved t c =
     let rest : List Edit = drop (c.loop-part.part-index + 1) parts in
     record {
       book =
-          ap (changed (flat_map leaves rest)) c.in_ok-known.ensures.book
+          ap (changed (flat_map leaves rest)) c.in_ok-standing.ensures.book
           ∙ sym (changed-append (leaves part) (flat_map leaves rest) now)
           ∙ ap (λ (edits : List Edit). changed (flat_map leaves edits) now)
           (sym (from-item parts c.loop-part.part-index part c.loop-part-test.true c.part-item.is))
           ∙ c.loop-part.invariant.book;
-      known = c.in_ok-known.ensures.known;
+      known = c.in_ok-standing.ensures.known;
     }

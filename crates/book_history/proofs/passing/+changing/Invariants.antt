@@ -10,5 +10,5 @@ abbrev pub invariant-change_all-loop-part : goal.invariant-change_all-loop-part
 invariant-change_all-loop-part l = record {
   book : changed (flat_map leaves (drop l.part-index l.parts)) (book_of l.plain)
       ≡ changed (flat_map leaves l.parts) (book_of l.fn.plain);
-  known : IsTrue l.known → IsSoundBook (book_of l.plain) × AreDrawn (book_of l.plain) l.next;
+  known : IsTrue l.standing.known → IsSoundBook (book_of l.plain) × AreDrawn (book_of l.plain) l.next;
 }

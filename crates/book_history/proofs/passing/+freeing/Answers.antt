@@ -19,12 +19,12 @@ free_all-loop-place-preserved t c =
     let rest : List Edit = drop (place + 1) parts in
     record {
       book =
-          c.in_ok-known.ensures.book
+          c.in_ok-standing.ensures.book
           ∙ ap (freed (leaves part)) (subst
           (λ (k : ℕ). book_of c.loop-place.plain ≡ freed (flat_map leaves (drop k parts)) before) more
           c.loop-place.invariant.book)
           ∙ sym (freed-append (leaves part) (flat_map leaves rest) before)
           ∙ ap (λ (edits : List Edit). freed (flat_map leaves edits) before)
           (sym (from-item parts place part below c.index-parts-place.is));
-      known = c.in_ok-known.ensures.known;
+      known = c.in_ok-standing.ensures.known;
     }

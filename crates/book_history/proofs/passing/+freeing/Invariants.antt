@@ -9,5 +9,5 @@ use Rattle.book_history.proofs.passing.+freeing.Given as goal
 abbrev pub invariant-free_all-loop-place : goal.invariant-free_all-loop-place
 invariant-free_all-loop-place l = record {
   book : book_of l.plain ≡ freed (flat_map leaves (drop l.place l.parts)) (book_of l.fn.plain);
-  known : IsTrue l.known → IsSoundBook (book_of l.plain) × AreDrawn (book_of l.plain) l.next;
+  known : IsTrue l.standing.known → IsSoundBook (book_of l.plain) × AreDrawn (book_of l.plain) l.next;
 }

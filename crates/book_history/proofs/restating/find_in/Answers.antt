@@ -1,7 +1,6 @@
 -- The transaction at the place has the split, or those behind it are sought.
-use Rattle.std.proofs.Common.{◌≡◌, List, Option, Some, None, ap, sym, ◌∙◌}
+use Rattle.std.proofs.Common.{◌≡◌, Some, None, ap, sym, ◌∙◌}
 use Rattle.std.specs.Option.{option_copied}
-use Rattle.book_splits.specs.declared.split.Split.{Split}
 use Rattle.book_sound.specs.LineRules.{split_among}
 use Rattle.book_history.proofs.SplitSearch.{split_from}
 use Rattle.book_history.proofs.restating.find_in.Goals as goal
