@@ -32,7 +32,8 @@ abbrev AllPast : Key → List Leaf → Type 0
 AllPast before [] = ⊤
 AllPast before (leaf ∷ more) = Past before.kind before.number (key_of leaf) × AllPast before more
 
-all_further : (before key : Key) (ls : List Leaf) → Past before.kind before.number key → AllPast key ls → AllPast before ls
+all_further :
+    (before key : Key) (ls : List Leaf) → Past before.kind before.number key → AllPast key ls → AllPast before ls
 all_further before key [] past all = tt
 all_further before key (l ∷ ls) past all = (
   above_further before.kind before.number key (key_of l) past all.0,

@@ -1,5 +1,5 @@
--- Which single changes leave a sound book sound, as is seen from what changes and, where something else may need what is
--- deleted, from a walk along the lines or along the splits.
+-- Which single changes leave a sound book sound, as is seen from what changes and, where something else may need what
+-- is deleted, from a walk along the lines or along the splits.
 use Rattle.std.specs.Prelude.{ℕ, ◌==◌, not, Bool, true, false, ◌&&◌, List, [], ◌∷◌, Option, Some, None, is_none}
 use Rattle.std.specs.List.{list_all}
 use Rattle.std.specs.Ordering.{int_eq}
@@ -81,8 +81,8 @@ abbrev pub is_same_line : Line → Option Line → Bool
 is_same_line new None = false
 is_same_line new (Some old) = (new.statement == old.statement) && has_same_key new old
 
--- Whether a thing that is put under a number only marks the splits of the transaction there, or only sets the line there
--- to a state in which it is matched with no split.
+-- Whether a thing that is put under a number only marks the splits of the transaction there, or only sets the line
+-- there to a state in which it is matched with no split.
 abbrev pub is_harmless : ℕ → Thing → Book → Bool
 is_harmless number (thing.Txn new) book =
     only_marks book.reconciliations new (value_of number book.transactions)

@@ -67,8 +67,8 @@ may_be book number line (Matched split) =
     fits_line line (split_at split book.transactions) && is_free number split book.lines
 may_be book number line Dismissed = true
 
--- Whether a thing fits under a number: a transaction does as above, and a line does in the place of one with its key and
--- its statement, if it may be in its state.
+-- Whether a thing fits under a number: a transaction does as above, and a line does in the place of one with its key
+-- and its statement, if it may be in its state.
 abbrev pub thing_fits : ℕ → Book → ℕ → Thing → Bool
 thing_fits next book number (thing.Txn new) = fits_under next book number new
 thing_fits next book number (thing.Line new) =

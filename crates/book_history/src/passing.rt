@@ -13,12 +13,12 @@ use book_commodity::{OutOfMemory, discard};
 use book_undo::{Edit, Plain, Thing, ThingKind};
 use std::alloc::Global;
 
-/// How many changes of a step are asked about by a walk along all transactions. A walk takes a small part of the time of
-/// a check of the whole book.
+/// How many changes of a step are asked about by a walk along all transactions. A walk takes a small part of the time
+/// of a check of the whole book.
 const MOST_WALKS: u32 = 8;
 
-/// What is known on the way through the changes of a step: whether the book is sound, with its numbers drawn; and by how
-/// many walks more this may be found out later.
+/// What is known on the way through the changes of a step: whether the book is sound, with its numbers drawn. And how
+/// many changes more may be asked about by a walk along all transactions.
 #[derive(Clone, Copy)]
 struct Standing {
     known: bool,

@@ -20,9 +20,9 @@ const MOST: usize = 200_000;
 /// How many splits the transactions of a book have at most.
 const MOST_SPLITS: u64 = 1_000_000;
 
-/// Whether the edit only puts a thing that fits under its number: a transaction that keeps all rules there, or a line in
-/// the place of one with its key and its statement, which may be in its state. The transactions of the book are walked
-/// along once, and its lines.
+/// Whether the edit only puts a thing that fits under its number: a transaction that keeps all rules there, or a line
+/// in the place of one with its key and its statement, which may be in its state. The transactions of the book are
+/// walked along once, and its lines.
 pub(crate) fn fits_there(plain: &Plain, next: u64, edit: &Edit) -> bool
     requires { length (splits_of (book_of plain.now).transactions) ≤ 1000000 }
     ensures { result ≡ fits_there next (book_of plain.now) edit.now }
