@@ -6,6 +6,7 @@ use Rattle.std.proofs.lemmas.Bool.{or_from, or_parts}
 use Rattle.book_commodity.specs.Rules.{first_broken}
 use Rattle.book_check.specs.FirstUnsound.{first_unsound}
 use Rattle.book_check.proofs.Unsound.{none_where_sound, sound_where_none}
+use Rattle.book_sound.specs.Soundness.{AreDrawn, IsSoundBook}
 use Rattle.book_undo.specs.Book.{Book, IsRising}
 use Rattle.book_undo.specs.Edit.{edited, leaves, depth}
 use Rattle.book_undo.specs.EditRules.{edit_rules}
@@ -33,6 +34,11 @@ unbroken_sound next book edit rise e =
     let parts = or_parts (is_some rules) (is_some key) e in
     let both = sound_where_none (edited edit book) next (edited_rises edit book rise) (none_of key parts.1) in
     record { allowed = none_of rules parts.0; sound = both.0; drawn = both.1 }
+
+-- A sound book whose numbers are drawn is not unsound.
+pub known_sound : (next : ℕ) (book : Book) → IsSoundBook book → AreDrawn book next → is_unsound next book ≡ false
+unfolding is_unsound
+known_sound next book is are = ap is_some (none_where_sound book next is are)
 
 -- A sound step is not broken.
 pub sound_unbroken :

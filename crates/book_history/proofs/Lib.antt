@@ -1,6 +1,14 @@
 pub mod ExactBack
 pub mod FaultLaws
 pub mod LeavingLemmas
+pub mod LeftDrawn
+pub mod LeftSound
+pub mod MarkedSound
 pub mod NumberLaws
+pub mod NumberWalks
+pub mod PassLaws
+pub mod PlacedSound
+pub mod SplitSearch
+pub mod StateSound
 pub mod TurnLaws
 pub mod WalkLemmas

@@ -1,6 +1,6 @@
 -- The steps that lead from a book to others, and the first of them that is broken.
-use Rattle.std.specs.Prelude.{◌≡◌, ℕ, ◌||◌, ◌==◌, ⊤, Bool, true, false, is_some, if◌then◌else◌, List, [], ◌∷◌}
-use Rattle.std.specs.Prelude.{length, Option, Some, None}
+use Rattle.std.specs.Prelude.{◌≡◌, ℕ, ◌||◌, ⊤, Bool, false, is_some, if◌then◌else◌, List, [], ◌∷◌, Option, Some}
+use Rattle.std.specs.Prelude.{None}
 use Rattle.book_commodity.specs.Rules.{first_broken}
 use Rattle.book_check.specs.FirstUnsound.{first_unsound}
 use Rattle.book_sound.specs.Soundness.{IsSoundBook, AreDrawn}
@@ -8,9 +8,7 @@ use Rattle.book_undo.specs.Book.{Book}
 use Rattle.book_undo.specs.Edit.{edited}
 use Rattle.book_undo.specs.EditRules.{IsAllowed, edit_rules}
 use Rattle.book_undo.specs.Inverse.{LeadsBack}
-use Rattle.book_undo.specs.declared.edit.Edit.{Edit, Currency, Put, Gone, All'}
-use Rattle.book_undo.specs.declared.thing.ThingKind.{ThingKind}
-use Rattle.book_undo.specs.declared.thing.ThingKind.TheVariants as kind
+use Rattle.book_undo.specs.declared.edit.Edit.{Edit}
 
 -- The books to which steps lead, one after another from a book. A step is an edit with its number.
 abbrev pub books_to : List (ℕ × Edit) → Book → List Book
@@ -40,22 +38,6 @@ is_refused book edit = is_some (first_broken (edit_rules book edit))
 -- Whether an edit is no sound step from a book.
 abbrev pub is_broken : ℕ → Book → Edit → Bool
 is_broken next book edit = is_refused book edit || is_unsound next (edited edit book)
-
--- Whether nothing else in a book needs a thing of a kind, by the rules of the others: nothing needs a price or a
--- schedule, and only lines need a transaction, since they are matched with splits. The other kinds count as needed.
-abbrev pub is_unneeded : ThingKind → Book → Bool
-is_unneeded kind.Txn book = length book.lines == 0
-is_unneeded kind.Price book = true
-is_unneeded kind.Schedule book = true
-is_unneeded _ book = false
-
--- Whether an edit leads from a sound book to a sound one, wherever it may be applied: it only deletes a thing that
--- nothing else needs. What other edits lead to is seen from the whole book alone.
-abbrev pub leaves_sound : Book → Edit → Bool
-leaves_sound book (Currency currency) = false
-leaves_sound book (Put number thing) = false
-leaves_sound book (Gone kind number) = is_unneeded kind book
-leaves_sound book (All' shape parts) = false
 
 -- The number of the first of the steps that is broken. Beyond it no step is asked.
 abbrev pub first_fault : ℕ → List (ℕ × Edit) → Book → Option ℕ

@@ -3,13 +3,13 @@ ghost use Rattle.book_sound.specs.Soundness.{AreDrawn, IsSoundBook};
 ghost use Rattle.book_undo.specs.Book.{book_of};
 ghost use Rattle.book_undo.specs.Edit.{edited};
 ghost use Rattle.book_undo.specs.EditRules.{IsAllowed};
-ghost use Rattle.book_undo.specs.Inverse.{LeadsBack};
-ghost use Rattle.book_history.specs.Steps.{AreSound, IsStepOn, first_fault, is_broken, is_refused, is_unsound};
-ghost use Rattle.book_history.specs.Steps.{leaves_sound};
+ghost use Rattle.book_history.specs.Steps.{AreSound, IsSoundStep, IsStepOn, first_fault, is_broken, is_refused};
+ghost use Rattle.book_history.specs.Steps.{is_unsound};
 
+use crate::passing::{go, pass};
 use book_check::first_unsound;
 use book_commodity::{OutOfMemory, discard};
-use book_undo::{Edit, Plain, ThingKind};
+use book_undo::{Edit, Plain};
 use std::alloc::Global;
 
 /// The number of the first step back that is broken, asked from the last one to the first; `None` where all are sound,
@@ -93,8 +93,7 @@ fn fault_forth(
     }
 }
 
-/// Takes one step, where it is sound, and gives the edit that leads back; `None` where it is broken. The whole book is
-/// checked after it, unless it is known to be sound before it and the edit leaves it so.
+/// Takes one step, where it is sound, and gives the edit that leads back; `None` where it is broken.
 fn step_on(
     alloc: Global,
     plain: &mut Plain,
@@ -110,18 +109,37 @@ fn step_on(
     if !is_allowed(plain, edit) {
         return Ok(None);
     }
-    if known && leaves_sound(plain, edit) {
-        return Ok(Some(pass(alloc, plain, edit)?));
-    }
-    let inverse = pass(alloc, plain, edit)?;
-    match is_sound(alloc, plain, next) {
+    let inverse = plain.inverse(alloc, edit)?;
+    match leads_on(alloc, plain, next, edit, known) {
         Ok(true) => Ok(Some(inverse)),
         Ok(false) => Ok(discard(inverse, None)),
         Err(error) => Err(discard(inverse, error)),
     }
 }
 
+/// Makes the book to which the edit leads, and says whether it is sound, with its numbers drawn. It is checked whole,
+/// unless it is known to be so.
+fn leads_on(
+    alloc: Global,
+    plain: &mut Plain,
+    next: u64,
+    edit: &Edit,
+    known: bool,
+) -> Result<bool, OutOfMemory>
+    requires allowed { IsAllowed (book_of plain.old) edit.now }
+    requires known { IsTrue known → IsSoundBook (book_of plain.old) × AreDrawn (book_of plain.old) next }
+    ensures book { OnOk result (book_of plain.new ≡ edited edit.now (book_of plain.old)) }
+    ensures told { IfOk result (λ sound. is_unsound next (edited edit.now (book_of plain.old)) ≡ not sound) }
+    ensures sound { IfOk result (λ sound. IsTrue sound → IsSoundStep next (book_of plain.old) edit.now) }
+{
+    if pass(alloc, plain, next, edit, known)? {
+        return Ok(true);
+    }
+    is_sound(alloc, plain, next)
+}
+
 /// Takes the step back by the inverse, where no fault was found further on.
+#[tactic(auto, using(book_undo::proofs::InverseLaws::allowed_depth))]
 fn step_back(
     plain: &mut Plain,
     inverse: Edit,
@@ -140,48 +158,12 @@ fn step_back(
     }
 }
 
-/// Makes the book to which the edit leads, and gives the edit that leads back.
-fn pass(alloc: Global, plain: &mut Plain, edit: &Edit) -> Result<Edit, OutOfMemory>
-    requires { IsAllowed (book_of plain.old) edit.now }
-    ensures back { IfOk result (λ inverse. LeadsBack (book_of plain.old) edit.now inverse) }
-    ensures book { OnOk result (book_of plain.new ≡ edited edit.now (book_of plain.old)) }
-{
-    let inverse = plain.inverse(alloc, edit)?;
-    match pass_copy(alloc, plain, edit) {
-        Ok(()) => Ok(inverse),
-        Err(error) => Err(discard(inverse, error)),
-    }
-}
-
-/// Makes the book to which the edit leads, which stays as it is.
-fn pass_copy(alloc: Global, plain: &mut Plain, edit: &Edit) -> Result<(), OutOfMemory>
-    requires { IsAllowed (book_of plain.old) edit.now }
-    ensures { OnOk result (book_of plain.new ≡ edited edit.now (book_of plain.old)) }
-{
-    let copy = edit.copy(alloc)?;
-    go(plain, copy)
-}
-
 /// Whether the edit may be applied to the book.
 fn is_allowed(plain: &Plain, edit: &Edit) -> bool
     ensures told { is_refused (book_of plain.now) edit.now ≡ not result }
     ensures allowed { IsTrue result → IsAllowed (book_of plain.now) edit.now }
 {
     plain.check_edit(edit).is_ok()
-}
-
-/// Whether the edit leads from a sound book to a sound one: it only deletes a thing that nothing else needs. The things
-/// of the book are not walked along.
-fn leaves_sound(plain: &Plain, edit: &Edit) -> bool
-    ensures { result ≡ leaves_sound (book_of plain.now) edit.now }
-{
-    match edit {
-        // A line can be matched with a split of the transaction.
-        Edit::Gone(ThingKind::Txn, _) => plain.lines.len() == 0,
-        // Nothing else needs a price or a schedule.
-        Edit::Gone(ThingKind::Price | ThingKind::Schedule, _) => true,
-        _ => false,
-    }
 }
 
 /// Whether the book is sound, and all its numbers are below the next.
@@ -191,19 +173,4 @@ fn is_sound(alloc: Global, plain: &Plain, next: u64) -> Result<bool, OutOfMemory
     ensures drawn { IfOk result (λ sound. IsTrue sound → AreDrawn (book_of plain.now) next) }
 {
     Ok(first_unsound(alloc, plain, next)?.is_none())
-}
-
-/// Takes the memory that the edit needs, and makes the book to which it leads.
-#[tactic(auto, using(book_undo::proofs::InverseLaws::allowed_depth))]
-fn go(plain: &mut Plain, edit: Edit) -> Result<(), OutOfMemory>
-    requires { IsAllowed (book_of plain.old) edit }
-    ensures { OnOk result (book_of plain.new ≡ edited edit (book_of plain.old)) }
-{
-    match plain.reserve_for(&edit) {
-        Ok(()) => {
-            plain.apply(edit);
-            Ok(())
-        }
-        Err(error) => Err(discard(edit, error)),
-    }
 }
