@@ -1,5 +1,5 @@
--- How a machine goes on by a command that is done: it stays, it is changed, or it goes to the nearest past book or to the
--- nearest later one.
+-- How a machine goes on by a command that is done: it stays, it is changed, or it goes to the nearest past book or to
+-- the nearest later one.
 use Rattle.std.proofs.Common.{◌≡◌, ◌+◌, ◌-◌, ◌==◌, Bool, true, false, if◌then◌else◌, List, [], ◌∷◌, Option, Some, None}
 use Rattle.std.proofs.Common.{refl}
 use Rattle.book_commodity.specs.Rules.{first_broken}
@@ -21,7 +21,7 @@ use Rattle.book_step.specs.Schedules.{day_rules, due_of}
 use Rattle.book_step.specs.State.{State}
 use Rattle.book_step.specs.Step.{outcome, stale}
 use Rattle.book_report_answers.specs.Reports.{report_answer, report_rules}
-use Rattle.book_engine.specs.Machine.{Done, Machine, Reply, asked, changed, present, redone, reply, status, step}
+use Rattle.book_engine.specs.Machine.{Done, Machine, Reply, asked, changed, present, redone, reply, step}
 use Rattle.book_engine.specs.Machine.{undone, unless_broken, updated}
 
 -- The machine with this past book as the present one, before which these stand.
@@ -93,7 +93,8 @@ undone-moves :
     → undone past machine ≡ Done new given → Move machine new ask.Undo
 undone-moves [] machine new given is e = absurd cc
 undone-moves (book ∷ past) machine new given is e =
-    let both = unless-done (numbers (present machine) 0) (Done (gone_back book past machine) answers.Undo) new given e in
+    let both = unless-done (numbers (present machine) 0) (Done (gone_back book past machine) answers.Undo) new given e
+    in
     let leads = both.1 in
     Undoes book past refl is both.0 cc
 

@@ -1,21 +1,24 @@
 -- What a plan leaves of all books of the machine that an engine keeps.
-use Rattle.std.proofs.Common.{◌≡◌, ℕ, Bool, false, All, List, [], ◌∷◌, reverse, Result, Ok, Err, IfOk}
+use Rattle.std.proofs.Common.{◌≡◌, ℕ, Bool, false, All, List, [], ◌∷◌, reverse, Result, Ok, Err, IfOk, OnErr, OnOk}
 use Rattle.std.proofs.Common.{subst, sym}
 use Rattle.std.proofs.lemmas.List.Elements.{All-cons, All-nil}
 use Rattle.book_undo.specs.Book.{Book}
 use Rattle.book_undo.specs.Edit.{edited}
 use Rattle.book_undo.specs.declared.edit.Edit.{Edit}
 use Rattle.book_history.specs.Steps.{AreSound as AreSoundSteps, books_to}
+use Rattle.book_keeper.specs.declared.row.KeepError.{KeepError}
+use Rattle.book_command.specs.declared.answer.Answer.{Answer}
 use Rattle.book_command.specs.declared.command.Command.{Command}
 use Rattle.book_command.specs.declared.refusal.Refusal.{Refusal}
 use Rattle.book_step.specs.Soundness.{IsSound}
 use Rattle.book_opening.specs.State.{State}
 use Rattle.book_turns.specs.Whole.{IsWhole, step_state}
 use Rattle.book_chain.specs.Chain.{KeepsBroken}
+use Rattle.book_engine.specs.Acting.{IsUnchanged}
 use Rattle.book_engine.specs.Books.{machine_kept, machine_of}
 use Rattle.book_engine.specs.Kept.{Kept}
 use Rattle.book_engine.specs.Planned.{IsPlanFor, IsPlanOf, Planned, after}
-use Rattle.book_chain_run.specs.Books.{AreChained, AreSound, IsSoundBelow, KeepBroken, is_undo_or_redo}
+use Rattle.book_chain_run.specs.Books.{AreChained, AreSound, IsSoundBelow, AllKeepBroken, is_undo_or_redo}
 use Rattle.book_chain_run.proofs.StepLaws.{step-chained, step-keeps-broken, step-stays-broken}
 
 -- ---- one plan
@@ -30,7 +33,8 @@ plan-chained state saved command plan is all of =
 -- From each book to the one after it what isn't intact still stays so.
 pub plan-keeps-broken :
     (state : State) (saved : Bool) (command : Command) (plan : Planned) → IsSound (step_state state)
-    → KeepBroken (machine_of state) → IsPlanOf state saved command plan → KeepBroken (machine_of (after state plan))
+    → AllKeepBroken (machine_of state) → IsPlanOf state saved command plan
+    → AllKeepBroken (machine_of (after state plan))
 plan-keeps-broken state saved command plan is all of =
     step-keeps-broken (machine_of state) command (machine_of (after state plan)) plan.answer is all of.made
 
@@ -52,13 +56,18 @@ pub prepared-chained :
 prepared-chained before command (Ok plan) is all of = plan-chained before.state before.saved command plan is all of
 prepared-chained before command (Err refusal) is all of = tt
 
--- What `finish` leaves is chained.
+-- After `finish` the books that the engine keeps are all chained, where they were before: it leads to the machine after
+-- the plan, or leaves what the engine kept.
 pub finished-chained :
-    (before now : Kept) (plan : Planned) → IsSound (step_state before.state) → AreChained (machine_kept before)
-    → IsPlanFor before.state before.saved plan → now.state ≡ after before.state plan → AreChained (machine_kept now)
-finished-chained before now plan is all for state =
+    (before now : Kept) (plan : Planned) (result : Result Answer KeepError) → IsSound (step_state before.state)
+    → AreChained (machine_kept before) → IsPlanFor before.state before.saved plan
+    → OnOk result (now.state ≡ after before.state plan) → OnErr result (IsUnchanged before now)
+    → AreChained (machine_kept now)
+finished-chained before now plan (Ok answer) is all for state unchanged =
     subst (λ (s : State). AreChained (machine_of s)) (sym state)
     (plan-chained before.state before.saved for.command plan is all for.plan_of)
+finished-chained before now plan (Err error) is all for state unchanged =
+    subst (λ (s : State). AreChained (machine_of s)) (sym unchanged.same_state) all
 
 -- ---- the books of a state that an engine keeps
 

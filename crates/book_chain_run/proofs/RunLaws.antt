@@ -7,7 +7,7 @@ use Rattle.book_keeper.specs.declared.row.Row.{Row}
 use Rattle.book_lines.specs.Lines.{lines, sent, whole_lines}
 use Rattle.book_lines.specs.Marks.{Answered, Keeper, Mark, Memory, mark_of, marks}
 use Rattle.book_lines.specs.RunClause.{Moment, RunClause, at}
-use Rattle.book_lines.specs.Transcript.{IsCutShort, IsTranscript, Run}
+use Rattle.book_lines.specs.Transcript.{IsTranscript, Run}
 use Rattle.book_lines.specs.WholeClause.{IsOneAnswer, WholeClause}
 use Rattle.book_lines.specs.declared.running.RunEnd.{RunEnd}
 use Rattle.book_lines.specs.declared.running.RunEnd.TheVariants as end
@@ -22,7 +22,7 @@ use Rattle.book_app.specs.Words.{Import, Lines, Sample, Work}
 use Rattle.book_app.specs.declared.status.Status.{Status}
 use Rattle.book_app.specs.declared.status.Status.TheVariants as status
 use Rattle.book_app.specs.declared.words.ImportWords.{ImportWords}
-use Rattle.book_chain_run.specs.Books.{AreChained, AreSound, KeepBroken, SumToLast}
+use Rattle.book_chain_run.specs.Books.{AreChained, AreSound, AllKeepBroken, AllSumToLast}
 use Rattle.book_chain_run.specs.Made.{ByFile, ByLines, HoldsMade, IsMade, New, OpensMade}
 use Rattle.book_one_opening.proofs.OneOpening.{only-machine}
 use Rattle.book_chain_run.proofs.StepLaws.{all-books-sum, fresh-all-chained, fresh-all-sound, fresh-keeps-broken}
@@ -75,7 +75,7 @@ file-leads words old bytes Keeper text new is = inl is.1
 record Holds (machine : Machine) : Type 0 where
   chained : AreChained machine
   sound : AreSound machine
-  broken : KeepBroken machine
+  broken : AllKeepBroken machine
 
 leads-hold : (old new : Machine) → Holds old → Leads old new → Holds new
 leads-hold old new holds (inl same) = subst Holds (sym same) holds
@@ -115,12 +115,12 @@ pub made-sound : (machine : Machine) → IsMade machine → AreSound machine
 made-sound machine made = (made-holds machine made).sound
 
 -- From each to the one after it what isn't intact stays so.
-pub made-keeps-broken : (machine : Machine) → IsMade machine → KeepBroken machine
+pub made-keeps-broken : (machine : Machine) → IsMade machine → AllKeepBroken machine
 made-keeps-broken machine made = (made-holds machine made).broken
 
 -- In each, where all reconciliations of an account are intact, the quantities of their lists sum to the last closing
 -- balance.
-pub made-sums : (machine : Machine) → IsMade machine → SumToLast machine
+pub made-sums : (machine : Machine) → IsMade machine → AllSumToLast machine
 made-sums machine made = all-books-sum machine (made-sound machine made) (made-chained machine made)
 
 -- ---- runs

@@ -1,11 +1,10 @@
 -- What a step leaves of all books of a machine: they stay chained and sound, and from each to the one after it what
 -- isn't intact stays so.
-use Rattle.std.proofs.Common.{◌≡◌, ℕ, ◌+◌, ◌<◌, ◌≤◌, ◌^◌, Bool, true, false, All, List, [], ◌∷◌, None, inl, inr}
-use Rattle.std.proofs.Common.{zero, suc, take, refl, sym, ap, ◌∙◌, subst, arith}
+use Rattle.std.proofs.Common.{◌≡◌, ℕ, ◌+◌, ◌<◌, ◌≤◌, ◌^◌, false, All, List, [], ◌∷◌, None, inl, inr}
+use Rattle.std.proofs.Common.{zero, suc, take, sym, ap, ◌∙◌, subst, arith}
 use Rattle.std.proofs.lemmas.Bool.Decides.{nat_tests}
 use Rattle.std.proofs.lemmas.List.Elements.{All-cons, All-head, All-nil, All-tail, All-take, All-weaker}
 use Rattle.book_commodity.proofs.RuleLemmas.{not-broken}
-use Rattle.book_splits.specs.declared.reconciliation.Recon.{Recon}
 use Rattle.book_undo.specs.Book.{Book}
 use Rattle.book_sound.specs.Soundness.{IsSoundBook}
 use Rattle.book_sound.proofs.DrawnFrames.{drawn_later}
@@ -15,14 +14,14 @@ use Rattle.book_command.specs.declared.command.What.{What}
 use Rattle.book_command.specs.declared.command.What.TheVariants as ask
 use Rattle.book_step.specs.Outcome.{numbers}
 use Rattle.book_step.specs.Soundness.{IsSound}
-use Rattle.book_step.specs.State.{State, fresh_state}
+use Rattle.book_step.specs.State.{State}
 use Rattle.book_step.proofs.SoundStep.{fresh-sound, outcome-sound}
 use Rattle.book_balances.proofs.StepLemmas.{Moves, outcome_moves}
 use Rattle.book_chain.specs.Chain.{IsChained, KeepsBroken}
 use Rattle.book_chain.proofs.ChainLaws.{chained-sums, fresh-chained, outcome-chained, outcome-stays-broken}
 use Rattle.book_engine.specs.Machine.{Done, Machine, changed, fresh, present, step}
-use Rattle.book_chain_run.specs.Books.{AreChained, AreSound, IsSoundBelow, KeepBroken, KeepBrokenFrom, KeepBrokenTo}
-use Rattle.book_chain_run.specs.Books.{SumToLast, SumsToLast, is_undo_or_redo}
+use Rattle.book_chain_run.specs.Books.{AreChained, AreSound, IsSoundBelow, AllKeepBroken, KeepBrokenFrom, KeepBrokenTo}
+use Rattle.book_chain_run.specs.Books.{AllSumToLast, SumsToLast, is_undo_or_redo}
 use Rattle.book_chain_run.proofs.Moves.{Changes, Move, Redoes, Stays, Undoes, gone_back, gone_forth, step-moves}
 
 -- ---- chained
@@ -209,52 +208,52 @@ keep-taken (suc count) book [] all = tt
 keep-taken (suc count) book (before ∷ past) all = (all.0, keep-taken count before past all.1)
 
 changed-keeps :
-    (machine : Machine) (state : State) → KeepBroken machine → KeepsBroken machine.book state.book
-    → KeepBroken (changed machine state)
+    (machine : Machine) (state : State) → AllKeepBroken machine → KeepsBroken machine.book state.book
+    → AllKeepBroken (changed machine state)
 changed-keeps machine state all keeps = record {
   past = keep-taken 256 state.book (machine.book ∷ machine.past) (keeps, all.past);
   later = tt;
 }
 
 back-keeps :
-    (machine : Machine) (book : Book) (past : List Book) → KeepBroken machine → machine.past ≡ book ∷ past
-    → KeepBroken (gone_back book past machine)
+    (machine : Machine) (book : Book) (past : List Book) → AllKeepBroken machine → machine.past ≡ book ∷ past
+    → AllKeepBroken (gone_back book past machine)
 back-keeps machine book past all is =
     let held = subst (KeepBrokenTo machine.book) is all.past in
     record { past = held.1; later = (held.0, all.later) }
 
 forth-keeps :
-    (machine : Machine) (book : Book) (later : List Book) → KeepBroken machine → machine.later ≡ book ∷ later
-    → KeepBroken (gone_forth book later machine)
+    (machine : Machine) (book : Book) (later : List Book) → AllKeepBroken machine → machine.later ≡ book ∷ later
+    → AllKeepBroken (gone_forth book later machine)
 forth-keeps machine book later all is =
     let held = subst (KeepBrokenFrom machine.book) is all.later in
     record { past = (held.0, all.past); later = held.1 }
 
 move-keeps :
-    (machine new : Machine) (what : What) → IsSound (present machine) → KeepBroken machine
-    → Move machine new what → KeepBroken new
-move-keeps machine new what is all (Stays same) = subst KeepBroken same all
+    (machine new : Machine) (what : What) → IsSound (present machine) → AllKeepBroken machine
+    → Move machine new what → AllKeepBroken new
+move-keeps machine new what is all (Stays same) = subst AllKeepBroken same all
 move-keeps machine new what is all (Changes update state given asks done leads) =
-    subst KeepBroken leads
+    subst AllKeepBroken leads
     (changed-keeps machine state all (outcome-stays-broken (present machine) update state given is done))
 move-keeps machine new what is all (Undoes book past asks held few leads) =
-    subst KeepBroken leads (back-keeps machine book past all held)
+    subst AllKeepBroken leads (back-keeps machine book past all held)
 move-keeps machine new what is all (Redoes book later asks held few leads) =
-    subst KeepBroken leads (forth-keeps machine book later all held)
+    subst AllKeepBroken leads (forth-keeps machine book later all held)
 
 -- A step that is done leads from a machine of which from each book to the one after it what isn't intact stays so, to
 -- such a machine.
 pub step-keeps-broken :
     (machine : Machine) (command : Command) (new : Machine) (given : Answer) → IsSound (present machine)
-    → KeepBroken machine → step machine command ≡ Done new given → KeepBroken new
+    → AllKeepBroken machine → step machine command ≡ Done new given → AllKeepBroken new
 step-keeps-broken machine command new given is all e =
     move-keeps machine new command.what is all (step-moves machine command new given e)
 
-pub fresh-keeps-broken : KeepBroken fresh
+pub fresh-keeps-broken : AllKeepBroken fresh
 fresh-keeps-broken = record { past = tt; later = tt }
 
 move-redo-stays :
-    (machine new : Machine) (what : What) → KeepBroken machine → what ≡ ask.Redo → Move machine new what
+    (machine new : Machine) (what : What) → AllKeepBroken machine → what ≡ ask.Redo → Move machine new what
     → KeepsBroken machine.book new.book
 move-redo-stays machine new what all redo (Stays same) =
     subst (λ (m : Machine). KeepsBroken machine.book m.book) same (same-broken machine.book)
@@ -268,7 +267,7 @@ move-redo-stays machine new what all redo (Redoes book later asks held few leads
 
 -- So it does where a redo is done: only an undo makes a broken record intact.
 pub redo-stays-broken :
-    (machine : Machine) (command : Command) (new : Machine) (given : Answer) → KeepBroken machine
+    (machine : Machine) (command : Command) (new : Machine) (given : Answer) → AllKeepBroken machine
     → command.what ≡ ask.Redo → step machine command ≡ Done new given → KeepsBroken machine.book new.book
 redo-stays-broken machine command new given all redo e =
     move-redo-stays machine new command.what all redo (step-moves machine command new given e)
@@ -292,7 +291,7 @@ pub present-sums : (machine : Machine) → IsSound (present machine) → AreChai
 present-sums machine is chained = book-sums machine.book is.book chained.book
 
 -- So they do in all books of a machine where these are all sound and chained.
-pub all-books-sum : (machine : Machine) → AreSound machine → AreChained machine → SumToLast machine
+pub all-books-sum : (machine : Machine) → AreSound machine → AreChained machine → AllSumToLast machine
 all-books-sum machine sound chained = record {
   past = all-sum machine.next machine.past sound.past chained.past;
   book = present-sums machine sound.state chained;

@@ -33,12 +33,13 @@ pub record SumsToLast (book : Book) : Type 0 where
       → sum_of_lists (of_account reconciliation.account book.reconciliations) ≡ reconciliation.closing
 
 -- This holds of all books of a machine.
-pub record SumToLast (machine : Machine) : Type 0 where
+pub record AllSumToLast (machine : Machine) : Type 0 where
   pub past : All (λ book. SumsToLast book) machine.past
   pub book : SumsToLast machine.book
   pub later : All (λ book. SumsToLast book) machine.later
 
--- From each of some past books, the nearest first, to the one after it what isn't intact stays so; the last is this one.
+-- From each of some past books, the nearest first, to the one after it what isn't intact stays so; the last one is this
+-- book.
 abbrev pub KeepBrokenTo : Book → List Book → Type 0
 KeepBrokenTo book [] = ⊤
 KeepBrokenTo book (before ∷ past) = KeepsBroken before book × KeepBrokenTo before past
@@ -49,7 +50,7 @@ KeepBrokenFrom book [] = ⊤
 KeepBrokenFrom book (after ∷ later) = KeepsBroken book after × KeepBrokenFrom after later
 
 -- From each book of a machine to the one after it what isn't intact stays so.
-pub record KeepBroken (machine : Machine) : Type 0 where
+pub record AllKeepBroken (machine : Machine) : Type 0 where
   pub past : KeepBrokenTo machine.book machine.past
   pub later : KeepBrokenFrom machine.book machine.later
 

@@ -1,8 +1,8 @@
 -- Spellings of which none begins another: bytes that begin with the spelling of a value begin with that of no other.
-use Rattle.std.proofs.Common.{◌≡◌, FitsSigned, ℕ, ◌+◌, ◌/◌, ◌%◌, ◌^◌, ◌<◌, ℤ, Bool, true, false, List, [], ◌∷◌, ◌++◌}
-use Rattle.std.proofs.Common.{flat_map, length, Option, None, Some, IfSome, refl, sym, ap, ◌∙◌, subst, append_assoc}
+use Rattle.std.proofs.Common.{◌≡◌, FitsSigned, ℕ, ◌/◌, ◌%◌, ◌^◌, ◌<◌, ℤ, Bool, true, false, List, [], ◌∷◌, ◌++◌}
+use Rattle.std.proofs.Common.{flat_map, length, Option, None, Some, IfSome, refl, sym, ap, ◌∙◌, append_assoc}
 use Rattle.std.proofs.Common.{arith, to_z}
-use Rattle.std.specs.Int.{cast_unsigned, to_be_bytes, from_be_bytes, w64, w128}
+use Rattle.std.specs.Int.{cast_unsigned, from_be_bytes, w64, w128}
 use Rattle.std.specs.List.{AllByRecursion}
 use Rattle.std.proofs.Math.Facts.{Fits-lt-pow, Fits-of_z, to_z-of_z}
 use Rattle.std.proofs.lemmas.Nat.{from_be_bytes-to_be_bytes_8}

@@ -1,5 +1,5 @@
 -- A row stands for one record alone: the spellings of a kind's records are those of no other record of the kind.
-use Rattle.std.proofs.Common.{◌≡◌, ℕ, ◌+◌, ◌^◌, ◌<◌, ◌==◌, ℤ, Bool, List, [], ◌∷◌, ◌++◌, Option, length, if◌then◌else◌}
+use Rattle.std.proofs.Common.{◌≡◌, ℕ, ◌+◌, ◌==◌, List, ◌∷◌, ◌++◌, length, if◌then◌else◌}
 use Rattle.std.proofs.Common.{◌-◌, zero, suc, flat_map, refl, sym, ap, ◌∙◌, subst, append_assoc, arith}
 use Rattle.std.proofs.lemmas.Int.{ints}
 use Rattle.book_keeper.specs.declared.row.RowKey.{RowKey}
@@ -44,9 +44,9 @@ use Rattle.book_rows.specs.CommodityBytes.{IsCommodity, commodity_bytes, commodi
 use Rattle.book_rows.specs.EditBytes.{HasValues, IsEditWithin, edit_bytes, row_bytes, row_length}
 use Rattle.book_rows.specs.HeadBytes.{IsHead, head_bytes, head_made}
 use Rattle.book_rows.specs.PriceBytes.{IsPrice, price_bytes, price_made}
-use Rattle.book_rows.specs.ReconciliationBytes.{IsMarkedSplit, IsRecon, marked_split_bytes, marked_split_made, recon_bytes}
-use Rattle.book_rows.specs.ReconciliationBytes.{recon_made}
-use Rattle.book_rows.specs.Row.{IsKeyOf, IsRecord, StandsFor, body_of, fields_of, kind_of}
+use Rattle.book_rows.specs.ReconciliationBytes.{IsMarkedSplit, IsRecon, marked_split_bytes, marked_split_made}
+use Rattle.book_rows.specs.ReconciliationBytes.{recon_bytes, recon_made}
+use Rattle.book_rows.specs.Row.{IsRecord, StandsFor, fields_of, kind_of}
 use Rattle.book_rows.specs.ScheduleBytes.{IsEnd, IsRecurrence, IsSchedule, IsTiming, end_bytes, place_of_adjust}
 use Rattle.book_rows.specs.ScheduleBytes.{place_of_recurrence_kind, recurrence_bytes, recurrence_made, schedule_bytes}
 use Rattle.book_rows.specs.ScheduleBytes.{schedule_made, timing_bytes, timing_made}
@@ -55,14 +55,16 @@ use Rattle.book_rows.specs.StatementBytes.{binding_bytes, binding_made, held_byt
 use Rattle.book_rows.specs.StatementBytes.{line_state_bytes, part_bytes, part_made, statement_line_bytes}
 use Rattle.book_rows.specs.StatementBytes.{statement_line_made}
 use Rattle.book_rows.specs.ThingBytes.{IsThing, thing_bytes}
-use Rattle.book_rows.specs.TransactionBytes.{IsSplit, IsTxn, place_of_mark, split_bytes, split_made, txn_bytes, txn_made}
+use Rattle.book_rows.specs.TransactionBytes.{IsSplit, IsTxn, place_of_mark, split_bytes, split_made, txn_bytes}
+use Rattle.book_rows.specs.TransactionBytes.{txn_made}
 use Rattle.book_rows.specs.Values.{IsNumber, IsShort, IsString}
 use Rattle.book_rows.specs.declared.head.Head.{Head}
 use Rattle.book_rows.specs.declared.record.Record.TheVariants as record_of
 use Rattle.book_rows.specs.declared.record.Record.{Record}
 use Rattle.book_rows.proofs.EditLemmas.{HasParts, IsCurrency, IsGone, IsPut, currency_at, gone_at, parts_at, put_at}
-use Rattle.book_one_opening.proofs.Codes.{IsCode, behind, byte-code, first-byte, flag-code, listed-code, made-code, number-code}
-use Rattle.book_one_opening.proofs.Codes.{only-items, optional-code, pair-code, signed-code, string-code, weaker-code, whole-code, wide-code}
+use Rattle.book_one_opening.proofs.Codes.{IsCode, behind, byte-code, first-byte, flag-code, listed-code, made-code}
+use Rattle.book_one_opening.proofs.Codes.{number-code, only-items, optional-code, pair-code, signed-code, string-code}
+use Rattle.book_one_opening.proofs.Codes.{weaker-code, whole-code, wide-code}
 
 -- ---- texts, days and values of few
 
@@ -166,8 +168,8 @@ account-code =
     let kinds = byte-code place_of_account_kind account_kind_at account_kind_back in
     let rest = pair-code text-code (pair-code text-code (pair-code flag-code (pair-code flag-code
     (optional-code number-code)))) in
-    let code = pair-code text-code (pair-code kinds (pair-code number-code (pair-code (optional-code number-code) rest)))
-    in
+    let parts = pair-code number-code (pair-code (optional-code number-code) rest) in
+    let code = pair-code text-code (pair-code kinds parts) in
     made-code
     (λ (x : Account).
     (x.name, (x.kind, (x.commodity, (x.parent, (x.code, (x.note, (x.hidden, (x.placeholder, x.basis)))))))))
