@@ -1,0 +1,4 @@
+pub mod Moves
+pub mod StepLaws
+pub mod PlanLaws
+pub mod RunLaws
