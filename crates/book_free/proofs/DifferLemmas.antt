@@ -6,25 +6,13 @@ use Rattle.std.proofs.lemmas.List.Sums.{sum_by-cons}
 use Rattle.book_match.specs.AmountIndex.{PrecedesAll, Rises, is_same, is_there, precedes, with_all, with_free}
 use Rattle.book_match.specs.AmountIndex.{without_all, without_free}
 use Rattle.book_match.specs.declared.free.Free.{Free}
-use Rattle.book_match.proofs.IndexLaws.{before-itself, first-there, same-is, same-itself, there-with, there-without}
-use Rattle.book_match.proofs.IndexLemmas.{rises-without}
+use Rattle.book_match.proofs.IndexLaws.{first-there, same-is, same-itself, there-with, there-without}
+use Rattle.book_match.proofs.IndexLemmas.{none-behind, rises-without}
 use Rattle.book_free.specs.Kept.{differing}
 
 -- ---- how many of a list stand in another
 
--- how many of a rising list stand there
-none_same : (g : Free) (es : List Free) → PrecedesAll g es → is_there g es ≡ false
-none_same g [] before = refl
-none_same g (e ∷ es) before =
-    ap (λ (b : Bool). b || is_there g es) (by_test (is_same g e) refl) ∙ none_same g es before.1
-  where
-    by_test : (t : Bool) → is_same g e ≡ t → t ≡ false
-    by_test true same =
-        absurd (let is = same-is g e same in
-        let less = subst (λ (x : Free). precedes g x ≡ true) (sym is) before.0 in
-        let none = before-itself g in cc)
-    by_test false same = refl
-
+-- How many a test counts of one.
 abbrev one_if : Bool → ℕ
 one_if true = 1
 one_if false = 0
@@ -68,7 +56,7 @@ lost_more g test (x ∷ xs) r passes =
           let is = same-is g x same in
           let own : test x ≡ true = ap test (sym is) ∙ passes in
           let none : one_if (is_there g xs) ≡ 0 =
-          ap one_if (none_same g xs (subst (λ (y : Free). PrecedesAll y xs) (sym is) r.0)) in
+          ap one_if (none-behind g xs (subst (λ (y : Free). PrecedesAll y xs) (sym is) r.0)) in
           let one = counted more x xs true (ap (λ (b : Bool). not (not b && test x)) (same_turned g x true same)) in
           let other = counted fewer x xs false (ap not own) in
           omega (arith, one, other, rest, none)
@@ -137,14 +125,15 @@ differs_without ones es g ra re here there =
     let second = counted_without g (λ x. not (is_there x ones)) es (ap not here) in
     omega (arith, first, more, one, second)
 
--- and so does one that neither has and that is put into one
+-- and so does one that a list lacks, and that is put into the other
 differs_with : (ones es : List Free) (g : Free) → is_there g ones ≡ false
     → differing ones (with_free g es) ≡ differing ones es + 1
 differs_with ones es g here =
     let first = same_count (λ x. not (is_there x (with_free g es))) (λ x. not (is_there x es)) ones
     (All-weaker (λ (x : Free). is_there x ones ≡ true)
     (λ (x : Free). not (is_there x (with_free g es)) ≡ not (is_there x es))
-    (λ x there. ap not (there-with x g es ∙ ap (λ (b : Bool). b || is_there x es) (other x there))) ones (all_there ones)) in
+    (λ x there. ap not (there-with x g es ∙ ap (λ (b : Bool). b || is_there x es) (other x there))) ones
+    (all_there ones)) in
     let second = counted_with g (λ x. not (is_there x ones)) es (ap not here) in
     omega (arith, first, second)
   where
@@ -172,7 +161,7 @@ behind_other f g gs before is = by_test (is_same f g) refl
     by_test : (t : Bool) → is_same f g ≡ t → t ≡ false
     by_test true same =
         absurd (let one : is_there g gs ≡ true = ap (λ (x : Free). is_there x gs) (sym (same-is f g same)) ∙ is in
-        let none = none_same g gs before in cc)
+        let none = none-behind g gs before in cc)
     by_test false same = refl
 
 -- so do all that both lists have and that are taken out of one,
@@ -190,7 +179,7 @@ differs_without_all ones es (g ∷ gs) ra re rg each other =
     ∙ other f (behind_there f g gs is)) in
     omega (arith, one, more)
 
--- and all that neither has and that are put into one
+-- and all that a list lacks, and that are put into the other
 pub differs_with_all : (ones es cs : List Free) → ((f : Free) → is_there f cs ≡ true → is_there f ones ≡ false)
     → differing ones (with_all cs es) ≡ differing ones es + length cs
 differs_with_all ones es [] each = omega arith

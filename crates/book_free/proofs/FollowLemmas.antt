@@ -17,8 +17,8 @@ use Rattle.book_match.proofs.OrderedLemmas.{rises-ordered}
 use Rattle.book_sound.specs.Soundness.{IsSoundBook}
 use Rattle.book_sound.proofs.SplitFrames.{above_there}
 use Rattle.book_undo.specs.Book.{Book}
-use Rattle.book_free.specs.Following.{CanFollow, HasFollowed, come_of, coming, gone_of, leaving, listed, picked, same_free}
-use Rattle.book_free.specs.Following.{with_line, with_lines}
+use Rattle.book_free.specs.Following.{CanFollow, HasFollowed, come_of, coming, gone_of, leaving, listed, picked}
+use Rattle.book_free.specs.Following.{same_free, with_line, with_lines}
 use Rattle.book_free.specs.FreeSplits.{free_among, free_at, free_splits, is_matched, line_of}
 use Rattle.book_free.specs.Kept.{differing, Kept}
 use Rattle.book_free.specs.Moves.{AreMoves}
@@ -179,7 +179,8 @@ moved_is before after f = by_test (same_free before after) refl
     none_left false false = refl
 
     by_test : (t : Bool) → same_free before after ≡ t
-        → (is_entry (if t then None else after) f || (not (is_entry (if t then None else before) f) && is_entry before f))
+        → (is_entry (if t then None else after) f
+        || (not (is_entry (if t then None else before) f) && is_entry before f))
         ≡ is_entry after f
     by_test true e = ap (λ (o : Option Free). is_entry o f) (free_is before after e)
     by_test false e = none_left (is_entry after f) (is_entry before f)

@@ -8,8 +8,8 @@ use book_commodity::{OutOfMemory, Table};
 use book_match::AmountIndex;
 use std::marker::Model;
 
-/// The free splits of a book by account and amount, and the lines that splits are matched with. Contracts see the index,
-/// and the entries of the lines' numbers by those of the splits.
+/// The free splits of a book by account and amount, and the lines that splits are matched with. Contracts see the
+/// index, and the entries of the lines' numbers by those of the splits.
 #[derive(Drop)]
 pub struct FreeSplits {
     pub(crate) index: AmountIndex,
@@ -43,10 +43,10 @@ impl FreeSplits {
         self.index.reserve(count)
     }
 
-    /// Makes what is kept of a book what is kept of another, where the moves say what becomes of the splits from the one
-    /// to the other. It can't fail and takes no memory. The index is passed over once for what leaves it and once for
-    /// what comes into it. Splits that are free in both stay untouched: the changes of the index rise by the splits that
-    /// are free in one of the two books alone.
+    /// Makes what is kept of a book what is kept of another, where the moves say what becomes of the splits from the
+    /// one to the other. It can't fail and takes no memory. The index is passed over once for what leaves it and once
+    /// for what comes into it. Splits that are free in both stay untouched: the changes of the index rise by the splits
+    /// that are free in one of the two books alone.
     pub fn follow(&mut self, moves: &Moves)
         requires room { HasRoomFor self.old moves.now }
         requires ready { SomeFollow self.old moves.now }
