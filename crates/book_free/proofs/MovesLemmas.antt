@@ -29,7 +29,8 @@ use Rattle.book_undo.specs.declared.thing.ThingKind.TheVariants as kind
 use Rattle.book_undo.proofs.EditLaws.{edited-leaves, untouched}
 use Rattle.book_free.specs.FreeSplits.{free_at, has_matched, is_matched, line_of, open_at, open_in, open_split}
 use Rattle.book_free.specs.Moves.{AreMoves, IsUnmoved, move_of}
-use Rattle.book_free.specs.Seen.{Seen, all_moves, entry_of_line, is_taken, line_entries, line_now, move_seen, moves_seen}
+use Rattle.book_free.specs.Seen.{Seen, all_moves, entry_of_line, is_taken, line_entries, line_now, move_seen}
+use Rattle.book_free.specs.Seen.{moves_seen}
 use Rattle.book_free.specs.Seen.{new_lines, noted, old_lines, old_splits, seen_after, seen_none, side_of, split_entries}
 use Rattle.book_free.specs.Seen.{unless_taken}
 use Rattle.book_free.specs.declared.moves.Move.{Move}
@@ -162,7 +163,8 @@ pub split_seen : (e : Edit) (b : Book) (s : ℕ) (v : Option Free) → IsSoundBo
     → value_of s (noted (splits_on e b) []) ≡ Some v → SplitIn e b s v
 split_seen e b s v is there =
     noted_holds (SplitIn e b) (splits_on e b) []
-    (all_splits Seen_ b (leaves e) (λ m at. own m at (value_of m b.transactions) refl)) (λ n w none. absurd cc) s v there
+    (all_splits Seen_ b (leaves e) (λ m at. own m at (value_of m b.transactions) refl)) (λ n w none. absurd cc) s v
+    there
   where
     Seen_ : ℕ × Option Free → Type 0
     Seen_ x = SplitIn e b x.0 x.1

@@ -75,7 +75,8 @@ all_order P (x ∷ xs) all =
 with_all : (P : ℕ × ℕ → Type 0) (x : ℕ × ℕ) (xs : List (ℕ × ℕ)) → All P (with_pair x xs) → P x × All P xs
 with_all P x [] all = (All-head P x [] all, All-nil P)
 with_all P x (y ∷ ys) all =
-    elim (nat_lt y.0 x.0) as (λ (t : Bool). All P (if t then y ∷ with_pair x ys else x ∷ y ∷ ys) → P x × All P (y ∷ ys)) [
+    elim (nat_lt y.0 x.0) as (λ (t : Bool).
+    All P (if t then y ∷ with_pair x ys else x ∷ y ∷ ys) → P x × All P (y ∷ ys)) [
       | true ↦ λ more.
           let rest = with_all P x ys (All-tail P y (with_pair x ys) more) in
           (rest.0, All-cons P y ys (All-head P y (with_pair x ys) more) rest.1)

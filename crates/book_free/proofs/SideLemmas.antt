@@ -18,7 +18,8 @@ use Rattle.book_undo.specs.declared.edit.Edit.{Edit}
 use Rattle.book_undo.specs.declared.thing.Thing.TheVariants as thing
 use Rattle.book_undo.specs.declared.thing.ThingKind.{ThingKind}
 use Rattle.book_undo.specs.declared.thing.ThingKind.TheVariants as kind
-use Rattle.book_undo.proofs.EditLaws.{after_leaf, after_leaves, edited-leaves, given, rising_after, thing_after, untouched}
+use Rattle.book_undo.proofs.EditLaws.{after_leaf, after_leaves, edited-leaves, given, rising_after, thing_after}
+use Rattle.book_undo.proofs.EditLaws.{untouched}
 use Rattle.book_undo.proofs.ExactLaws.{allowed_order}
 use Rattle.book_undo.proofs.InverseLaws.{NotBelow, above_untouched, rises_first}
 use Rattle.book_free.specs.Seen.{line_entries, new_lines, new_splits, old_lines, old_splits}

@@ -114,7 +114,8 @@ seen_none = record { before = []; after = []; lost = []; gained = [] }
 
 -- ---- what becomes of a split
 
--- What was seen of a split on one side, if it was seen there; nothing, if on the other alone; else what it is elsewhere.
+-- What was seen of a split on one side, if it was seen there; nothing, if on the other alone; else what it is
+-- elsewhere.
 abbrev pub side_of : Option (Option Free) → Bool → Option Free → Option Free
 side_of (Some here) other elsewhere = here
 side_of None other elsewhere = if other then None else elsewhere

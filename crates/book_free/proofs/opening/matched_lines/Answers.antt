@@ -11,6 +11,8 @@ pub returns : goal.returns
 returns c =
     IfOk-weaker c.table_of.result _ _
     (λ table made number.
-    ap (value_of number) (made ∙ ap (λ pairs. noted pairs []) (c.as_slice.ensures.value ∙ c.in_ok-sort.ensures ∙ ap in_order c.in_ok-pairs.ensures))
+    ap (value_of number) (made
+    ∙ ap (λ pairs. noted pairs []) (c.as_slice.ensures.value ∙ c.in_ok-sort.ensures
+    ∙ ap in_order c.in_ok-pairs.ensures))
     ∙ lines_made c.args.lines.now number c.requires)
     c.table_of.ensures

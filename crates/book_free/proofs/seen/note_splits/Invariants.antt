@@ -5,5 +5,6 @@ use Rattle.book_free.proofs.seen.note_splits.Given as goal
 
 abbrev pub invariant-loop-split : goal.invariant-loop-split
 invariant-loop-split l =
-    noted (map (λ split. (split.id, open_split l.transaction.day split)) (drop l.split-index l.split-items)) l.table.entries
+    noted (map (λ split. (split.id, open_split l.transaction.day split)) (drop l.split-index l.split-items))
+    l.table.entries
     ≡ noted (map (λ split. (split.id, open_split l.transaction.day split)) l.split-items) l.fn.table.entries

@@ -8,4 +8,5 @@ invariant-loop-split o l =
     noted (moves_seen (λ number. move_seen l.seen l.self.matched.entries (open_at number l.transactions.entries) number)
     (drop l.split-index l.entries)) l.splits.entries
     ≡ noted (moves_seen (λ number.
-    move_seen l.seen l.self.matched.entries (open_at number l.transactions.entries) number) l.entries) l.fn.splits.entries
+    move_seen l.seen l.self.matched.entries (open_at number l.transactions.entries) number) l.entries)
+    l.fn.splits.entries
