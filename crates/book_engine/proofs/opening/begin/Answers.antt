@@ -31,7 +31,7 @@ invariant_of-result c =
       free = c.in-Ok-kept_of.ensures.free;
     }
 
-pub returns-in-Ok-of-clause-sound : goal.returns-in-Ok-of-clause-sound
-returns-in-Ok-of-clause-sound c =
+pub returns-in-Ok-kept_of-clause-sound : goal.returns-in-Ok-kept_of-clause-sound
+returns-in-Ok-kept_of-clause-sound c =
     let Of : Book → StepState = λ book. record { book = book; next = 3; version = 0 } in
     subst (λ (book : Book). IsSound (Of book)) (sym c.in-Ok.ensures) fresh-sound

@@ -39,18 +39,14 @@ can_at now plan made whole keeps = record {
   moves_are = made.moves_are;
 }
 
-follows_from : (c : goal.After-apply)
-    → CanFollow c.self.inside.free c.plan-2.inside.moves (state_of c.self.inside.state).book
-    (edited c.plan-2.inside.turn.edit (state_of c.self.inside.state).book)
-follows_from c =
-    let now = c.args.self.now in
-    let Can : Kept → Planned → Type 0 = λ k p.
-    CanFollow k.free p.moves k.state.book (edited p.turn.edit k.state.book) in
-    subst (λ (k : Kept). Can k (planned_by c.plan-2.inside)) (sym c.self.view_is)
-    (subst (Can now) (sym c.plan-2.view_is)
-    (can_at now c.args.plan c.requires.made
-    (subst (λ (k : Kept). IsWhole k.state k.saved) c.self.view_is c.self.invariant.whole)
-    (subst (λ (k : Kept). Keeps k.free k.state.book) c.self.view_is c.self.invariant.free)))
+can_inside : (kept now : Kept) (inside plan : Planned) → kept ≡ now → inside ≡ plan
+    → IsPlanFor now.state now.saved plan → IsWhole kept.state kept.saved → Keeps kept.free kept.state.book
+    → CanFollow kept.free inside.moves kept.state.book (edited inside.turn.edit kept.state.book)
+can_inside kept now inside plan same same_plan made whole keeps =
+    can_at kept inside
+    (subst (λ (p : Planned). IsPlanFor kept.state kept.saved p) (sym same_plan)
+    (subst (λ (k : Kept). IsPlanFor k.state k.saved plan) (sym same) made))
+    whole keeps
 
 pub follow-requires-clause-room : goal.follow-requires-clause-room
 follow-requires-clause-room c =
@@ -61,7 +57,8 @@ pub follow-requires-clause-ready : goal.follow-requires-clause-ready
 follow-requires-clause-ready c = record {
   old = (state_of c.self.inside.state).book;
   new = edited c.plan-2.inside.turn.edit (state_of c.self.inside.state).book;
-  can = follows_from c;
+  can = can_inside (kept_by c.self.inside) c.args.self.now (planned_by c.plan-2.inside) c.args.plan c.self.view_is
+      c.plan-2.view_is c.requires.made c.self.invariant.whole c.self.invariant.free;
 }
 
 pub returns-clause-changes : goal.returns-clause-changes
@@ -84,4 +81,5 @@ returns-clause-changes c =
     (changed_by (kept_by c.self.inside) new turn c.make_turn.ensures book c.apply.ensures.changes
     c.apply.ensures.left c.apply.ensures.work
     (c.follow.ensures (state_of c.self.inside.state).book (edited turn.edit (state_of c.self.inside.state).book)
-    (follows_from c)).changes)
+    (can_inside (kept_by c.self.inside) c.args.self.now (planned_by c.plan-2.inside) c.args.plan c.self.view_is
+    c.plan-2.view_is c.requires.made c.self.invariant.whole c.self.invariant.free)).changes)

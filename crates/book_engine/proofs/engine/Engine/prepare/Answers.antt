@@ -1,6 +1,14 @@
+use Rattle.std.proofs.Common.{subst}
 use Rattle.book_report_answers.specs.LotsAsked.{lots_asked}
+use Rattle.book_engine.specs.Kept.{Kept}
+use Rattle.book_engine.specs.Planned.{IsPlanned}
 use Rattle.book_engine.proofs.LotsLemmas.{kept_up_left, reckoned_left}
 use Rattle.book_engine.proofs.engine.Engine.prepare.Goals as goal
+
+pub ready-requires : goal.ready-requires
+ready-requires c =
+    subst (λ (k : Kept). IsPlanned k.state k.saved c.in-Ok.plan) c.self.view_is
+    (record { command = c.args.command; plan_of = c.in-Ok.ensures.planned })
 
 pub returns-in-Ok-ready-clause-kept_up : goal.returns-in-Ok-ready-clause-kept_up
 returns-in-Ok-ready-clause-kept_up c =
