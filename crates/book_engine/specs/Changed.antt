@@ -42,8 +42,9 @@ pub record HaveRisen (before now : Kept) : Type 0 where
       RisesBy (differing_free (free_splits before.state.book) (free_splits now.state.book))
       before.free.index.changes now.free.index.changes
 
--- From one state to the next the registers and the index are changed and not made anew. Of an account's lots at least those stay that
--- stand before the last checkpoint in the part that its two registers have in common, and none is reckoned.
+-- From one state to the next the registers and the index are changed and not made anew. Of an account's lots at least
+-- those stay that stand before the last checkpoint in the part that its two registers have in common, and none is
+-- reckoned.
 pub record AreChanged (before now : Kept) : Type 0 where
   pub changes : HaveRisen before now
   pub left :
@@ -71,8 +72,8 @@ pub record HasAllLots (before now : Kept) (account : ℕ) : Type 0 where
       RisesBy (length (register_of account before.state.book.transactions) - reckoned_of account before.registers)
       (work_of account before.registers) (work_of account now.registers)
 
--- Each account's register and the index were changed as often as before. The lots of the account that is asked for, if there is one, are
--- as they were, or brought up to its register; those of all others are as they were.
+-- Each account's register and the index were changed as often as before. The lots of the account that is asked for,
+-- if there is one, are as they were, or brought up to its register; those of all others are as they were.
 pub record AreKeptUp (before now : Kept) (asked : Option ℕ) : Type 0 where
   pub each : (account : ℕ) → changes_of account now.registers ≡ changes_of account before.registers
   pub free : now.free.index.changes ≡ before.free.index.changes
@@ -84,8 +85,8 @@ pub record AreKeptUp (before now : Kept) (asked : Option ℕ) : Type 0 where
 pub record AreReckoned (before now : Kept) (asked : Option ℕ) : Type 0 where
   pub one : (account : ℕ) → asked ≡ Some account → HasAllLots before now account
 
--- What a command does to registers, lots and the index: first those lots are brought up that are asked for, and then the
--- registers and the index are changed.
+-- What a command does to registers, lots and the index: first those lots are brought up that are asked for, and then
+-- the registers and the index are changed.
 pub record IsActed (before now : Kept) (asked : Option ℕ) : Type 0 where
   pub mid : Kept
   pub kept_up : AreKeptUp before mid asked

@@ -10,8 +10,8 @@ use Rattle.book_turns.specs.Whole.{IsWhole}
 use Rattle.book_engine.specs.declared.engine.Engine.TheInside.{Inside}
 
 -- The state, with its steps; whether a keeper was given the rows of a state, which until then is the fresh one; the
--- tables that hold the book; the registers of its accounts, with their lots; what is kept of its free splits; and for how
--- many more steps back and forth there is room.
+-- tables that hold the book; the registers of its accounts, with their lots; what is kept of its free splits; and for
+-- how many more steps back and forth there is room.
 pub record Kept : Type 0 where
   pub state : State
   pub saved : Bool
@@ -33,8 +33,8 @@ kept_by engine = record {
   forth_room = engine.state.forth.spare;
 }
 
--- What holds of every engine: its state is whole, its registers are those of its book, and so is what it keeps of the free
--- splits.
+-- What holds of every engine: its state is whole, its registers are those of its book, and so is what it keeps of the
+-- free splits.
 pub record IsKept (engine : Inside) : Type 0 where
   pub whole : IsWhole (state_of engine.state) engine.saved
   pub registers : Keeps engine.registers.entries (book_of engine.state.plain)

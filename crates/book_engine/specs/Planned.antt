@@ -128,8 +128,8 @@ pub record IsPlanFor (state : State) (saved : Bool) (plan : Planned) : Type 0 wh
   pub plan_of : IsPlanOf state saved command plan
   pub moves_are : HasMoves state plan
 
--- There is room for what a plan puts: in the tables of the book, in the registers and in what is kept of the free splits,
--- and for one more step back or forth.
+-- There is room for what a plan puts: in the tables of the book, in the registers and in what is kept of the free
+-- splits, and for one more step back or forth.
 pub record HasRoomFor (kept : Kept) (plan : Planned) : Type 0 where
   pub things : HasRoom kept.plain plan.turn.edit
   pub rows : IsReady kept.registers (leaves plan.turn.edit)

@@ -40,7 +40,8 @@ use std::alloc::Global;
 use std::marker::Model;
 
 /// A machine with a whole book, whose rows a keeper holds. Of the earlier books and the later ones, which were taken
-/// back, it keeps the edits that lead to them.
+/// back, it keeps the edits that lead to them. Beside the book it keeps the registers of the accounts, and the splits
+/// that may be matched with a bank line.
 #[derive(Drop)]
 pub struct Engine {
     pub(crate) alloc: Global,
@@ -222,8 +223,8 @@ impl Engine {
 
     /// Finishes what was prepared and hands out its answer: where the plan commits, the keeper makes its changes of
     /// rows, and then the state is changed, which can't fail and takes no memory: in each register only the rows that
-    /// differ are taken out and put in, and in the index only the splits that are free before it or after it alone. An error is that of the commit, and then all is as before, the keeper's rows
-    /// too.
+    /// differ are taken out and put in, and in the index only the splits that are free before it or after it alone. An
+    /// error is that of the commit, and then all is as before, the keeper's rows too.
     pub fn finish<K: Keeper>(&mut self, keeper: &mut K, plan: Plan) -> Result<Answer, KeepError>
         requires made { IsPlanFor self.old.state self.old.saved plan }
         requires room { HasRoomFor self.old plan }

@@ -6,7 +6,7 @@ use gate_rows::{Case, Line, Report, Section, no_rows, number, sections_of, unrea
 use std::alloc::Global;
 use std::io;
 
-/// Compares how much work the registers and lots of an engine took, and says how many rows there are.
+/// Compares how much work the registers, the lots and the index of an engine took, and says how many rows there are.
 pub(crate) fn check_work(report: &mut Report<'_>, file: &str) -> io::Result<()> {
     let text = report.read(file)?;
     let sections = sections_of(report.alloc(), text.as_str())?;
