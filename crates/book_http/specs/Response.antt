@@ -1,0 +1,30 @@
+-- The bytes of a response (RFC 9112, sections 4 and 6).
+use Rattle.std.specs.Prelude.{◌≡◌, ℕ, Bool, true, false, List, [], ◌∷◌, ◌++◌, length, decimal, codes, unwrap_or}
+use Rattle.std.specs.Prelude.{if◌then◌else◌, nat_eq, ◌==◌}
+use Rattle.std.specs.List.{list_any}
+use Rattle.http.specs.StatusCode.{reason_phrase}
+
+-- The statuses of the answers.
+abbrev pub is_answered : ℕ → Bool
+is_answered status = list_any (λ known. status == known)
+    (200 ∷ 400 ∷ 404 ∷ 405 ∷ 409 ∷ 411 ∷ 413 ∷ 431 ∷ 501 ∷ 503 ∷ 507 ∷ [])
+
+-- The phrase of a status, as RFC 9110 gives it.
+unfoldable pub phrase : ℕ → List ℕ
+phrase status = unwrap_or (reason_phrase status) []
+
+-- The field that says that the link closes.
+abbrev pub close_field : Bool → List ℕ
+close_field true = codes "Connection: close\r\n"
+close_field false = []
+
+-- A response: its head, an empty line, its body.
+abbrev pub response : ℕ → List ℕ → Bool → List ℕ
+response status body close =
+    codes "HTTP/1.1 " ++ (decimal status ++ (codes " " ++ (phrase status
+    ++ (codes "\r\nContent-Type: application/json\r\nContent-Length: " ++ (decimal (length body)
+    ++ (codes "\r\n" ++ (close_field close ++ (codes "\r\n" ++ body))))))))
+
+-- The body of the answer to a request that is refused.
+abbrev pub refusal : ℕ → List ℕ
+refusal status = codes "{\"status\":" ++ (decimal status ++ codes "}")
