@@ -1,0 +1,5 @@
+pub mod FieldLemmas
+pub mod InboxLemmas
+pub mod ResponseLemmas
+pub mod RouteLemmas
+pub mod RoutingLemmas

@@ -1,9 +1,9 @@
 -- What the fields of a head say: of the body's encoding and length, and of the link.
-use Rattle.std.specs.Prelude.{ℕ, ◌==◌, nat_lt, nat_le, Bool, true, false, not, ◌&&◌, List, [], ◌∷◌, length, map}
+use Rattle.std.specs.Prelude.{ℕ, ◌==◌, nat_le, Bool, not, ◌&&◌, ◌||◌, List, [], ◌∷◌, length, map}
 use Rattle.std.specs.Prelude.{if◌then◌else◌, codes}
-use Rattle.std.specs.Char.{to_ascii_lowercase}
-use Rattle.std.specs.List.{list_any}
-use Rattle.std.specs.Str.{bytes_eq, all_ascii_digits}
+use Rattle.std.specs.Char.{to_ascii_lowercase, is_ascii_digit}
+use Rattle.std.specs.List.{list_all, list_any}
+use Rattle.std.specs.Str.{bytes_eq}
 use Rattle.std.specs.Str.Parse.{digits_value}
 use Rattle.book_http.specs.declared.fields.BodyLength.{BodyLength}
 use Rattle.book_http.specs.declared.fields.BodyLength.TheVariants.{Absent, Given, Broken}
@@ -25,7 +25,7 @@ stands name fields = list_any (λ field. same_word field.0 name) fields
 
 -- A length is written with 1 to 18 digits.
 abbrev pub is_length : List ℕ → Bool
-is_length value = nat_lt 0 (length value) && (nat_le (length value) 18 && all_ascii_digits value)
+is_length value = not (length value == 0) && (nat_le (length value) 18 && list_all is_ascii_digit value)
 
 -- The length that one value gives.
 abbrev pub one_length : List ℕ → BodyLength
@@ -37,14 +37,20 @@ body_length [] = Absent
 body_length (value ∷ []) = one_length value
 body_length (value ∷ other ∷ more) = Broken
 
--- The sender asks that the link be closed: a field Connection whose whole value is the word close.
-abbrev pub asks_close : List (List ℕ × List ℕ) → Bool
-asks_close fields = list_any (λ value. same_word value (codes "close")) (values (codes "connection") fields)
+-- The length where this value stands besides those that gave it.
+abbrev pub besides : BodyLength → List ℕ → BodyLength
+besides Absent value = one_length value
+besides (Given size) value = Broken
+besides Broken value = Broken
+
+-- A field asks that the link be closed: its name is Connection, and its whole value is the word close.
+abbrev pub is_close : List ℕ → List ℕ → Bool
+is_close name value = same_word name (codes "connection") && same_word value (codes "close")
 
 -- What the fields say.
 abbrev pub said : List (List ℕ × List ℕ) → Fields
 said fields = record {
   encoded = stands (codes "transfer-encoding") fields;
   length = body_length (values (codes "content-length") fields);
-  close = asks_close fields;
+  close = list_any (λ field. is_close field.0 field.1) fields;
 }

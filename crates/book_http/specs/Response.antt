@@ -18,12 +18,17 @@ abbrev pub close_field : Bool → List ℕ
 close_field true = codes "Connection: close\r\n"
 close_field false = []
 
--- A response: its head, an empty line, its body.
+-- The head of a response of this status, with its phrase, the size of its body, and the field about the link; an empty
+-- line ends it.
+abbrev pub head_of : ℕ → List ℕ → ℕ → List ℕ → List ℕ
+head_of status phrase size field =
+    codes "HTTP/1.1 " ++ (decimal status ++ (codes " " ++ (phrase
+    ++ (codes "\r\nContent-Type: application/json\r\nContent-Length: " ++ (decimal size
+    ++ (codes "\r\n" ++ (field ++ codes "\r\n")))))))
+
+-- A response: its head and its body.
 abbrev pub response : ℕ → List ℕ → Bool → List ℕ
-response status body close =
-    codes "HTTP/1.1 " ++ (decimal status ++ (codes " " ++ (phrase status
-    ++ (codes "\r\nContent-Type: application/json\r\nContent-Length: " ++ (decimal (length body)
-    ++ (codes "\r\n" ++ (close_field close ++ (codes "\r\n" ++ body))))))))
+response status body close = head_of status (phrase status) (length body) (close_field close) ++ body
 
 -- The body of the answer to a request that is refused.
 abbrev pub refusal : ℕ → List ℕ

@@ -1,5 +1,5 @@
 -- The routes: the targets that a request may have. The whole target is compared, so one with a question mark has none.
-use Rattle.std.specs.Prelude.{◌≡◌, ℕ, ◌==◌, nat_lt, Bool, true, false, not, ◌&&◌, List, [], ◌∷◌, ◌++◌, length}
+use Rattle.std.specs.Prelude.{◌≡◌, ℕ, ◌==◌, Bool, true, false, not, ◌&&◌, List, [], ◌∷◌, ◌++◌, length}
 use Rattle.std.specs.Prelude.{Option, Some, None, codes}
 use Rattle.std.specs.List.{list_all}
 use Rattle.book_http.specs.declared.route.Route.{Route}
@@ -43,7 +43,7 @@ is_parameter_byte byte = not (byte == 47) && not (byte == 63)
 
 -- A parameter has at least one byte.
 abbrev pub is_parameter : List ℕ → Bool
-is_parameter bytes = nat_lt 0 (length bytes) && list_all is_parameter_byte bytes
+is_parameter bytes = not (length bytes == 0) && list_all is_parameter_byte bytes
 
 -- The target is that of the route.
 pub record IsRoute (target : List ℕ) (route : Route) : Type 0 where

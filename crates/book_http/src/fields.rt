@@ -1,6 +1,8 @@
-ghost use Rattle.std.specs.Prelude.{◌≡◌, ◌↔◌, ◌∷◌, ◌++◌, ℕ, List, [], IsTrue, All, length, map};
+ghost use Rattle.std.specs.Prelude.{◌≡◌, ◌∷◌, ◌++◌, ℕ, List, [], All, length, map, codes, if◌then◌else◌};
+ghost use Rattle.std.specs.Char.{is_ascii_digit};
+ghost use Rattle.std.specs.List.{list_all};
 ghost use Rattle.httparse.specs.Spans.{IsHeaderWithin, header_bytes};
-ghost use Rattle.book_http.specs.Fields.{body_length, one_length, said, same_word};
+ghost use Rattle.book_http.specs.Fields.{besides, is_close, is_length, one_length, said, same_word};
 
 use httparse::spans::HeaderSpan;
 
@@ -33,32 +35,69 @@ fn same_word(one: &[u8], other: &[u8]) -> bool
     one.eq_ignore_ascii_case(other)
 }
 
+/// Whether each byte is a decimal digit.
+fn are_digits(value: &[u8]) -> bool
+    ensures { result ≡ list_all is_ascii_digit value.now }
+{
+    value.iter().all(|byte| byte.is_ascii_digit())
+}
+
+/// Whether a value is a length: 1 to 18 digits.
+fn is_length(value: &[u8]) -> bool
+    ensures { result ≡ is_length value.now }
+{
+    !value.is_empty() && value.len() <= 18 && are_digits(value)
+}
+
 /// The length that one value gives.
 fn one_length(value: &[u8]) -> BodyLength
     ensures { result ≡ one_length value.now }
 {
-    if value.len() > 18 || !value.iter().all(|byte| byte.is_ascii_digit()) {
+    if !is_length(value) {
         return BodyLength::Broken;
     }
     let Ok(text) = str::from_utf8(value) else {
-        return BodyLength::Broken;
+        unreachable!()
     };
     match text.parse::<u64>() {
         Ok(size) => BodyLength::Given(size),
-        Err(_) => BodyLength::Broken,
+        Err(_) => unreachable!(),
     }
 }
 
-impl BodyLength {
-    /// The length where this value is said besides.
-    fn besides(self, value: &[u8]) -> BodyLength
-        ensures { (seen : List (List ℕ)) → self ≡ body_length seen → result ≡ body_length (seen ++ value.now ∷ []) }
-    {
-        match self {
-            BodyLength::Absent => one_length(value),
-            _ => BodyLength::Broken,
-        }
+/// The length where this value stands besides those that gave it.
+fn besides(length: BodyLength, value: &[u8]) -> BodyLength
+    ensures { result ≡ besides length value.now }
+{
+    match length {
+        BodyLength::Absent => one_length(value),
+        _ => BodyLength::Broken,
     }
+}
+
+/// The length after one more field.
+fn next_length(length: BodyLength, name: &[u8], value: &[u8]) -> BodyLength
+    ensures { result ≡ (if same_word name.now (codes "content-length") then besides length value.now else length) }
+{
+    if same_word(name, b"content-length") {
+        besides(length, value)
+    } else {
+        length
+    }
+}
+
+/// Whether a field says that the body is encoded.
+fn is_encoding(name: &[u8]) -> bool
+    ensures { result ≡ same_word name.now (codes "transfer-encoding") }
+{
+    same_word(name, b"transfer-encoding")
+}
+
+/// Whether a field asks that the link be closed.
+fn is_close(name: &[u8], value: &[u8]) -> bool
+    ensures { result ≡ is_close name.now value.now }
+{
+    same_word(name, b"connection") && same_word(value, b"close")
 }
 
 impl Fields {
@@ -73,19 +112,18 @@ impl Fields {
         }
     }
 
-    /// Takes one more field.
-    fn take(&mut self, name: &[u8], value: &[u8])
-        ensures { (seen : List (List ℕ × List ℕ)) → self.old ≡ said seen
-            → self.new ≡ said (seen ++ (name.now, value.now) ∷ []) }
+    /// What these fields and one more say.
+    fn with(self, name: &[u8], value: &[u8]) -> Fields
+        ensures { (seen : List (List ℕ × List ℕ)) → self ≡ said seen
+            → result ≡ said (seen ++ (name.now, value.now) ∷ []) }
     {
-        if same_word(name, b"transfer-encoding") {
-            self.encoded = true;
-        }
-        if same_word(name, b"content-length") {
-            self.length = self.length.besides(value);
-        }
-        if same_word(name, b"connection") && same_word(value, b"close") {
-            self.close = true;
+        let encoding = is_encoding(name);
+        let length = next_length(self.length, name, value);
+        let close = is_close(name, value);
+        Fields {
+            encoded: self.encoded | encoding,
+            length,
+            close: self.close | close,
         }
     }
 }
@@ -97,7 +135,7 @@ pub fn read_fields(head: &[u8], fields: &[HeaderSpan]) -> Fields
 {
     let mut said = Fields::none();
     for field in fields {
-        said.take(field.name.of(head), field.value.of(head));
+        said = said.with(field.name.of(head), field.value.of(head));
     }
     said
 }

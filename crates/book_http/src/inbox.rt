@@ -1,7 +1,7 @@
 ghost use Rattle.std.specs.Prelude.{◌≡◌, ◌≢◌, ◌++◌, [], ℕ, List, ◌+◌, ◌<◌, ◌≤◌, length, take, drop};
 ghost use Rattle.std.specs.Prelude.{Ok, Err, IfOk, OnOk, OnErr, if◌then◌else◌};
 ghost use Rattle.std.specs.Io.KnownBytes.{Consumes, IsAtEnd, Keeps};
-ghost use Rattle.book_keeper.specs.Faults.{Rose};
+ghost use Rattle.book_keeper.specs.Faults.{HasCause, Rose};
 ghost use Rattle.book_http.specs.Reading.{HasRead};
 
 use crate::next::NextError;
@@ -25,6 +25,20 @@ impl Model for Inbox {
     ghost Value = { List ℕ };
 
     ghost view = { λ inbox. inbox.bytes.items };
+}
+
+/// Reads the next bytes of the link into the buffer behind its first ones, and says how many.
+fn read_behind<S: Source>(link: &mut S, buffer: &mut [u8], first: usize) -> Result<usize, Failed>
+    requires { first < length buffer.old }
+    ensures kept { take first buffer.new ≡ take first buffer.old }
+    ensures within { IfOk result (λ count. first + count ≤ length buffer.new) }
+    ensures taken { IfOk result (λ count.
+        Consumes (S.left link.old) (S.left link.new) (take count (drop first buffer.new))) }
+    ensures end { result ≡ Ok 0 → IsAtEnd (S.left link.new) }
+    ensures unread { OnErr result (Keeps (S.left link.old) (S.left link.new)) }
+    ensures cause { HasCause (S.faults link.old) (S.faults link.new) result }
+{
+    link.read(&mut buffer[first..])
 }
 
 impl Inbox {
@@ -53,9 +67,9 @@ impl Inbox {
         ensures fault { result ≡ Err NextError.ReadFault → Rose (S.faults link.old) (S.faults link.new) }
         ensures no_fault { result ≢ Err NextError.ReadFault → S.faults link.new ≡ S.faults link.old }
     {
-        let size = self.bytes.len();
+        let size = self.bytes.as_slice().len();
         self.bytes.resize(size + PIECE, 0)?;
-        match link.read(&mut self.bytes[size..]) {
+        match read_behind(link, &mut self.bytes, size) {
             Ok(count) => {
                 self.bytes.truncate(size + count);
                 Ok(count)

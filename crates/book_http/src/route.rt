@@ -1,5 +1,6 @@
 ghost use Rattle.std.specs.Prelude.{◌≡◌, ◌∷◌, ◌++◌, ℕ, List, true, false, IfOk, IfSome, IfNone};
-ghost use Rattle.book_http.specs.Route.{FindsOfKind, is_parameter, kind_of, takes_body};
+ghost use Rattle.std.specs.List.{list_all};
+ghost use Rattle.book_http.specs.Route.{FindsOfKind, is_parameter, is_parameter_byte, kind_of, takes_body};
 
 use book_commodity::{OutOfMemory, Text};
 use std::alloc::Global;
@@ -61,11 +62,20 @@ impl RouteKind {
     }
 }
 
-/// A byte of a parameter: no slash and no question mark.
+/// Whether no byte is a slash or a question mark.
+fn are_parameter_bytes(text: &str) -> bool
+    ensures { result ≡ list_all is_parameter_byte text.now }
+{
+    text.as_bytes()
+        .iter()
+        .all(|byte| *byte != b'/' && *byte != b'?')
+}
+
+/// Whether a text is a parameter.
 fn is_parameter(text: &str) -> bool
     ensures { result ≡ is_parameter text.now }
 {
-    !text.is_empty() && text.bytes().all(|byte| byte != b'/' && byte != b'?')
+    !text.is_empty() && are_parameter_bytes(text)
 }
 
 /// The text, where it is a parameter.

@@ -16,6 +16,7 @@ pub struct Routes {
 }
 
 impl Model for Routes {
+    ghost use Rattle.std.specs.Prelude.{◌≡◌};
     ghost use Rattle.book_http.specs.Routing.{RouteRows, all_routes};
 
     ghost Value = { RouteRows };
