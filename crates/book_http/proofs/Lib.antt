@@ -3,3 +3,5 @@ pub mod InboxLemmas
 pub mod ResponseLemmas
 pub mod RouteLemmas
 pub mod RoutingLemmas
+pub mod HeadLemmas
+pub mod ExchangeLemmas

@@ -15,8 +15,8 @@ use Rattle.book_http.specs.Route.{kind_of, takes_body}
 use Rattle.book_http.specs.Head.{body_size, closes, IsRefusedHead, IsAcceptedHead}
 
 -- The bytes in which a head has to end: the first 16 KiB.
-unfoldable pub window : List ℕ → List ℕ
-window bytes = take (2 ^ 14) bytes
+unfoldable pub head_window : List ℕ → List ℕ
+head_window bytes = take (2 ^ 14) bytes
 
 -- The bytes begin with this head, which ends within 16 KiB, and then come these.
 pub record HasHead (bytes : List ℕ) (head : RequestHead) (behind : List ℕ) : Type 0 where
@@ -48,14 +48,14 @@ pub record HasRefusedHead (bytes : List ℕ) (status : ℕ) : Type 0 where
 -- 16 KiB came, and no head ends in them, though one may have begun.
 pub record HasLongHead (bytes : List ℕ) : Type 0 where
   pub full : 2 ^ 14 ≤ length bytes
-  pub none : HasNoRequest (window bytes)
-  pub begun : MayBecomeRequest (window bytes)
+  pub none : HasNoRequest (head_window bytes)
+  pub begun : MayBecomeRequest (head_window bytes)
 
 -- The bytes are refused with this status: their head is; or whatever follows, they begin with no head; or their head is
 -- too long.
 abbrev pub IsRefused : List ℕ → ℕ → Type 0
 IsRefused bytes status = HasRefusedHead bytes status
-    ⊎ ((status ≡ 400) × NeverHasRequest (window bytes))
+    ⊎ ((status ≡ 400) × NeverHasRequest (head_window bytes))
     ⊎ ((status ≡ 431) × HasLongHead bytes)
 
 -- No head has ended yet, and one may have begun.

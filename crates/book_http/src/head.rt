@@ -1,8 +1,9 @@
-ghost use Rattle.std.specs.Prelude.{◌≡◌, ◌≤◌, ◌^◌, Some, IfOk, IsUtf8};
+ghost use Rattle.std.specs.Prelude.{◌≡◌, ◌==◌, ◌||◌, ℕ, ◌*◌, ◌^◌, ◌<◌, ◌≤◌, List, length, Some, IfOk, IsUtf8};
 ghost use Rattle.httparse.specs.Grammar.{RequestHead};
 ghost use Rattle.httparse.specs.Spans.{span_bytes, IsRequestAt, IsRequestWithin};
 ghost use Rattle.book_commodity.specs.Rules.{ReportsFirst};
 ghost use Rattle.book_http.specs.Head.{field_refusals, route_refusals, has_method, size_of};
+ghost use Rattle.book_http.specs.Exchange.{head_window};
 ghost use Rattle.book_http.specs.Judgement.{IsJudged, IsJudgedHead};
 
 use crate::fields::{BodyLength, Fields, read_fields};
@@ -64,6 +65,13 @@ fn refuse_by_route(method: &[u8], length: BodyLength, route: &Route) -> Result<(
     Ok(())
 }
 
+/// Whether the link closes after the answer to a request of this version with these fields.
+fn closes(version: u8, fields: &Fields) -> bool
+    ensures { result ≡ ((version == 0) || fields.now.close) }
+{
+    version == 0 || fields.close
+}
+
 /// Judges a head whose parts stand here in the window.
 fn judge_head(
     alloc: Global,
@@ -90,23 +98,43 @@ fn judge_head(
             route,
             head: found.len,
             body,
-            close: found.version == 0 || fields.close,
+            close: closes(found.version, &fields),
         })),
         Err(status) => Ok(discard(route, Judgement::Refused(status))),
     }
+}
+
+/// Judges the head that the window begins with, with room for the spans of all fields that the window can have.
+fn judge_window(
+    alloc: Global,
+    routes: &Routes,
+    window: &[u8],
+    spans: &mut [HeaderSpan],
+) -> Result<Judgement, OutOfMemory>
+    requires { length window.now < 3 * length spans.old }
+    ensures { IfOk result (λ judgement. (bytes : List ℕ) → window.now ≡ head_window bytes → IsJudged bytes judgement) }
+{
+    match parse_request(window, spans) {
+        Ok(Status::Complete(found)) => judge_head(alloc, routes, window, spans, &found),
+        Ok(Status::Partial) if window.len() < MAX_HEAD => Ok(Judgement::Unfinished),
+        Ok(Status::Partial) => Ok(Judgement::Refused(431)),
+        Err(Error::TooManyHeaders) => unreachable!(),
+        Err(_) => Ok(Judgement::Refused(400)),
+    }
+}
+
+/// The bytes in which a head has to end: the first 16 KiB.
+fn window_of(bytes: &[u8]) -> &[u8]
+    ensures { result.now ≡ head_window bytes.now }
+{
+    &bytes[..bytes.len().min(MAX_HEAD)]
 }
 
 /// Judges the head that the bytes begin with, of which the first 16 KiB are looked at.
 pub fn judge(alloc: Global, routes: &Routes, bytes: &[u8]) -> Result<Judgement, OutOfMemory>
     ensures { IfOk result (IsJudged bytes.now) }
 {
-    let window = &bytes[..bytes.len().min(MAX_HEAD)];
+    let window = window_of(bytes);
     let mut spans = vec![in alloc; EMPTY_HEADER_SPAN; window.len() / 3 + 1]?;
-    match parse_request(window, &mut spans) {
-        Ok(Status::Complete(found)) => judge_head(alloc, routes, window, &spans, &found),
-        Ok(Status::Partial) if window.len() < MAX_HEAD => Ok(Judgement::Unfinished),
-        Ok(Status::Partial) => Ok(Judgement::Refused(431)),
-        Err(Error::TooManyHeaders) => unreachable!(),
-        Err(_) => Ok(Judgement::Refused(400)),
-    }
+    judge_window(alloc, routes, window, &mut spans)
 }
