@@ -37,8 +37,8 @@ pub reading : (buf : List ℕ) (spans : List HeaderSpan) (r : RequestSpans) (hea
 reading buf spans r head fields is fits e = record {
   count_is =
       let here : length (map (header_bytes buf) (take r.headers spans)) ≡ r.headers =
-      length-map (header_bytes buf) (take r.headers spans) ∙ length-take-le r.headers spans fits in
-      sym here ∙ ap length is.fields ∙ length-map name_and_value head.fields;
+      length-map (take r.headers spans) (header_bytes buf) ∙ length-take-le r.headers spans fits in
+      sym here ∙ ap length is.fields ∙ length-map head.fields name_and_value;
   fields_are = e ∙ ap said is.fields;
 }
 
@@ -105,14 +105,14 @@ window_parts : (bytes : List ℕ) → head_window bytes ++ drop (2 ^ 14) bytes �
 unfolding head_window
 window_parts bytes = take-append-drop (2 ^ 14) bytes
 
-pub length-head_window : (bytes : List ℕ) → length (head_window bytes) ≡ min (2 ^ 14) (length bytes)
+pub length-window : (bytes : List ℕ) → length (head_window bytes) ≡ min (2 ^ 14) (length bytes)
 unfolding head_window
-length-head_window bytes = length-take (2 ^ 14) bytes
+length-window bytes = length-take (2 ^ 14) bytes
 
--- few bytes are their own head_window
+-- few bytes are their own window
 pub window_all : (bytes : List ℕ) → length (head_window bytes) < 2 ^ 14 → head_window bytes ≡ bytes
 unfolding head_window
-window_all bytes short = take_all (2 ^ 14) bytes (let e = length-head_window bytes in omega (arith, e))
+window_all bytes short = take_all (2 ^ 14) bytes (let e = length-window bytes in omega (arith, e))
 
 -- a head in the window is a head of the bytes
 pub window_head : (bytes : List ℕ) (head : RequestHead) (behind : List ℕ) → ReadsRequest (head_window bytes) head behind
@@ -121,52 +121,56 @@ window_head bytes head behind reads = record {
   reads = subst (λ (all : List ℕ). ReadsRequest all head (behind ++ drop (2 ^ 14) bytes)) (window_parts bytes)
       (ReadsRequest-append (head_window bytes) head behind (drop (2 ^ 14) bytes) reads);
   short =
-      omega (arith, ap length reads.1, length-append (print_request head) behind, length-head_window bytes);
+      omega (arith, ap length reads.1, length-append (print_request head) behind, length-window bytes);
 }
 
--- a judged head in the window judges the bytes
-pub window_judged : (bytes : List ℕ) (head : RequestHead) (behind : List ℕ) (size : ℕ) (judgement : Judgement)
-    → ReadsRequest (head_window bytes) head behind → size ≡ length (print_request head)
-    → IsJudgedHead head size judgement → IsJudged bytes judgement
-window_judged bytes head behind size Unfinished reads size_is h = absurd h
-window_judged bytes head behind size (Refused status) reads size_is h = inl (record {
+judged : (bytes : List ℕ) (head : RequestHead) (behind : List ℕ) (size : ℕ) (judgement : Judgement)
+    → HasHead bytes head behind → size ≡ length (print_request head) → IsJudgedHead head size judgement
+    → IsJudged bytes judgement
+judged bytes head behind size Unfinished has size_is h = absurd h
+judged bytes head behind size (Refused status) has size_is h =
+    inl (record { head = head; behind = behind; has_head = has; refused = h })
+judged bytes head behind size (Accepted a) has size_is h = record {
   head = head;
-  behind = behind ++ drop (2 ^ 14) bytes;
-  has_head = window_head bytes head behind reads;
-  refused = h;
-})
-window_judged bytes head behind size (Accepted a) reads size_is h = record {
-  head = head;
-  behind = behind ++ drop (2 ^ 14) bytes;
-  has_head = window_head bytes head behind reads;
+  behind = behind;
+  has_head = has;
   accepts = subst (λ n. Accepts head n a) size_is h;
 }
 
+-- a judged head in the window judges the bytes
+pub window_judged : (w bytes : List ℕ) (spans : List HeaderSpan) (r : RequestSpans) (head : RequestHead)
+    (judgement : Judgement) → w ≡ head_window bytes → IsRequestAt w spans r head → IsJudgedHead head r.len judgement
+    → IsJudged bytes judgement
+window_judged w bytes spans r head judgement is at h =
+    judged bytes head (drop r.len w ++ drop (2 ^ 14) bytes) r.len judgement
+    (window_head bytes head (drop r.len w) (subst (λ (l : List ℕ). ReadsRequest l head (drop r.len w)) is at.reads))
+    at.len h
+
 -- a window without a head, which may have begun
-pub window_short : (bytes : List ℕ) → length (head_window bytes) < 2 ^ 14 → HasNoRequest (head_window bytes)
-    → MayBecomeRequest (head_window bytes) → LacksHead bytes
-window_short bytes short none begun =
-    let all = window_all bytes short in record {
+pub window_short : (w bytes : List ℕ) → w ≡ head_window bytes → length w < 2 ^ 14 → HasNoRequest w
+    → MayBecomeRequest w → LacksHead bytes
+window_short w bytes is short none begun =
+    let all : w ≡ bytes = is ∙ window_all bytes (subst (λ (l : List ℕ). length l < 2 ^ 14) is short) in record {
       few = subst (λ (l : List ℕ). length l < 2 ^ 14) all short;
       none = subst HasNoRequest all none;
       begun = subst MayBecomeRequest all begun;
     }
 
 -- the same of a full window
-pub window_full : (bytes : List ℕ) → 2 ^ 14 ≤ length (head_window bytes) → HasNoRequest (head_window bytes)
-    → MayBecomeRequest (head_window bytes) → IsRefused bytes 431
-window_full bytes full none begun = inr (inr (
+pub window_full : (w bytes : List ℕ) → w ≡ head_window bytes → 2 ^ 14 ≤ length w → HasNoRequest w
+    → MayBecomeRequest w → IsRefused bytes 431
+window_full w bytes is full none begun = inr (inr (
   refl,
   record {
-    full = omega (arith, length-head_window bytes);
-    none = none;
-    begun = begun;
+    full = omega (arith, ap length is, length-window bytes);
+    none = subst HasNoRequest is none;
+    begun = subst MayBecomeRequest is begun;
   },
 ))
 
 -- bytes that never begin with a head
-pub window_never : (bytes : List ℕ) → NeverHasRequest (head_window bytes) → IsRefused bytes 400
-window_never bytes never = inr (inl (refl, never))
+pub window_never : (w bytes : List ℕ) → w ≡ head_window bytes → NeverHasRequest w → IsRefused bytes 400
+window_never w bytes is never = inr (inl (refl, subst NeverHasRequest is never))
 
 -- ---- room for the spans
 
@@ -193,7 +197,7 @@ fields_long (field ∷ more) all =
     omega (arith, length-append (print_field field) (flat_map print_field more))
 
 -- a head is longer than three bytes for each of its fields
-head_long : (head : RequestHead) → IsRequestHead head → 3 * length head.fields + 2 ≤ length (print_request head)
+pub head_long : (head : RequestHead) → IsRequestHead head → 3 * length head.fields + 2 ≤ length (print_request head)
 head_long head is =
     let fields = fields_long head.fields is.fields in
     let e = ap length (print_request-append head []) in

@@ -1,7 +1,7 @@
-ghost use Rattle.std.specs.Prelude.{◌≡◌, ◌≢◌, ◌<◌, ◌≤◌, ◌+◌, ◌^◌, length, Ok, Err, true, false, IfOk, OnErr};
+ghost use Rattle.std.specs.Prelude.{◌≡◌, ◌≢◌, ◌<◌, ◌≤◌, ◌+◌, ℕ, List, Option, length, Ok, Err, true, false, IfOk, OnErr};
 ghost use Rattle.std.specs.Io.KnownBytes.{IsAtEnd};
 ghost use Rattle.book_keeper.specs.Faults.{Rose};
-ghost use Rattle.book_http.specs.Exchange.{IsNext, LacksHead};
+ghost use Rattle.book_http.specs.Exchange.{IsNext, LacksHead, NextIs};
 ghost use Rattle.book_http.specs.Judgement.{BeginsAccepted, IsEnded, IsJudged};
 ghost use Rattle.book_http.specs.Reading.{HasRead};
 
@@ -10,7 +10,7 @@ use crate::inbox::Inbox;
 use crate::judgement::{AcceptedHead, Judgement};
 use crate::route::Route;
 use crate::routes::Routes;
-use book_commodity::{Bytes, OutOfMemory};
+use book_commodity::{Bytes, OutOfMemory, discard};
 use book_keeper::Source;
 use std::alloc::{AllocError, Global};
 
@@ -111,6 +111,26 @@ fn await_bytes<S: Source>(
     Ok(true)
 }
 
+/// Takes the request of an accepted head whose body has come from the inbox.
+fn take_whole(
+    alloc: Global,
+    inbox: &mut Inbox,
+    accepted: AcceptedHead,
+) -> Result<Next, NextError>
+    requires begun { BeginsAccepted inbox.old accepted }
+    requires whole { accepted.head + accepted.body ≤ length inbox.old }
+    ensures { (after : Option (List ℕ)) → NextIs inbox.old inbox.new after result }
+{
+    let wanted = accepted.route.kind().takes_body();
+    match inbox.take(alloc, accepted.head, accepted.body, wanted) {
+        Ok(body) => {
+            let AcceptedHead { route, close, .. } = accepted;
+            Ok(Next::Request(Request { route, body, close }))
+        }
+        Err(OutOfMemory) => Err(discard(accepted, NextError::OutOfMemory)),
+    }
+}
+
 /// Reads the body behind an accepted head, and takes the request from the inbox.
 fn take_request<S: Source>(
     alloc: Global,
@@ -123,17 +143,11 @@ fn take_request<S: Source>(
     ensures fault { result ≡ Err NextError.ReadFault → Rose (S.faults link.old) (S.faults link.new) }
     ensures no_fault { result ≢ Err NextError.ReadFault → S.faults link.new ≡ S.faults link.old }
 {
-    let AcceptedHead {
-        route,
-        head,
-        body,
-        close,
-    } = accepted;
-    if !await_bytes(inbox, link, head + body)? {
-        return Ok(Next::Cut);
+    match await_bytes(inbox, link, accepted.head + accepted.body) {
+        Ok(true) => take_whole(alloc, inbox, accepted),
+        Ok(false) => Ok(discard(accepted, Next::Cut)),
+        Err(error) => Err(discard(accepted, error)),
     }
-    let body = inbox.take(alloc, head, body, route.kind().takes_body())?;
-    Ok(Next::Request(Request { route, body, close }))
 }
 
 /// Takes the next request of the link: from the inbox as far as its bytes reach, and then from what is read of the
@@ -152,10 +166,11 @@ pub fn next_request<S: Source>(
     ensures fault { result ≡ Err NextError.ReadFault → Rose (S.faults link.old) (S.faults link.new) }
     ensures no_fault { result ≢ Err NextError.ReadFault → S.faults link.new ≡ S.faults link.old }
 {
-    match await_head(alloc, routes, inbox, link)? {
-        Judgement::Unfinished if inbox.as_slice().is_empty() => Ok(Next::End),
-        Judgement::Unfinished => Ok(Next::Cut),
-        Judgement::Refused(status) => Ok(Next::Refused(status)),
-        Judgement::Accepted(accepted) => take_request(alloc, inbox, link, accepted),
+    match await_head(alloc, routes, inbox, link) {
+        Ok(Judgement::Unfinished) if inbox.as_slice().is_empty() => Ok(Next::End),
+        Ok(Judgement::Unfinished) => Ok(Next::Cut),
+        Ok(Judgement::Refused(status)) => Ok(Next::Refused(status)),
+        Ok(Judgement::Accepted(accepted)) => take_request(alloc, inbox, link, accepted),
+        Err(error) => Err(error),
     }
 }
