@@ -5,3 +5,4 @@ pub mod RouteLemmas
 pub mod RoutingLemmas
 pub mod HeadLemmas
 pub mod ExchangeLemmas
+mod Worked
