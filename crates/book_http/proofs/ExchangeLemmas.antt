@@ -1,9 +1,10 @@
 -- What is said of bytes stays where more of them come, and what that says of a link.
-use Rattle.std.proofs.Common.{◌≡◌, ℕ, zero, suc, ◌+◌, ◌-◌, ◌^◌, ◌<◌, ◌≤◌, ◌⊎◌, Bool, cond, List, [], ◌∷◌, ◌++◌, length, take, drop, Option}
+use Rattle.std.proofs.Common.{◌≡◌, ℕ, zero, suc, ◌+◌, ◌-◌, ◌^◌, ◌<◌, ◌≤◌, ◌⊎◌, ◌==◌, Bool, false, cond, List, [], ◌∷◌, ◌++◌, length, take, drop, Option}
 use Rattle.std.proofs.Common.{Result, Ok, Err, refl, sym, ap, ◌∙◌, subst, arith, length-append, append_assoc, append-nil, inl, inr}
 use Rattle.std.proofs.Common.{length-drop}
 use Rattle.std.proofs.Math.Seq.{drop-append-add}
 use Rattle.std.proofs.lemmas.List.{take-append-drop, take-append-le, length-take-le}
+use Rattle.std.proofs.lemmas.Bool.{eqb-false}
 use Rattle.std.specs.Io.KnownBytes.{IsAtEnd, Consumes}
 use Rattle.httparse.specs.Grammar.{RequestHead, print_request, ReadsRequest, HasNoRequest, NeverHasRequest, MayBecomeRequest}
 use Rattle.httparse.proofs.GrammarLemmas.{ReadsRequest-append}
@@ -207,6 +208,15 @@ pub body_failed : (bytes : List ℕ) (a : AcceptedHead) (after : Option (List �
     → BeginsAccepted bytes a → length bytes < a.head + a.body → NextIs bytes bytes after (Err error)
 body_failed bytes a after ReadFault is few = (inr (body_lacks bytes a is few), refl)
 body_failed bytes a after OutOfMemory is few = refl
+
+some : (n : ℕ) → (n ≡ 0 → ⊥) → 0 < n
+some n h = omega arith
+
+-- a list that is not empty
+pub some_left : (bytes view : List ℕ) (t : Bool) → view ≡ bytes → t ≡ (length view == 0) → t ≡ false → 0 < length bytes
+some_left bytes view t same test no =
+    let filled = eqb-false (length view) 0 (sym test ∙ no) in
+    some (length bytes) (λ e. filled (ap length same ∙ e))
 
 -- the link has ended within a head
 pub head_cut : (bytes : List ℕ) (after : Option (List ℕ)) → LacksHead bytes → 0 < length bytes → IsAtEnd after

@@ -119,7 +119,8 @@ fn take_whole(
 ) -> Result<Next, NextError>
     requires begun { BeginsAccepted inbox.old accepted }
     requires whole { accepted.head + accepted.body ≤ length inbox.old }
-    ensures { (after : Option (List ℕ)) → NextIs inbox.old inbox.new after result }
+    ensures next { (after : Option (List ℕ)) → NextIs inbox.old inbox.new after result }
+    ensures quiet { result ≢ Err NextError.ReadFault }
 {
     let wanted = accepted.route.kind().takes_body();
     match inbox.take(alloc, accepted.head, accepted.body, wanted) {
