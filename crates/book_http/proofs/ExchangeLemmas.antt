@@ -214,8 +214,8 @@ some n h = omega arith
 
 -- a list that is not empty
 pub some_left : (bytes view : List ℕ) (t : Bool) → view ≡ bytes → t ≡ (length view == 0) → t ≡ false → 0 < length bytes
-some_left bytes view t same test no =
-    let filled = eqb-false (length view) 0 (sym test ∙ no) in
+some_left bytes view t same test unset =
+    let filled = eqb-false (length view) 0 (sym test ∙ unset) in
     some (length bytes) (λ e. filled (ap length same ∙ e))
 
 -- the link has ended within a head
