@@ -198,7 +198,7 @@ pub body_cut : (bytes : List ℕ) (a : AcceptedHead) (after : Option (List ℕ))
 body_cut bytes a after is few end = (
   inr (body_lacks bytes a is few),
   (let long = head_long is.head is.has_head.reads.0 in
-  omega (arith, ap length is.has_head.reads.1, length-append (print_request is.head) is.behind)),
+      omega (arith, ap length is.has_head.reads.1, length-append (print_request is.head) is.behind)),
   refl,
   end,
 )

@@ -24,7 +24,7 @@ unfolding Codes
 one_of status [] codes h = absurd (let e : false ≡ true = h in cc)
 one_of status (known ∷ more) codes h =
     let P : Bool → Type 0 = λ t. (status == known) ≡ t → (t || list_any (λ other. status == other) more) ≡ true
-        → IsStatusCode status in
+    → IsStatusCode status in
     (elim (status == known) as P [
       | true ↦ λ is _. subst IsStatusCode (sym (eqb-true status known is)) codes.0
       | false ↦ λ is found. one_of status more codes.1 found

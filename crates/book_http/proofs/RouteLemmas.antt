@@ -35,7 +35,7 @@ pub unsplit : (text : List ℕ) (r : Option (Bor (List ℕ) × Bor (List ℕ))) 
     → (first last : List ℕ) → text ≡ first ++ 47 ∷ last → is_parameter first ≡ true → ⊥
 unsplit text r split none first last e p =
     let P : Option (Bor (List ℕ) × Bor (List ℕ)) → Type 0 = λ o.
-        MatchOption o ⊥ (λ x. (x.0.now ≡ first) × (x.1.now ≡ last)) in
+    MatchOption o ⊥ (λ x. (x.0.now ≡ first) × (x.1.now ≡ last)) in
     subst P none (split_after 47 text first last r split (omega arith) e (plain first (parameter_bytes first p)))
 
 -- two parameters are what stands around the first slash
@@ -45,7 +45,7 @@ pub split_is : (text : List ℕ) (r : Option (Bor (List ℕ) × Bor (List ℕ)))
     → (x.0.now ≡ first) × (x.1.now ≡ last)
 split_is text r x split some first last e p =
     let P : Option (Bor (List ℕ) × Bor (List ℕ)) → Type 0 = λ o.
-        MatchOption o ⊥ (λ x. (x.0.now ≡ first) × (x.1.now ≡ last)) in
+    MatchOption o ⊥ (λ x. (x.0.now ≡ first) × (x.1.now ≡ last)) in
     subst P some (split_after 47 text first last r split (omega arith) e (plain first (parameter_bytes first p)))
 
 -- what is no parameter is not the same as one that is

@@ -48,7 +48,11 @@ fn refuse_by_fields(count: usize, fields: &Fields) -> Result<usize, u16>
 fn has_method(method: &[u8], route: &Route) -> bool
     ensures { result ≡ has_method method.now route.now }
 {
-    let wanted = if route.kind().takes_body() { "POST" } else { "GET" };
+    let wanted = if route.kind().takes_body() {
+        "POST"
+    } else {
+        "GET"
+    };
     method == wanted.as_bytes()
 }
 

@@ -91,11 +91,7 @@ fn await_head<S: Source>(
 }
 
 /// Reads the link until the inbox has so many bytes, and says whether it has: not where the link ends before.
-fn await_bytes<S: Source>(
-    inbox: &mut Inbox,
-    link: &mut S,
-    wanted: usize,
-) -> Result<bool, NextError>
+fn await_bytes<S: Source>(inbox: &mut Inbox, link: &mut S, wanted: usize) -> Result<bool, NextError>
     ensures read { HasRead inbox.old inbox.new (S.left link.old) (S.left link.new) }
     ensures all { result ≡ Ok true → wanted ≤ length inbox.new }
     ensures ended { result ≡ Ok false → (length inbox.new < wanted) × IsAtEnd (S.left link.new) }
@@ -112,11 +108,7 @@ fn await_bytes<S: Source>(
 }
 
 /// Takes the request of an accepted head whose body has come from the inbox.
-fn take_whole(
-    alloc: Global,
-    inbox: &mut Inbox,
-    accepted: AcceptedHead,
-) -> Result<Next, NextError>
+fn take_whole(alloc: Global, inbox: &mut Inbox, accepted: AcceptedHead) -> Result<Next, NextError>
     requires begun { BeginsAccepted inbox.old accepted }
     requires whole { accepted.head + accepted.body ≤ length inbox.old }
     ensures next { (after : Option (List ℕ)) → NextIs inbox.old inbox.new after result }

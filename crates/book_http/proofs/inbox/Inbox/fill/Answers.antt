@@ -12,8 +12,8 @@ returns-in-Ok-clause-read g c =
     let written = c.read_behind.new.buffer in
     let count = c.in-Ok.count in
     let front : take size written ≡ old = c.in-Ok.ensures.kept
-        ∙ ap (λ (l : List ℕ). take size l) (c.deref_mut.ensures.value ∙ c.in_ok-resize.ensures.items)
-        ∙ front_kept old _ size 65536 (ap length c.as_slice-size.ensures.value) in
+    ∙ ap (λ (l : List ℕ). take size l) (c.deref_mut.ensures.value ∙ c.in_ok-resize.ensures.items)
+    ∙ front_kept old _ size 65536 (ap length c.as_slice-size.ensures.value) in
     let long : length written ≡ length c.deref_mut.result.now = c.read_behind.auto.buffer in
     let room : size + count ≤ c.resize.new.self.len =
     omega (arith, c.in-Ok.ensures.within, long, c.deref_mut.ensures.len) in
@@ -29,8 +29,8 @@ returns-in-Err-clause-read g c =
     let size = length c.as_slice-size.result.now in
     let written = c.read_behind.new.buffer in
     let front : take size written ≡ old = c.in-Err.ensures.kept
-        ∙ ap (λ (l : List ℕ). take size l) (c.deref_mut.ensures.value ∙ c.in_ok-resize.ensures.items)
-        ∙ front_kept old _ size 65536 (ap length c.as_slice-size.ensures.value) in
+    ∙ ap (λ (l : List ℕ). take size l) (c.deref_mut.ensures.value ∙ c.in_ok-resize.ensures.items)
+    ∙ front_kept old _ size 65536 (ap length c.as_slice-size.ensures.value) in
     let long : length written ≡ length c.deref_mut.result.now = c.read_behind.auto.buffer in
     let small : size ≤ length written =
     omega (arith, long, c.deref_mut.ensures.len, c.in_ok-resize.ensures.len) in
