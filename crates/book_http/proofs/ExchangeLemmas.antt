@@ -1,16 +1,14 @@
 -- What is said of bytes stays where more of them come, and what that says of a link.
-use Rattle.std.proofs.Common.{◌≡◌, ℕ, zero, suc, ◌+◌, ◌-◌, ◌^◌, ◌<◌, ◌≤◌, ◌⊎◌, ◌==◌, Bool, false, cond, List, [], ◌∷◌, ◌++◌, length, take, drop, Option}
+use Rattle.std.proofs.Common.{◌≡◌, ℕ, zero, suc, ◌+◌, ◌^◌, ◌<◌, ◌≤◌, ◌==◌, Bool, false, cond, List, [], ◌∷◌, ◌++◌, length, take, drop, Option}
 use Rattle.std.proofs.Common.{Result, Ok, Err, refl, sym, ap, ◌∙◌, subst, arith, length-append, append_assoc, append-nil, inl, inr}
-use Rattle.std.proofs.Common.{length-drop}
 use Rattle.std.proofs.Math.Seq.{drop-append-add}
 use Rattle.std.proofs.lemmas.List.{take-append-drop, take-append-le, length-take-le}
 use Rattle.std.proofs.lemmas.Bool.{eqb-false}
-use Rattle.std.specs.Io.KnownBytes.{IsAtEnd, Consumes}
-use Rattle.httparse.specs.Grammar.{RequestHead, print_request, ReadsRequest, HasNoRequest, NeverHasRequest, MayBecomeRequest}
+use Rattle.std.specs.Io.KnownBytes.{IsAtEnd}
+use Rattle.httparse.specs.Grammar.{RequestHead, print_request, HasNoRequest, NeverHasRequest, MayBecomeRequest}
 use Rattle.httparse.proofs.GrammarLemmas.{ReadsRequest-append}
 use Rattle.book_keeper.specs.Stream.{Are}
 use Rattle.book_keeper.proofs.StreamLemmas.{Are-some, Are-end, Are-Consumes}
-use Rattle.book_http.specs.declared.route.Route.{Route}
 use Rattle.book_http.specs.declared.judgement.AcceptedHead.{AcceptedHead}
 use Rattle.book_http.specs.declared.next.Request.{Request}
 use Rattle.book_http.specs.declared.next.Next.{Next}
@@ -18,10 +16,9 @@ use Rattle.book_http.specs.declared.next.Next.TheVariants.{Request as Asked, Ref
 use Rattle.book_http.specs.declared.next.NextError.{NextError}
 use Rattle.book_http.specs.declared.next.NextError.TheVariants.{ReadFault, OutOfMemory}
 use Rattle.book_http.specs.Route.{kind_of, takes_body}
-use Rattle.book_http.specs.Head.{body_size}
-use Rattle.book_http.specs.Exchange.{head_window, HasHead, kept_body, IsRequest, HasRefusedHead, HasLongHead, IsRefused, LacksHead}
+use Rattle.book_http.specs.Exchange.{head_window, HasHead, IsRequest, IsRefused, LacksHead}
 use Rattle.book_http.specs.Exchange.{LacksBody, IsUnfinished, NextIs, ExchangeIs, IsNext}
-use Rattle.book_http.specs.Judgement.{Accepts, BeginsAccepted}
+use Rattle.book_http.specs.Judgement.{BeginsAccepted}
 use Rattle.book_http.specs.Reading.{HasRead}
 use Rattle.book_http.proofs.HeadLemmas.{head_long}
 

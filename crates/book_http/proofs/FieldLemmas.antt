@@ -1,6 +1,6 @@
 -- What fields say, one field after another.
-use Rattle.std.proofs.Common.{◌≡◌, ℕ, ◌+◌, ◌^◌, ◌<◌, ◌≤◌, ◌==◌, nat_le, Bool, true, false, not, ◌&&◌, ◌||◌, cond, List, [], ◌∷◌, ◌++◌}
-use Rattle.std.proofs.Common.{length, refl, sym, ap, ◌∙◌, arith, append-nil, Result, Ok, Err, codes}
+use Rattle.std.proofs.Common.{◌≡◌, ℕ, ◌^◌, ◌<◌, ◌≤◌, ◌==◌, nat_le, Bool, true, false, not, ◌&&◌, ◌||◌, cond, List, [], ◌∷◌, ◌++◌}
+use Rattle.std.proofs.Common.{length, refl, sym, ap, ◌∙◌, arith, append-nil, Result, Ok, codes}
 use Rattle.std.specs.Char.{is_ascii_digit}
 use Rattle.std.specs.List.{list_any, list_all}
 use Rattle.std.specs.Str.{IsUtf8, IsAscii, all_ascii_digits}
@@ -12,10 +12,8 @@ use Rattle.std.proofs.lemmas.Str.{IsUtf8-from_ascii}
 use Rattle.std.proofs.lemmas.Str.Ascii.{IsAscii-nil, IsAscii-cons}
 use Rattle.std.proofs.lemmas.Str.Parse.{IsNumeralModel, numerals_by_value, parse_gives, tells_all_ascii_digits}
 use Rattle.std.proofs.lemmas.Str.Parse.{digits_value_short}
-use Rattle.book_http.specs.declared.fields.BodyLength.{BodyLength}
-use Rattle.book_http.specs.declared.fields.BodyLength.TheVariants.{Absent, Given, Broken}
-use Rattle.book_http.specs.declared.fields.Fields.{Fields}
-use Rattle.book_http.specs.Fields.{same_word, values, stands, is_length, one_length, body_length, besides, is_close, said}
+use Rattle.book_http.specs.declared.fields.BodyLength.TheVariants.{Given, Broken}
+use Rattle.book_http.specs.Fields.{same_word, values, is_length, body_length, besides, is_close, said}
 
 -- one more value
 body_length-push : (seen : List (List ℕ)) (value : List ℕ)

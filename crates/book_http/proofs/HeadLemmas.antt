@@ -1,29 +1,28 @@
 -- What the parser says of a window, and what that says of the bytes.
-use Rattle.std.proofs.Common.{◌≡◌, ◌≢◌, ℕ, zero, suc, ◌+◌, ◌-◌, ◌*◌, ◌^◌, ◌<◌, ◌≤◌, ◌==◌, ◌||◌, Bool, true, false, cond, List, []}
-use Rattle.std.proofs.Common.{◌∷◌, ◌++◌, length, map, take, drop, min, Option, None, Some, All, refl, sym, ap, ◌∙◌, subst, arith}
-use Rattle.std.proofs.Common.{length-append, append_assoc, append-nil, inl, inr, codes, length-take}
+use Rattle.std.proofs.Common.{◌≡◌, ℕ, suc, ◌+◌, ◌*◌, ◌^◌, ◌<◌, ◌≤◌, ◌==◌, ◌||◌, List, []}
+use Rattle.std.proofs.Common.{◌∷◌, ◌++◌, length, map, take, drop, min, None, Some, All, refl, sym, ap, ◌∙◌, subst, arith}
+use Rattle.std.proofs.Common.{length-append, inl, inr, length-take}
 use Rattle.std.proofs.lemmas.List.{take-append-drop, take_all, length-map, length-take-le}
 use Rattle.std.specs.List.{flat_map}
-use Rattle.httparse.specs.Grammar.{LineEnd, crlf, lf, print_end, print_blank, print_version, Field, print_field, IsField, print_section}
+use Rattle.httparse.specs.Grammar.{LineEnd, crlf, lf, print_end, Field, print_field, IsField}
 use Rattle.httparse.specs.Grammar.{RequestHead, print_request, IsRequestHead, ReadsRequest, HasNoRequest, NeverHasRequest}
 use Rattle.httparse.specs.Grammar.{MayBecomeRequest}
-use Rattle.httparse.specs.Spans.{name_and_value, header_bytes, AreFieldsAt, RequestExceeds, IsRequestAt}
+use Rattle.httparse.specs.Spans.{name_and_value, header_bytes, RequestExceeds, IsRequestAt}
 use Rattle.httparse.specs.declared.spans.HeaderSpan.{HeaderSpan}
 use Rattle.httparse.specs.declared.spans.RequestSpans.{RequestSpans}
 use Rattle.httparse.proofs.GrammarLemmas.{print_request-append, ReadsRequest-append}
 use Rattle.book_commodity.specs.Rules.{first_broken}
 use Rattle.book_http.specs.declared.fields.Fields.{Fields}
-use Rattle.book_http.specs.declared.fields.BodyLength.{BodyLength}
 use Rattle.book_http.specs.declared.route.Route.{Route}
 use Rattle.book_http.specs.declared.judgement.AcceptedHead.{AcceptedHead}
 use Rattle.book_http.specs.declared.judgement.Judgement.{Judgement}
 use Rattle.book_http.specs.declared.judgement.Judgement.TheVariants.{Unfinished, Refused, Accepted}
 use Rattle.book_http.specs.Route.{IsRoute, Finds}
 use Rattle.book_http.specs.Fields.{said}
-use Rattle.book_http.specs.Head.{said_by, size_of, body_size, field_refusals, route_refusals, refused_by_fields, refused_by_route}
-use Rattle.book_http.specs.Head.{IsRefusedHead, IsAcceptedHead, closes}
-use Rattle.book_http.specs.Exchange.{head_window, HasHead, HasRefusedHead, HasLongHead, IsRefused, LacksHead}
-use Rattle.book_http.specs.Judgement.{Accepts, IsJudgedHead, BeginsAccepted, IsJudged}
+use Rattle.book_http.specs.Head.{said_by, size_of, field_refusals, route_refusals, refused_by_fields, refused_by_route}
+use Rattle.book_http.specs.Head.{IsRefusedHead}
+use Rattle.book_http.specs.Exchange.{head_window, HasHead, IsRefused, LacksHead}
+use Rattle.book_http.specs.Judgement.{Accepts, IsJudgedHead, IsJudged}
 
 -- what was read of the fields of a head: how many there are, and what they say
 pub record IsReading (head : RequestHead) (count : ℕ) (fields : Fields) : Type 0 where

@@ -1,15 +1,14 @@
 -- What the router finds: the target of each route is found with that route's kind.
-use Rattle.std.proofs.Common.{◌≡◌, ◌≢◌, ℕ, zero, suc, ◌+◌, ◌-◌, ◌<◌, ◌≤◌, ◌==◌, Bool, true, false, not, ◌&&◌, cond, List, [], ◌∷◌}
-use Rattle.std.proofs.Common.{◌++◌, length, get_or, Option, None, Some, refl, sym, ap, ◌∙◌, subst, arith, codes, take, drop, nat_eq, inl, inr}
-use Rattle.std.proofs.Common.{length-append, append_assoc}
+use Rattle.std.proofs.Common.{◌≡◌, ◌≢◌, ℕ, zero, suc, ◌+◌, ◌-◌, ◌<◌, ◌==◌, Bool, true, false, not, ◌&&◌, cond, List, [], ◌∷◌}
+use Rattle.std.proofs.Common.{◌++◌, length, get_or, Option, None, Some, refl, sym, ap, ◌∙◌, subst, arith, codes, drop, nat_eq, inl, inr}
+use Rattle.std.proofs.Common.{length-append}
 use Rattle.std.specs.Prelude.{option_map, ltb}
 use Rattle.std.specs.List.{list_all, ends_with}
-use Rattle.std.proofs.lemmas.Bool.{eqb-false, lt-ltb}
+use Rattle.std.proofs.lemmas.Bool.{lt-ltb}
 use Rattle.std.proofs.lemmas.Bool.Decides.{eqb_tells}
 use Rattle.std.proofs.Math.Seq.{drop-append-add}
 use Rattle.std.specs.Cmp.Lexicographic.{pointwise}
-use Rattle.matchit.specs.Rows.{RowsOf}
-use Rattle.matchit.specs.Seek.{seek, first, step, own, or_else, param_step, longest_suffix, segment, has_slash, with_suffix, cuts, better}
+use Rattle.matchit.specs.Seek.{seek, first, step, own, or_else, param_step, longest_suffix, segment, has_slash, with_suffix, cuts}
 use Rattle.matchit.specs.Router.{RouteOf}
 use Rattle.matchit.specs.Route.{scan}
 use Rattle.book_http.specs.declared.route.RouteKind.{RouteKind}

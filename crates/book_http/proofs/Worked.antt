@@ -1,11 +1,8 @@
 -- Worked rows of the definitions.
-use Rattle.std.proofs.Common.{◌≡◌, ℕ, Bool, true, false, List, [], ◌∷◌, ◌++◌, None, Some, refl, codes}
-use Rattle.httparse.specs.Grammar.{LineEnd, crlf, lf, Field, RequestHead, print_request}
+use Rattle.std.proofs.Common.{◌≡◌, true, false, [], ◌∷◌, None, Some, refl, codes}
+use Rattle.httparse.specs.Grammar.{crlf, lf, print_request}
 use Rattle.book_commodity.specs.Rules.{first_broken}
-use Rattle.book_http.specs.declared.fields.BodyLength.{BodyLength}
 use Rattle.book_http.specs.declared.fields.BodyLength.TheVariants.{Absent, Given, Broken}
-use Rattle.book_http.specs.declared.fields.Fields.{Fields}
-use Rattle.book_http.specs.declared.route.Route.{Route}
 use Rattle.book_http.specs.declared.route.Route.TheVariants.{Command, Status, Trial, Income}
 use Rattle.book_http.specs.Route.{target_of, is_parameter}
 use Rattle.book_http.specs.Fields.{said, is_length}

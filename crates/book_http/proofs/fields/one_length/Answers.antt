@@ -1,6 +1,5 @@
 use Rattle.std.proofs.Common.{◌∙◌, sym, subst, List, ℕ}
 use Rattle.std.specs.Str.Parse.{ParsesUnsigned}
-use Rattle.book_http.specs.Fields.{is_length}
 use Rattle.book_http.proofs.FieldLemmas.{length_text, length_read}
 use Rattle.book_http.proofs.fields.one_length.Goals as goal
 

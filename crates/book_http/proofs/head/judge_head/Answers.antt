@@ -1,4 +1,4 @@
-use Rattle.std.proofs.Common.{◌∙◌, sym, ap, refl, subst, Option, None, Some, List, ℕ}
+use Rattle.std.proofs.Common.{◌∙◌, sym, refl, subst, Option, None, Some, List, ℕ}
 use Rattle.book_http.specs.declared.route.Route.{Route}
 use Rattle.book_http.specs.declared.judgement.Judgement.{Judgement}
 use Rattle.book_http.specs.Route.{Finds}

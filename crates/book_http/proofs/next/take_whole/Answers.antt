@@ -1,4 +1,4 @@
-use Rattle.std.proofs.Common.{◌∙◌, ap, Bool, cond, List, [], take, drop}
+use Rattle.std.proofs.Common.{◌∙◌, ap, Bool, cond, [], take, drop}
 use Rattle.book_http.specs.Route.{takes_body}
 use Rattle.book_http.proofs.ExchangeLemmas.{body_taken}
 use Rattle.book_http.proofs.next.take_whole.Goals as goal

@@ -1,4 +1,4 @@
-use Rattle.std.proofs.Common.{◌≡◌, ◌∙◌, ap, List, [], ℕ}
+use Rattle.std.proofs.Common.{◌∙◌, ap, List, [], ℕ}
 use Rattle.std.specs.Prelude.{unwrap_or, Option}
 use Rattle.http.specs.StatusCode.{reason_phrase}
 use Rattle.book_http.specs.Response.{phrase}

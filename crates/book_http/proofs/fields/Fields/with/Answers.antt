@@ -1,6 +1,6 @@
 use Rattle.std.proofs.Common.{◌≡◌, ◌||◌, ◌∙◌, ap, sym, codes, cond}
 use Rattle.book_http.specs.declared.fields.Fields.{Fields}
-use Rattle.book_http.specs.Fields.{said, same_word, besides, is_close}
+use Rattle.book_http.specs.Fields.{same_word, besides, is_close}
 use Rattle.book_http.proofs.FieldLemmas.{said-push}
 use Rattle.book_http.proofs.fields.Fields.with.Goals as goal
 

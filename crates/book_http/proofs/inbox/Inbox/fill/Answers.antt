@@ -1,6 +1,4 @@
-use Rattle.std.proofs.Common.{◌≡◌, ◌+◌, ◌≤◌, ◌++◌, ◌∙◌, ap, sym, subst, take, drop, length, arith, List, ℕ, Option}
-use Rattle.std.proofs.lemmas.List.{length-take-le}
-use Rattle.book_http.specs.Reading.{HasRead}
+use Rattle.std.proofs.Common.{◌≡◌, ◌+◌, ◌≤◌, ◌∙◌, ap, take, drop, length, arith, List, ℕ}
 use Rattle.book_http.proofs.InboxLemmas.{front_kept, piece_kept, piece_dropped, HasRead-nothing, HasRead-piece}
 use Rattle.book_http.proofs.inbox.Inbox.fill.Goals as goal
 
