@@ -1,4 +1,4 @@
-ghost use Rattle.std.specs.Prelude.{◌≡◌, IfSome, OnOk};
+ghost use Rattle.std.specs.Prelude.{◌≡◌, ◌≤◌, [], IfSome, None, OnOk};
 ghost use Rattle.gate_rows.specs.Comparing.{CountsUnless};
 
 use crate::report::{Place, Report};
@@ -36,13 +36,16 @@ pub struct Outcome {
 }
 
 /// Compares how a run ended, what it answered and left unread, and the rows that are held then, where they can be read.
+/// What failed before stays counted.
 pub fn compare(
     report: &mut Report<'_>,
     case: Case<'_>,
     run: &Run,
     outcome: &Outcome,
     rows: Option<&[Row]>,
-) -> io::Result<()> {
+) -> io::Result<()>
+    ensures { report.old.failed ≤ report.new.failed }
+{
     let came = outcome.status.as_str();
     compare_status(report, case.at(run.line), came, run.wanted.status.as_str())?;
     compare_unread(report, case, run, outcome)?;
@@ -57,7 +60,10 @@ pub fn compare(
 }
 
 /// Where the rows can't be read, none may be wanted.
-fn compare_unread_rows(report: &mut Report<'_>, case: Case<'_>, run: &Run) -> io::Result<()> {
+fn compare_unread_rows(report: &mut Report<'_>, case: Case<'_>, run: &Run) -> io::Result<()>
+    ensures { CountsUnless ((run.now.wanted.count ≡ None) × (run.now.wanted.rows.items ≡ []))
+        report.old.failed report.new.failed }
+{
     if run.wanted.count.is_none() && run.wanted.rows.is_empty() {
         return Ok(());
     }
@@ -99,13 +105,16 @@ fn compare_unread(
     }
 }
 
-/// Compares the lines that were written with the wanted ones, one by one. At most one that is wrong is said.
+/// Compares the lines that were written with the wanted ones, one by one. At most one that is wrong is said. What failed
+/// before stays counted.
 pub fn compare_lines(
     report: &mut Report<'_>,
     case: Case<'_>,
     run: &Run,
     written: &[u8],
-) -> io::Result<()> {
+) -> io::Result<()>
+    ensures { report.old.failed ≤ report.new.failed }
+{
     let Ok(text) = str::from_utf8(written) else {
         return report.fail(case.at(run.line), "lines in UTF-8", "other bytes");
     };
@@ -150,7 +159,9 @@ fn compare_rows(
     case: Case<'_>,
     run: &Run,
     rows: &[Row],
-) -> io::Result<()> {
+) -> io::Result<()>
+    ensures { report.old.failed ≤ report.new.failed }
+{
     for wanted in run.wanted.rows.as_slice() {
         let held = rows.iter().find(|row| row.key == wanted.key);
         let body = held.map_or(&[][..], |row| row.body.as_slice());

@@ -1,4 +1,6 @@
 ghost use Rattle.std.specs.Prelude.{◌≡◌, [], false, IfOk, None, Ok};
+ghost use Rattle.std.specs.List.{list_any};
+ghost use Rattle.gate_rows.specs.Faults.{is_keeper_fault};
 
 use crate::answers::Wanted;
 use crate::counters::{count, counted, expanded, number, unread};
@@ -79,7 +81,9 @@ impl Run {
     }
 
     /// Whether a call of the keeper is to fail.
-    pub fn has_keeper_fault(&self) -> bool {
+    pub fn has_keeper_fault(&self) -> bool
+        ensures { result ≡ list_any is_keeper_fault self.now.faults.items }
+    {
         self.faults.iter().any(|fault| fault.sort == Sort::Commit || fault.sort == Sort::Call)
     }
 
