@@ -27,7 +27,7 @@ impl<'a> Host<'a> {
     /// said on standard error.
     pub fn new(alloc: Global, output: &'a [u8], line: &'a str) -> Host<'a>
         ensures given { (result.words.now ≡ []) × (result.input.now ≡ []) }
-        ensures wanted { (result.output ≡ output) × (result.line ≡ line) }
+        ensures wanted { (result.output ≡ output.entry) × (result.line ≡ line.entry) }
         ensures whole { result.fails ≡ false }
     {
         Host::with_words(alloc, &[], &[], output, line)
@@ -41,8 +41,8 @@ impl<'a> Host<'a> {
         output: &'a [u8],
         line: &'a str,
     ) -> Host<'a>
-        ensures given { (result.words ≡ words) × (result.input ≡ input) }
-        ensures wanted { (result.output ≡ output) × (result.line ≡ line) }
+        ensures given { (result.words ≡ words.entry) × (result.input ≡ input.entry) }
+        ensures wanted { (result.output ≡ output.entry) × (result.line ≡ line.entry) }
         ensures whole { result.fails ≡ false }
     {
         Host {

@@ -13,10 +13,19 @@ with_code fraction known code = with_entry (length known) (currency code fractio
 abbrev pub with_codes : ℕ → List (List ℕ) → List (ℕ × Commodity) → List (ℕ × Commodity)
 with_codes fraction all known = fold (with_code fraction) known all
 
--- Those with cents, those without decimals, and those with three decimals.
+-- The currencies with cents.
+abbrev pub with_cents : List (List ℕ)
+with_cents = codes "AUD" ∷ codes "CAD" ∷ codes "CHF" ∷ codes "CNY" ∷ codes "CZK" ∷ codes "DKK" ∷ codes "EUR" ∷ codes "GBP"
+    ∷ codes "HUF" ∷ codes "NOK" ∷ codes "NZD" ∷ codes "PLN" ∷ codes "SEK" ∷ codes "USD" ∷ []
+
+-- The currencies without decimals.
+abbrev pub whole : List (List ℕ)
+whole = codes "CLP" ∷ codes "ISK" ∷ codes "JPY" ∷ codes "KRW" ∷ codes "VND" ∷ []
+
+-- The currencies with three decimals.
+abbrev pub with_mils : List (List ℕ)
+with_mils = codes "BHD" ∷ codes "JOD" ∷ codes "KWD" ∷ codes "OMR" ∷ codes "TND" ∷ []
+
+-- All of them, with cents first.
 unfoldable pub usual : List (ℕ × Commodity)
-usual =
-    with_codes 1000 (codes "BHD" ∷ codes "JOD" ∷ codes "KWD" ∷ codes "OMR" ∷ codes "TND" ∷ [])
-    (with_codes 1 (codes "CLP" ∷ codes "ISK" ∷ codes "JPY" ∷ codes "KRW" ∷ codes "VND" ∷ [])
-    (with_codes 100 (codes "AUD" ∷ codes "CAD" ∷ codes "CHF" ∷ codes "CNY" ∷ codes "CZK" ∷ codes "DKK" ∷ codes "EUR"
-    ∷ codes "GBP" ∷ codes "HUF" ∷ codes "NOK" ∷ codes "NZD" ∷ codes "PLN" ∷ codes "SEK" ∷ codes "USD" ∷ []) []))
+usual = with_codes 1000 with_mils (with_codes 1 whole (with_codes 100 with_cents []))
