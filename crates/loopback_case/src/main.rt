@@ -3,15 +3,17 @@
 //! answer and the end. It prints what came on each side.
 #![tactic(auto)]
 
+ghost use Rattle.std.specs.Prelude.{◌≤◌, IfOk, length};
+
 use book_keeper::{Failed, Source, write_all};
 use book_ports::{Ports, TcpLink, TcpPorts};
 use std::io;
 use std::io::{ErrorKind, Read, Write};
 use std::net::{Ipv4Addr, Shutdown, SocketAddr, TcpStream};
 
-const ASKED: &str = "a text that comes whole, and then the end";
+const ASKED: &str = "a text that comes whole";
 
-const ANSWERED: &str = "an answer that comes whole, and then the end";
+const ANSWERED: &str = "an answer that comes whole";
 
 /// The error for a call on ports or a link that failed.
 fn failure(_failed: Failed) -> io::Error {
@@ -23,29 +25,27 @@ fn listen(ports: &mut TcpPorts<&HostRuntime>) -> Option<u16> {
     (47_321..47_821).find(|port| ports.listen(*port).is_ok())
 }
 
-/// Reads the link to its end, or as far as the buffer reaches, and says how many bytes came.
-fn read_all(link: &mut TcpLink, buffer: &mut [u8]) -> Result<usize, Failed> {
-    let mut count = 0;
-    'pieces: while count < buffer.len() {
-        match link.read(&mut buffer[count..])? {
-            0 => break,
-            more => count += more,
-        }
-    }
-    Ok(count)
+/// Reads what the client sent and then the end, and answers: how many bytes came, and how many behind them.
+fn serve_link(link: &mut TcpLink, buffer: &mut [u8]) -> Result<(usize, usize), Failed>
+    ensures { IfOk result (λ counts. counts.0 ≤ length buffer.new) }
+{
+    let count = link.read(buffer)?;
+    let behind = link.read(&mut [0; 1])?;
+    write_all(link, ANSWERED.as_bytes())?;
+    Ok((count, behind))
 }
 
+/// Serves the next connection to the port, and closes it.
 fn serve(rt: &HostRuntime, ports: &mut TcpPorts<&HostRuntime>, port: u16) -> io::Result<()> {
     let mut buffer = [0; 256];
     let Ok(Some(mut link)) = ports.accept(port) else {
         return Err(failure(Failed));
     };
-    let read = read_all(&mut link, &mut buffer);
-    let wrote = write_all(&mut link, ANSWERED.as_bytes());
+    let served = serve_link(&mut link, &mut buffer);
     ports.close(link);
-    let count = read.map_err(failure)?;
-    wrote.map_err(failure)?;
-    println!(rt; "the server read: {}", str::from_utf8(&buffer[..count]).unwrap_or("no text"))
+    let (count, behind) = served.map_err(failure)?;
+    let text = str::from_utf8(&buffer[..count]).unwrap_or("no text");
+    println!(rt; "the server read: {text}, and {behind} bytes behind it")
 }
 
 fn main(rt: HostRuntime) -> io::Result<()> {
@@ -54,7 +54,10 @@ fn main(rt: HostRuntime) -> io::Result<()> {
         return Err(failure(Failed));
     };
     let taken = TcpPorts::new(&rt).listen(port);
-    println!(rt; "the same port again: {}", if taken.is_ok() { "bound" } else { "failed" })?;
+    println!(rt;
+        "the same port again: {}",
+        if taken.is_ok() { "bound" } else { "failed" }
+    )?;
     let mut client = TcpStream::connect(&rt, SocketAddr::from((Ipv4Addr::LOCALHOST, port)))?;
     client.write_all(ASKED.as_bytes())?;
     client.shutdown(Shutdown::Write)?;
