@@ -1,4 +1,4 @@
-ghost use Rattle.std.specs.Prelude.{◌≡◌, ◌≤◌, [], IfSome, None, OnOk};
+ghost use Rattle.std.specs.Prelude.{◌≡◌, [], IfSome, None, OnOk};
 ghost use Rattle.gate_rows.specs.Comparing.{CountsUnless};
 
 use crate::report::{Place, Report};
@@ -36,16 +36,13 @@ pub struct Outcome {
 }
 
 /// Compares how a run ended, what it answered and left unread, and the rows that are held then, where they can be read.
-/// What failed before stays counted.
 pub fn compare(
     report: &mut Report<'_>,
     case: Case<'_>,
     run: &Run,
     outcome: &Outcome,
     rows: Option<&[Row]>,
-) -> io::Result<()>
-    ensures { report.old.failed ≤ report.new.failed }
-{
+) -> io::Result<()> {
     let came = outcome.status.as_str();
     compare_status(report, case.at(run.line), came, run.wanted.status.as_str())?;
     compare_unread(report, case, run, outcome)?;
@@ -105,16 +102,13 @@ fn compare_unread(
     }
 }
 
-/// Compares the lines that were written with the wanted ones, one by one. At most one that is wrong is said. What failed
-/// before stays counted.
+/// Compares the lines that were written with the wanted ones, one by one. At most one that is wrong is said.
 pub fn compare_lines(
     report: &mut Report<'_>,
     case: Case<'_>,
     run: &Run,
     written: &[u8],
-) -> io::Result<()>
-    ensures { report.old.failed ≤ report.new.failed }
-{
+) -> io::Result<()> {
     let Ok(text) = str::from_utf8(written) else {
         return report.fail(case.at(run.line), "lines in UTF-8", "other bytes");
     };
@@ -159,9 +153,7 @@ fn compare_rows(
     case: Case<'_>,
     run: &Run,
     rows: &[Row],
-) -> io::Result<()>
-    ensures { report.old.failed ≤ report.new.failed }
-{
+) -> io::Result<()> {
     for wanted in run.wanted.rows.as_slice() {
         let held = rows.iter().find(|row| row.key == wanted.key);
         let body = held.map_or(&[][..], |row| row.body.as_slice());

@@ -1,5 +1,3 @@
-ghost use Rattle.std.specs.Prelude.{◌≤◌};
-
 use crate::comparing::{Case, compare_lines};
 use crate::counters::{memory, number, unread};
 use crate::report::Report;
@@ -113,10 +111,8 @@ impl<'a> StatementFile<'a> {
 }
 
 /// Reads the statement files of a file, compares the rows of each with those that are wanted, and says how many there
-/// are. What failed before stays counted.
-pub fn check_files(report: &mut Report<'_>, file: &str) -> io::Result<()>
-    ensures { report.old.failed ≤ report.new.failed }
-{
+/// are.
+pub fn check_files(report: &mut Report<'_>, file: &str) -> io::Result<()> {
     let text = report.read(file)?;
     let sections = sections_of(report.alloc(), text.as_str())?;
     let mut files: u64 = 0;
@@ -130,9 +126,7 @@ pub fn check_files(report: &mut Report<'_>, file: &str) -> io::Result<()>
 }
 
 /// Reads the statement file of a case, and compares its rows. A line that can't be read fails the case.
-fn check_case(report: &mut Report<'_>, file: &str, section: &Section<'_>) -> io::Result<()>
-    ensures { report.old.failed ≤ report.new.failed }
-{
+fn check_case(report: &mut Report<'_>, file: &str, section: &Section<'_>) -> io::Result<()> {
     let name = section.name;
     let case = Case { file, name };
     let mut statement_file = StatementFile::new(report.alloc(), section.number)?;
@@ -152,9 +146,7 @@ fn compare_rows(
     case: Case<'_>,
     number: usize,
     statement_file: &StatementFile<'_>,
-) -> io::Result<()>
-    ensures { report.old.failed ≤ report.new.failed }
-{
+) -> io::Result<()> {
     match statement_file.rows(report.alloc()) {
         Ok(rows) => compare_lines(report, case, &statement_file.run, rows.as_slice()),
         Err(_) => report.fail(
