@@ -15,5 +15,5 @@ pub use link::Link;
 pub use mem_link::MemLink;
 pub use mem_ports::MemPorts;
 pub use ports::Ports;
-pub use tcp_link::TcpLink;
+pub use tcp_link::{TcpInput, TcpLink};
 pub use tcp_ports::TcpPorts;

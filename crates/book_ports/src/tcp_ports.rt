@@ -139,12 +139,12 @@ impl<R: Net<Listener = TcpListener, Stream = TcpStream>> Ports for TcpPorts<R> {
         }
     }
 
-    /// Ends the connection.
+    /// Ends the connection, once what the other end still sends was read.
     fn close(&mut self, link: TcpLink)
         requires { 0 < self.old.open_links }
         ensures { self.new ≡ record self.old { open_links = self.old.open_links - 1 } }
     {
-        drop(link);
+        link.end();
         self.open_links -= 1;
     }
 }
