@@ -2,4 +2,3 @@ pub mod FreshLemmas
 pub mod ImportLemmas
 pub mod ReplyLemmas
 pub mod StatusClauseLemmas
-pub mod WordLemmas

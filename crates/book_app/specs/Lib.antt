@@ -1,6 +1,7 @@
 pub mod Fresh
 pub mod Later
 pub mod Machine
+pub mod Respond
 pub mod Numbers
 pub mod StatusClause
 pub mod Words
