@@ -1,6 +1,7 @@
 -- How the machine of whole books answers a line, a request, and a statement file: computed afresh from the machine
 -- before it.
-use Rattle.std.specs.Prelude.{◌≡◌, ℕ, List, None, Some}
+use Rattle.std.specs.Prelude.{◌≡◌, ℕ, List, [], ◌∷◌, None, Some}
+use Rattle.book_command.specs.declared.answer.Answer.{Answer}
 use Rattle.book_command.specs.declared.command.Command.{Command}
 use Rattle.book_command.specs.declared.command.Update.TheVariants as update
 use Rattle.book_command.specs.declared.command.What.TheVariants as what
@@ -79,6 +80,16 @@ request_answers old request Answered status body new = Responds old request stat
 request_answers old request Memory status body new = (status ≡ 507) × (body ≡ memory_answer) × (new ≡ old)
 request_answers old request Keeper status body new =
     (status ≡ 503) × (body ≡ keeper_answer) × (new ≡ old) × RequestChanges old request
+
+-- The commands are done one after the other, from a machine to another.
+abbrev pub AreDone : Machine → List Command → Machine → Type 0
+AreDone old [] new = new ≡ old
+AreDone old (command ∷ more) new =
+    (mid : Machine) × (given : Answer) × (step old command ≡ Done mid given) × AreDone mid more new
+
+-- Commands lead from a machine to another.
+abbrev pub Leads : Machine → Machine → Type 0
+Leads old new = (commands : List Command) × AreDone old commands new
 
 -- The command of an import: the format and the account that the words name, and this text.
 unfoldable pub import_of_text : ImportWords → List ℕ → Command

@@ -11,7 +11,7 @@ use Rattle.book_json.specs.Members.{ends, flag, needed, optional}
 use Rattle.book_numerals.specs.Numerals.{is_numeral, number_of}
 use Rattle.book_wire.specs.Asked.{Asked, Asks, NotCommand}
 use Rattle.book_wire.specs.Commands.{word_form}
-use Rattle.book_requests.specs.Reading.{Reads, asks_what}
+use Rattle.book_requests.specs.Reading.{IsMissing, Reads, asks_what}
 use Rattle.book_requests.specs.Requests.{HasAsked, asked_of_account, asked_of_day, asked_of_days, asked_of_number}
 use Rattle.book_requests.specs.Requests.{asked_of_status}
 
@@ -93,3 +93,11 @@ pub missing_asks :
 missing_asks asked name found (wire.NotCommand field) fails h = ap NotCommand h.1 ∙ sym (fails h.0)
 missing_asks asked name found wire.OutOfMemory fails h = tt
 missing_asks asked name found wire.NotJson fails h = absurd h
+
+-- a parameter of which none is found is missing
+pub missing_reads :
+    {X : Type 0} (name : List ℕ) (found : Option X) (fault : WireError) → found ≡ None → IsMissing name fault
+    → Reads found name (Err fault)
+missing_reads name found (wire.NotCommand field) none is = (none, is)
+missing_reads name found wire.OutOfMemory none is = tt
+missing_reads name found wire.NotJson none is = absurd is
