@@ -1,0 +1,3 @@
+pub mod ExchangeLemmas
+pub mod LinkLemmas
+pub mod ServingLemmas

@@ -1,0 +1,4 @@
+pub mod Statuses
+pub mod Exchange
+pub mod Link
+pub mod Serving
