@@ -12,6 +12,7 @@ use crate::main_call::book_main;
 use crate::status::Status;
 use book_commodity::Text;
 use book_keeper::{FileSource, Keeper, StreamSink};
+use book_ports::Ports;
 use std::alloc::Global;
 use std::io;
 use std::io::{ErrorKind, Read, Write};
@@ -34,13 +35,14 @@ pub struct Ran<I, O> {
 }
 
 /// Does what the words ask over any reader and writer of std, as `book_main` does over the source and the sink that
-/// join them: the answers to what the reader has left are added to what the writer holds.
-pub fn run_over<K: Keeper, I: Read, O: Write>(
+/// join them: the answers to what the reader has left are added to what the writer holds. Links come from the ports.
+pub fn run_over<K: Keeper, I: Read, O: Write, P: Ports>(
     alloc: Global,
     words: &[Text],
     keeper: &mut K,
     reader: I,
     writer: O,
+    ports: &mut P,
 ) -> Ran<I, O>
     ensures run { IsBookRun (work_of words.now) (over K.sure K.holds K.faults keeper.old keeper.new)
         (I.remaining reader) (left_of I.remaining result.input)
@@ -57,7 +59,7 @@ pub fn run_over<K: Keeper, I: Read, O: Write>(
 {
     let mut input = FileSource::new(reader);
     let mut output = StreamSink::new(writer);
-    let status = book_main(alloc, words, keeper, &mut input, &mut output);
+    let status = book_main(alloc, words, keeper, &mut input, &mut output, ports);
     Ran {
         ended: Ended { status },
         input,
@@ -67,12 +69,13 @@ pub fn run_over<K: Keeper, I: Read, O: Write>(
 
 /// Does what a program's words ask, if they could be read, as `run_over` does. Where they could not, nothing is read or
 /// written, and it ends by Usage if one of them is not UTF-8, else by Memory.
-pub(crate) fn run_words<K: Keeper, I: Read, O: Write>(
+pub(crate) fn run_words<K: Keeper, I: Read, O: Write, P: Ports>(
     alloc: Global,
     words: io::Result<Vec<Text>>,
     keeper: &mut K,
     reader: I,
     writer: O,
+    ports: &mut P,
 ) -> Ran<I, O>
     ensures run { IsBookRun (given_work (λ given. given.items) words)
         (over K.sure K.holds K.faults keeper.old keeper.new) (I.remaining reader) (left_of I.remaining result.input)
@@ -90,7 +93,7 @@ pub(crate) fn run_words<K: Keeper, I: Read, O: Write>(
     ensures no_output_fault { result.ended.status ≢ Status.OutputFault → sink_faults result.output ≡ 0 }
 {
     match words {
-        Ok(words) => run_over(alloc, words.as_slice(), keeper, reader, writer),
+        Ok(words) => run_over(alloc, words.as_slice(), keeper, reader, writer, ports),
         Err(error) => Ran {
             ended: Ended {
                 status: status_without_words(&error),

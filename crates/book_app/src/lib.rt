@@ -15,7 +15,9 @@ mod main_call;
 mod opening;
 mod program;
 mod reply;
+mod respond;
 mod sample;
+mod serve_call;
 mod status;
 mod words;
 
@@ -29,4 +31,4 @@ pub use main_call::{book_main, run_lines};
 pub use program::{run_program, words_of};
 pub use reply::Answering;
 pub use status::Status;
-pub use words::{ImportWords, named_book, named_import, named_number};
+pub use words::{ImportWords, ServeWords, named_book, named_import, named_number, named_serve};

@@ -8,6 +8,7 @@ use crate::ended::{Ended, run_words};
 use crate::status::Status;
 use book_commodity::Text;
 use book_keeper::Keeper;
+use book_ports::Ports;
 use std::env::Env;
 use std::io::{ErrorKind, Input, Print};
 use std::{env, io};
@@ -16,10 +17,11 @@ use std::{env, io};
 /// host's streams hold, so the bytes that were read and the text that was written are some bytes and some text; of
 /// them and of the keeper's rows holds what `book_main` promises. Where the words could not be read it ends by Usage
 /// if one of them is not UTF-8, else by Memory.
-pub fn run_program<R: Input + Print + AllocGlobal, K: Keeper>(
+pub fn run_program<R: Input + Print + AllocGlobal, K: Keeper, P: Ports>(
     rt: &R,
     words: io::Result<Vec<Text>>,
     keeper: &mut K,
+    ports: &mut P,
 ) -> Ended
     ensures run { IsStreamRun (given_work (λ given. given.items) words)
         (over K.sure K.holds K.faults keeper.old keeper.new) result.status }
@@ -30,7 +32,15 @@ pub fn run_program<R: Input + Print + AllocGlobal, K: Keeper>(
     ensures memory { OnErr words (result.status ≢ Status.Usage → result.status ≡ Status.Memory) }
     ensures keeper_fault { result.status ≡ Status.KeeperFault → Rose (K.faults keeper.old) (K.faults keeper.new) }
 {
-    run_words(rt.alloc(), words, keeper, rt.reader(), io::writer(rt)).ended
+    run_words(
+        rt.alloc(),
+        words,
+        keeper,
+        rt.reader(),
+        io::writer(rt),
+        ports,
+    )
+    .ended
 }
 
 /// The words behind the program's name. An error of kind InvalidData where one of them is not UTF-8, else out of memory.

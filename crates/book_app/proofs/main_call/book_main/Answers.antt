@@ -1,6 +1,6 @@
 use Rattle.std.proofs.Common.{ℕ, Option, None, Some, ◌≡◌, ◌∙◌, sym, ap, subst}
 use Rattle.book_app.specs.StatusClause.{IsBookRun, over}
-use Rattle.book_app.specs.Words.{named_import, work_named}
+use Rattle.book_app.specs.Words.{named_import, named_serve, work_named}
 use Rattle.book_app.specs.declared.status.Status.TheVariants.{InputFault, KeeperFault, Usage}
 use Rattle.book_app.proofs.StatusClauseLemmas.{no_sample, path_of_sample, run_of_sample}
 use Rattle.book_app.proofs.main_call.book_main.Goals as goal
@@ -10,7 +10,8 @@ pub returns-in-Some-clause-run : goal.returns-in-Some-clause-run
 returns-in-Some-clause-run g c =
     run_of_sample _ c.in-Some.number
     (over g.K.Keeper.sure g.K.Keeper.holds g.K.Keeper.faults c.args.keeper.now c.args.keeper.now) _ _ _
-    c.run_sample.result (λ still rows held. held) (ap (work_named (named_import c.args.words.now)) c.in-Some.ensures)
+    c.run_sample.result (λ still rows held. held) 
+    (ap (work_named (named_import c.args.words.now) (named_serve c.args.words.now)) c.in-Some.ensures)
     c.run_sample.ensures.shown
 
 pub returns-in-Some-clause-path : goal.returns-in-Some-clause-path
@@ -39,14 +40,14 @@ returns-in-Some-clause-input_fault g c =
 pub returns-in-None-clause-run : goal.returns-in-None-clause-run
 returns-in-None-clause-run g c =
     subst
-    (λ (named : Option ℕ). IsBookRun (work_named (named_import c.args.words.now) named)
-    (over g.K.Keeper.sure g.K.Keeper.holds g.K.Keeper.faults c.args.keeper.now c.run_over_input.new.keeper)
-    (g.S.Source.left c.args.input.now) (g.S.Source.left c.run_over_input.new.input)
-    (g.O.Sink.written c.args.output.now) (g.O.Sink.written c.run_over_input.new.output) c.run_over_input.result)
-    c.in-None.ensures c.run_over_input.ensures.run
+    (λ (named : Option ℕ). IsBookRun (work_named (named_import c.args.words.now) (named_serve c.args.words.now) named)
+    (over g.K.Keeper.sure g.K.Keeper.holds g.K.Keeper.faults c.args.keeper.now c.run_with_book.new.keeper)
+    (g.S.Source.left c.args.input.now) (g.S.Source.left c.run_with_book.new.input)
+    (g.O.Sink.written c.args.output.now) (g.O.Sink.written c.run_with_book.new.output) c.run_with_book.result)
+    c.in-None.ensures c.run_with_book.ensures.run
 
 pub returns-in-None-clause-usage : goal.returns-in-None-clause-usage
 returns-in-None-clause-usage g c = (
-  λ is. record { no_book = c.run_over_input.ensures.usage.0 is; no_number = sym c.in-None.ensures },
-  λ none. c.run_over_input.ensures.usage.1 none.no_book,
+  λ is. record { no_book = c.run_with_book.ensures.usage.0 is; no_number = sym c.in-None.ensures },
+  λ none. c.run_with_book.ensures.usage.1 none.no_book,
 )

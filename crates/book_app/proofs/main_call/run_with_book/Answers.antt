@@ -1,0 +1,37 @@
+use Rattle.std.proofs.Common.{Option, None, Some, ◌≡◌, sym, ap, subst}
+use Rattle.book_app.specs.StatusClause.{IsBookRun, over}
+use Rattle.book_app.specs.Words.{Work, Serve, named_import, work_named}
+use Rattle.book_app.specs.declared.words.ServeWords.{ServeWords}
+use Rattle.book_app.specs.declared.status.Status.TheVariants.{InputFault, OutputFault}
+use Rattle.book_app.proofs.StatusClauseLemmas.{no_port_fault, no_serving, run_of_serving}
+use Rattle.book_app.proofs.main_call.run_with_book.Goals as goal
+
+-- the words are those of `serve`
+pub returns-in-Some-clause-run : goal.returns-in-Some-clause-run
+returns-in-Some-clause-run g c =
+    run_of_serving _ c.in-Some.serve
+    (over g.K.Keeper.sure g.K.Keeper.holds g.K.Keeper.faults c.args.keeper.now c.run_serve.new.keeper) _ _
+    c.run_serve.result c.run_serve.ensures.rows
+    (ap (λ (named : Option ServeWords). work_named (named_import c.args.words.now) named None) c.in-Some.ensures)
+
+pub returns-in-Some-clause-input_fault : goal.returns-in-Some-clause-input_fault
+returns-in-Some-clause-input_fault g c =
+    λ is. absurd (no_serving
+    (over g.K.Keeper.sure g.K.Keeper.holds g.K.Keeper.faults c.args.keeper.now c.run_serve.new.keeper)
+    c.run_serve.result InputFault c.run_serve.ensures.rows (λ never. never) is)
+
+pub returns-in-Some-clause-output_fault : goal.returns-in-Some-clause-output_fault
+returns-in-Some-clause-output_fault g c =
+    λ is. absurd (no_serving
+    (over g.K.Keeper.sure g.K.Keeper.holds g.K.Keeper.faults c.args.keeper.now c.run_serve.new.keeper)
+    c.run_serve.result OutputFault c.run_serve.ensures.rows (λ never. never) is)
+
+-- they are not
+pub returns-in-None-clause-run : goal.returns-in-None-clause-run
+returns-in-None-clause-run g c =
+    subst
+    (λ (named : Option ServeWords). IsBookRun (work_named (named_import c.args.words.now) named None)
+    (over g.K.Keeper.sure g.K.Keeper.holds g.K.Keeper.faults c.args.keeper.now c.run_over_input.new.keeper)
+    (g.S.Source.left c.args.input.now) (g.S.Source.left c.run_over_input.new.input)
+    (g.O.Sink.written c.args.output.now) (g.O.Sink.written c.run_over_input.new.output) c.run_over_input.result)
+    c.in-None.ensures c.run_over_input.ensures.run
