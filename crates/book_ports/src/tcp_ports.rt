@@ -55,7 +55,6 @@ impl<R: Net<Listener = TcpListener, Stream = TcpStream>> TcpPorts<R> {
     pub fn listen(&mut self, port: u16) -> Result<(), Failed>
         ensures bound { OnOk result (IsBoundTo port self.new) }
         ensures listened { OnOk result (self.new ≡ record self.old { bound = self.new.bound }) }
-        ensures faults { OnOk result (self.new.faults ≡ self.old.faults) }
         ensures failed { OnErr result (self.new ≡ record self.old { faults = next_count self.old.faults }) }
         ensures cause { HasCause self.old.faults self.new.faults result }
     {

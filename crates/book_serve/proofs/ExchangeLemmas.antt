@@ -1,11 +1,10 @@
 -- Requests that are answered after others.
-use Rattle.std.proofs.Common.{◌≡◌, ℕ, ◌≤◌, false, List, [], ◌∷◌, ◌++◌, map, refl, sym, ap, ◌∙◌, subst, append_assoc, arith}
+use Rattle.std.proofs.Common.{◌≡◌, ℕ, ◌≤◌, List, [], ◌∷◌, ◌++◌, refl, sym, ap, ◌∙◌, subst, append_assoc, arith}
 use Rattle.std.proofs.lemmas.List.{map-append}
 use Rattle.book_lines.specs.Marks.{RoseForEach}
 use Rattle.book_lines.specs.RunClause.{Moment}
 use Rattle.book_lines.proofs.MarkLemmas.{RoseForEach-append}
 use Rattle.book_http.specs.declared.next.Request.{Request}
-use Rattle.book_http.specs.Exchange.{IsRequest}
 use Rattle.book_http.specs.Response.{response}
 use Rattle.book_http.proofs.ExchangeLemmas.{IsRequest-append}
 use Rattle.book_serve.specs.Statuses.{mark_of, marks}

@@ -1,3 +1,4 @@
+pub mod StatusLemmas
 pub mod ExchangeLemmas
 pub mod LinkLemmas
 pub mod ServingLemmas

@@ -1,7 +1,6 @@
 -- What holds at the end of a link, of requests that are answered after others.
-use Rattle.std.proofs.Common.{◌≡◌, ℕ, ◌+◌, ◌<◌, ◌≤◌, List, [], ◌∷◌, ◌++◌, length, Option, refl, sym, ap, ◌∙◌, subst}
+use Rattle.std.proofs.Common.{◌≡◌, ℕ, ◌+◌, ◌≤◌, true, List, [], ◌∷◌, ◌++◌, length, Option, refl, sym, ap, ◌∙◌, subst}
 use Rattle.std.proofs.Common.{append_assoc, length-append, arith, inl, inr}
-use Rattle.std.specs.Io.KnownBytes.{Consumes}
 use Rattle.book_keeper.specs.Stream.{Are}
 use Rattle.book_keeper.proofs.StreamLemmas.{Are-Consumes, Wrote-append}
 use Rattle.book_lines.specs.Marks.{RoseForEach}
@@ -12,7 +11,7 @@ use Rattle.book_http.specs.Response.{response, refusal}
 use Rattle.book_serve.specs.Statuses.{mark_of, marks}
 use Rattle.book_serve.specs.Exchange.{RequestRelation}
 use Rattle.book_serve.specs.Link.{AreOpen, IsExchange, HasAnswered, HasRefused, HasClosed, IsCutShort, HasBroken}
-use Rattle.book_serve.specs.Link.{HasBrokenRefusal, HasMost, HasCut, HasFailed, HasStopped, LinkClause, IsServed}
+use Rattle.book_serve.specs.Link.{HasBrokenRefusal, LinkClause, IsServed}
 use Rattle.book_serve.specs.Serving.{HasServed}
 use Rattle.book_serve.specs.declared.link_end.LinkEnd.{LinkEnd}
 use Rattle.book_serve.specs.declared.link_end.LinkEnd.TheVariants.{Done, Cut, ReadFault, WriteFault, Limit, OutOfMemory}

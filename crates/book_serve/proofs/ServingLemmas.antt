@@ -1,11 +1,9 @@
 -- One request of a link after another.
-use Rattle.std.proofs.Common.{◌≡◌, ℕ, ◌+◌, ◌≤◌, Bool, true, false, List, [], ◌∷◌, ◌++◌, length, Option, Result, Ok, Err}
-use Rattle.std.proofs.Common.{refl, sym, ap, ◌∙◌, subst, append-nil, length-append, arith, inl, inr}
+use Rattle.std.proofs.Common.{◌≡◌, ℕ, ◌+◌, ◌≤◌, true, false, List, [], ◌∷◌, ◌++◌, Option, Result, Ok, Err}
+use Rattle.std.proofs.Common.{refl, sym, ◌∙◌, subst, append-nil, length-append, arith, inl, inr}
 use Rattle.std.specs.Prelude.{IfOk}
-use Rattle.std.specs.Io.KnownBytes.{Consumes}
 use Rattle.std.proofs.KnownBytes.{Consumes-nil, Consumes-trans}
 use Rattle.book_keeper.specs.Faults.{Rose}
-use Rattle.book_keeper.specs.Stream.{Are, Wrote, WrotePart}
 use Rattle.book_keeper.proofs.StreamLemmas.{Are-some, Are-end, Are-Consumes, Wrote-nil, Wrote-append}
 use Rattle.book_lines.specs.Marks.{Mark, Memory, Keeper, RoseForEach, memory_answer, keeper_answer}
 use Rattle.book_lines.specs.RunClause.{Moment, at}
@@ -14,13 +12,12 @@ use Rattle.book_lines.specs.declared.machine.Unanswered.TheVariants.{Memory as N
 use Rattle.book_http.specs.declared.next.Request.{Request}
 use Rattle.book_http.specs.declared.next.Next.TheVariants.{Request as Asked, Refused, End, Cut as NextCut}
 use Rattle.book_http.specs.declared.next.NextError.TheVariants.{ReadFault as NotRead, OutOfMemory as NoRoom}
-use Rattle.book_http.specs.Exchange.{IsNext, IsUnfinished}
+use Rattle.book_http.specs.Exchange.{IsNext}
 use Rattle.book_http.specs.Response.{response, refusal}
 use Rattle.book_http.proofs.ExchangeLemmas.{IsRequest-append, IsRefused-append}
-use Rattle.book_serve.specs.Statuses.{mark_of}
 use Rattle.book_serve.specs.Exchange.{RequestRelation, IsResponse}
-use Rattle.book_serve.specs.Link.{AreOpen, IsExchange, HasAnswered, LinkClause, IsServed, IsLink}
-use Rattle.book_serve.specs.Serving.{response_of, GaveResponse, HasReplied, HasFaltered, EndsBehind, EndsRefused}
+use Rattle.book_serve.specs.Link.{IsExchange, HasAnswered, IsServed, IsLink}
+use Rattle.book_serve.specs.Serving.{response_of, GaveResponse, HasReplied, EndsBehind, EndsRefused}
 use Rattle.book_serve.specs.Serving.{HasStepped, HasServed}
 use Rattle.book_serve.specs.declared.link_end.LinkEnd.{LinkEnd}
 use Rattle.book_serve.specs.declared.link_end.LinkEnd.TheVariants.{Done, Cut, ReadFault, WriteFault, Limit, OutOfMemory}

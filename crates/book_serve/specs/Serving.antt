@@ -1,5 +1,5 @@
 -- What the parts of the serving of a link do.
-use Rattle.std.specs.Prelude.{◌≡◌, ℕ, ◌<◌, Bool, true, false, List, [], ◌∷◌, ◌++◌, Option, Result, Ok, Err, length, ⊥}
+use Rattle.std.specs.Prelude.{◌≡◌, ℕ, ◌<◌, Bool, true, false, List, [], ◌∷◌, ◌++◌, Option, Result, Ok, Err, length}
 use Rattle.std.specs.Io.KnownBytes.{Consumes}
 use Rattle.book_keeper.specs.Stream.{Wrote, WrotePart}
 use Rattle.book_lines.specs.Marks.{RoseForEach}

@@ -1,5 +1,5 @@
 -- How each request of a link was answered, read from the status of its response.
-use Rattle.std.specs.Prelude.{◌≡◌, ℕ, ◌==◌, List, map, if◌then◌else◌}
+use Rattle.std.specs.Prelude.{ℕ, ◌==◌, List, map, if◌then◌else◌}
 use Rattle.book_lines.specs.Marks.{Mark, Answered, Memory, Keeper}
 
 -- The mark of a status: 507 says that the machine was out of memory, 503 that what is kept could not be changed.

@@ -2,6 +2,7 @@ ghost use Rattle.std.specs.Prelude.{◌≡◌, ◌≢◌, true, false, Err, IfEr
 ghost use Rattle.book_keeper.specs.Faults.{HasCause, Rose};
 ghost use Rattle.book_keeper.specs.Stream.{Wrote, WrotePart};
 ghost use Rattle.book_lines.specs.Loop.{text_of};
+ghost use Rattle.book_lines.specs.Marks.{memory_answer, keeper_answer};
 ghost use Rattle.book_lines.specs.RunClause.{at};
 ghost use Rattle.book_http.specs.Response.{is_answered, refusal, response};
 ghost use Rattle.book_serve.specs.Serving.{response_of, status_of, EndsBehind, EndsRefused, HasReplied};
@@ -25,15 +26,27 @@ const KEEPER: &[u8] = b"HTTP/1.1 503 Service Unavailable\r\nContent-Type: applic
 /// The same to a request that closes the link.
 const LAST_KEEPER: &[u8] = b"HTTP/1.1 503 Service Unavailable\r\nContent-Type: application/json\r\nContent-Length: 20\r\nConnection: close\r\n\r\n{\"refused\":\"keeper\"}";
 
-/// The response that says why the machine gave none; it takes no memory.
+/// The response to a request for which the machine was out of memory; it takes none.
+fn memory_response(close: bool) -> &'static [u8]
+    ensures { result.now ≡ response 507 memory_answer close }
+{
+    if close { LAST_MEMORY } else { MEMORY }
+}
+
+/// The response to a request whose change could not be kept; it takes no memory.
+fn keeper_response(close: bool) -> &'static [u8]
+    ensures { result.now ≡ response 503 keeper_answer close }
+{
+    if close { LAST_KEEPER } else { KEEPER }
+}
+
+/// The response that says why the machine gave none.
 fn stand_in(unanswered: Unanswered, close: bool) -> &'static [u8]
     ensures { result.now ≡ response (status_of unanswered) (text_of unanswered) close }
 {
-    match (unanswered, close) {
-        (Unanswered::Memory, false) => MEMORY,
-        (Unanswered::Memory, true) => LAST_MEMORY,
-        (Unanswered::Keeper, false) => KEEPER,
-        (Unanswered::Keeper, true) => LAST_KEEPER,
+    match unanswered {
+        Unanswered::Memory => memory_response(close),
+        Unanswered::Keeper => keeper_response(close),
     }
 }
 
