@@ -4,4 +4,5 @@ pub mod Machine
 pub mod Respond
 pub mod Numbers
 pub mod StatusClause
+pub mod ServeClause
 pub mod Words

@@ -6,6 +6,8 @@ use Rattle.book_engine.specs.declared.fault.OpenError.{OpenError}
 use Rattle.book_engine.specs.declared.fault.OpenError.TheVariants as error
 use Rattle.book_sample.specs.declared.showing.SampleEnd.{SampleEnd}
 use Rattle.book_sample.specs.declared.showing.SampleEnd.TheVariants as shown
+use Rattle.book_serve.specs.declared.serve_end.ServeEnd.{ServeEnd}
+use Rattle.book_serve.specs.declared.serve_end.ServeEnd.TheVariants as served
 use Rattle.book_app.specs.declared.status.Status.{Status}
 use Rattle.book_app.specs.declared.status.Status.TheVariants.{Done, Usage, Memory, InputFault, OutputFault, KeeperFault}
 use Rattle.book_app.specs.declared.status.Status.TheVariants.{BadRows, UnsoundBook, PortFault, InputLimit}
@@ -49,6 +51,12 @@ abbrev pub status_shown : SampleEnd → Status
 status_shown shown.Done = Done
 status_shown shown.OutOfMemory = Memory
 status_shown shown.OutputFault = OutputFault
+
+-- The status of a serving of links that has ended so.
+abbrev pub status_served : ServeEnd → Status
+status_served served.Done = Done
+status_served served.PortFault = PortFault
+status_served served.OutOfMemory = Memory
 
 -- The status where no book was opened for this reason.
 abbrev pub status_unopened : OpenError → Status

@@ -117,3 +117,8 @@ work_of words = work_named (named_import words) (named_serve words) (named_numbe
 abbrev pub given_work : {T E : Type 0} → (T → List (List ℕ)) → Result T E → Work
 given_work words (Ok given) = work_of (words given)
 given_work words (Err error) = Lines
+
+-- What the words of `serve` name, where words could be read and are these.
+abbrev pub given_serve : {T E : Type 0} → (T → List (List ℕ)) → Result T E → Option ServeWords
+given_serve words (Ok given) = named_serve (words given)
+given_serve words (Err error) = None

@@ -1,12 +1,14 @@
-ghost use Rattle.std.specs.Prelude.{◌≡◌, ◌≢◌, ◌↔◌, IfOk, IsTrue, OnErr, MatchResult};
+ghost use Rattle.std.specs.Prelude.{◌≡◌, ◌≢◌, ◌↔◌, None, IfOk, IfSome, IsTrue, OnErr, MatchResult};
 ghost use Rattle.std.specs.IoError.{error_kind};
 ghost use Rattle.std.specs.Process.{exit_status};
 ghost use Rattle.book_keeper.specs.Faults.{Rose};
 ghost use Rattle.book_keeper.specs.OverStd.{left_of, sink_over, source_faults, sink_faults};
 ghost use Rattle.book_keeper.specs.Written.{may_hold};
 ghost use Rattle.book_app.specs.Numbers.{number_of};
+ghost use Rattle.book_serve.specs.Served.{told};
+ghost use Rattle.book_app.specs.ServeClause.{ServeClause, across};
 ghost use Rattle.book_app.specs.StatusClause.{HasBookPath, IsBookRun, over};
-ghost use Rattle.book_app.specs.Words.{AreNoWords, given_work, work_of};
+ghost use Rattle.book_app.specs.Words.{AreNoWords, given_serve, given_work, named_serve, work_of};
 
 use crate::main_call::book_main;
 use crate::status::Status;
@@ -56,6 +58,14 @@ pub fn run_over<K: Keeper, I: Read, O: Write, P: Ports>(
     ensures no_input_fault { result.ended.status ≢ Status.InputFault → source_faults result.input ≡ 0 }
     ensures output_fault { result.ended.status ≡ Status.OutputFault → Rose 0 (sink_faults result.output) }
     ensures no_output_fault { result.ended.status ≢ Status.OutputFault → sink_faults result.output ≡ 0 }
+    ensures serve { IfSome (named_serve words.now) (λ serve. ServeClause serve
+        (over K.sure K.holds K.faults keeper.old keeper.new)
+        (told P.L.left P.L.written P.L.Source.faults P.L.Sink.faults)
+        (across P.coming P.closed P.port_given ports.old ports.new) result.ended.status) }
+    ensures other_words { named_serve words.now ≡ None → ports.new ≡ ports.old }
+    ensures open_links { P.open_links ports.new ≡ P.open_links ports.old }
+    ensures port_fault { result.ended.status ≡ Status.PortFault → Rose (P.faults ports.old) (P.faults ports.new) }
+    ensures no_port_fault { result.ended.status ≢ Status.PortFault → P.faults ports.new ≡ P.faults ports.old }
 {
     let mut input = FileSource::new(reader);
     let mut output = StreamSink::new(writer);
@@ -91,6 +101,14 @@ pub(crate) fn run_words<K: Keeper, I: Read, O: Write, P: Ports>(
     ensures no_input_fault { result.ended.status ≢ Status.InputFault → source_faults result.input ≡ 0 }
     ensures output_fault { result.ended.status ≡ Status.OutputFault → Rose 0 (sink_faults result.output) }
     ensures no_output_fault { result.ended.status ≢ Status.OutputFault → sink_faults result.output ≡ 0 }
+    ensures serve { IfSome (given_serve (λ given. given.items) words) (λ serve. ServeClause serve
+        (over K.sure K.holds K.faults keeper.old keeper.new)
+        (told P.L.left P.L.written P.L.Source.faults P.L.Sink.faults)
+        (across P.coming P.closed P.port_given ports.old ports.new) result.ended.status) }
+    ensures other_words { given_serve (λ given. given.items) words ≡ None → ports.new ≡ ports.old }
+    ensures open_links { P.open_links ports.new ≡ P.open_links ports.old }
+    ensures port_fault { result.ended.status ≡ Status.PortFault → Rose (P.faults ports.old) (P.faults ports.new) }
+    ensures no_port_fault { result.ended.status ≢ Status.PortFault → P.faults ports.new ≡ P.faults ports.old }
 {
     match words {
         Ok(words) => run_over(alloc, words.as_slice(), keeper, reader, writer, ports),

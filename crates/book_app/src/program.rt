@@ -1,8 +1,10 @@
-ghost use Rattle.std.specs.Prelude.{◌≡◌, ◌≢◌, ◌↔◌, IfOk, IsTrue, MatchResult, OnErr};
+ghost use Rattle.std.specs.Prelude.{◌≡◌, ◌≢◌, ◌↔◌, None, IfOk, IfSome, IsTrue, MatchResult, OnErr};
 ghost use Rattle.std.specs.IoError.{error_kind};
 ghost use Rattle.book_keeper.specs.Faults.{Rose};
+ghost use Rattle.book_serve.specs.Served.{told};
+ghost use Rattle.book_app.specs.ServeClause.{ServeClause, across};
 ghost use Rattle.book_app.specs.StatusClause.{HasBookPath, IsStreamRun, over};
-ghost use Rattle.book_app.specs.Words.{AreNoWords, given_work};
+ghost use Rattle.book_app.specs.Words.{AreNoWords, given_serve, given_work};
 
 use crate::ended::{Ended, run_words};
 use crate::status::Status;
@@ -31,6 +33,14 @@ pub fn run_program<R: Input + Print + AllocGlobal, K: Keeper, P: Ports>(
     ensures sure { IsTrue (K.sure keeper.new) → IsTrue (K.sure keeper.old) }
     ensures memory { OnErr words (result.status ≢ Status.Usage → result.status ≡ Status.Memory) }
     ensures keeper_fault { result.status ≡ Status.KeeperFault → Rose (K.faults keeper.old) (K.faults keeper.new) }
+    ensures serve { IfSome (given_serve (λ given. given.items) words) (λ serve. ServeClause serve
+        (over K.sure K.holds K.faults keeper.old keeper.new)
+        (told P.L.left P.L.written P.L.Source.faults P.L.Sink.faults)
+        (across P.coming P.closed P.port_given ports.old ports.new) result.status) }
+    ensures other_words { given_serve (λ given. given.items) words ≡ None → ports.new ≡ ports.old }
+    ensures open_links { P.open_links ports.new ≡ P.open_links ports.old }
+    ensures port_fault { result.status ≡ Status.PortFault → Rose (P.faults ports.old) (P.faults ports.new) }
+    ensures no_port_fault { result.status ≢ Status.PortFault → P.faults ports.new ≡ P.faults ports.old }
 {
     run_words(
         rt.alloc(),

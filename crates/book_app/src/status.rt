@@ -1,9 +1,11 @@
 ghost use Rattle.std.specs.Prelude.{◌≡◌};
-ghost use Rattle.book_app.specs.Numbers.{number_of, message_of, status_of, status_shown, status_unopened};
+ghost use Rattle.book_app.specs.Numbers.{number_of, message_of, status_of, status_served, status_shown};
+ghost use Rattle.book_app.specs.Numbers.{status_unopened};
 
 use book_engine::OpenError;
 use book_lines::RunEnd;
 use book_sample::SampleEnd;
+use book_serve::ServeEnd;
 
 /// How the program's work ended.
 #[derive(Clone, Copy, Debug, PartialEq, Eq)]
@@ -89,6 +91,17 @@ pub(crate) fn status_shown(end: SampleEnd) -> Status
         SampleEnd::Done => Status::Done,
         SampleEnd::OutOfMemory => Status::Memory,
         SampleEnd::OutputFault => Status::OutputFault,
+    }
+}
+
+/// The status of a serving of links.
+pub(crate) fn status_served(end: ServeEnd) -> Status
+    ensures { result ≡ status_served end }
+{
+    match end {
+        ServeEnd::Done => Status::Done,
+        ServeEnd::PortFault => Status::PortFault,
+        ServeEnd::OutOfMemory => Status::Memory,
     }
 }
 

@@ -25,7 +25,7 @@ pub struct ImportWords {
 #[derive(Clone, Copy, Debug, PartialEq, Eq)]
 pub struct ServeWords {
     pub port: u16,
-    pub links: u32,
+    pub links: u64,
 }
 
 /// Whether a word names a book: it is not empty and does not begin with a hyphen.
@@ -144,7 +144,7 @@ fn serve_of(port: Option<u64>, links: Option<u64>) -> Option<ServeWords>
     if is_port(port) && is_link_count(links) {
         Some(ServeWords {
             port: port as u16,
-            links: links as u32,
+            links,
         })
     } else {
         None
