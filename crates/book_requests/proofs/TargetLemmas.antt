@@ -1,7 +1,9 @@
 -- What each target asks, where its parameters are read and where one of them isn't.
-use Rattle.std.proofs.Common.{◌≡◌, ◌^◌, nat_lt, ℕ, ℤ, true, false, Bool, ◌&&◌, List, Option, Some, None, Err, cond}
+use Rattle.std.proofs.Common.{◌≡◌, ◌^◌, nat_lt, ℕ, ℤ, true, false, Bool, ◌&&◌, List, Option, Some, None, Result, Ok, Err, cond}
+use Rattle.std.specs.Prelude.{IsErrAnd}
 use Rattle.std.proofs.Common.{codes, refl, sym, ap, ◌∙◌, subst}
 use Rattle.std.specs.Str.Parse.{digits_value}
+use Rattle.book_command.specs.declared.command.Command.{Command}
 use Rattle.book_command.specs.declared.command.Report.TheVariants as report
 use Rattle.book_command.specs.declared.command.What.TheVariants as what
 use Rattle.book_command.specs.declared.wire_error.WireError.{WireError}
@@ -86,13 +88,21 @@ pub lots_fails : (text : List ℕ) → number_of text ≡ None
 unfolding asked_of_account
 lots_fails text e = ap (asked_of_number (codes "lots")) e
 
--- where a parameter was not read, this was asked
-pub missing_asks :
+missing_asks :
     {X : Type 0} (asked : Asked) (name : List ℕ) (found : Option X) (fault : WireError)
     → (found ≡ None → asked ≡ NotCommand name) → Reads found name (Err fault) → HasAsked asked (Err fault)
 missing_asks asked name found (wire.NotCommand field) fails h = ap NotCommand h.1 ∙ sym (fails h.0)
 missing_asks asked name found wire.OutOfMemory fails h = tt
 missing_asks asked name found wire.NotJson fails h = absurd h
+
+-- where a parameter was not read, this was asked
+pub missing_asked :
+    {X : Type 0} (asked : Asked) (name : List ℕ) (found : Option X) (fault : WireError)
+    (result : Result Command WireError) → (found ≡ None → asked ≡ NotCommand name) → Reads found name (Err fault)
+    → IsErrAnd result (λ given. given ≡ fault) → HasAsked asked result
+missing_asked asked name found fault (Ok command) fails h is = absurd is
+missing_asked asked name found fault (Err given) fails h is =
+    subst (λ (w : WireError). HasAsked asked (Err w)) (sym is) (missing_asks asked name found fault fails h)
 
 -- a parameter of which none is found is missing
 pub missing_reads :

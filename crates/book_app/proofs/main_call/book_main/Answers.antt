@@ -1,7 +1,12 @@
 use Rattle.std.proofs.Common.{ℕ, Option, None, Some, ◌≡◌, ◌∙◌, sym, ap, subst}
+use Rattle.std.specs.Prelude.{IfSome}
+use Rattle.book_serve.specs.Served.{told}
+use Rattle.book_app.specs.ServeClause.{ServeClause, across}
 use Rattle.book_app.specs.StatusClause.{IsBookRun, over}
 use Rattle.book_app.specs.Words.{named_import, named_serve, work_named}
-use Rattle.book_app.specs.declared.status.Status.TheVariants.{InputFault, KeeperFault, Usage}
+use Rattle.book_app.specs.declared.status.Status.TheVariants.{InputFault, KeeperFault, PortFault, Usage}
+use Rattle.book_app.specs.declared.words.ServeWords.{ServeWords}
+use Rattle.book_app.proofs.ServeLemmas.{sample_serves_none}
 use Rattle.book_app.proofs.StatusClauseLemmas.{no_sample, path_of_sample, run_of_sample}
 use Rattle.book_app.proofs.main_call.book_main.Goals as goal
 
@@ -35,6 +40,19 @@ pub returns-in-Some-clause-input_fault : goal.returns-in-Some-clause-input_fault
 returns-in-Some-clause-input_fault g c =
     λ is. absurd (no_sample c.in-Some.number _ _ c.run_sample.result InputFault c.run_sample.ensures.shown
     (λ text never. never) is)
+
+pub returns-in-Some-clause-port_fault : goal.returns-in-Some-clause-port_fault
+returns-in-Some-clause-port_fault g c =
+    λ is. absurd (no_sample c.in-Some.number _ _ c.run_sample.result PortFault c.run_sample.ensures.shown
+    (λ text never. never) is)
+
+pub returns-in-Some-clause-serve : goal.returns-in-Some-clause-serve
+returns-in-Some-clause-serve g c =
+    let keeping = over g.K.Keeper.sure g.K.Keeper.holds g.K.Keeper.faults c.args.keeper.now c.args.keeper.now in
+    let of = told g.P.Ports.L.Source.left g.P.Ports.L.Sink.written g.P.Ports.L.Source.faults g.P.Ports.L.Sink.faults in
+    let ports = across g.P.Ports.coming g.P.Ports.closed g.P.Ports.port_given c.args.ports.now c.args.ports.now in
+    subst (λ (named : Option ServeWords). IfSome named (λ serve. ServeClause serve keeping of ports c.run_sample.result))
+    (sym (sample_serves_none c.args.words.now c.in-Some.number c.in-Some.ensures)) tt
 
 -- they name none
 pub returns-in-None-clause-run : goal.returns-in-None-clause-run

@@ -1,6 +1,9 @@
-use Rattle.std.proofs.Common.{Option, None, Some, ◌≡◌, sym, ap, subst}
+use Rattle.std.proofs.Common.{◌≡◌, ◌∙◌, Option, None, Some, ap, subst}
+use Rattle.std.specs.Prelude.{IfSome}
+use Rattle.book_serve.specs.Served.{told}
+use Rattle.book_app.specs.ServeClause.{ServeClause, across}
 use Rattle.book_app.specs.StatusClause.{IsBookRun, over}
-use Rattle.book_app.specs.Words.{Work, Serve, named_import, work_named}
+use Rattle.book_app.specs.Words.{named_import, work_named}
 use Rattle.book_app.specs.declared.words.ServeWords.{ServeWords}
 use Rattle.book_app.specs.declared.status.Status.TheVariants.{InputFault, OutputFault}
 use Rattle.book_app.proofs.StatusClauseLemmas.{no_port_fault, no_serving, run_of_serving}
@@ -26,6 +29,18 @@ returns-in-Some-clause-output_fault g c =
     (over g.K.Keeper.sure g.K.Keeper.holds g.K.Keeper.faults c.args.keeper.now c.run_serve.new.keeper)
     c.run_serve.result OutputFault c.run_serve.ensures.rows (λ never. never) is)
 
+pub returns-in-Some-clause-serve : goal.returns-in-Some-clause-serve
+returns-in-Some-clause-serve g c =
+    let keeping = over g.K.Keeper.sure g.K.Keeper.holds g.K.Keeper.faults c.args.keeper.now c.run_serve.new.keeper in
+    let of = told g.P.Ports.L.Source.left g.P.Ports.L.Sink.written g.P.Ports.L.Source.faults g.P.Ports.L.Sink.faults in
+    let ports = across g.P.Ports.coming g.P.Ports.closed g.P.Ports.port_given c.args.ports.now c.run_serve.new.ports in
+    subst (λ (named : Option ServeWords). IfSome named (λ serve. ServeClause serve keeping of ports c.run_serve.result))
+    c.in-Some.ensures c.run_serve.ensures.serve
+
+pub returns-in-Some-clause-other_words : goal.returns-in-Some-clause-other_words
+returns-in-Some-clause-other_words g c =
+    λ none. absurd (let e : Some c.in-Some.serve ≡ None = c.in-Some.ensures ∙ none in cc)
+
 -- they are not
 pub returns-in-None-clause-run : goal.returns-in-None-clause-run
 returns-in-None-clause-run g c =
@@ -35,3 +50,20 @@ returns-in-None-clause-run g c =
     (g.S.Source.left c.args.input.now) (g.S.Source.left c.run_over_input.new.input)
     (g.O.Sink.written c.args.output.now) (g.O.Sink.written c.run_over_input.new.output) c.run_over_input.result)
     c.in-None.ensures c.run_over_input.ensures.run
+
+pub returns-in-None-clause-serve : goal.returns-in-None-clause-serve
+returns-in-None-clause-serve g c =
+    let keeping = over g.K.Keeper.sure g.K.Keeper.holds g.K.Keeper.faults c.args.keeper.now c.run_over_input.new.keeper in
+    let of = told g.P.Ports.L.Source.left g.P.Ports.L.Sink.written g.P.Ports.L.Source.faults g.P.Ports.L.Sink.faults in
+    let ports = across g.P.Ports.coming g.P.Ports.closed g.P.Ports.port_given c.args.ports.now c.args.ports.now in
+    subst
+    (λ (named : Option ServeWords). IfSome named (λ serve. ServeClause serve keeping of ports c.run_over_input.result))
+    c.in-None.ensures tt
+
+pub returns-in-None-clause-port_fault : goal.returns-in-None-clause-port_fault
+returns-in-None-clause-port_fault g c =
+    λ is. absurd (no_port_fault (named_import c.args.words.now)
+    (over g.K.Keeper.sure g.K.Keeper.holds g.K.Keeper.faults c.args.keeper.now c.run_over_input.new.keeper)
+    (g.S.Source.left c.args.input.now) (g.S.Source.left c.run_over_input.new.input)
+    (g.O.Sink.written c.args.output.now) (g.O.Sink.written c.run_over_input.new.output) c.run_over_input.result
+    c.run_over_input.ensures.run is)
