@@ -69,4 +69,30 @@ impl Sink for MemLink {
     }
 }
 
-impl Link for MemLink {}
+impl Link for MemLink {
+    ghost use Rattle.std.specs.Prelude.{refl};
+
+    type Input = MemSource;
+
+    type Output = MemSink;
+
+    ghost read_side = { λ link. link.source };
+
+    ghost write_side = { λ link. link.sink };
+
+    ghost reads = { λ _. refl };
+
+    ghost writes = { λ _ _ _ wrote. wrote };
+
+    ghost read_faults = { λ _. refl };
+
+    ghost write_faults = { λ _. refl };
+
+    fn part(self) -> (MemSource, MemSink) {
+        (self.source, self.sink)
+    }
+
+    fn join(input: MemSource, output: MemSink) -> MemLink {
+        MemLink::new(input, output)
+    }
+}

@@ -64,4 +64,33 @@ impl Sink for TcpLink {
     }
 }
 
-impl Link for TcpLink {}
+impl Link for TcpLink {
+    ghost use Rattle.std.specs.Prelude.{refl};
+
+    type Input = FileSource<TcpStream>;
+
+    type Output = StreamSink<TcpStream>;
+
+    ghost read_side = { λ link. link.source };
+
+    ghost write_side = { λ link. link.sink };
+
+    ghost reads = { λ _. tt };
+
+    ghost writes = { λ _ _ _ _. record { each = λ _ none. absurd none } };
+
+    ghost read_faults = { λ _. refl };
+
+    ghost write_faults = { λ _. refl };
+
+    fn part(self) -> (FileSource<TcpStream>, StreamSink<TcpStream>) {
+        (self.source, self.sink)
+    }
+
+    fn join(input: FileSource<TcpStream>, output: StreamSink<TcpStream>) -> TcpLink {
+        TcpLink {
+            source: input,
+            sink: output,
+        }
+    }
+}

@@ -1,5 +1,5 @@
 -- Statuses of refusals, and the responses that take no memory.
-use Rattle.std.proofs.Common.{◌≡◌, ℕ, Bool, true, false, List, [], ◌∷◌, Option, Some, None, refl, sym, subst, IsTrue, codes}
+use Rattle.std.proofs.Common.{◌≡◌, ℕ, Bool, true, false, List, [], ◌∷◌, ◌++◌, Option, Some, None, refl, sym, subst, IsTrue, codes}
 use Rattle.std.proofs.Common.{length, not, ◌&&◌, nat_lt, ◌^◌, inl, inr}
 use Rattle.std.specs.Fmt.{digits}
 use Rattle.std.specs.Prelude.{⊤}
@@ -17,22 +17,26 @@ use Rattle.book_http.specs.Response.{phrase, response, is_answered}
 -- ---- the responses that say why there is none
 
 pub memory_open : response 507 memory_answer false
-    ≡ codes "HTTP/1.1 507 Insufficient Storage\r\nContent-Type: application/json\r\nContent-Length: 20\r\n\r\n{\"refused\":\"memory\"}"
+    ≡ codes "HTTP/1.1 507 Insufficient Storage\r\n"
+    ++ codes "Content-Type: application/json\r\nContent-Length: 20\r\n\r\n{\"refused\":\"memory\"}"
 unfolding phrase memory_answer digits
 memory_open = refl
 
 pub memory_last : response 507 memory_answer true
-    ≡ codes "HTTP/1.1 507 Insufficient Storage\r\nContent-Type: application/json\r\nContent-Length: 20\r\nConnection: close\r\n\r\n{\"refused\":\"memory\"}"
+    ≡ codes "HTTP/1.1 507 Insufficient Storage\r\n"
+    ++ codes "Content-Type: application/json\r\nContent-Length: 20\r\nConnection: close\r\n\r\n{\"refused\":\"memory\"}"
 unfolding phrase memory_answer digits
 memory_last = refl
 
 pub keeper_open : response 503 keeper_answer false
-    ≡ codes "HTTP/1.1 503 Service Unavailable\r\nContent-Type: application/json\r\nContent-Length: 20\r\n\r\n{\"refused\":\"keeper\"}"
+    ≡ codes "HTTP/1.1 503 Service Unavailable\r\n"
+    ++ codes "Content-Type: application/json\r\nContent-Length: 20\r\n\r\n{\"refused\":\"keeper\"}"
 unfolding phrase keeper_answer digits
 keeper_open = refl
 
 pub keeper_last : response 503 keeper_answer true
-    ≡ codes "HTTP/1.1 503 Service Unavailable\r\nContent-Type: application/json\r\nContent-Length: 20\r\nConnection: close\r\n\r\n{\"refused\":\"keeper\"}"
+    ≡ codes "HTTP/1.1 503 Service Unavailable\r\n"
+    ++ codes "Content-Type: application/json\r\nContent-Length: 20\r\nConnection: close\r\n\r\n{\"refused\":\"keeper\"}"
 unfolding phrase keeper_answer digits
 keeper_last = refl
 

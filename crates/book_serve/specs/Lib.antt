@@ -2,3 +2,4 @@ pub mod Statuses
 pub mod Exchange
 pub mod Link
 pub mod Serving
+pub mod Served

@@ -15,16 +15,24 @@ use book_lines::Unanswered;
 use std::alloc::Global;
 
 /// The response to a request for which the machine was out of memory.
-const MEMORY: &[u8] = b"HTTP/1.1 507 Insufficient Storage\r\nContent-Type: application/json\r\nContent-Length: 20\r\n\r\n{\"refused\":\"memory\"}";
+const MEMORY: &[u8] = b"HTTP/1.1 507 Insufficient Storage\r\n\
+    Content-Type: application/json\r\nContent-Length: 20\r\n\r\n\
+    {\"refused\":\"memory\"}";
 
 /// The same to a request that closes the link.
-const LAST_MEMORY: &[u8] = b"HTTP/1.1 507 Insufficient Storage\r\nContent-Type: application/json\r\nContent-Length: 20\r\nConnection: close\r\n\r\n{\"refused\":\"memory\"}";
+const LAST_MEMORY: &[u8] = b"HTTP/1.1 507 Insufficient Storage\r\n\
+    Content-Type: application/json\r\nContent-Length: 20\r\nConnection: close\r\n\r\n\
+    {\"refused\":\"memory\"}";
 
 /// The response to a request whose change could not be kept.
-const KEEPER: &[u8] = b"HTTP/1.1 503 Service Unavailable\r\nContent-Type: application/json\r\nContent-Length: 20\r\n\r\n{\"refused\":\"keeper\"}";
+const KEEPER: &[u8] = b"HTTP/1.1 503 Service Unavailable\r\n\
+    Content-Type: application/json\r\nContent-Length: 20\r\n\r\n\
+    {\"refused\":\"keeper\"}";
 
 /// The same to a request that closes the link.
-const LAST_KEEPER: &[u8] = b"HTTP/1.1 503 Service Unavailable\r\nContent-Type: application/json\r\nContent-Length: 20\r\nConnection: close\r\n\r\n{\"refused\":\"keeper\"}";
+const LAST_KEEPER: &[u8] = b"HTTP/1.1 503 Service Unavailable\r\n\
+    Content-Type: application/json\r\nContent-Length: 20\r\nConnection: close\r\n\r\n\
+    {\"refused\":\"keeper\"}";
 
 /// The response to a request for which the machine was out of memory; it takes none.
 fn memory_response(close: bool) -> &'static [u8]
