@@ -53,7 +53,7 @@ leads-through first second third one other =
 -- ---- a link
 
 -- what the engine's machine is led to
-abbrev To : Kept → Kept → Type 0
+abbrev pub To : Kept → Kept → Type 0
 To old new = Leads (machine_kept old) (machine_kept new)
 
 exchange-leads :

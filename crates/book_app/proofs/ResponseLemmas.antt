@@ -1,6 +1,7 @@
 -- What an engine responds is what the machine of whole books answers.
 use Rattle.std.proofs.Common.{◌≡◌, ℕ, Bool, List, Some, Result, Ok, Err, OnOk, IfOk, IfSome, sym, subst, refl, ap, ◌∙◌}
 use Rattle.std.proofs.lemmas.Result.{IfOk-weaker}
+use Rattle.book_command.specs.declared.answer.Answer.{Answer}
 use Rattle.book_command.specs.declared.command.Command.{Command}
 use Rattle.book_command.specs.declared.rule.Rule.{Rule}
 use Rattle.book_command.specs.declared.wire_error.WireError.{WireError}
@@ -70,6 +71,19 @@ done_response (Err why) old mid new command plan close same is bytes_are state_i
 given_holds : {E : Type 0} (P : List ℕ → Type 0) (given : Result (List ℕ) E) (text : List ℕ) → given ≡ Ok text
     → IfOk given P → P text
 given_holds P given text is holds = subst (λ r. IfOk r P) is holds
+
+-- the response to an answer
+pub answer_made :
+    {E F : Type 0} (text : Result (List ℕ) E) (made : Result (List ℕ) F) (given answer : Answer)
+    (at version : ℕ) (close : Bool) → given ≡ answer → at ≡ version
+    → IfOk text (λ body. body ≡ answer_bytes given at) → IfOk made (IsResponseOf 200 text close)
+    → IfOk made (λ bytes. bytes ≡ response 200 (answer_bytes answer version) close)
+answer_made text made given answer at version close same same_version text_is made_is =
+    IfOk-weaker made _ _
+    (λ bytes h.
+    let is : h.0 ≡ answer_bytes given at = given_holds (λ body. body ≡ answer_bytes given at) text h.0 h.1 text_is in
+    h.2 ∙ ap (λ body. response 200 body close)
+    (is ∙ (ap (λ (a : Answer). answer_bytes a at) same ∙ ap (answer_bytes answer) same_version))) made_is
 
 -- a broken rule is responded to by its text
 pub broken_response :

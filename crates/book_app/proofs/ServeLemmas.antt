@@ -1,6 +1,6 @@
 -- From what holds of links that were served to what holds when the program's work has ended.
 use Rattle.std.proofs.Common.{◌≡◌, ◌≢◌, ℕ, List, [], ◌∷◌, Option, Some, None, IsTrue, inl, inr, refl, sym, ap, ◌∙◌, subst}
-use Rattle.std.specs.Prelude.{Err}
+use Rattle.std.specs.Prelude.{Err, IfSome}
 use Rattle.book_keeper.specs.declared.row.Row.{Row}
 use Rattle.book_lines.specs.RunClause.{at}
 use Rattle.book_engine.specs.Books.{machine_kept}
@@ -123,3 +123,8 @@ sample_serves_none [] number is = refl
 sample_serves_none (word ∷ []) number is = refl
 sample_serves_none (word ∷ other ∷ []) number is = refl
 sample_serves_none (word ∷ other ∷ third ∷ more) number is = absurd cc
+
+-- what is said of what words name is said of it where it is named otherwise
+pub named_same :
+    {X : Type 0} (P : X → Type 0) (one other : Option X) → one ≡ other → IfSome one P → IfSome other P
+named_same P one other same h = subst (λ named. IfSome named P) same h

@@ -370,7 +370,6 @@ module _ (keeping : Keeping) (held : List Row → Type 0)
       (untouched_held read text h.0, opened_held (Bad (row_key kind id)) h.1)
   status_held before after bytes read left text (UnsoundBook kind id) h =
       (untouched_held read text h.0, opened_held (Unsound (row_key kind id)) h.1)
-
   status_held before after bytes read left text PortFault h = absurd h
 
   imported_held :
@@ -406,7 +405,6 @@ module _ (keeping : Keeping) (held : List Row → Type 0)
       (untouched_held read text h.0, opened_held (Bad (row_key kind id)) h.1)
   import_held words before after read left text (UnsoundBook kind id) h =
       (untouched_held read text h.0, opened_held (Unsound (row_key kind id)) h.1)
-
   import_held words before after read left text PortFault h = absurd h
 
   led_held : HasLed keeping → HasLed (with_held keeping held)

@@ -43,7 +43,12 @@ fn response(
 fn answer_response(alloc: Global, plan: &Plan, close: bool) -> Result<Bytes, OutOfMemory>
     ensures { IfOk result (λ bytes. bytes ≡ response 200 (answer_bytes plan.now.answer plan.now.version) close) }
 {
-    response(alloc, 200, answer_text(alloc, plan.answer(), plan.version()), close)
+    response(
+        alloc,
+        200,
+        answer_text(alloc, plan.answer(), plan.version()),
+        close,
+    )
 }
 
 /// A response, if there was memory for it.
@@ -133,12 +138,7 @@ fn respond_to<K: Keeper>(
     match command_of_request(alloc, request) {
         Ok(command) => respond_to_command(alloc, engine, keeper, command, request.close),
         Err(WireError::OutOfMemory) => Err(Unanswered::Memory),
-        Err(fault) => responded(response(
-            alloc,
-            400,
-            wire_text(alloc, &fault),
-            request.close,
-        )),
+        Err(fault) => responded(response(alloc, 400, wire_text(alloc, &fault), request.close)),
     }
 }
 

@@ -43,7 +43,13 @@ fn serve_links<K: Keeper, P: Ports>(
     ensures no_port_fault { result ≢ ServeEnd.PortFault → P.faults ports.new ≡ P.faults ports.old }
 {
     serve::<Answering, K, Engine, P>(
-        alloc, engine, keeper, routes, ports, words.port, words.links,
+        alloc,
+        engine,
+        keeper,
+        routes,
+        ports,
+        words.port,
+        words.links,
     )
 }
 

@@ -247,7 +247,6 @@ lines_status-made keeping rows before after bytes read left text (status.BadRows
     as-before keeping rows sure held made clause.0.rows
 lines_status-made keeping rows before after bytes read left text (status.UnsoundBook kind id) sure held made clause =
     as-before keeping rows sure held made clause.0.rows
-
 lines_status-made keeping rows before after bytes read left text status.PortFault sure held made clause = absurd clause
 
 -- And by that of an import.
@@ -273,7 +272,6 @@ import_status-made words keeping rows before after read left text (status.BadRow
     as-before keeping rows sure held made clause.0.rows
 import_status-made words keeping rows before after read left text (status.UnsoundBook kind id) sure held made clause =
     as-before keeping rows sure held made clause.0.rows
-
 import_status-made words keeping rows before after read left text status.PortFault sure held made clause = absurd clause
 
 led-made :

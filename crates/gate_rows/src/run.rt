@@ -93,7 +93,9 @@ impl Run {
     pub fn link(&self, place: usize) -> &[u8] {
         let first = self.links.get(place).copied().unwrap_or(self.input.len());
         let next = self.links.get(place.saturating_add(1)).copied();
-        self.input.get(first..next.unwrap_or(self.input.len())).unwrap_or(&[])
+        self.input
+            .get(first..next.unwrap_or(self.input.len()))
+            .unwrap_or(&[])
     }
 
     /// Whether a call of the keeper is to fail.

@@ -15,7 +15,7 @@ pub returns-in-Some-clause-run : goal.returns-in-Some-clause-run
 returns-in-Some-clause-run g c =
     run_of_sample _ c.in-Some.number
     (over g.K.Keeper.sure g.K.Keeper.holds g.K.Keeper.faults c.args.keeper.now c.args.keeper.now) _ _ _
-    c.run_sample.result (λ still rows held. held) 
+    c.run_sample.result (λ still rows held. held)
     (ap (work_named (named_import c.args.words.now) (named_serve c.args.words.now)) c.in-Some.ensures)
     c.run_sample.ensures.shown
 
@@ -49,7 +49,7 @@ returns-in-Some-clause-port_fault g c =
 pub returns-in-Some-clause-serve : goal.returns-in-Some-clause-serve
 returns-in-Some-clause-serve g c =
     let keeping = over g.K.Keeper.sure g.K.Keeper.holds g.K.Keeper.faults c.args.keeper.now c.args.keeper.now in
-    let of = told g.P.Ports.L.Source.left g.P.Ports.L.Sink.written g.P.Ports.L.Source.faults g.P.Ports.L.Sink.faults in
+    let of = told g.P.L.Source.left g.P.L.Sink.written g.P.L.Source.faults g.P.L.Sink.faults in
     let ports = across g.P.Ports.coming g.P.Ports.closed g.P.Ports.port_given c.args.ports.now c.args.ports.now in
     subst (λ (named : Option ServeWords). IfSome named (λ serve. ServeClause serve keeping of ports c.run_sample.result))
     (sym (sample_serves_none c.args.words.now c.in-Some.number c.in-Some.ensures)) tt

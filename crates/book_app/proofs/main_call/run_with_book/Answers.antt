@@ -32,7 +32,7 @@ returns-in-Some-clause-output_fault g c =
 pub returns-in-Some-clause-serve : goal.returns-in-Some-clause-serve
 returns-in-Some-clause-serve g c =
     let keeping = over g.K.Keeper.sure g.K.Keeper.holds g.K.Keeper.faults c.args.keeper.now c.run_serve.new.keeper in
-    let of = told g.P.Ports.L.Source.left g.P.Ports.L.Sink.written g.P.Ports.L.Source.faults g.P.Ports.L.Sink.faults in
+    let of = told g.P.L.Source.left g.P.L.Sink.written g.P.L.Source.faults g.P.L.Sink.faults in
     let ports = across g.P.Ports.coming g.P.Ports.closed g.P.Ports.port_given c.args.ports.now c.run_serve.new.ports in
     subst (λ (named : Option ServeWords). IfSome named (λ serve. ServeClause serve keeping of ports c.run_serve.result))
     c.in-Some.ensures c.run_serve.ensures.serve
@@ -54,7 +54,7 @@ returns-in-None-clause-run g c =
 pub returns-in-None-clause-serve : goal.returns-in-None-clause-serve
 returns-in-None-clause-serve g c =
     let keeping = over g.K.Keeper.sure g.K.Keeper.holds g.K.Keeper.faults c.args.keeper.now c.run_over_input.new.keeper in
-    let of = told g.P.Ports.L.Source.left g.P.Ports.L.Sink.written g.P.Ports.L.Source.faults g.P.Ports.L.Sink.faults in
+    let of = told g.P.L.Source.left g.P.L.Sink.written g.P.L.Source.faults g.P.L.Sink.faults in
     let ports = across g.P.Ports.coming g.P.Ports.closed g.P.Ports.port_given c.args.ports.now c.args.ports.now in
     subst
     (λ (named : Option ServeWords). IfSome named (λ serve. ServeClause serve keeping of ports c.run_over_input.result))

@@ -28,7 +28,7 @@ returns-in_default-routes_after-clause-serve g c = inl (none_came _ _ _)
 pub returns-in-Ok-open_book-clause-rows : goal.returns-in-Ok-open_book-clause-rows
 returns-in-Ok-open_book-clause-rows g c =
     let keeping = over g.K.Keeper.sure g.K.Keeper.holds g.K.Keeper.faults c.args.keeper.now c.serve_links.new.keeper in
-    let of = told g.P.Ports.L.Source.left g.P.Ports.L.Sink.written g.P.Ports.L.Source.faults g.P.Ports.L.Sink.faults in
+    let of = told g.P.L.Source.left g.P.L.Sink.written g.P.L.Source.faults g.P.L.Sink.faults in
     let ports = across g.P.Ports.coming g.P.Ports.closed g.P.Ports.port_given c.args.ports.now c.serve_links.new.ports in
     let later = c.serve_links.ensures.keeper in
     let served = has_served c.args.serve keeping of ports c.in-Ok-open_book.engine c.serve_links.new.engine
@@ -42,7 +42,7 @@ returns-in-Ok-open_book-clause-rows g c =
 pub returns-in-Ok-open_book-clause-serve : goal.returns-in-Ok-open_book-clause-serve
 returns-in-Ok-open_book-clause-serve g c =
     let keeping = over g.K.Keeper.sure g.K.Keeper.holds g.K.Keeper.faults c.args.keeper.now c.serve_links.new.keeper in
-    let of = told g.P.Ports.L.Source.left g.P.Ports.L.Sink.written g.P.Ports.L.Source.faults g.P.Ports.L.Sink.faults in
+    let of = told g.P.L.Source.left g.P.L.Sink.written g.P.L.Source.faults g.P.L.Sink.faults in
     let ports = across g.P.Ports.coming g.P.Ports.closed g.P.Ports.port_given c.args.ports.now c.serve_links.new.ports in
     let later = c.serve_links.ensures.keeper in
     let served = has_served c.args.serve keeping of ports c.in-Ok-open_book.engine c.serve_links.new.engine
@@ -71,7 +71,7 @@ returns-clause-rows g c =
 pub returns-clause-serve : goal.returns-clause-serve
 returns-clause-serve g c =
     let keeping = over g.K.Keeper.sure g.K.Keeper.holds g.K.Keeper.faults c.args.keeper.now c.open_book.new.keeper in
-    let of = told g.P.Ports.L.Source.left g.P.Ports.L.Sink.written g.P.Ports.L.Source.faults g.P.Ports.L.Sink.faults in
+    let of = told g.P.L.Source.left g.P.L.Sink.written g.P.L.Source.faults g.P.L.Sink.faults in
     let ports = across g.P.Ports.coming g.P.Ports.closed g.P.Ports.port_given c.args.ports.now c.args.ports.now in
     subst (λ (s : Status). ServeClause c.args.serve keeping of ports s) (sym c.status_unopened.ensures)
     (unopened_links c.args.serve keeping of ports c.in-Err.error (none_came _ _ _))
