@@ -15,7 +15,9 @@ mod main_call;
 mod opening;
 mod program;
 mod reply;
+mod respond;
 mod sample;
+mod serve_call;
 mod status;
 mod words;
 
@@ -24,9 +26,11 @@ pub use book_sample::sample_lines;
 /// What `run_lines` keeps between two lines: the room for a begun line, of 8 MiB, and for the piece that is read at a
 /// time. It is made once.
 pub use book_lines::LineRoom;
+/// The requests of one link answered by an engine, and how that ended.
+pub use book_serve::{LinkEnd, serve_link};
 pub use ended::{Ended, Ran, run_over};
 pub use main_call::{book_main, run_lines};
 pub use program::{run_program, words_of};
 pub use reply::Answering;
 pub use status::Status;
-pub use words::{ImportWords, named_book, named_import, named_number};
+pub use words::{ImportWords, ServeWords, named_book, named_import, named_number, named_serve};

@@ -53,7 +53,7 @@ fn check_fault(
         Sort::Read => check_read(report, case, run, keeper, line, fault),
         Sort::Write => check_write(report, case, run, keeper, line, fault),
         Sort::Commit => check_commit(report, case, run, keeper, line, fault),
-        Sort::Call => check_same(report, case, run, keeper, fault),
+        Sort::Call | Sort::Accept => check_same(report, case, run, keeper, fault),
     }
 }
 

@@ -9,6 +9,7 @@
 mod case;
 mod disk;
 mod each;
+mod links;
 mod making;
 mod opening;
 mod pages;

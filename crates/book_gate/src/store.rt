@@ -88,7 +88,7 @@ impl Store {
         }
         let alloc = report.alloc();
         let keeper = mem::replace(&mut self.rows, no_rows(alloc));
-        let (outcome, keeper) = made_in_memory(alloc, run, keeper, run.input.as_slice(), None)?;
+        let (outcome, keeper) = made_in_memory(alloc, run, keeper, run.read_input(), None)?;
         self.rows = keeper;
         compare(report, case, run, &outcome, Some(self.rows.rows()))
     }
@@ -200,7 +200,7 @@ fn check_over<K: Keeper>(
         return Err(unread());
     }
     let alloc = report.alloc();
-    let outcome = made(alloc, run, keeper, run.input.as_slice(), None)?;
+    let outcome = made(alloc, run, keeper, run.read_input(), None)?;
     let rows = rows_in(alloc, keeper)?;
     compare(report, case, run, &outcome, rows.as_deref())
 }

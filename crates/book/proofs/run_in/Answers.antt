@@ -17,4 +17,5 @@ returns g c = record {
   memory = c.run_program-ended.ensures.memory;
   keeper_fault = λ fault.
       rose_from_none _ _ c.at-keeper.ensures.faults (c.run_program-ended.ensures.keeper_fault fault);
+  port_fault = c.run_program-ended.ensures.port_fault;
 }

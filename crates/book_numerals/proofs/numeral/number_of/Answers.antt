@@ -1,6 +1,6 @@
 use Rattle.std.proofs.Common.{◌∙◌, sym}
-use Rattle.book_app.proofs.WordLemmas.{number_read, number_unread}
-use Rattle.book_app.proofs.words.number_of.Goals as goal
+use Rattle.book_numerals.proofs.NumeralLemmas.{number_read, number_unread}
+use Rattle.book_numerals.proofs.numeral.number_of.Goals as goal
 
 pub returns-in-Ok : goal.returns-in-Ok
 returns-in-Ok c =
