@@ -41,9 +41,9 @@ pub record NoneCame {L : Type 0} (ports : Porting L) : Type 0 where
   pub closed : ports.closed_after ≡ ports.closed_before
   pub port : ports.port_after ≡ ports.port_before
 
--- Links were served up to an end, at most as many as the words say and at their port: from an engine with the machine as
--- which the keeper's rows opened, to one with the machine as which its rows open now. The engine answers requests as its
--- machine does.
+-- Links were served up to an end, at most as many as the words say and at their port: from an engine with the machine
+-- as which the keeper's rows opened, to one with the machine as which its rows open now. The engine answers requests as
+-- its machine does.
 pub record HasServed {L : Type 0} (serve : ServeWords) (keeping : Keeping) (of : Told L) (ports : Porting L)
     (ended : ServeEnd) : Type 0 where
   pub first : Kept

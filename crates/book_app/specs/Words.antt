@@ -69,7 +69,8 @@ serve_of (Some port) None = None
 serve_of (Some port) (Some links) =
     if is_port port && is_link_count links then Some (record { port = port; links = links }) else None
 
--- What the words name that are `serve`, the name of a book, and the numerals of a port and of how many links are served.
+-- What the words name that are `serve`, the name of a book, and the numerals of a port and of how many links are
+-- served.
 abbrev pub named_serve : List (List ℕ) → Option ServeWords
 named_serve (word ∷ book ∷ port ∷ links ∷ []) =
     if bytes_eq word (codes "serve") && is_book book then serve_of (number_of port) (number_of links) else None
@@ -94,8 +95,8 @@ pub record AreNoWords (words : List (List ℕ)) : Type 0 where
   pub no_book : named_book words ≡ None
   pub no_number : named_number words ≡ None
 
--- What the words ask for: that the lines of the input are answered, that the input is imported, that the links of a port
--- are served, or that the sample of a number is shown.
+-- What the words ask for: that the lines of the input are answered, that the input is imported, that the links of a
+-- port are served, or that the sample of a number is shown.
 pub data Work : Type 0 where
   Lines : Work
   Import : ImportWords → Work

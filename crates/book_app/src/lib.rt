@@ -1,11 +1,11 @@
 //! The program's work as one call, generic over what keeps the book, where the lines come from and where the answers
 //! go: `book_main` takes the words, opens the keeper, reads the input to its end, and says how it ended. Its clause
-//! `run` is the whole promise of a run: what was written is what the machine of whole books answers to the lines that were
-//! read, from the state as which the keeper's rows opened on, and the rows that the keeper then holds open as the last
-//! state. With the words of `import` it is the machine's answer to the import of the whole input; with those of
+//! `run` is the whole promise of a run: what was written is what the machine of whole books answers to the lines that
+//! were read, from the state as which the keeper's rows opened on, and the rows that the keeper then holds open as the
+//! last state. With the words of `import` it is the machine's answer to the import of the whole input; with those of
 //! `sample` the last two answers to the lines of `sample_lines`. `run_over` says the same over any reader and writer of
-//! std. `run_program` does so over a program's standard streams, the words that `words_of` reads, and the keeper that it
-//! is given. `Ended` is what the program's `main` answers.
+//! std. `run_program` does so over a program's standard streams, the words that `words_of` reads, and the keeper that
+//! it is given. `Ended` is what the program's `main` answers.
 #![tactic(auto)]
 
 mod ended;

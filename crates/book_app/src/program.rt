@@ -53,7 +53,8 @@ pub fn run_program<R: Input + Print + AllocGlobal, K: Keeper, P: Ports>(
     .ended
 }
 
-/// The words behind the program's name. An error of kind InvalidData where one of them is not UTF-8, else out of memory.
+/// The words behind the program's name. An error of kind InvalidData where one of them is not UTF-8, else out of
+/// memory.
 pub fn words_of<R: Env + AllocGlobal>(rt: &R) -> io::Result<Vec<Text>> {
     let mut words = Vec::new(rt.alloc());
     for word in env::args(rt)?.skip(1) {

@@ -53,8 +53,8 @@ fn serve_links<K: Keeper, P: Ports>(
     )
 }
 
-/// Opens the keeper at the book that the words name, and serves the links that come to the port, from the state as which
-/// its rows open on.
+/// Opens the keeper at the book that the words name, and serves the links that come to the port, from the state as
+/// which its rows open on.
 pub fn run_serve<K: Keeper, P: Ports>(
     alloc: Global,
     words: &[Text],

@@ -151,7 +151,8 @@ fn serve_of(port: Option<u64>, links: Option<u64>) -> Option<ServeWords>
     }
 }
 
-/// What the words name that are `serve`, the name of a book, and the numerals of a port and of how many links are served.
+/// What the words name that are `serve`, the name of a book, and the numerals of a port and of how many links are
+/// served.
 pub fn named_serve(words: &[Text]) -> Option<ServeWords>
     ensures { result ≡ named_serve words.now }
 {

@@ -149,8 +149,8 @@ fn read_before(run: &Run, fault: Fault) -> &[u8] {
     }
 }
 
-/// Makes the run with a write that fails: it ends by that fault. Each answer is one write, so those before it are written,
-/// and the rows are those after its line.
+/// Makes the run with a write that fails: it ends by that fault. Each answer is one write, so those before it are
+/// written, and the rows are those after its line.
 fn check_write(
     report: &mut Report<'_>,
     case: Case<'_>,

@@ -30,8 +30,8 @@ fn place_of(word: &str) -> io::Result<Place> {
     }
 }
 
-/// The rows of a case between its runs: those in memory, or the database. There is none where it has no table of rows, or
-/// where it failed.
+/// The rows of a case between its runs: those in memory, or the database. There is none where it has no table of rows,
+/// or where it failed.
 #[derive(Drop)]
 pub(crate) struct Store {
     place: Place,
@@ -188,8 +188,8 @@ fn check_absent(rt: &HostRuntime, name: &str) -> io::Result<()> {
     Ok(())
 }
 
-/// Makes a run over a keeper, and compares. Calls of the keeper that fail, and calls that fail each in turn, are for one
-/// in memory.
+/// Makes a run over a keeper, and compares. Calls of the keeper that fail, and calls that fail each in turn, are for
+/// one in memory.
 fn check_over<K: Keeper>(
     report: &mut Report<'_>,
     case: Case<'_>,

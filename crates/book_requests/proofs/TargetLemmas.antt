@@ -1,5 +1,6 @@
 -- What each target asks, where its parameters are read and where one of them isn't.
-use Rattle.std.proofs.Common.{◌≡◌, ◌^◌, nat_lt, ℕ, ℤ, true, false, Bool, ◌&&◌, List, Option, Some, None, Result, Ok, Err, cond}
+use Rattle.std.proofs.Common.{◌≡◌, ◌^◌, nat_lt, ℕ, ℤ, true, false, Bool, ◌&&◌, List, Option, Some, None, Result, Ok}
+use Rattle.std.proofs.Common.{Err, cond}
 use Rattle.std.specs.Prelude.{IsErrAnd}
 use Rattle.std.proofs.Common.{codes, refl, sym, ap, ◌∙◌, subst}
 use Rattle.std.specs.Str.Parse.{digits_value}

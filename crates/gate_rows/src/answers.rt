@@ -41,8 +41,8 @@ pub struct WantedRow {
     pub body: Vec<u8>,
 }
 
-/// What a run wants: its answers; how it ends; how many bytes of the input are not read; how many rows the keeper holds,
-/// and which.
+/// What a run wants: its answers; how it ends; how many bytes of the input are not read; how many rows the keeper
+/// holds, and which.
 #[derive(Drop)]
 pub struct Wanted {
     pub answers: Vec<Answer>,
