@@ -5,11 +5,11 @@
 
 ghost use Rattle.sqlite.specs.Files.{over_files};
 ghost use Rattle.sqlite.specs.WalFiles.{image_at};
-ghost use Rattle.std.specs.Prelude.{◌≡◌, ◌≢◌, ◌↔◌, IfOk, MatchResult, OnErr};
+ghost use Rattle.std.specs.Prelude.{◌≡◌, ◌≢◌, ◌↔◌, IfOk, MatchResult, None, OnErr};
 ghost use Rattle.std.specs.IoError.{error_kind};
 ghost use Rattle.book_keeper.specs.Faults.{Rose};
 ghost use Rattle.book_app.specs.StatusClause.{HasBookPath, IsStreamRun};
-ghost use Rattle.book_app.specs.Words.{AreNoWords, given_work};
+ghost use Rattle.book_app.specs.Words.{AreNoWords, given_serve, given_work};
 ghost use Rattle.book_sqlite.specs.KeeperInSqlite.{HoldsRows, is_sure};
 ghost use Rattle.book.specs.FileRun.{over_file};
 
@@ -45,7 +45,10 @@ fn run_in<T: Start>(
     ensures path { IfOk words (λ given. HasBookPath given.items result.1.path result.0.status) }
     ensures memory { OnErr words (result.0.status ≢ Status.Usage → result.0.status ≡ Status.Memory) }
     ensures keeper_fault { result.0.status ≡ Status.KeeperFault → Rose 0 result.1.faults }
+    ensures other_words { given_serve (λ given. given.items) words ≡ None → ports.new ≡ ports.old }
+    ensures open_links { ports.new.open_links ≡ ports.old.open_links }
     ensures port_fault { result.0.status ≡ Status.PortFault → Rose ports.old.faults ports.new.faults }
+    ensures no_port_fault { result.0.status ≢ Status.PortFault → ports.new.faults ≡ ports.old.faults }
 {
     let mut keeper = FileKeeper::at(rt, book_in(&words), start);
     let ended = run_program(rt, words, &mut keeper, ports);
