@@ -1,6 +1,6 @@
-//! The program `book`: `run_program` does what its words ask, over the standard streams, the ports of this machine and a
-//! keeper of the SQLite file that the words name. What it answers, `Ended`, says on standard error what went wrong and gives the number that the
-//! program ends with.
+//! The program `book`: `run_program` does what its words ask, over the standard streams, the ports of this machine and
+//! a keeper of the SQLite file that the words name. What it answers, `Ended`, says on standard error what went wrong and
+//! gives the number that the program ends with.
 #![tactic(auto)]
 
 ghost use Rattle.sqlite.specs.Files.{over_files};

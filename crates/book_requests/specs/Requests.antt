@@ -25,8 +25,8 @@ asked_of_days first last =
     (member (codes "do") (string (codes "income"))
     (member (codes "from") (string first) (member (codes "to") (string last) no_members)))
 
--- The command line of this word with the account of a number asks this; where no number is given, the member `account`
--- fails.
+-- The command line of this word with the account of a number asks this; where no number is given, the member
+-- `account` fails.
 abbrev pub asked_of_number : List ℕ → Option ℕ → Asked
 asked_of_number word (Some account) =
     asked_of_members
@@ -37,8 +37,8 @@ asked_of_number word None = NotCommand (codes "account")
 unfoldable pub asked_of_account : List ℕ → List ℕ → Asked
 asked_of_account word account = asked_of_number word (number_of account)
 
--- A route with this body asks this. For a command it is what the body asks as a line, whatever its bytes are and however
--- long it is; for the others it is what the command line of the word with the parameters of the target asks.
+-- A route with this body asks this. For a command it is what the body asks as a line, whatever its bytes are and
+-- however long it is; for the others it is what the command line of the word with the parameters of the target asks.
 abbrev pub RouteAsks : Route → List ℕ → Asked → Type 0
 RouteAsks route.Command body asked = LineAsks body asked
 RouteAsks route.Status body asked = asked ≡ asked_of_status

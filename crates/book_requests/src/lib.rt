@@ -1,6 +1,6 @@
-//! What the requests of a link ask: the body of one is a command line, whatever its bytes are, and the target of another
-//! asks what the line of its word with its parameters asks. Public is `command_of_request`. Nothing here knows the book
-//! or the link.
+//! What the requests of a link ask: the body of one is a command line, whatever its bytes are, and the target of
+//! another asks what the line of its word with its parameters asks. Public is `command_of_request`. Nothing here knows
+//! the book or the link.
 #![tactic(auto)]
 
 mod request;

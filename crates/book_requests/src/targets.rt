@@ -3,7 +3,8 @@ ghost use Rattle.book_command.specs.declared.command.What.TheVariants.{Report as
 ghost use Rattle.book_json.specs.Forms.{day_named};
 ghost use Rattle.book_numerals.specs.Numerals.{number_of};
 ghost use Rattle.book_requests.specs.Reading.{IsMissing, Reads, asks_what};
-ghost use Rattle.book_requests.specs.Requests.{HasAsked, asked_of_account, asked_of_day, asked_of_days, asked_of_status};
+ghost use Rattle.book_requests.specs.Requests.{HasAsked, asked_of_account, asked_of_day, asked_of_days};
+ghost use Rattle.book_requests.specs.Requests.{asked_of_status};
 ghost use Rattle.book_wire.specs.Asked.{Asks};
 
 use book_command::{Command, Report, What, WireError};
