@@ -70,7 +70,8 @@ below_limit word n e =
     subst (λ m. nat_lt m (2 ^ 62) ≡ true) h.1 h.0
 
 pub register_asks : (text : List ℕ) (account : ℕ) → number_of text ≡ Some account
-    → asked_of_account (codes "register") text ≡ Asks (asks_what (what.Report (report.Register account None None false)))
+    → asked_of_account (codes "register") text
+    ≡ Asks (asks_what (what.Report (report.Register account None None false)))
 unfolding asked_of_account needed optional flag ends word_form whole
 register_asks text account e = ap (asked_of_number (codes "register")) e ∙ rw (below_limit text account e) refl
 

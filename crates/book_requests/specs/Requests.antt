@@ -25,8 +25,8 @@ asked_of_days first last =
     (member (codes "do") (string (codes "income"))
     (member (codes "from") (string first) (member (codes "to") (string last) no_members)))
 
--- The command line of this word with the account of a number asks this; where no number is given, the member `account`
--- fails.
+-- The command line of this word with the account of a number asks this; where no number is given, the member
+-- `account` fails.
 abbrev pub asked_of_number : List ℕ → Option ℕ → Asked
 asked_of_number word (Some account) =
     asked_of_members

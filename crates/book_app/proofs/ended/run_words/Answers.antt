@@ -1,4 +1,5 @@
-use Rattle.std.proofs.Common.{◌∙◌, sym, ap}
+use Rattle.std.proofs.Common.{Vec, Global, ◌∙◌, sym, ap}
+use Rattle.book_commodity.specs.declared.text.Text.{Text}
 use Rattle.book_app.specs.Words.{given_serve, named_serve}
 use Rattle.book_app.proofs.ServeLemmas.{named_same}
 use Rattle.book_app.proofs.StatusClauseLemmas.{run_without_words}
@@ -11,5 +12,5 @@ returns-in-Err-clause-run g c =
 
 pub returns-in-Ok-clause-serve : goal.returns-in-Ok-clause-serve
 returns-in-Ok-clause-serve g c =
-    named_same _ _ _ (ap named_serve c.as_slice.ensures.value ∙ sym (ap (given_serve _) c.in-Ok.is))
+    named_same _ _ _ (ap named_serve c.as_slice.ensures.value ∙ sym (ap (given_serve (λ (given : Vec Text Global). given.items)) c.in-Ok.is))
     c.run_over.ensures.serve

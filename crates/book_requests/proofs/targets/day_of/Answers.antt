@@ -1,4 +1,4 @@
-use Rattle.std.proofs.Common.{◌≡◌, sym, ap, ◌∙◌}
+use Rattle.std.proofs.Common.{sym, ap, ◌∙◌}
 use Rattle.book_json.specs.Forms.{day_named}
 use Rattle.book_json.proofs.DayLemmas.{day_named_is}
 use Rattle.book_requests.proofs.TargetLemmas.{missing_reads}

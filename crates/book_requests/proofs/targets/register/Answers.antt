@@ -7,7 +7,8 @@ use Rattle.book_requests.proofs.targets.register.Goals as goal
 
 pub returns-in_err-account : goal.returns-in_err-account
 returns-in_err-account c =
-    missing_asked (asked_of_account (codes "register") c.args.account.now) (codes "account") (number_of c.args.account.now) _ c.from_residual.result
+    missing_asked (asked_of_account (codes "register") c.args.account.now) (codes "account") (number_of c.args.account.now) _
+    c.from_residual.result
     (register_fails c.args.account.now) c.in_err-account.ensures
     c.from_residual.ensures.1
 

@@ -7,7 +7,8 @@ use Rattle.book_requests.proofs.targets.sheet.Goals as goal
 
 pub returns-in_err-day : goal.returns-in_err-day
 returns-in_err-day c =
-    missing_asked (asked_of_day (codes "sheet") c.args.day.now) (codes "day") (day_named c.args.day.now) _ c.from_residual.result
+    missing_asked (asked_of_day (codes "sheet") c.args.day.now) (codes "day") (day_named c.args.day.now) _
+    c.from_residual.result
     (sheet_fails c.args.day.now) c.in_err-day.ensures
     c.from_residual.ensures.1
 
