@@ -2,12 +2,13 @@
 use Rattle.std.specs.Prelude.{Bool, true, false}
 use Rattle.gate_rows.specs.declared.run.Fault.{Fault}
 use Rattle.gate_rows.specs.declared.run.Sort.{Sort}
-use Rattle.gate_rows.specs.declared.run.Sort.TheVariants.{Read, Write, Commit, Call}
+use Rattle.gate_rows.specs.declared.run.Sort.TheVariants.{Read, Write, Accept, Commit, Call}
 
 -- Whether calls of this sort are calls of the keeper: its commits, and all of its calls.
 abbrev pub is_of_keeper : Sort → Bool
 is_of_keeper Read = false
 is_of_keeper Write = false
+is_of_keeper Accept = false
 is_of_keeper Commit = true
 is_of_keeper Call = true
 
