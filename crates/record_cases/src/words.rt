@@ -15,7 +15,7 @@ fn is_parted(alloc: Global, words: &[&str]) -> Result<bool, OutOfMemory> {
 // Words that are none of the program's. The program asks its own grammar first, so that they never come here.
 #[test]
 fn other_words_are_not_parted(rt: HostRuntime) -> Result<(), Fail> {
-    let rows: [&[&str]; 11] = [
+    let rows: [&[&str]; 14] = [
         &[],
         &["run"],
         &["sample"],
@@ -27,6 +27,9 @@ fn other_words_are_not_parted(rt: HostRuntime) -> Result<(), Fail> {
         &["import", "a.book", "mt940", "0"],
         &["import", "a.book", "mt940", "0", "-1"],
         &["import", "a.book", "mt940", "0", "0", "0"],
+        &["serve", "a.book", "1"],
+        &["serve", "a.book", "-1", "1"],
+        &["serve", "a.book", "1", "1", "1"],
     ];
     for words in rows {
         assert!(rt; !is_parted(rt.alloc(), words)?);
