@@ -1,4 +1,3 @@
-pub mod ColumnLemmas
 pub mod CommandLemmas
 pub mod FindLemmas
 pub mod OpeningLemmas

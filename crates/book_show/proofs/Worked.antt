@@ -18,10 +18,10 @@ use Rattle.book_reports.specs.Layout.{record_text}
 use Rattle.book_reports.specs.declared.form.Form.TheVariants.{Csv, Plain}
 use Rattle.unicode_width.proofs.Computing.{unicode_width}
 use Rattle.book_show.specs.Accounts.{account_columns, account_rows, kind_word}
-use Rattle.book_show.specs.Columns.{lines, placed, table_text, width}
+use Rattle.book_table.specs.Columns.{lines, placed, table_text, width}
 use Rattle.book_show.specs.Journal.{dated, rows_of}
 use Rattle.book_show.specs.Words.{asked_of}
-use Rattle.book_show.specs.declared.columns.Side.TheVariants.{Free, Left, Right}
+use Rattle.book_table.specs.declared.columns.Side.TheVariants.{Free, Left, Right}
 use Rattle.book_show.specs.declared.question.Question.TheVariants.{Accounts, Command, Export}
 
 abbrev commodity : List ℕ → List ℕ → ℕ → Commodity

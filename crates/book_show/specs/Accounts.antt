@@ -14,9 +14,9 @@ use Rattle.book_reports.specs.Measure.{fraction_of, name_of}
 use Rattle.book_reports.specs.declared.form.Form.{Form}
 use Rattle.book_splits.specs.Balance.{balance}
 use Rattle.book_undo.specs.Book.{Book}
-use Rattle.book_show.specs.Columns.{table_text}
-use Rattle.book_show.specs.declared.columns.Side.{Side}
-use Rattle.book_show.specs.declared.columns.Side.TheVariants.{Free, Left, Right}
+use Rattle.book_table.specs.Columns.{table_text}
+use Rattle.book_table.specs.declared.columns.Side.{Side}
+use Rattle.book_table.specs.declared.columns.Side.TheVariants.{Free, Left, Right}
 
 -- The word of a kind of accounts, as commands write it.
 unfoldable pub kind_word : AccountKind → List ℕ

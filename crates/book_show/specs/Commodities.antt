@@ -8,9 +8,9 @@ use Rattle.book_prices.specs.declared.price.Price.{Price}
 use Rattle.book_reports.specs.Measure.{name_of}
 use Rattle.book_reports.specs.declared.form.Form.{Form}
 use Rattle.book_undo.specs.Book.{Book}
-use Rattle.book_show.specs.Columns.{table_text}
-use Rattle.book_show.specs.declared.columns.Side.{Side}
-use Rattle.book_show.specs.declared.columns.Side.TheVariants.{Free, Left, Right}
+use Rattle.book_table.specs.Columns.{table_text}
+use Rattle.book_table.specs.declared.columns.Side.{Side}
+use Rattle.book_table.specs.declared.columns.Side.TheVariants.{Free, Left, Right}
 
 -- The row of a commodity: its number, how many of its smallest units make one unit, the mark c of the currency of the
 -- book, its space, its name and its full name.

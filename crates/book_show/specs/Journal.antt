@@ -19,9 +19,9 @@ use Rattle.book_splits.specs.declared.split.Split.{Split}
 use Rattle.book_splits.specs.declared.transaction.Txn.{Txn}
 use Rattle.book_undo.specs.Book.{Book}
 use Rattle.book_show.specs.Accounts.{name_in}
-use Rattle.book_show.specs.Columns.{table_text}
-use Rattle.book_show.specs.declared.columns.Side.{Side}
-use Rattle.book_show.specs.declared.columns.Side.TheVariants.{Free, Left, Right}
+use Rattle.book_table.specs.Columns.{table_text}
+use Rattle.book_table.specs.declared.columns.Side.{Side}
+use Rattle.book_table.specs.declared.columns.Side.TheVariants.{Free, Left, Right}
 use Rattle.book_show.specs.declared.days.Days.{Days}
 
 -- ---- which transactions, in which order

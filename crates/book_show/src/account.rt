@@ -8,8 +8,7 @@ ghost use Rattle.book_show.specs.Account.{register_row, register_rows, register_
 
 use crate::PresentBook;
 use crate::accounts::name_in;
-use crate::cells::{Cells, row_of};
-use crate::columns::{Side, table_text};
+use book_table::{Cells, Side, row_of, table_text};
 use book_commodity::{Many, OutOfMemory, Steps, Text};
 use book_register::{Entry, Mark2};
 use book_reports::Form;

@@ -4,8 +4,7 @@ ghost use Rattle.book_show.specs.Accounts.{account_columns, account_marks, accou
 ghost use Rattle.book_show.specs.Accounts.{accounts_text, kind_word, name_in, row_at};
 
 use crate::PresentBook;
-use crate::cells::{Cells, row_of};
-use crate::columns::{Side, table_text};
+use book_table::{Cells, Side, row_of, table_text};
 use book_accounts::{Account, AccountKind};
 use book_commodity::{Many, OutOfMemory, Text};
 use book_reports::Form;

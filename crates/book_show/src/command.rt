@@ -5,7 +5,7 @@ ghost use Rattle.book_commodity.specs.Day.{day_text};
 ghost use Rattle.book_show.specs.Command.{command_text, edit_data, edit_line, split_data};
 
 use crate::PresentBook;
-use crate::layout::day_cell;
+use book_table::day_cell;
 use book_commodity::{OutOfMemory, Text};
 use book_splits::{Split, Txn};
 use serde_json::{Value, json};

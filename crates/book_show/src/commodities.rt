@@ -2,8 +2,7 @@ ghost use Rattle.std.specs.Prelude.{◌≡◌, [], ◌∷◌, ◌++◌, ◌==◌
 ghost use Rattle.book_show.specs.Commodities.{commodities_text, commodity_row, price_columns, price_row, prices_text};
 
 use crate::PresentBook;
-use crate::cells::{Cells, row_of};
-use crate::columns::{Side, table_text};
+use book_table::{Cells, Side, row_of, table_text};
 use book_commodity::{Commodity, Many, OutOfMemory, Text};
 use book_prices::{Price, Prices};
 use book_reports::Form;

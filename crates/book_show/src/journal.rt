@@ -4,8 +4,7 @@ ghost use Rattle.book_show.specs.Journal.{IsJournal, columns, head_row, listed, 
 ghost use Rattle.book_show.specs.Journal.{plain_rows, record_row, rows_at, rows_of, split_row};
 
 use crate::accounts::name_in;
-use crate::cells::{Cells, row_of};
-use crate::columns::{Side, table_text};
+use book_table::{Cells, Side, row_of, table_text};
 use crate::order::by_day;
 use crate::{Days, PresentBook};
 use book_commodity::{Many, OutOfMemory, Text, amount_text};

@@ -8,14 +8,11 @@
 
 mod account;
 mod accounts;
-mod cells;
-mod columns;
 mod command;
 mod commodities;
 mod days;
 mod find;
 mod journal;
-mod layout;
 mod opening;
 mod order;
 mod present;

@@ -1,0 +1,85 @@
+-- Rows of texts one after another, and the texts of a row in their columns.
+use Rattle.std.proofs.Common.{◌≡◌, ℕ, suc, zero, ◌+◌, ◌≤◌, ◌<◌, max, min, List, [], ◌∷◌, ◌++◌, length, drop, get_or, refl, sym, ap, ◌∙◌, arith, add-one}
+use Rattle.std.proofs.Common.{drop-cons}
+use Rattle.book_table.specs.Columns.{before, columns_from, filled, gap, line, placed, widest, width_at}
+use Rattle.book_table.specs.declared.columns.Column.{Column}
+use Rattle.book_table.specs.declared.columns.Side.{Side}
+
+-- ---- the widest text
+
+-- the widest text of the rows from one on is that of the row or of those behind it
+pub widest_next :
+    (place i : ℕ) (rows : List (List (List ℕ))) (d : List (List ℕ)) → i < length rows
+    → widest place (drop i rows) ≡ max (width_at place (get_or rows i d)) (widest place (drop (i + 1) rows))
+widest_next place i rows d lt = rw (add-one, drop-cons rows i d) refl
+
+pub widest_end :
+    (place i : ℕ) (rows : List (List (List ℕ))) → length rows ≤ i → widest place (drop i rows) ≡ 0
+widest_end place i [] le = elim i as (λ n. widest place (drop n []) ≡ 0) [ zero ↦ refl | suc n ↦ refl ]
+widest_end place zero (row ∷ rows) le = absurd (omega (arith, le))
+widest_end place (suc i) (row ∷ rows) le = widest_end place i rows (omega (arith, le))
+
+-- ---- the columns
+
+pub columns_next :
+    (sides : List Side) (rows : List (List (List ℕ))) (i : ℕ) (d : Side) → i < length sides
+    → columns_from i (drop i sides) rows
+    ≡ record { side = get_or sides i d; places = widest i rows } ∷ columns_from (i + 1) (drop (i + 1) sides) rows
+columns_next sides rows i d lt =
+    ap (λ (s : List Side). columns_from i s rows) (drop-cons sides i d lt)
+    ∙ ap (λ (n : ℕ). record { side = get_or sides i d; places = widest i rows } ∷ columns_from (i + 1) (drop n sides) rows)
+    (sym (add-one i))
+
+pub columns_end :
+    (sides : List Side) (rows : List (List (List ℕ))) (place i : ℕ) → length sides ≤ i
+    → columns_from place (drop i sides) rows ≡ []
+columns_end [] rows place i le =
+    elim i as (λ n. columns_from place (drop n []) rows ≡ []) [ zero ↦ refl | suc n ↦ refl ]
+columns_end (side ∷ sides) rows place zero le = absurd (omega (arith, le))
+columns_end (side ∷ sides) rows place (suc i) le = columns_end sides rows place i (omega (arith, le))
+
+-- ---- a row in its columns
+
+pub gap_before : (row : List (List ℕ)) (i : ℕ) → i < length row → gap (drop i row) ≡ 32 ∷ 32 ∷ []
+gap_before row i lt = ap gap (drop-cons row i [] lt)
+
+pub gap_behind : (row : List (List ℕ)) (i : ℕ) → length row ≤ i → gap (drop i row) ≡ []
+gap_behind [] i le = elim i as (λ n. gap (drop n []) ≡ []) [ zero ↦ refl | suc n ↦ refl ]
+gap_behind (text ∷ row) zero le = absurd (omega (arith, le))
+gap_behind (text ∷ row) (suc i) le = gap_behind row i (omega (arith, le))
+
+pub line_next :
+    (columns : List Column) (row : List (List ℕ)) (i : ℕ) (c : Column) (t : List ℕ)
+    → i < length columns → i < length row
+    → line (drop i columns) (drop i row)
+    ≡ placed (before (drop (i + 1) row) (get_or columns i c)) (get_or row i t) ++ gap (drop (i + 1) row) ++ line (drop (i + 1) columns) (drop (i + 1) row)
+line_next columns row i c t columns_lt row_lt =
+    ap (λ (cs : List Column). line cs (drop i row)) (drop-cons columns i c columns_lt)
+    ∙ ap (λ (ts : List (List ℕ)). line (get_or columns i c ∷ drop (suc i) columns) ts) (drop-cons row i t row_lt)
+    ∙ ap (λ (n : ℕ). placed (before (drop n row) (get_or columns i c)) (get_or row i t) ++ gap (drop n row) ++ line (drop n columns) (drop n row))
+    (sym (add-one i))
+
+-- behind the last column, and behind the last text, the line ends
+pub line_end :
+    (columns : List Column) (row : List (List ℕ)) (i : ℕ) → min (length columns) (length row) ≤ i
+    → line (drop i columns) (drop i row) ≡ 10 ∷ []
+line_end [] row i le =
+    elim i as (λ n. line (drop n []) (drop n row) ≡ 10 ∷ []) [ zero ↦ refl | suc n ↦ refl ]
+line_end (column ∷ columns) [] i le = ends (drop i (column ∷ columns)) i
+  where
+    ends : (cs : List Column) (n : ℕ) → line cs (drop n []) ≡ 10 ∷ []
+    ends [] n = refl
+    ends (c ∷ cs) zero = refl
+    ends (c ∷ cs) (suc n) = refl
+line_end (column ∷ columns) (text ∷ row) zero le = absurd (omega (arith, le))
+line_end (column ∷ columns) (text ∷ row) (suc i) le = line_end columns row i (omega (arith, le))
+
+-- ---- the texts up to the last one that isn't empty
+
+pub filled_bound : (row : List (List ℕ)) → filled row ≤ length row
+filled_bound [] = omega arith
+filled_bound (text ∷ row) = bound_by (length text == 0 && filled row == 0) (filled_bound row)
+  where
+    bound_by : (t : Bool) → filled row ≤ length row → (if t then 0 else filled row + 1) ≤ suc (length row)
+    bound_by true more = omega arith
+    bound_by false more = omega (arith, more)

@@ -1,0 +1,46 @@
+-- What is said of the row at which a book is damaged. The kinds of rows are those of docs/FORMATS.md.
+use Rattle.std.specs.Prelude.{ℕ, ◌==◌, if◌then◌else◌, List, ◌++◌, codes}
+use Rattle.std.specs.Fmt.{decimal}
+
+-- What the rows of a kind are.
+unfoldable pub kind_word : ℕ → List ℕ
+kind_word kind =
+    if kind == 1 then codes "the head"
+    else if kind == 2 then codes "a commodity"
+    else if kind == 3 then codes "an account"
+    else if kind == 4 then codes "a transaction"
+    else if kind == 5 then codes "a price"
+    else if kind == 6 then codes "a schedule"
+    else if kind == 7 then codes "a statement"
+    else if kind == 8 then codes "a line of a statement"
+    else if kind == 9 then codes "a binding"
+    else if kind == 10 then codes "a reconciliation"
+    else if kind == 11 then codes "a step back"
+    else if kind == 12 then codes "a step forth"
+    else codes "no kind of a book"
+
+-- A row that is missing, or can't be read.
+unfoldable pub unread_row_text : ℕ → ℕ → List ℕ
+unread_row_text kind id =
+    codes "The row of kind "
+    ++ (decimal kind
+    ++ (codes " and id "
+    ++ (decimal id
+    ++ (codes " ("
+    ++ (kind_word kind
+    ++ (codes ") is missing, or can't be read.\nRows were changed by other means than `book`. Use your last copy. To see the row:\n  sqlite3 BOOK 'SELECT hex(body) FROM bk_rows WHERE kind = "
+    ++ (decimal kind ++ (codes " AND id = " ++ (decimal id ++ codes "'\n")))))))))
+
+-- The first row that breaks a rule of its kind.
+unfoldable pub unsound_row_text : ℕ → ℕ → List ℕ
+unsound_row_text kind id =
+    codes "The row of kind "
+    ++ (decimal kind
+    ++ (codes " and id "
+    ++ (decimal id
+    ++ (codes " ("
+    ++ (kind_word kind
+    ++ (codes ") is the first that breaks a rule of its kind.\nRows were changed by other means than `book`. Use your last copy. `docs/FORMATS.md` lists the rules of\nkind "
+    ++ (decimal kind
+    ++ (codes ", under \"The rows\". To see the row:\n  sqlite3 BOOK 'SELECT hex(body) FROM bk_rows WHERE kind = "
+    ++ (decimal kind ++ (codes " AND id = " ++ (decimal id ++ codes "'\n")))))))))))

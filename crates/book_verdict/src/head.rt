@@ -1,0 +1,62 @@
+ghost use Rattle.std.specs.Prelude.{◌≡◌, ◌<◌};
+ghost use Rattle.book_verdict.specs.Head.{byte_at, fault_of_head, page_bytes, page_count, pair_at};
+
+use crate::FileFault;
+
+/// How many bytes the head of a SQLite database has.
+pub const HEAD: usize = 100;
+
+/// How the head of a SQLite database begins.
+const MAGIC: &[u8] = b"SQLite format 3\0";
+
+/// What the first bytes of a file and its length say of it: that it is no SQLite database, or one that is cut short.
+pub fn fault_of_head(head: &[u8], length: u64) -> Option<FileFault>
+    ensures { result ≡ fault_of_head head.now length }
+{
+    if head.len() < HEAD || !head.starts_with(MAGIC) {
+        return Some(FileFault::NoDatabase);
+    }
+    if length < page_bytes(head) * page_count(head) {
+        return Some(FileFault::CutShort);
+    }
+    None
+}
+
+/// How many bytes a page has.
+fn page_bytes(head: &[u8]) -> u64
+    ensures value { result ≡ page_bytes head.now }
+    ensures small { result < 65_537 }
+{
+    match pair_at(head, 16) {
+        1 => 65_536,
+        bytes => bytes,
+    }
+}
+
+/// How many pages the file has.
+fn page_count(head: &[u8]) -> u64
+    ensures value { result ≡ page_count head.now }
+    ensures small { result < 4_294_967_296 }
+{
+    pair_at(head, 28) * 65_536 + pair_at(head, 30)
+}
+
+/// The number that two bytes spell, the greater first; 0 where there are none.
+fn pair_at(head: &[u8], place: usize) -> u64
+    requires { place < 1000 }
+    ensures value { result ≡ pair_at place head.now }
+    ensures small { result < 65_536 }
+{
+    byte_at(head, place) * 256 + byte_at(head, place + 1)
+}
+
+/// The byte at a place; 0 where there is none.
+fn byte_at(head: &[u8], place: usize) -> u64
+    ensures value { result ≡ byte_at place head.now }
+    ensures small { result < 256 }
+{
+    match head.get(place) {
+        Some(byte) => u64::from(*byte),
+        None => 0,
+    }
+}

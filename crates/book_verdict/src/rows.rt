@@ -1,0 +1,51 @@
+ghost use Rattle.std.specs.Prelude.{◌≡◌, IfOk};
+ghost use Rattle.book_verdict.specs.Rows.{kind_word, unread_row_text, unsound_row_text};
+
+use book_commodity::{OutOfMemory, Text};
+use std::alloc::Global;
+
+/// What is said where the row of a kind and an id is missing or can't be read.
+pub fn unread_row_text(alloc: Global, kind: u8, id: u64) -> Result<Text, OutOfMemory>
+    ensures { IfOk result (λ text. text ≡ unread_row_text kind id) }
+{
+    let thing = kind_word(kind);
+    Ok(Text::of(format!(in alloc;
+        "The row of kind {kind} and id {id} ({thing}) is missing, or can't be read.\n\
+        Rows were changed by other means than `book`. Use your last copy. To see the row:\n  \
+        sqlite3 BOOK 'SELECT hex(body) FROM bk_rows WHERE kind = {kind} AND id = {id}'\n"
+    )?))
+}
+
+/// What is said where the row of a kind and an id is the first that breaks a rule.
+pub fn unsound_row_text(alloc: Global, kind: u8, id: u64) -> Result<Text, OutOfMemory>
+    ensures { IfOk result (λ text. text ≡ unsound_row_text kind id) }
+{
+    let thing = kind_word(kind);
+    Ok(Text::of(format!(in alloc;
+        "The row of kind {kind} and id {id} ({thing}) is the first that breaks a rule of its kind.\n\
+        Rows were changed by other means than `book`. Use your last copy. `docs/FORMATS.md` lists the rules of\n\
+        kind {kind}, under \"The rows\". To see the row:\n  \
+        sqlite3 BOOK 'SELECT hex(body) FROM bk_rows WHERE kind = {kind} AND id = {id}'\n"
+    )?))
+}
+
+/// What the rows of a kind are.
+fn kind_word(kind: u8) -> &'static str
+    ensures { result.now ≡ kind_word kind }
+{
+    match kind {
+        1 => "the head",
+        2 => "a commodity",
+        3 => "an account",
+        4 => "a transaction",
+        5 => "a price",
+        6 => "a schedule",
+        7 => "a statement",
+        8 => "a line of a statement",
+        9 => "a binding",
+        10 => "a reconciliation",
+        11 => "a step back",
+        12 => "a step forth",
+        _ => "no kind of a book",
+    }
+}
