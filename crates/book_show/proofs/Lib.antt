@@ -4,5 +4,6 @@ pub mod OpeningLemmas
 pub mod OrderLemmas
 pub mod RegisterLemmas
 pub mod RowLemmas
+pub mod ScheduleRowLemmas
 pub mod WordLemmas
 pub mod Worked

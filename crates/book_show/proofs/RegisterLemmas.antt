@@ -18,35 +18,35 @@ drop_here rows i row there = drop_suc rows i row there ∙ ap (λ (k : ℕ). row
 
 -- the rows from a place on are that of the row there and those from the next place on
 rows_step :
-    (book : Book) (fraction : ℕ) (rows : List Entry) (i : ℕ) (row : Entry) → slice_get rows i ≡ Some row
-    → rows_after book fraction (take i rows) (drop i rows)
-    ≡ register_row book fraction row (balance (take (i + 1) rows))
-    ∷ rows_after book fraction (take (i + 1) rows) (drop (i + 1) rows)
-rows_step book fraction rows i row there =
-    ap (λ (l : List Entry). rows_after book fraction (take i rows) l) (drop_here rows i row there)
-    ∙ ap (λ (before : List Entry). register_row book fraction row (balance before)
-    ∷ rows_after book fraction before (drop (i + 1) rows)) (push rows i row there)
+    (book : Book) (lines : List (ℕ × ℕ)) (fraction : ℕ) (rows : List Entry) (i : ℕ) (row : Entry) → slice_get rows i ≡ Some row
+    → rows_after book lines fraction (take i rows) (drop i rows)
+    ≡ register_row book lines fraction row (balance (take (i + 1) rows))
+    ∷ rows_after book lines fraction (take (i + 1) rows) (drop (i + 1) rows)
+rows_step book lines fraction rows i row there =
+    ap (λ (l : List Entry). rows_after book lines fraction (take i rows) l) (drop_here rows i row there)
+    ∙ ap (λ (before : List Entry). register_row book lines fraction row (balance before)
+    ∷ rows_after book lines fraction before (drop (i + 1) rows)) (push rows i row there)
 
 -- so what was added, with the rows that are left, stays the whole
 pub rows_next :
-    (book : Book) (fraction : ℕ) (rows : List Entry) (i : ℕ) (row : Entry) (after : ℤ) (made : List (List ℕ))
-    (old new whole : List (List (List ℕ))) → slice_get rows i ≡ Some row → made ≡ register_row book fraction row after
-    → new ≡ old ++ made ∷ [] → old ++ rows_after book fraction (take i rows) (drop i rows) ≡ whole
+    (book : Book) (lines : List (ℕ × ℕ)) (fraction : ℕ) (rows : List Entry) (i : ℕ) (row : Entry) (after : ℤ) (made : List (List ℕ))
+    (old new whole : List (List (List ℕ))) → slice_get rows i ≡ Some row → made ≡ register_row book lines fraction row after
+    → new ≡ old ++ made ∷ [] → old ++ rows_after book lines fraction (take i rows) (drop i rows) ≡ whole
     → after ≡ balance (take (i + 1) rows)
-    → new ++ rows_after book fraction (take (i + 1) rows) (drop (i + 1) rows) ≡ whole
-rows_next book fraction rows i row after made old new whole there is added held same =
-    let rest = rows_after book fraction (take (i + 1) rows) (drop (i + 1) rows) in
-    let here : made ≡ register_row book fraction row (balance (take (i + 1) rows)) =
-    is ∙ ap (register_row book fraction row) same in
+    → new ++ rows_after book lines fraction (take (i + 1) rows) (drop (i + 1) rows) ≡ whole
+rows_next book lines fraction rows i row after made old new whole there is added held same =
+    let rest = rows_after book lines fraction (take (i + 1) rows) (drop (i + 1) rows) in
+    let here : made ≡ register_row book lines fraction row (balance (take (i + 1) rows)) =
+    is ∙ ap (register_row book lines fraction row) same in
     ap (λ (l : List (List (List ℕ))). l ++ rest) (added ∙ ap (λ (r : List (List ℕ)). old ++ r ∷ []) here)
-    ∙ append_assoc old (register_row book fraction row (balance (take (i + 1) rows)) ∷ []) rest
-    ∙ ap (λ (l : List (List (List ℕ))). old ++ l) (sym (rows_step book fraction rows i row there)) ∙ held
+    ∙ append_assoc old (register_row book lines fraction row (balance (take (i + 1) rows)) ∷ []) rest
+    ∙ ap (λ (l : List (List (List ℕ))). old ++ l) (sym (rows_step book lines fraction rows i row there)) ∙ held
 
 -- and behind the last row nothing is left
 pub rows_end :
-    (book : Book) (fraction : ℕ) (rows : List Entry) (i : ℕ) (out whole : List (List (List ℕ)))
-    → length rows ≤ i → out ++ rows_after book fraction (take i rows) (drop i rows) ≡ whole → out ≡ whole
-rows_end book fraction rows i out whole past held =
+    (book : Book) (lines : List (ℕ × ℕ)) (fraction : ℕ) (rows : List Entry) (i : ℕ) (out whole : List (List (List ℕ)))
+    → length rows ≤ i → out ++ rows_after book lines fraction (take i rows) (drop i rows) ≡ whole → out ≡ whole
+rows_end book lines fraction rows i out whole past held =
     sym (append-nil out)
-    ∙ ap (λ (l : List Entry). out ++ rows_after book fraction (take i rows) l) (sym (drop_all i rows past))
+    ∙ ap (λ (l : List Entry). out ++ rows_after book lines fraction (take i rows) l) (sym (drop_all i rows past))
     ∙ held

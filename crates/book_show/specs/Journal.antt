@@ -74,11 +74,13 @@ head_row book number transaction =
     ∷ name_of book.commodities transaction.currency
     ∷ []
     ∷ transaction.num
+    ∷ []
     ∷ transaction.description
     ∷ []
     ∷ []
 
--- The row of a split below it: its number, its mark, its value, its quantity, its action, its account and its memo.
+-- The row of a split below it: its number, its mark, its value, its quantity, its action, the number of its account, the
+-- account and its memo.
 abbrev pub split_row : Book → Txn → Split → List (List ℕ)
 split_row book transaction split =
     []
@@ -87,6 +89,7 @@ split_row book transaction split =
     ∷ amount_in book transaction.currency split.value
     ∷ other_quantity book transaction split
     ∷ split.action
+    ∷ decimal split.account
     ∷ name_in book split.account
     ∷ split.memo
     ∷ []
@@ -128,15 +131,15 @@ rows_at form book number = option_map_or (rows_of form book number) (value_of nu
 
 abbrev pub columns : Form → List (List ℕ)
 columns Plain =
-    codes "day" ∷ codes "number" ∷ codes "mark" ∷ codes "value" ∷ codes "quantity" ∷ codes "num" ∷ codes "description"
-    ∷ codes "memo" ∷ []
+    codes "day" ∷ codes "number" ∷ codes "mark" ∷ codes "value" ∷ codes "quantity" ∷ codes "num" ∷ codes "account"
+    ∷ codes "description" ∷ codes "memo" ∷ []
 columns Csv =
     codes "transaction" ∷ codes "day" ∷ codes "num" ∷ codes "description" ∷ codes "currency" ∷ codes "split"
     ∷ codes "mark" ∷ codes "account" ∷ codes "path" ∷ codes "value" ∷ codes "quantity" ∷ codes "commodity"
     ∷ codes "action" ∷ codes "memo" ∷ []
 
 abbrev pub sides : List Side
-sides = Left ∷ Right ∷ Left ∷ Right ∷ Right ∷ Left ∷ Left ∷ Free ∷ []
+sides = Left ∷ Right ∷ Left ∷ Right ∷ Right ∷ Left ∷ Right ∷ Left ∷ Free ∷ []
 
 -- The text of transactions in an order.
 unfoldable pub listed : Form → Book → List (ℤ × ℕ) → List ℕ

@@ -3,7 +3,10 @@ ghost use Rattle.book_commodity.specs.Table.{value_of};
 ghost use Rattle.book_ledger.specs.Ledger.{register_of};
 ghost use Rattle.book_reports.specs.Measure.{commodity_of, fraction_of};
 ghost use Rattle.book_reports.specs.RegisterText.{description_in, mark_letter, number_in};
-ghost use Rattle.book_show.specs.Account.{account_text, memo_at, memo_in, other_side, other_side_in, others_than, register_columns};
+ghost use Rattle.std.specs.Prelude.{decimal};
+ghost use Rattle.std.specs.Option.{option_map_or};
+ghost use Rattle.book_show.specs.Account.{account_text, line_of, matched_in, matched_of, memo_at, memo_in, other_side};
+ghost use Rattle.book_show.specs.Account.{other_side_in, others_than, register_columns};
 ghost use Rattle.book_show.specs.Account.{register_row, register_rows, register_text, rows_after, side_of};
 
 use crate::PresentBook;
@@ -13,10 +16,11 @@ use book_commodity::{Many, OutOfMemory, Steps, Text};
 use book_register::{Entry, Mark2};
 use book_reports::Form;
 use book_splits::{Split, Txn};
+use book_statement::{Line, LineState};
 use std::alloc::Global;
 
 /// The names of the columns.
-const COLUMNS: [&str; 10] = [
+const COLUMNS: [&str; 11] = [
     "day",
     "number",
     "split",
@@ -24,13 +28,14 @@ const COLUMNS: [&str; 10] = [
     "quantity",
     "balance",
     "other side",
+    "line",
     "num",
     "description",
     "memo",
 ];
 
 /// Where the texts of each column stand.
-const SIDES: [Side; 10] = [
+const SIDES: [Side; 11] = [
     Side::Left,
     Side::Right,
     Side::Right,
@@ -38,6 +43,7 @@ const SIDES: [Side; 10] = [
     Side::Right,
     Side::Right,
     Side::Left,
+    Side::Right,
     Side::Left,
     Side::Left,
     Side::Free,
@@ -98,17 +104,18 @@ fn add_rows(
 ) -> Result<(), OutOfMemory>
     requires { IsSome (value_of account book.now.accounts) }
     ensures { OnOk result (rows.new ≡ rows.old
-        ++ rows_after book.now (fraction_of book.now.commodities (commodity_of book.now account)) []
+        ++ rows_after book.now (matched_of account book.now.lines) (fraction_of book.now.commodities (commodity_of book.now account)) []
         (register_of account book.now.transactions)) }
 {
     let register = book.register(account);
+    let lines = matched_of(alloc, account, book.plain().lines.as_slice())?;
     let fraction = book.fraction(book.commodity_of(account));
     let mut steps = Steps::new();
     let mut balance = 0i128;
     for place in 0..register.len() {
         let row = register.row(place, &mut steps);
         balance += i128::from(row.quantity);
-        rows.push(register_row(alloc, book, fraction, &row, balance)?)?;
+        rows.push(register_row(alloc, book, lines.as_slice(), fraction, &row, balance)?)?;
     }
     Ok(())
 }
@@ -117,11 +124,12 @@ fn add_rows(
 fn register_row(
     alloc: Global,
     book: &PresentBook,
+    lines: &[(u64, u64)],
     fraction: u64,
     row: &Entry,
     after: i128,
 ) -> Result<Many<Text>, OutOfMemory>
-    ensures { IfOk result (λ cells. cells ≡ register_row book.now fraction row.now after) }
+    ensures { IfOk result (λ cells. cells ≡ register_row book.now lines.now fraction row.now after) }
 {
     let other = other_side_in(alloc, book, row)?;
     let mut cells = Cells::new(alloc);
@@ -132,10 +140,66 @@ fn register_row(
     cells.amount(i128::from(row.quantity), fraction)?;
     cells.amount(after, fraction)?;
     cells.text(other.as_str())?;
+    add_line(&mut cells, line_of(row.split, lines))?;
     cells.text(number_in(book, row.txn))?;
     cells.text(description_in(book, row.txn))?;
     cells.text(memo_in(book, row))?;
     Ok(cells.row())
+}
+
+/// Adds the number of a line; an empty text where there is none.
+fn add_line(cells: &mut Cells, line: Option<u64>) -> Result<(), OutOfMemory>
+    ensures { OnOk result (cells.new ≡ cells.old ++ option_map_or decimal line [] ∷ []) }
+{
+    match line {
+        Some(number) => cells.number(number),
+        None => cells.text(""),
+    }
+}
+
+/// The number of the line with which a split is matched.
+fn line_of(split: u64, lines: &[(u64, u64)]) -> Option<u64>
+    ensures { result ≡ line_of split lines.now }
+{
+    for (matched, number) in lines {
+        if *matched == split {
+            return Some(*number);
+        }
+    }
+    None
+}
+
+/// The lines of an account that are matched: the number of the split of each, and its own.
+fn matched_of(
+    alloc: Global,
+    account: u64,
+    lines: &[(u64, Line)],
+) -> Result<Vec<(u64, u64)>, OutOfMemory>
+    ensures { IfOk result (λ matched. matched.items ≡ matched_of account lines.now) }
+{
+    let mut matched = Vec::new(alloc);
+    for (number, line) in lines {
+        add_matched(&mut matched, account, *number, line)?;
+    }
+    Ok(matched)
+}
+
+/// Adds a line, where it is one of the account and matched.
+fn add_matched(
+    matched: &mut Vec<(u64, u64)>,
+    account: u64,
+    number: u64,
+    line: &Line,
+) -> Result<(), OutOfMemory>
+    ensures { OnOk result (matched.new.items ≡ matched.old.items ++ matched_in account (number, line.now)) }
+{
+    match line.state {
+        LineState::Matched(split) if line.account == account => {
+            matched.push((split, number))?;
+            Ok(())
+        }
+        _ => Ok(()),
+    }
 }
 
 /// The other side of the split of a row: the account of the other split, or that there are several.

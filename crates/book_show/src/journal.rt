@@ -13,13 +13,14 @@ use book_splits::{Mark, Split, Txn};
 use std::alloc::Global;
 
 /// The names of the columns for a person.
-const PLAIN: [&str; 8] = [
+const PLAIN: [&str; 9] = [
     "day",
     "number",
     "mark",
     "value",
     "quantity",
     "num",
+    "account",
     "description",
     "memo",
 ];
@@ -43,13 +44,14 @@ const CSV: [&str; 14] = [
 ];
 
 /// Where the texts of each column stand.
-const SIDES: [Side; 8] = [
+const SIDES: [Side; 9] = [
     Side::Left,
     Side::Right,
     Side::Left,
     Side::Right,
     Side::Right,
     Side::Left,
+    Side::Right,
     Side::Left,
     Side::Free,
 ];
@@ -192,6 +194,7 @@ fn head_row(
     cells.text(book.name(transaction.currency))?;
     cells.text("")?;
     cells.text(transaction.num.as_str())?;
+    cells.text("")?;
     cells.text(transaction.description.as_str())?;
     cells.text("")?;
     Ok(cells.row())
@@ -215,6 +218,7 @@ fn split_row(
     cells.amount(i128::from(split.value), book.fraction(transaction.currency))?;
     cells.text(quantity.as_str())?;
     cells.text(split.action.as_str())?;
+    cells.number(split.account)?;
     cells.text(name.as_str())?;
     cells.text(split.memo.as_str())?;
     Ok(cells.row())
@@ -251,7 +255,7 @@ fn record_row(
 }
 
 /// The quantity of a split with its commodity; empty, where the account holds the currency of the transaction.
-fn other_quantity(
+pub(crate) fn other_quantity(
     alloc: Global,
     book: &PresentBook,
     transaction: &Txn,

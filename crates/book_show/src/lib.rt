@@ -8,6 +8,7 @@
 
 mod account;
 mod accounts;
+mod check;
 mod command;
 mod commodities;
 mod days;
@@ -17,19 +18,22 @@ mod opening;
 mod order;
 mod present;
 mod question;
+mod schedules;
 mod showing;
 mod words;
 mod writing;
 
 pub use account::account_text;
 pub use accounts::accounts_text;
+pub use check::check_text;
 pub use command::command_text;
 pub use commodities::{commodities_text, prices_text};
 pub use days::Days;
 pub use find::found_text;
 pub use journal::journal_text;
 pub use opening::open_book;
-pub use present::PresentBook;
+pub use present::{Opened, PresentBook};
 pub use question::Question;
+pub use schedules::schedules_text;
 pub use showing::{ShowError, show};
-pub use words::{Asked, asked_of};
+pub use words::{Asked, asked_of, names_book};

@@ -1,4 +1,4 @@
-ghost use Rattle.std.specs.Prelude.{◌≡◌, All, IfOk, IsSome};
+ghost use Rattle.std.specs.Prelude.{◌≡◌, All, IfOk, IsSome, length};
 ghost use Rattle.book_accounts.specs.Order.{depth_first};
 ghost use Rattle.book_accounts.specs.Path.{path};
 ghost use Rattle.book_commodity.specs.Table.{value_of};
@@ -6,7 +6,8 @@ ghost use Rattle.book_export.specs.Export.{HasExported, HasFault};
 ghost use Rattle.book_ledger.specs.Ledger.{Keeps, register_of};
 ghost use Rattle.book_reports.specs.Measure.{CanBeSummed, commodity_of, fraction_of, name_of};
 ghost use Rattle.book_sound.specs.Soundness.{IsSoundBook};
-ghost use Rattle.book_splits.specs.Balance.{balance};
+ghost use Rattle.book_splits.specs.Balance.{balance, splits_of};
+ghost use Rattle.book_step.specs.Schedules.{AreTimed};
 ghost use Rattle.book_undo.specs.Book.{book_of};
 
 use book_commodity::{Many, OutOfMemory, Text};
@@ -15,7 +16,7 @@ use book_keeper::Sink;
 use book_ledger::Registers;
 use book_prices::Prices;
 use book_register::Register;
-use book_undo::Plain;
+use book_undo::{Plain, Schedule};
 use std::alloc::Global;
 use std::marker::Model;
 
@@ -24,6 +25,13 @@ use std::marker::Model;
 pub struct PresentBook {
     plain: Plain,
     registers: Registers,
+}
+
+/// A book that was opened: what it has, and its version, the count of the changes so far.
+#[derive(Drop)]
+pub struct Opened {
+    pub book: PresentBook,
+    pub version: u64,
 }
 
 impl Model for PresentBook {
@@ -67,12 +75,29 @@ impl PresentBook {
         export(alloc, &self.plain, output)
     }
 
+    /// How many splits all transactions have together.
+    pub(crate) fn split_count(&self) -> u64
+        ensures { result ≡ length (splits_of self.now.transactions) }
+    {
+        let _ = &self.registers;
+        self.plain.transactions.count_splits()
+    }
+
     /// The prices of the book.
     pub(crate) fn prices(&self) -> &Prices
         ensures { result.now.entries ≡ self.now.prices }
     {
         let _ = &self.registers;
         &self.plain.prices
+    }
+
+    /// The schedules of the book, by number. Each of their recurrences steps on.
+    pub(crate) fn schedules(&self) -> &[(u64, Schedule)]
+        ensures schedules { result.now ≡ self.now.schedules }
+        ensures timed { AreTimed result.now }
+    {
+        let _ = &self.registers;
+        self.plain.schedules.as_slice()
     }
 
     /// The numbers of the accounts, in the order of their tree.

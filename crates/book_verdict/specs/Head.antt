@@ -1,5 +1,5 @@
 -- What the first 100 bytes of a file say of it (SQLite, Database File Format, "The Database Header").
-use Rattle.std.specs.Prelude.{ℕ, ◌+◌, ◌*◌, ◌==◌, ◌||◌, nat_lt, Bool, not, if◌then◌else◌, List, [], ◌∷◌, ◌++◌, length, codes}
+use Rattle.std.specs.Prelude.{ℕ, ◌+◌, ◌*◌, ◌==◌, ◌&&◌, nat_lt, Bool, not, if◌then◌else◌, List, [], ◌∷◌, ◌++◌, length, codes}
 use Rattle.std.specs.Prelude.{Option, Some, None, slice_get, take}
 use Rattle.std.specs.Option.{option_map_or}
 use Rattle.std.specs.Str.{bytes_eq}
@@ -24,7 +24,7 @@ page_count head = pair_at 28 head * 65536 + pair_at 30 head
 
 -- A file is a SQLite database by its head: 100 bytes, of which the first are the text `SQLite format 3` and a zero.
 abbrev pub is_database : List ℕ → Bool
-is_database head = not (nat_lt (length head) 100 || not (bytes_eq (take 16 head) (codes "SQLite format 3" ++ 0 ∷ [])))
+is_database head = not (nat_lt (length head) 100) && bytes_eq (take 16 head) (codes "SQLite format 3" ++ 0 ∷ [])
 
 -- A file that is no database, or one that has fewer bytes than its pages have.
 abbrev pub fault_of_head : List ℕ → ℕ → Option FileFault

@@ -1,5 +1,5 @@
 ghost use Rattle.std.specs.Prelude.{◌≡◌, ◌<◌};
-ghost use Rattle.book_verdict.specs.Head.{byte_at, fault_of_head, page_bytes, page_count, pair_at};
+ghost use Rattle.book_verdict.specs.Head.{byte_at, fault_of_head, is_database, page_bytes, page_count, pair_at};
 
 use crate::FileFault;
 
@@ -13,13 +13,20 @@ const MAGIC: &[u8] = b"SQLite format 3\0";
 pub fn fault_of_head(head: &[u8], length: u64) -> Option<FileFault>
     ensures { result ≡ fault_of_head head.now length }
 {
-    if head.len() < HEAD || !head.starts_with(MAGIC) {
+    if !is_database(head) {
         return Some(FileFault::NoDatabase);
     }
     if length < page_bytes(head) * page_count(head) {
         return Some(FileFault::CutShort);
     }
     None
+}
+
+/// Whether a head is that of a SQLite database.
+fn is_database(head: &[u8]) -> bool
+    ensures { result ≡ is_database head.now }
+{
+    head.len() >= HEAD && &head[..MAGIC.len()] == MAGIC
 }
 
 /// How many bytes a page has.

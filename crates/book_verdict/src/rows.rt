@@ -5,6 +5,7 @@ use book_commodity::{OutOfMemory, Text};
 use std::alloc::Global;
 
 /// What is said where the row of a kind and an id is missing or can't be read.
+#[tactic(auto, unfolding(crate::specs::Rows::unread_row_text))]
 pub fn unread_row_text(alloc: Global, kind: u8, id: u64) -> Result<Text, OutOfMemory>
     ensures { IfOk result (λ text. text ≡ unread_row_text kind id) }
 {
@@ -17,6 +18,7 @@ pub fn unread_row_text(alloc: Global, kind: u8, id: u64) -> Result<Text, OutOfMe
 }
 
 /// What is said where the row of a kind and an id is the first that breaks a rule.
+#[tactic(auto, unfolding(crate::specs::Rows::unsound_row_text))]
 pub fn unsound_row_text(alloc: Global, kind: u8, id: u64) -> Result<Text, OutOfMemory>
     ensures { IfOk result (λ text. text ≡ unsound_row_text kind id) }
 {
@@ -30,6 +32,7 @@ pub fn unsound_row_text(alloc: Global, kind: u8, id: u64) -> Result<Text, OutOfM
 }
 
 /// What the rows of a kind are.
+#[tactic(auto, unfolding(crate::specs::Rows::kind_word))]
 fn kind_word(kind: u8) -> &'static str
     ensures { result.now ≡ kind_word kind }
 {

@@ -1,2 +1,4 @@
+pub mod CheckedRows
+pub mod CopyWords
 pub mod Ended
 pub mod FileRows
