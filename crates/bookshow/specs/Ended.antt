@@ -2,9 +2,11 @@
 -- where a copy was not made.
 use Rattle.std.specs.Prelude.{ℕ}
 use Rattle.book_copy.specs.declared.copying.CopyError.{CopyError}
-use Rattle.book_copy.specs.declared.copying.CopyError.TheVariants as copying
+use Rattle.book_copy.specs.declared.copying.CopyError.TheVariants as rows
 use Rattle.book_engine.specs.declared.fault.OpenError.{OpenError}
 use Rattle.book_engine.specs.declared.fault.OpenError.TheVariants as fault
+use Rattle.book_files.specs.declared.copying.FileCopyError.{FileCopyError}
+use Rattle.book_files.specs.declared.copying.FileCopyError.TheVariants as copying
 use Rattle.book_show.specs.declared.showing.ShowError.{ShowError}
 use Rattle.book_show.specs.declared.showing.ShowError.TheVariants as error
 use Rattle.bookshow.specs.declared.ended.Ended.{Ended}
@@ -44,8 +46,16 @@ end_of error.OutOfMemory = Memory
 end_of (error.Open cause) = end_of_opening cause
 
 -- The end where no row was copied.
-abbrev pub end_of_copying : CopyError → Ended
-end_of_copying copying.Source = KeeperFault
-end_of_copying copying.Target = CopyFailed
-end_of_copying (copying.NoBookRow kind id) = BadRows kind id
+abbrev pub end_of_rows : CopyError → Ended
+end_of_rows rows.Source = KeeperFault
+end_of_rows rows.Target = CopyFailed
+end_of_rows (rows.NoBookRow kind id) = BadRows kind id
+end_of_rows rows.OutOfMemory = Memory
+
+-- The end where no copy was made.
+abbrev pub end_of_copying : FileCopyError → Ended
+end_of_copying copying.Taken = Taken
+end_of_copying copying.PartThere = PartThere
+end_of_copying (copying.Rows cause) = end_of_rows cause
+end_of_copying copying.File = CopyFailed
 end_of_copying copying.OutOfMemory = Memory

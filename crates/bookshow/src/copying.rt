@@ -1,22 +1,8 @@
-ghost use Rattle.std.specs.Prelude.{◌≡◌, IfOk, IsTrue, List, option_map};
-ghost use Rattle.sqlite.specs.Files.{over_files};
-ghost use Rattle.sqlite.specs.WalFiles.{image_at};
-ghost use Rattle.book_keeper.specs.declared.row.Row.{Row};
-ghost use Rattle.book_sqlite.specs.KeeperInSqlite.{HoldsRows, is_sure};
-ghost use Rattle.book_sqlite.specs.NewFiles.{HoldNothing};
-ghost use Rattle.bookshow.specs.FileRows.{BeginsWith};
+ghost use Rattle.std.specs.Prelude.{◌≡◌, option_map};
 ghost use Rattle.bookshow.specs.CopyWords.{copy_of};
 
-use crate::ended::Ended;
 use book_commodity::Text;
-use book_copy::{CopyError, copy_rows};
-use book_keeper::{KeepError, Keeper};
 use book_show::names_book;
-use book_sqlite::FileKeeper;
-use sqlite::{Start, Unknown};
-use std::fs::File;
-use std::io::ErrorKind;
-use std::{fs, io};
 
 /// The book and the path of its copy, where the words ask for a copy.
 pub(crate) fn copy_of(words: &[Text]) -> Option<(&str, &str)>
@@ -29,109 +15,5 @@ pub(crate) fn copy_of(words: &[Text]) -> Option<(&str, &str)>
         Some((book.as_str(), to.as_str()))
     } else {
         None
-    }
-}
-
-/// Copies all rows of the book in a file into another file; with the keepers over both as they were left. The book's
-/// rows stay, and those of the copy are exactly these. `T` and `U` stand for what the files and their logs held before. It
-/// is proved for all of them, so it holds of any file that is new.
-fn copy_in<T: Start, U: Start>(
-    rt: &HostRuntime,
-    from: &str,
-    to: &str,
-    start: T,
-    other: U,
-) -> (Result<FileKeeper<U>, CopyError>, FileKeeper<T>)
-    ensures rows { IsTrue (is_sure over_files result.1) → (rows : List Row)
-        → BeginsWith (image_at T.Start) rows → HoldsRows over_files result.1 rows }
-    ensures copied { IfOk result.0 (λ copy. IsTrue (is_sure over_files result.1) → IsTrue (is_sure over_files copy)
-        → (rows : List Row) → BeginsWith (image_at T.Start) rows → HoldNothing (image_at U.Start)
-        → HoldsRows over_files copy rows) }
-{
-    let mut source = FileKeeper::at(rt, Some(from), start);
-    if let Err(error) = source.open(from) {
-        return (Err(unread(error)), source);
-    }
-    let mut target = FileKeeper::at(rt, Some(to), other);
-    match copy_rows(rt.alloc(), &mut source, &mut target) {
-        Ok(()) => (Ok(target), source),
-        Err(error) => (Err(error), source),
-    }
-}
-
-/// Why no row was copied of a book that can't be opened.
-fn unread(error: KeepError) -> CopyError {
-    match error {
-        KeepError::Failed => CopyError::Source,
-        KeepError::OutOfMemory => CopyError::OutOfMemory,
-    }
-}
-
-/// Makes a copy of the book in a file at a path where nothing is. It is made under another name beside that path and
-/// gets its own in the end, so no run that is stopped leaves a part of a copy there.
-pub(crate) fn copy_file(rt: &HostRuntime, from: &str, to: &str) -> Ended {
-    let (Ok(log), Ok(part), Ok(part_log)) = (
-        format!(in rt.alloc(); "{to}-wal"),
-        format!(in rt.alloc(); "{to}.part"),
-        format!(in rt.alloc(); "{to}.part-wal"),
-    ) else {
-        return Ended::Memory;
-    };
-    if is_there(rt, to) || is_there(rt, log.as_str()) {
-        return Ended::Taken;
-    }
-    if is_there(rt, part.as_str()) || is_there(rt, part_log.as_str()) {
-        return Ended::PartThere;
-    }
-    let ended = copy_through(rt, from, part.as_str(), part_log.as_str(), to);
-    if ended != Ended::Done {
-        let _ = fs::remove_file(rt, part.as_str());
-        let _ = fs::remove_file(rt, part_log.as_str());
-    }
-    ended
-}
-
-/// Whether something is at a path, or that can't be seen.
-fn is_there(rt: &HostRuntime, path: &str) -> bool {
-    match fs::symlink_metadata(rt, path) {
-        Ok(_) => true,
-        Err(error) => error.kind() != ErrorKind::NotFound,
-    }
-}
-
-/// Makes the copy at the path of its part, and gives it its own path.
-fn copy_through(rt: &HostRuntime, from: &str, part: &str, part_log: &str, to: &str) -> Ended {
-    let (copied, source) = copy_in(rt, from, part, Unknown, Unknown);
-    drop(source);
-    let copy = match copied {
-        Ok(copy) => copy,
-        Err(error) => return Ended::of_copying(error),
-    };
-    // The copy is closed, so that its file alone has the rows.
-    if copy.close().is_err() {
-        return Ended::CopyFailed;
-    }
-    match given(rt, part, part_log, to) {
-        Ok(()) => Ended::Done,
-        Err(_) => Ended::CopyFailed,
-    }
-}
-
-/// Gives a file that is closed and has its rows alone its own path, and waits for the disk before and after.
-fn given(rt: &HostRuntime, part: &str, part_log: &str, to: &str) -> io::Result<()> {
-    if is_there(rt, part_log) {
-        fs::remove_file(rt, part_log)?;
-    }
-    File::open(rt, part)?.sync_all()?;
-    fs::rename(rt, part, to)?;
-    File::open(rt, folder_of(to))?.sync_all()
-}
-
-/// The folder of a path.
-fn folder_of(path: &str) -> &str {
-    match path.rsplit_once('/') {
-        None => ".",
-        Some(("", _)) => "/",
-        Some((folder, _)) => folder,
     }
 }

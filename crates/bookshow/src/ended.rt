@@ -4,6 +4,7 @@ ghost use Rattle.bookshow.specs.Ended.{end_of, end_of_copying, number_of};
 
 use book_copy::CopyError;
 use book_engine::OpenError;
+use book_files::FileCopyError;
 use book_show::ShowError;
 use std::io;
 use std::io::ErrorKind;
@@ -64,15 +65,17 @@ impl Ended {
         }
     }
 
-    /// The end where no row was copied.
-    pub(crate) fn of_copying(error: CopyError) -> Ended
+    /// The end where no copy was made.
+    pub(crate) fn of_copying(error: FileCopyError) -> Ended
         ensures { result ≡ end_of_copying error }
     {
         match error {
-            CopyError::Source => Ended::KeeperFault,
-            CopyError::Target => Ended::CopyFailed,
-            CopyError::NoBookRow { kind, id } => Ended::BadRows { kind, id },
-            CopyError::OutOfMemory => Ended::Memory,
+            FileCopyError::Taken => Ended::Taken,
+            FileCopyError::PartThere => Ended::PartThere,
+            FileCopyError::Rows(CopyError::Source) => Ended::KeeperFault,
+            FileCopyError::Rows(CopyError::NoBookRow { kind, id }) => Ended::BadRows { kind, id },
+            FileCopyError::Rows(CopyError::Target) | FileCopyError::File => Ended::CopyFailed,
+            FileCopyError::Rows(CopyError::OutOfMemory) | FileCopyError::OutOfMemory => Ended::Memory,
         }
     }
 

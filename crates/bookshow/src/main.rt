@@ -6,7 +6,6 @@
 
 mod copying;
 mod ended;
-mod looking;
 mod watched;
 
 ghost use Rattle.std.specs.Prelude.{◌≡◌, List, IfOk, IsTrue, OnOk};
@@ -16,14 +15,14 @@ ghost use Rattle.book_keeper.specs.declared.row.Row.{Row};
 ghost use Rattle.book_sqlite.specs.KeeperInSqlite.{HoldsRows, is_sure};
 ghost use Rattle.book_show.specs.Shown.{HasFault, HasShown};
 ghost use Rattle.bookshow.specs.CheckedRows.{row_text};
-ghost use Rattle.bookshow.specs.FileRows.{BeginsWith};
+ghost use Rattle.book_files.specs.FileRows.{BeginsWith};
 
-use crate::copying::{copy_file, copy_of};
+use crate::copying::copy_of;
 use crate::ended::Ended;
-use crate::looking::{fault_before, fault_behind};
 use crate::watched::Watched;
 use book_commodity::{OutOfMemory, Text};
 use book_engine::OpenError;
+use book_files::{copy_file, fault_before, fault_behind};
 use book_keeper::{Sink, StreamSink};
 use book_show::{Asked, Question, ShowError, asked_of, show};
 use book_sqlite::FileKeeper;
@@ -210,9 +209,12 @@ fn run(rt: &HostRuntime, words: &[Text]) -> Ended {
 
 /// Makes a copy of the book in a file.
 fn copy_book(rt: &HostRuntime, book: &str, to: &str) -> Ended {
-    match refused(rt, book) {
-        Some(ended) => ended,
-        None => copy_file(rt, book, to),
+    if let Some(ended) = refused(rt, book) {
+        return ended;
+    }
+    match copy_file(rt, book, to) {
+        Ok(()) => Ended::Done,
+        Err(error) => Ended::of_copying(error),
     }
 }
 

@@ -7,7 +7,7 @@ use std::{fs, io};
 
 /// What is wrong with the file at a path, as far as it shows before a keeper opens it; None where nothing does.
 /// An error is that of a call that was out of memory.
-pub(crate) fn fault_before(rt: &HostRuntime, path: &str) -> io::Result<Option<FileFault>> {
+pub fn fault_before(rt: &HostRuntime, path: &str) -> io::Result<Option<FileFault>> {
     let found = match fs::metadata(rt, path) {
         Ok(found) => found,
         Err(error) if error.kind() == ErrorKind::NotFound => {
@@ -67,7 +67,7 @@ fn fault_of(error: io::Error) -> io::Result<Option<FileFault>> {
 
 /// What is wrong with a file that no keeper could open or read: it is opened once more, to see why. None where the
 /// program is out of memory.
-pub(crate) fn fault_behind(rt: &HostRuntime, path: &str) -> Option<FileFault> {
+pub fn fault_behind(rt: &HostRuntime, path: &str) -> Option<FileFault> {
     match Connection::open(rt, path) {
         Ok(connection) => {
             drop(connection);

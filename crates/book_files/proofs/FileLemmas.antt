@@ -7,7 +7,7 @@ use Rattle.book_keeper.specs.declared.row.Row.{Row}
 use Rattle.book_sqlite.specs.Content.{rows_of}
 use Rattle.book_sqlite.specs.NewFiles.{HoldNothing}
 use Rattle.book_sqlite.specs.RowsDatabase.{ListsRows}
-use Rattle.bookshow.specs.FileRows.{BeginsWith}
+use Rattle.book_files.specs.FileRows.{BeginsWith}
 
 -- what holds of the rows of each database that the file holds, and of none where it holds nothing, holds of the rows with
 -- which a run begins
