@@ -40,7 +40,5 @@ unsound_row_text kind id =
     ++ (decimal id
     ++ (codes " ("
     ++ (kind_word kind
-    ++ (codes ") is the first that breaks a rule of its kind.\nRows were changed by other means than `book`. Use your last copy. `docs/FORMATS.md` lists the rules of\nkind "
-    ++ (decimal kind
-    ++ (codes ", under \"The rows\". To see the row:\n  sqlite3 BOOK 'SELECT hex(body) FROM bk_rows WHERE kind = "
-    ++ (decimal kind ++ (codes " AND id = " ++ (decimal id ++ codes "'\n")))))))))))
+    ++ (codes ") is the first that breaks a rule of its kind.\nRows were changed by other means than `book`. Use your last copy. `docs/FORMATS.md` lists these rules.\nTo see the row:\n  sqlite3 BOOK 'SELECT hex(body) FROM bk_rows WHERE kind = "
+    ++ (decimal kind ++ (codes " AND id = " ++ (decimal id ++ codes "'\n")))))))))

@@ -25,8 +25,8 @@ pub fn unsound_row_text(alloc: Global, kind: u8, id: u64) -> Result<Text, OutOfM
     let thing = kind_word(kind);
     Ok(Text::of(format!(in alloc;
         "The row of kind {kind} and id {id} ({thing}) is the first that breaks a rule of its kind.\n\
-        Rows were changed by other means than `book`. Use your last copy. `docs/FORMATS.md` lists the rules of\n\
-        kind {kind}, under \"The rows\". To see the row:\n  \
+        Rows were changed by other means than `book`. Use your last copy. `docs/FORMATS.md` lists these rules.\n\
+        To see the row:\n  \
         sqlite3 BOOK 'SELECT hex(body) FROM bk_rows WHERE kind = {kind} AND id = {id}'\n"
     )?))
 }
