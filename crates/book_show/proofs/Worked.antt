@@ -20,9 +20,12 @@ use Rattle.unicode_width.proofs.Computing.{unicode_width}
 use Rattle.book_show.specs.Accounts.{account_columns, account_rows, kind_word}
 use Rattle.book_table.specs.Columns.{lines, placed, table_text, width}
 use Rattle.book_show.specs.Journal.{dated, rows_of}
+use Rattle.book_show.specs.Account.{line_of}
+use Rattle.book_show.specs.Schedules.{end_text}
 use Rattle.book_show.specs.Words.{asked_of}
+use Rattle.book_schedule.specs.declared.timing.End.TheVariants.{After}
 use Rattle.book_table.specs.declared.columns.Side.TheVariants.{Free, Left, Right}
-use Rattle.book_show.specs.declared.question.Question.TheVariants.{Accounts, Command, Export}
+use Rattle.book_show.specs.declared.question.Question.TheVariants.{Accounts, Command, Export, Schedules}
 
 abbrev commodity : List ℕ → List ℕ → ℕ → Commodity
 commodity space name fraction = record { space = space; name = name; full_name = []; fraction = fraction }
@@ -87,10 +90,11 @@ all_accounts = refl
 -- a split is named by its own number, and not by its place
 rows_of_buy :
     rows_of Plain book 7 buy
-    ≡ (day_text (pos 40) ∷ codes "7" ∷ [] ∷ codes "EUR" ∷ [] ∷ codes "7" ∷ codes "Buy" ∷ [] ∷ [])
-    ∷ ([] ∷ codes "8" ∷ codes "n" ∷ codes "100.00" ∷ codes "10 ACME" ∷ [] ∷ codes "Broker" ∷ [] ∷ [])
-    ∷ ([] ∷ codes "9" ∷ codes "n" ∷ codes "1.50" ∷ [] ∷ [] ∷ codes "Fees" ∷ codes "fee" ∷ [])
-    ∷ ([] ∷ codes "10" ∷ codes "n" ∷ codes "-101.50" ∷ [] ∷ [] ∷ codes "Cash" ∷ [] ∷ [])
+    ≡ (day_text (pos 40) ∷ codes "7" ∷ [] ∷ codes "EUR" ∷ [] ∷ codes "7" ∷ [] ∷ codes "Buy" ∷ [] ∷ [])
+    ∷ ([] ∷ codes "8" ∷ codes "n" ∷ codes "100.00" ∷ codes "10 ACME" ∷ [] ∷ codes "4" ∷ codes "Broker" ∷ []
+    ∷ [])
+    ∷ ([] ∷ codes "9" ∷ codes "n" ∷ codes "1.50" ∷ [] ∷ [] ∷ codes "6" ∷ codes "Fees" ∷ codes "fee" ∷ [])
+    ∷ ([] ∷ codes "10" ∷ codes "n" ∷ codes "-101.50" ∷ [] ∷ [] ∷ codes "5" ∷ codes "Cash" ∷ [] ∷ [])
     ∷ []
 unfolding amount_text decimals_of with_generations nearest_parents digits
 rows_of_buy = refl
@@ -106,6 +110,14 @@ wide_columns :
     ≡ codes "abc    n  text\n" ++ wide ++ codes "  10  x\n"
 unfolding width placed unicode_width
 wide_columns = refl
+
+-- no line ends in the spaces of a column
+no_spaces :
+    lines (Left ∷ Right ∷ Left ∷ [])
+    ((codes "abc" ∷ codes "n" ∷ codes "text" ∷ []) ∷ (codes "x" ∷ codes "10" ∷ [] ∷ []) ∷ (codes "y" ∷ [] ∷ [] ∷ []) ∷ [])
+    ≡ codes "abc   n  text\nx    10\ny\n"
+unfolding width placed unicode_width
+no_spaces = refl
 
 -- comma-separated values quote what has a comma
 csv_rows :
@@ -138,5 +150,21 @@ no_table = refl
 no_table_of_all : asked_of (codes "my.book" ∷ codes "export" ∷ codes "--csv" ∷ []) ≡ None
 no_table_of_all = refl
 
+asks_schedules : asked_of (codes "my.book" ∷ codes "schedules" ∷ codes "--csv" ∷ [])
+    ≡ Some (record { book = codes "my.book"; question = Schedules; form = Csv })
+asks_schedules = refl
+
+no_table_of_check : asked_of (codes "my.book" ∷ codes "check" ∷ codes "--csv" ∷ []) ≡ None
+no_table_of_check = refl
+
 no_book : asked_of (codes "-x" ∷ codes "accounts" ∷ []) ≡ None
 no_book = refl
+
+-- the end of a schedule
+end_of_twelve : end_text (After 12) 3 ≡ codes "3 of 12"
+unfolding digits
+end_of_twelve = refl
+
+-- a split is matched with the line that names it
+line_nine : line_of 8 ((7, 3) ∷ (8, 9) ∷ []) ≡ Some 9
+line_nine = refl
