@@ -9,7 +9,7 @@ use Rattle.book_engine.specs.Machine.{fresh}
 use Rattle.book_engine.specs.declared.fault.OpenError.{OpenError}
 use Rattle.book_engine.specs.declared.fault.OpenError.TheVariants as error
 use Rattle.book_show.specs.Opening.{AreRefused, CheckedAs, OpenedAs}
-use Rattle.book_show.specs.declared.present.Opened.{Opened}
+use Rattle.book_show.specs.declared.opening.Opened.{Opened}
 
 -- the rows of a state are answered as it is
 pub opened_of :

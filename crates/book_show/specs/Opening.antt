@@ -8,7 +8,7 @@ use Rattle.book_engine.specs.Opening.{row_key}
 use Rattle.book_engine.specs.Opens.{Bad, Opens, OpensTo, Unsound}
 use Rattle.book_engine.specs.declared.fault.OpenError.{OpenError}
 use Rattle.book_engine.specs.declared.fault.OpenError.TheVariants as error
-use Rattle.book_show.specs.declared.present.Opened.{Opened}
+use Rattle.book_show.specs.declared.opening.Opened.{Opened}
 
 -- The rows open as a machine with this present book, after this count of changes.
 abbrev pub HaveBook : List Row → Opened → Type 0

@@ -5,16 +5,16 @@ use Rattle.book_keeper.specs.Stream.{Wrote, WrotePart}
 use Rattle.book_keeper.specs.declared.row.Row.{Row}
 use Rattle.book_reports.specs.declared.form.Form.{Form}
 use Rattle.book_export.specs.Export.{IsExport, WroteFront}
-use Rattle.book_show.specs.Account.{account_text}
-use Rattle.book_show.specs.Accounts.{accounts_text}
-use Rattle.book_show.specs.Check.{check_text}
-use Rattle.book_show.specs.Command.{command_text}
-use Rattle.book_show.specs.Commodities.{commodities_text, prices_text}
-use Rattle.book_show.specs.Find.{AreFound}
-use Rattle.book_show.specs.Journal.{IsJournal}
+use Rattle.book_listings.specs.Account.{account_text}
+use Rattle.book_listings.specs.Accounts.{accounts_text}
+use Rattle.book_listings.specs.Check.{check_text}
+use Rattle.book_listings.specs.Command.{command_text}
+use Rattle.book_listings.specs.Commodities.{commodities_text, prices_text}
+use Rattle.book_listings.specs.Find.{AreFound}
+use Rattle.book_listings.specs.Journal.{IsJournal}
 use Rattle.book_show.specs.Opening.{AreRefused, HaveBook}
-use Rattle.book_show.specs.Schedules.{AreSchedules}
-use Rattle.book_show.specs.declared.present.Opened.{Opened}
+use Rattle.book_listings.specs.Schedules.{AreSchedules}
+use Rattle.book_show.specs.declared.opening.Opened.{Opened}
 use Rattle.book_show.specs.declared.question.Question.{Question}
 use Rattle.book_show.specs.declared.question.Question.TheVariants.{Account, Accounts, Check, Command, Commodities, Export, Find, Journal, Prices}
 use Rattle.book_show.specs.declared.question.Question.TheVariants.{Schedules}

@@ -9,7 +9,7 @@ use Rattle.std.specs.Str.Parse.{digits_value}
 use Rattle.book_json.specs.Forms.{day_named}
 use Rattle.book_reports.specs.declared.form.Form.{Form}
 use Rattle.book_reports.specs.declared.form.Form.TheVariants.{Csv, Plain}
-use Rattle.book_show.specs.declared.days.Days.{Days}
+use Rattle.book_listings.specs.declared.days.Days.{Days}
 use Rattle.book_show.specs.declared.question.Question.{Question}
 use Rattle.book_show.specs.declared.question.Question.TheVariants.{Account, Accounts, Check, Command, Commodities, Export, Find, Journal, Prices}
 use Rattle.book_show.specs.declared.question.Question.TheVariants.{Schedules}

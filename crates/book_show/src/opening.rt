@@ -9,16 +9,23 @@ ghost use Rattle.book_undo.specs.Book.{book_of};
 ghost use Rattle.book_engine.specs.Opening.{HasOpenCause, open_error};
 ghost use Rattle.book_show.specs.Opening.{CheckedAs, OpenedAs};
 
-use crate::{Opened, PresentBook};
 use book_commodity::OutOfMemory;
 use book_engine::OpenError;
 use book_keeper::Keeper;
 use book_ledger::Registers;
+use book_listings::PresentBook;
 use book_opening::{OpenFault, Saved, read_rows};
 use book_state_check::first_unsound_key;
 use book_turns::fresh_book;
 use book_undo::Plain;
 use std::alloc::Global;
+
+/// A book that was opened: what it has, and its version, the count of the changes so far.
+#[derive(Drop)]
+pub struct Opened {
+    pub book: PresentBook,
+    pub version: u64,
+}
 
 /// The present book of the keeper's rows, which stay, with its version: those of the machine that opens from them, and
 /// without rows the fresh book. The errors are those of `Engine::open`, which asks the same of the rows.

@@ -1,5 +1,5 @@
-use crate::Days;
 use book_commodity::Text;
+use book_listings::Days;
 
 /// What is asked of a book.
 #[derive(Drop)]

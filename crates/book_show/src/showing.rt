@@ -5,19 +5,15 @@ ghost use Rattle.book_engine.specs.Opening.{HasOpenCause};
 ghost use Rattle.book_show.specs.Opening.{OpenedAs};
 ghost use Rattle.book_show.specs.Shown.{Answers, HasAnswered, HasFault, HasShown};
 
-use crate::account::account_text;
-use crate::accounts::accounts_text;
-use crate::check::check_text;
-use crate::command::command_text;
-use crate::commodities::{commodities_text, prices_text};
-use crate::find::found_text;
-use crate::journal::journal_text;
-use crate::opening::open_book;
-use crate::schedules::schedules_text;
+use crate::opening::{Opened, open_book};
 use crate::writing::{write_found, write_journal, write_text};
-use crate::{Opened, Question};
+use crate::Question;
 use book_engine::OpenError;
 use book_keeper::{KeepError, Keeper, Sink};
+use book_listings::{
+    account_text, accounts_text, check_text, command_text, commodities_text, found_text, journal_text,
+    prices_text, schedules_text,
+};
 use book_reports::Form;
 use std::alloc::Global;
 

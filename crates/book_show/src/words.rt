@@ -5,8 +5,9 @@ ghost use Rattle.book_json.specs.Forms.{day_named};
 ghost use Rattle.book_show.specs.Words.{alone, asked_of, asks, form_of, has_digits, in_form, is_book, number_of, question_of, with_one, with_two, without_form};
 ghost use Rattle.book_show.specs.Asked.{seen};
 
-use crate::{Days, Question};
+use crate::Question;
 use book_commodity::{Day, OutOfMemory, Text};
+use book_listings::Days;
 use book_reports::Form;
 
 /// What the words ask: a question on a book, answered in a form.

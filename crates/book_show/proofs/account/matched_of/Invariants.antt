@@ -1,7 +1,0 @@
-use Rattle.std.proofs.Common.{◌≡◌, take}
-use Rattle.book_show.specs.Account.{matched_of}
-use Rattle.book_show.proofs.account.matched_of.Given as goal
-
--- those of the lines so far
-abbrev pub invariant-loop-number : goal.invariant-loop-number
-invariant-loop-number l = l.matched.items ≡ matched_of l.account (take l.number-index l.lines)

@@ -1,5 +1,0 @@
-use Rattle.std.proofs.Common.{arith}
-use Rattle.book_show.proofs.present.PresentBook.split_count.Goals as goal
-
-pub count_splits-requires : goal.count_splits-requires
-count_splits-requires c = let few = c.self.invariant.0.few_splits in omega (arith, few)
