@@ -1,6 +1,8 @@
 -- Rows of texts one after another, and the texts of a row in their columns.
-use Rattle.std.proofs.Common.{◌≡◌, ℕ, suc, zero, ◌+◌, ◌≤◌, ◌<◌, max, min, List, [], ◌∷◌, ◌++◌, length, drop, get_or, refl, sym, ap, ◌∙◌, arith, add-one}
+use Rattle.std.proofs.Common.{◌≡◌, ℕ, suc, zero, ◌+◌, ◌≤◌, ◌<◌, ◌==◌, ◌&&◌, Bool, true, false, if◌then◌else◌, take}
+use Rattle.std.proofs.Common.{max, min, List, [], ◌∷◌, ◌++◌, length, drop, get_or, refl, sym, ap, ◌∙◌, arith, add-one}
 use Rattle.std.proofs.Common.{drop-cons}
+use Rattle.std.proofs.lemmas.List.{length-take-le, take_more}
 use Rattle.book_table.specs.Columns.{before, columns_from, filled, gap, line, placed, widest, width_at}
 use Rattle.book_table.specs.declared.columns.Column.{Column}
 use Rattle.book_table.specs.declared.columns.Side.{Side}
@@ -83,3 +85,37 @@ filled_bound (text ∷ row) = bound_by (length text == 0 && filled row == 0) (fi
     bound_by : (t : Bool) → filled row ≤ length row → (if t then 0 else filled row + 1) ≤ suc (length row)
     bound_by true more = omega arith
     bound_by false more = omega (arith, more)
+
+empty_or : (a : Bool) (n : ℕ) → (if a && true then 0 else n) ≡ (if a then 0 else n)
+empty_or true n = refl
+empty_or false n = refl
+
+push_by :
+    (x t : List ℕ) (row : List (List ℕ)) (m : ℕ) (e : Bool) → length t == 0 ≡ e
+    → m ≡ (if e then filled row else length row + 1)
+    → (if length x == 0 && m == 0 then 0 else m + 1)
+    ≡ (if e then filled (x ∷ row) else length (x ∷ row) + 1)
+push_by x t row m true test is =
+    ap (λ (k : ℕ). if length x == 0 && k == 0 then 0 else k + 1) is
+push_by x t row m false test is =
+    ap (λ (k : ℕ). if length x == 0 && k == 0 then 0 else k + 1) is ∙ never (length x == 0) (length row)
+  where
+    never : (a : Bool) (n : ℕ) → (if a && (n + 1) == 0 then 0 else n + 1 + 1) ≡ suc n + 1
+    never true n = refl
+    never false n = refl
+
+-- with one text more, it is the last one, where it isn't empty
+pub filled_push :
+    (row : List (List ℕ)) (text : List ℕ)
+    → filled (row ++ text ∷ []) ≡ (if length text == 0 then filled row else length row + 1)
+filled_push [] text = empty_or (length text == 0) 1
+filled_push (x ∷ row) text =
+    push_by x text row (filled (row ++ text ∷ [])) (length text == 0) refl (filled_push row text)
+
+pub filled_next :
+    (row : List (List ℕ)) (i : ℕ) (text : List ℕ) → i < length row → text ≡ get_or row i text
+    → filled (take (i + 1) row) ≡ (if length text == 0 then filled (take i row) else i + 1)
+filled_next row i text lt is =
+    ap filled (take_more row i text lt ∙ ap (λ (t : List ℕ). take i row ++ t ∷ []) (sym is))
+    ∙ filled_push (take i row) text
+    ∙ ap (λ (n : ℕ). if length text == 0 then filled (take i row) else n + 1) (length-take-le i row (omega (arith, lt)))
