@@ -12,21 +12,16 @@ use Rattle.book_undo.specs.Book.{Book}
 abbrev pub count_row : ℕ → List ℕ → List (List ℕ)
 count_row count what = decimal count ∷ what ∷ []
 
--- How much a book has of what a person enters.
-abbrev pub kept_rows : Book → List (List (List ℕ))
-kept_rows book =
+-- How much of each kind a book has.
+abbrev pub count_rows : Book → List (List (List ℕ))
+count_rows book =
     count_row (length book.accounts) (codes "accounts")
     ∷ count_row (length book.commodities) (codes "commodities")
     ∷ count_row (length book.transactions) (codes "transactions")
     ∷ count_row (length (splits_of book.transactions)) (codes "splits")
     ∷ count_row (length book.prices) (codes "prices")
     ∷ count_row (length book.schedules) (codes "schedules")
-    ∷ []
-
--- How much of what comes from a bank, or is compared with it.
-abbrev pub bank_rows : Book → List (List (List ℕ))
-bank_rows book =
-    count_row (length book.statements) (codes "statements")
+    ∷ count_row (length book.statements) (codes "statements")
     ∷ count_row (length book.lines) (codes "lines of statements")
     ∷ count_row (length book.bindings) (codes "bindings")
     ∷ count_row (length book.reconciliations) (codes "reconciliations")
@@ -40,7 +35,7 @@ count_sides = Right ∷ Free ∷ []
 
 -- The counts.
 unfoldable pub counts_text : Book → List ℕ
-counts_text book = table_text Plain count_sides (count_columns ∷ (kept_rows book ++ bank_rows book))
+counts_text book = table_text Plain count_sides (count_columns ∷ count_rows book)
 
 -- What a check says of a book that opens.
 unfoldable pub check_text : Book → ℕ → List ℕ

@@ -178,8 +178,8 @@ fn matched_of(
     ensures { IfOk result (λ matched. matched.items ≡ matched_of account lines.now) }
 {
     let mut matched = Vec::new(alloc);
-    for (number, line) in lines {
-        add_matched(&mut matched, account, *number, line)?;
+    for entry in lines {
+        add_matched(&mut matched, account, entry)?;
     }
     Ok(matched)
 }
@@ -188,17 +188,20 @@ fn matched_of(
 fn add_matched(
     matched: &mut Vec<(u64, u64)>,
     account: u64,
-    number: u64,
-    line: &Line,
+    entry: &(u64, Line),
 ) -> Result<(), OutOfMemory>
-    ensures { OnOk result (matched.new.items ≡ matched.old.items ++ matched_in account (number, line.now)) }
+    ensures { OnOk result (matched.new.items ≡ matched.old.items ++ matched_in account entry.now) }
 {
+    let (number, line) = entry;
+    if line.account != account {
+        return Ok(());
+    }
     match line.state {
-        LineState::Matched(split) if line.account == account => {
-            matched.push((split, number))?;
+        LineState::Matched(split) => {
+            matched.push((split, *number))?;
             Ok(())
         }
-        _ => Ok(()),
+        LineState::Open | LineState::Dismissed => Ok(()),
     }
 }
 

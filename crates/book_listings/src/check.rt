@@ -1,11 +1,14 @@
-ghost use Rattle.std.specs.Prelude.{◌≡◌, ◌++◌, IfOk, OnOk};
-ghost use Rattle.book_listings.specs.Check.{bank_rows, check_text, count_row, counts_text, kept_rows};
+ghost use Rattle.std.specs.Prelude.{◌≡◌, ◌∷◌, IfOk};
+ghost use Rattle.book_listings.specs.Check.{check_text, count_columns, count_row, count_rows, counts_text};
 
 use crate::PresentBook;
 use book_commodity::{Many, OutOfMemory, Text};
 use book_reports::Form;
 use book_table::{Cells, Side, row_of, table_text};
 use std::alloc::Global;
+
+/// The names of the columns.
+const COLUMNS: [&str; 2] = ["count", "of"];
 
 /// Where the texts of each column stand.
 const SIDES: [Side; 2] = [Side::Right, Side::Free];
@@ -27,46 +30,29 @@ pub fn check_text(alloc: Global, book: &PresentBook, version: u64) -> Result<Tex
 fn counts_text(alloc: Global, book: &PresentBook) -> Result<Text, OutOfMemory>
     ensures { IfOk result (λ text. text ≡ counts_text book.now) }
 {
-    let mut rows = Many::new(alloc);
-    rows.push(row_of(alloc, &["count", "of"])?)?;
-    add_kept(alloc, &mut rows, book)?;
-    add_bank(alloc, &mut rows, book)?;
+    let rows = count_rows(alloc, book)?;
     table_text(alloc, Form::Plain, &SIDES, rows.as_slice())
 }
 
-/// Adds the rows of what a person enters.
-fn add_kept(
-    alloc: Global,
-    rows: &mut Many<Many<Text>>,
-    book: &PresentBook,
-) -> Result<(), OutOfMemory>
-    ensures { OnOk result (rows.new ≡ rows.old ++ kept_rows book.now) }
+/// The rows of all kinds, behind the names of the columns.
+fn count_rows(alloc: Global, book: &PresentBook) -> Result<Many<Many<Text>>, OutOfMemory>
+    ensures { IfOk result (λ rows. rows ≡ count_columns ∷ count_rows book.now) }
 {
     let plain = book.plain();
     let splits = book.split_count();
+    let mut rows = Many::new(alloc);
+    rows.push(row_of(alloc, &COLUMNS)?)?;
     rows.push(count_row(alloc, plain.accounts.len() as u64, "accounts")?)?;
     rows.push(count_row(alloc, plain.commodities.len() as u64, "commodities")?)?;
     rows.push(count_row(alloc, plain.transactions.len() as u64, "transactions")?)?;
     rows.push(count_row(alloc, splits, "splits")?)?;
     rows.push(count_row(alloc, plain.prices.len() as u64, "prices")?)?;
     rows.push(count_row(alloc, plain.schedules.len() as u64, "schedules")?)?;
-    Ok(())
-}
-
-/// Adds the rows of what comes from a bank, or is compared with it.
-fn add_bank(
-    alloc: Global,
-    rows: &mut Many<Many<Text>>,
-    book: &PresentBook,
-) -> Result<(), OutOfMemory>
-    ensures { OnOk result (rows.new ≡ rows.old ++ bank_rows book.now) }
-{
-    let plain = book.plain();
     rows.push(count_row(alloc, plain.statements.len() as u64, "statements")?)?;
     rows.push(count_row(alloc, plain.lines.len() as u64, "lines of statements")?)?;
     rows.push(count_row(alloc, plain.bindings.len() as u64, "bindings")?)?;
     rows.push(count_row(alloc, plain.reconciliations.len() as u64, "reconciliations")?)?;
-    Ok(())
+    Ok(rows)
 }
 
 /// A count, and what is counted.

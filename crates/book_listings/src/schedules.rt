@@ -1,4 +1,5 @@
-ghost use Rattle.std.specs.Prelude.{◌≡◌, ◌∷◌, ◌++◌, IfOk, List, OnOk, map, ℕ};
+ghost use Rattle.std.specs.Prelude.{◌≡◌, ◌++◌, All, IfOk, List, OnOk, Option, map, ℕ, ℤ};
+ghost use Rattle.std.specs.Int.{IsInRange};
 ghost use Rattle.book_listings.specs.Schedules.{AreRows, AreSchedules, AreTimed, columns, end_text, head_row, next_text};
 ghost use Rattle.book_listings.specs.Schedules.{plain_rows, record_row, rows_of, split_row};
 ghost use Rattle.book_next_day.specs.Ahead.{IsNextDay};
@@ -87,11 +88,27 @@ fn add_schedules(
     ensures { OnOk result ((added : List (List (List ℕ))) × (rows.new ≡ rows.old ++ added)
         × AreRows form book.now schedules.now added) }
 {
-    for (number, schedule) in schedules {
-        let next = next_day(alloc, &schedule.timing)?;
-        add_schedule(alloc, rows, book, *number, schedule, &next, form)?;
+    for entry in schedules {
+        add_entry(alloc, rows, book, entry, form)?;
     }
     Ok(())
+}
+
+/// Adds the rows of a schedule.
+fn add_entry(
+    alloc: Global,
+    rows: &mut Many<Many<Text>>,
+    book: &PresentBook,
+    entry: &(u64, Schedule),
+    form: Form,
+) -> Result<(), OutOfMemory>
+    requires { All (λ r. IsInRange 1 10_000 r.every) entry.now.1.timing.recurrences }
+    ensures { OnOk result ((next : Option ℤ) × IsNextDay entry.now.1.timing next
+        × (rows.new ≡ rows.old ++ rows_of form book.now entry.now.0 entry.now.1 next)) }
+{
+    let (number, schedule) = entry;
+    let next = next_day(alloc, &schedule.timing)?;
+    add_schedule(alloc, rows, book, *number, schedule, &next, form)
 }
 
 /// Adds the rows of a schedule with its next day.
