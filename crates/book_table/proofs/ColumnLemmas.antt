@@ -50,6 +50,11 @@ gap_behind [] i le = elim i as (λ n. gap (drop n []) ≡ []) [ zero ↦ refl | 
 gap_behind (text ∷ row) zero le = absurd (omega (arith, le))
 gap_behind (text ∷ row) (suc i) le = gap_behind row i (omega (arith, le))
 
+pub before_more :
+    (column : Column) (row : List (List ℕ)) (i : ℕ) → i < length row → column ≡ before (drop i row) column
+before_more column row i lt =
+    ap (λ (texts : List (List ℕ)). before texts column) (sym (drop-cons row i [] lt))
+
 pub line_next :
     (columns : List Column) (row : List (List ℕ)) (i : ℕ) (c : Column) (t : List ℕ)
     → i < length columns → i < length row

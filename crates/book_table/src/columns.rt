@@ -178,6 +178,7 @@ fn add_row(out: &mut String, columns: &[Column], row: &[Text]) -> Result<(), All
 }
 
 /// How many texts of a row there are up to the last one that isn't empty.
+#[tactic(auto, using(crate::proofs::ColumnLemmas::filled_next, crate::proofs::ColumnLemmas::filled_bound))]
 fn filled(row: &[Text]) -> usize
     ensures count { result ≡ filled row.now }
     ensures at_most { result ≤ length row.now }

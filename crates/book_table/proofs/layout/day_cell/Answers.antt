@@ -3,7 +3,7 @@ use Rattle.std.specs.Str.{IsUtf8}
 use Rattle.std.proofs.lemmas.Str.{IsUtf8-from_ascii}
 use Rattle.book_commodity.specs.Day.{IsDay, day_text}
 use Rattle.book_commodity.proofs.DayTextLemmas.{day_text_bytes}
-use Rattle.book_texts.proofs.DayLemmas.{day_bytes_are_ascii}
+use Rattle.book_table.proofs.DayBytes.{day_bytes_are_ascii}
 use Rattle.book_table.proofs.layout.day_cell.Goals as goal
 
 pub unreachable-requires : goal.unreachable-requires
