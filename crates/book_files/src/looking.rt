@@ -31,11 +31,7 @@ pub fn fault_before(rt: &HostRuntime, path: &str) -> io::Result<Option<FileFault
 }
 
 /// The fault where the file is missing or empty: this one, unless the log stands alone.
-fn without_bytes(
-    rt: &HostRuntime,
-    path: &str,
-    fault: FileFault,
-) -> io::Result<Option<FileFault>> {
+fn without_bytes(rt: &HostRuntime, path: &str, fault: FileFault) -> io::Result<Option<FileFault>> {
     let log = format!(in rt.alloc(); "{path}-wal")?;
     match fs::metadata(rt, log.as_str()) {
         Ok(found) if found.len() > 0 => Ok(Some(FileFault::LogAlone)),

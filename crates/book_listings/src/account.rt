@@ -11,12 +11,12 @@ ghost use Rattle.book_listings.specs.Account.{register_row, register_rows, regis
 
 use crate::PresentBook;
 use crate::accounts::name_in;
-use book_table::{Cells, Side, row_of, table_text};
 use book_commodity::{Many, OutOfMemory, Steps, Text};
 use book_register::{Entry, Mark2};
 use book_reports::Form;
 use book_splits::{Split, Txn};
 use book_statement::{Line, LineState};
+use book_table::{Cells, Side, row_of, table_text};
 use std::alloc::Global;
 
 /// The names of the columns.

@@ -4,10 +4,10 @@ ghost use Rattle.book_listings.specs.Accounts.{account_columns, account_marks, a
 ghost use Rattle.book_listings.specs.Accounts.{accounts_text, kind_word, name_in, row_at};
 
 use crate::PresentBook;
-use book_table::{Cells, Side, row_of, table_text};
 use book_accounts::{Account, AccountKind};
 use book_commodity::{Many, OutOfMemory, Text};
 use book_reports::Form;
+use book_table::{Cells, Side, row_of, table_text};
 use std::alloc::Global;
 
 /// The names of the columns.

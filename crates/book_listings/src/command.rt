@@ -5,9 +5,9 @@ ghost use Rattle.book_commodity.specs.Day.{day_text};
 ghost use Rattle.book_listings.specs.Command.{command_text, edit_data, edit_line, split_data};
 
 use crate::PresentBook;
-use book_table::day_cell;
 use book_commodity::{OutOfMemory, Text};
 use book_splits::{Split, Txn};
+use book_table::day_cell;
 use serde_json::{Value, json};
 use std::alloc::{AllocError, Global};
 

@@ -2,10 +2,10 @@ ghost use Rattle.std.specs.Prelude.{◌≡◌, [], ◌∷◌, ◌++◌, ◌==◌
 ghost use Rattle.book_listings.specs.Commodities.{commodities_text, commodity_row, price_columns, price_row, prices_text};
 
 use crate::PresentBook;
-use book_table::{Cells, Side, row_of, table_text};
 use book_commodity::{Commodity, Many, OutOfMemory, Text};
 use book_prices::{Price, Prices};
 use book_reports::Form;
+use book_table::{Cells, Side, row_of, table_text};
 use std::alloc::Global;
 
 /// The names of the columns of commodities.

@@ -4,12 +4,12 @@ ghost use Rattle.book_listings.specs.Journal.{IsJournal, columns, head_row, list
 ghost use Rattle.book_listings.specs.Journal.{plain_rows, record_row, rows_at, rows_of, split_row};
 
 use crate::accounts::name_in;
-use book_table::{Cells, Side, row_of, table_text};
 use crate::order::by_day;
 use crate::{Days, PresentBook};
 use book_commodity::{Many, OutOfMemory, Text, amount_text};
 use book_reports::Form;
 use book_splits::{Mark, Split, Txn};
+use book_table::{Cells, Side, row_of, table_text};
 use std::alloc::Global;
 
 /// The names of the columns for a person.

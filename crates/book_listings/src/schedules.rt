@@ -236,7 +236,10 @@ fn record_row(
     cells.text(book.name(schedule.template.currency))?;
     cells.number(split.account)?;
     cells.text(name.as_str())?;
-    cells.amount(i128::from(split.value), book.fraction(schedule.template.currency))?;
+    cells.amount(
+        i128::from(split.value),
+        book.fraction(schedule.template.currency),
+    )?;
     cells.amount(i128::from(split.quantity), book.fraction(commodity))?;
     cells.text(book.name(commodity))?;
     cells.text(split.memo.as_str())?;

@@ -5,14 +5,14 @@ ghost use Rattle.book_engine.specs.Opening.{HasOpenCause};
 ghost use Rattle.book_show.specs.Opening.{OpenedAs};
 ghost use Rattle.book_show.specs.Shown.{Answers, HasAnswered, HasFault, HasShown};
 
+use crate::Question;
 use crate::opening::{Opened, open_book};
 use crate::writing::{write_found, write_journal, write_text};
-use crate::Question;
 use book_engine::OpenError;
 use book_keeper::{KeepError, Keeper, Sink};
 use book_listings::{
-    account_text, accounts_text, check_text, command_text, commodities_text, found_text, journal_text,
-    prices_text, schedules_text,
+    account_text, accounts_text, check_text, command_text, commodities_text, found_text,
+    journal_text, prices_text, schedules_text,
 };
 use book_reports::Form;
 use std::alloc::Global;

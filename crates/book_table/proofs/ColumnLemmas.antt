@@ -2,6 +2,7 @@
 use Rattle.std.proofs.Common.{◌≡◌, ℕ, suc, zero, ◌+◌, ◌≤◌, ◌<◌, ◌==◌, ◌&&◌, Bool, true, false, if◌then◌else◌, take}
 use Rattle.std.proofs.Common.{max, min, List, [], ◌∷◌, ◌++◌, length, drop, get_or, refl, sym, ap, ◌∙◌, arith, add-one}
 use Rattle.std.proofs.Common.{drop-cons}
+use Rattle.std.proofs.lemmas.Bool.Decides.{nat_tests}
 use Rattle.std.proofs.lemmas.List.{length-take-le, take_more}
 use Rattle.book_table.specs.Columns.{before, columns_from, filled, gap, line, placed, widest, width_at}
 use Rattle.book_table.specs.declared.columns.Column.{Column}
@@ -95,19 +96,22 @@ empty_or : (a : Bool) (n : ℕ) → (if a && true then 0 else n) ≡ (if a then 
 empty_or true n = refl
 empty_or false n = refl
 
+never_none : (n : ℕ) → (suc n == 0) ≡ false
+never_none n = grind (arith, nat_tests)
+
+and_false : (a : Bool) (n : ℕ) → (if a && false then 0 else n) ≡ n
+and_false true n = refl
+and_false false n = refl
+
 push_by :
     (x t : List ℕ) (row : List (List ℕ)) (m : ℕ) (e : Bool) → length t == 0 ≡ e
     → m ≡ (if e then filled row else length row + 1)
-    → (if length x == 0 && m == 0 then 0 else m + 1)
-    ≡ (if e then filled (x ∷ row) else length (x ∷ row) + 1)
-push_by x t row m true test is =
-    ap (λ (k : ℕ). if length x == 0 && k == 0 then 0 else k + 1) is
+    → (if length x == 0 && m == 0 then 0 else m + 1) ≡ (if e then filled (x ∷ row) else length (x ∷ row) + 1)
+push_by x t row m true test is = ap (λ (k : ℕ). if length x == 0 && k == 0 then 0 else k + 1) is
 push_by x t row m false test is =
-    ap (λ (k : ℕ). if length x == 0 && k == 0 then 0 else k + 1) is ∙ never (length x == 0) (length row)
-  where
-    never : (a : Bool) (n : ℕ) → (if a && (n + 1) == 0 then 0 else n + 1 + 1) ≡ suc n + 1
-    never true n = refl
-    never false n = refl
+    ap (λ (k : ℕ). if length x == 0 && k == 0 then 0 else k + 1) (is ∙ add-one (length row))
+    ∙ ap (λ (e : Bool). if length x == 0 && e then 0 else suc (length row) + 1) (never_none (length row))
+    ∙ and_false (length x == 0) (suc (length row) + 1)
 
 -- with one text more, it is the last one, where it isn't empty
 pub filled_push :

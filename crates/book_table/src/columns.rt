@@ -1,4 +1,5 @@
-ghost use Rattle.std.specs.Prelude.{◌≡◌, ◌≤◌, ◌++◌, IfOk, OnOk, drop, length, map, replicate, string_bytes};
+ghost use Rattle.std.specs.Prelude.{◌≡◌, ◌==◌, ◌≤◌, ◌<◌, ◌+◌, ◌^◌, ◌++◌, IfOk, OnOk, drop, length, map};
+ghost use Rattle.std.specs.Prelude.{if◌then◌else◌, replicate, string_bytes};
 ghost use Rattle.std.specs.List.{flat_map};
 ghost use Rattle.book_reports.specs.Layout.{printed, record_text};
 ghost use Rattle.book_table.specs.Columns.{before, columns_from, filled, gap, last_side, line, lines, placed};
@@ -178,18 +179,23 @@ fn add_row(out: &mut String, columns: &[Column], row: &[Text]) -> Result<(), All
 }
 
 /// How many texts of a row there are up to the last one that isn't empty.
-#[tactic(auto, using(crate::proofs::ColumnLemmas::filled_next, crate::proofs::ColumnLemmas::filled_bound))]
 fn filled(row: &[Text]) -> usize
     ensures count { result ≡ filled row.now }
     ensures at_most { result ≤ length row.now }
 {
     let mut count = 0;
     for (place, text) in row.iter().enumerate() {
-        if !text.as_str().is_empty() {
-            count = place + 1;
-        }
+        count = filled_after(count, place, text.as_str());
     }
     count
+}
+
+/// How many there are after the text at a place, where so many were before it.
+fn filled_after(count: usize, place: usize, text: &str) -> usize
+    requires { place + 1 < 2 ^ 64 }
+    ensures { result ≡ (if length text.now == 0 then count else place + 1) }
+{
+    if text.is_empty() { count } else { place + 1 }
 }
 
 /// Adds a row of texts, each in its column.

@@ -75,7 +75,8 @@ impl Ended {
             FileCopyError::Rows(CopyError::Source) => Ended::KeeperFault,
             FileCopyError::Rows(CopyError::NoBookRow { kind, id }) => Ended::BadRows { kind, id },
             FileCopyError::Rows(CopyError::Target) | FileCopyError::File => Ended::CopyFailed,
-            FileCopyError::Rows(CopyError::OutOfMemory) | FileCopyError::OutOfMemory => Ended::Memory,
+            FileCopyError::Rows(CopyError::OutOfMemory) | FileCopyError::OutOfMemory =>
+                Ended::Memory,
         }
     }
 
@@ -125,7 +126,8 @@ impl Ended {
             Ended::KeeperFault => "bookshow: the book file failed",
             Ended::BadRows { .. } | Ended::UnsoundBook { .. } => "bookshow: the book is damaged",
             Ended::Taken => "bookshow: there is something at the path of the copy",
-            Ended::PartThere => "bookshow: a copy to this path was stopped; remove its .part and .part-wal",
+            Ended::PartThere =>
+                "bookshow: a copy to this path was stopped; remove its .part and .part-wal",
             Ended::CopyFailed => "bookshow: the copy could not be written",
         }
     }
