@@ -116,17 +116,19 @@ fn copy_through(
     if copy.close().is_err() {
         return Err(FileCopyError::File);
     }
-    match given(rt, part, part_log, to) {
+    match given(rt, from, part, part_log, to) {
         Ok(()) => Ok(()),
         Err(_) => Err(FileCopyError::File),
     }
 }
 
-/// Gives a file that is closed and has its rows alone its own path, and waits for the disk before and after.
-fn given(rt: &HostRuntime, part: &str, part_log: &str, to: &str) -> io::Result<()> {
+/// Gives a file that is closed and has its rows alone the rights of the book and its own path, and waits for the disk
+/// before and after.
+fn given(rt: &HostRuntime, from: &str, part: &str, part_log: &str, to: &str) -> io::Result<()> {
     if is_there(rt, part_log) {
         fs::remove_file(rt, part_log)?;
     }
+    fs::set_permissions(rt, part, fs::metadata(rt, from)?.permissions())?;
     File::open(rt, part)?.sync_all()?;
     fs::rename(rt, part, to)?;
     File::open(rt, folder_of(to))?.sync_all()
