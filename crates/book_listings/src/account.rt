@@ -1,10 +1,9 @@
-ghost use Rattle.std.specs.Prelude.{◌≡◌, ◌∷◌, ◌++◌, [], IfOk, IsSome, OnOk};
+ghost use Rattle.std.specs.Prelude.{◌≡◌, ◌∷◌, ◌++◌, [], IfOk, IsSome, OnOk, decimal};
+ghost use Rattle.std.specs.Option.{option_map_or};
 ghost use Rattle.book_commodity.specs.Table.{value_of};
 ghost use Rattle.book_ledger.specs.Ledger.{register_of};
 ghost use Rattle.book_reports.specs.Measure.{commodity_of, fraction_of};
 ghost use Rattle.book_reports.specs.RegisterText.{description_in, mark_letter, number_in};
-ghost use Rattle.std.specs.Prelude.{decimal};
-ghost use Rattle.std.specs.Option.{option_map_or};
 ghost use Rattle.book_listings.specs.Account.{account_text, line_of, matched_in, matched_of, memo_at, memo_in, other_side};
 ghost use Rattle.book_listings.specs.Account.{other_side_in, others_than, register_columns};
 ghost use Rattle.book_listings.specs.Account.{register_row, register_rows, register_text, rows_after, side_of};
@@ -104,7 +103,8 @@ fn add_rows(
 ) -> Result<(), OutOfMemory>
     requires { IsSome (value_of account book.now.accounts) }
     ensures { OnOk result (rows.new ≡ rows.old
-        ++ rows_after book.now (matched_of account book.now.lines) (fraction_of book.now.commodities (commodity_of book.now account)) []
+        ++ rows_after book.now (matched_of account book.now.lines)
+        (fraction_of book.now.commodities (commodity_of book.now account)) []
         (register_of account book.now.transactions)) }
 {
     let register = book.register(account);

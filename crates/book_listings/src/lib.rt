@@ -1,8 +1,8 @@
-//! What a book has, as texts for a person or as comma-separated values, with the numbers by which commands name things:
-//! its accounts and their registers, its commodities, prices and schedules, its journal, the transactions in which a text
-//! stands, the command that changes a transaction, and how much of each kind there is. `PresentBook` is the sound book that
-//! they are texts of, with its registers. Each text is stated as a function of the book or, as the journal, as the one
-//! text of which its definition holds.
+//! What a book has, as texts for a person or as comma-separated values, with the numbers by which commands name
+//! things: its accounts and their registers, its commodities, prices and schedules, its journal, the transactions in
+//! which a text stands, the command that changes a transaction, and how much of each kind there is. `PresentBook` is
+//! the sound book that they are texts of, with its registers. Each text is stated as a function of the book or, as the
+//! journal, as the one text of which its definition holds.
 #![tactic(auto)]
 
 mod account;
