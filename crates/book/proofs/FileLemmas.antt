@@ -10,8 +10,8 @@ use Rattle.book_sqlite.specs.NewFiles.{HoldNothing}
 use Rattle.book_sqlite.specs.RowsDatabase.{ListsRows}
 use Rattle.book.specs.FileRun.{BeginsWith}
 
--- what holds of the rows of each database that the file holds, and of none where it holds nothing, holds of the rows with
--- which a run begins
+-- what holds of the rows of each database that the file holds, and of none where it holds nothing, holds of the rows
+-- with which a run begins
 pub of_rows :
     (image : Image) (P : List Row → Type 0)
     → ((db : Trees) → HoldsDatabase image db → ListsRows db → P (rows_of (db 0)))

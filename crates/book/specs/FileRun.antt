@@ -20,8 +20,8 @@ pub record HasRows (image : Image) (rows : List Row) : Type 0 where
 abbrev pub BeginsWith : Image → List Row → Type 0
 BeginsWith image rows = HasRows image rows ⊎ (HoldNothing image × (rows ≡ []))
 
--- What is seen of a file and of the keeper over it: the rows with which the run begins, those that the keeper holds now,
--- and the faults that it has counted.
+-- What is seen of a file and of the keeper over it: the rows with which the run begins, those that the keeper holds
+-- now, and the faults that it has counted.
 abbrev pub over_file : {K : Type 0} → Image → (K → Bool) → (K → List Row → Type 0) → (K → ℕ) → K → Keeping
 over_file image sure holds faults keeper = record {
   sure = sure keeper;

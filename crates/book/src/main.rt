@@ -1,20 +1,21 @@
-//! The program `book`: `run_program` does what its words ask, over the standard streams and a keeper of the SQLite file
-//! that the words name. What it answers, `Ended`, says on standard error what went wrong and gives the number that the
-//! program ends with.
+//! The program `book`: `run_program` does what its words ask, over the standard streams, the ports of this machine and
+//! a keeper of the SQLite file that the words name. What it answers, `Ended`, says on standard error what went wrong
+//! and gives the number that the program ends with.
 #![tactic(auto)]
 
 ghost use Rattle.sqlite.specs.Files.{over_files};
 ghost use Rattle.sqlite.specs.WalFiles.{image_at};
-ghost use Rattle.std.specs.Prelude.{◌≡◌, ◌≢◌, ◌↔◌, IfOk, MatchResult, OnErr};
+ghost use Rattle.std.specs.Prelude.{◌≡◌, ◌≢◌, ◌↔◌, IfOk, MatchResult, None, OnErr};
 ghost use Rattle.std.specs.IoError.{error_kind};
 ghost use Rattle.book_keeper.specs.Faults.{Rose};
 ghost use Rattle.book_app.specs.StatusClause.{HasBookPath, IsStreamRun};
-ghost use Rattle.book_app.specs.Words.{AreNoWords, given_work};
+ghost use Rattle.book_app.specs.Words.{AreNoWords, given_serve, given_work};
 ghost use Rattle.book_sqlite.specs.KeeperInSqlite.{HoldsRows, is_sure};
 ghost use Rattle.book.specs.FileRun.{over_file};
 
 use book_app::{Ended, Status, named_book, run_program, words_of};
 use book_commodity::Text;
+use book_ports::TcpPorts;
 use book_sqlite::FileKeeper;
 use sqlite::{Start, Unknown};
 use std::io;
@@ -34,6 +35,7 @@ fn run_in<T: Start>(
     rt: &HostRuntime,
     words: io::Result<Vec<Text>>,
     start: T,
+    ports: &mut TcpPorts<&HostRuntime>,
 ) -> (Ended, FileKeeper<T>)
     ensures run { IsStreamRun (given_work (λ given. given.items) words)
         (over_file (image_at T.Start) (is_sure over_files) (HoldsRows over_files) (λ keeper. keeper.faults) result.1)
@@ -43,15 +45,20 @@ fn run_in<T: Start>(
     ensures path { IfOk words (λ given. HasBookPath given.items result.1.path result.0.status) }
     ensures memory { OnErr words (result.0.status ≢ Status.Usage → result.0.status ≡ Status.Memory) }
     ensures keeper_fault { result.0.status ≡ Status.KeeperFault → Rose 0 result.1.faults }
+    ensures other_words { given_serve (λ given. given.items) words ≡ None → ports.new ≡ ports.old }
+    ensures open_links { ports.new.open_links ≡ ports.old.open_links }
+    ensures port_fault { result.0.status ≡ Status.PortFault → Rose ports.old.faults ports.new.faults }
+    ensures no_port_fault { result.0.status ≢ Status.PortFault → ports.new.faults ≡ ports.old.faults }
 {
     let mut keeper = FileKeeper::at(rt, book_in(&words), start);
-    let ended = run_program(rt, words, &mut keeper);
+    let ended = run_program(rt, words, &mut keeper, ports);
     (ended, keeper)
 }
 
 fn main(rt: HostRuntime) -> Ended {
     let words = words_of(&rt);
-    let (ended, keeper) = run_in(&rt, words, Unknown);
+    let mut ports = TcpPorts::new(&rt);
+    let (ended, keeper) = run_in(&rt, words, Unknown, &mut ports);
     // Where this fails, the log stays beside the file, and the next run takes it.
     let _ = keeper.close();
     ended

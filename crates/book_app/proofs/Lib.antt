@@ -1,5 +1,7 @@
 pub mod FreshLemmas
 pub mod ImportLemmas
+pub mod LeadsLemmas
 pub mod ReplyLemmas
+pub mod ResponseLemmas
+pub mod ServeLemmas
 pub mod StatusClauseLemmas
-pub mod WordLemmas

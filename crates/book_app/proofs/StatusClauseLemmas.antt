@@ -1,5 +1,6 @@
 -- From what holds at a run's end to what holds when the program's work has ended.
-use Rattle.std.proofs.Common.{◌≡◌, ◌≢◌, ℕ, Bool, List, [], Option, Some, None, IsTrue, Result, Ok, Err, IfOk, refl, sym, subst, ◌∙◌, arith}
+use Rattle.std.proofs.Common.{◌≡◌, ◌≢◌, ℕ, Bool, List, [], Option, Some, None, IsTrue, inl, inr}
+use Rattle.std.proofs.Common.{Result, Ok, Err, IfOk, refl, sym, subst, ◌∙◌, arith}
 use Rattle.book_keeper.proofs.StreamLemmas.{Are-some, Wrote-nil}
 use Rattle.book_keeper.specs.declared.row.Row.{Row}
 use Rattle.book_lines.specs.RunClause.{at, RunClause}
@@ -19,13 +20,14 @@ use Rattle.book_app.specs.Machine.{answers, import_answers}
 use Rattle.book_app.specs.Numbers.{status_of, status_shown, status_unopened}
 use Rattle.book_app.specs.StatusClause.{IsBookRun, IsLineRun, IsSession, IsUntouched, Keeping, NowOpensTo, OpenedTo}
 use Rattle.book_app.specs.StatusClause.{HasBookPath, HoldsAsBefore, ImportClause, IsImported, IsImportRun, IsShownAs}
-use Rattle.book_app.specs.StatusClause.{IsStreamRun, SampleClause, StatusClause, WorkClause, over}
-use Rattle.book_app.specs.Words.{Work, Lines, Import, Sample, named_number}
+use Rattle.book_app.specs.StatusClause.{HasLed, IsStreamRun, SampleClause, ServedRows, StatusClause, WorkClause, over}
+use Rattle.book_app.specs.Words.{Work, Lines, Import, Serve, Sample, named_number, work_named}
 use Rattle.book_app.specs.declared.words.ImportWords.{ImportWords}
+use Rattle.book_app.specs.declared.words.ServeWords.{ServeWords}
 use Rattle.book_app.specs.declared.status.Status.{Status}
 use Rattle.book_app.specs.declared.status.Status.TheVariants.{Done, Usage, Memory, InputFault}
 use Rattle.book_app.specs.declared.status.Status.TheVariants.{OutputFault, KeeperFault, BadRows, UnsoundBook}
-use Rattle.book_app.specs.declared.status.Status.TheVariants.{InputLimit}
+use Rattle.book_app.specs.declared.status.Status.TheVariants.{InputLimit, PortFault}
 use Rattle.book_engine.specs.Machine.{fresh}
 use Rattle.book_sample.specs.Sample.{sample_text}
 use Rattle.book_sample.specs.Shown.{IsShown, ShownClause}
@@ -229,6 +231,7 @@ path_of_sample words path number KeeperFault is = tt
 path_of_sample words path number Done is = λ none. absurd (let e : Some number ≡ None = is ∙ none in cc)
 path_of_sample words path number InputFault is = λ none. absurd (let e : Some number ≡ None = is ∙ none in cc)
 path_of_sample words path number OutputFault is = λ none. absurd (let e : Some number ≡ None = is ∙ none in cc)
+path_of_sample words path number PortFault is = λ none. absurd (let e : Some number ≡ None = is ∙ none in cc)
 path_of_sample words path number InputLimit is = λ none. absurd (let e : Some number ≡ None = is ∙ none in cc)
 path_of_sample words path number (BadRows kind id) is = λ none. absurd (let e : Some number ≡ None = is ∙ none in cc)
 path_of_sample words path number (UnsoundBook kind id) is =
@@ -255,6 +258,53 @@ run_of_sample work number keeping input before after status rows is run =
       wrote = run.wrote;
       clause = (record { input = refl; rows = rows }, run.clause);
     })
+
+-- the answering of lines, and an import, never end by a fault of the ports
+pub no_port_fault :
+    (import : Option ImportWords) (keeping : Keeping) (input_before input_after : Option (List ℕ))
+    (before after : List ℕ → Type 0) (status : Status)
+    → IsBookRun (work_named import None None) keeping input_before input_after before after status
+    → status ≢ PortFault
+no_port_fault None keeping input_before input_after before after status run =
+    λ is. subst (λ (s : Status). StatusClause keeping before after run.bytes run.read run.left run.text s) is run.clause
+no_port_fault (Some words) keeping input_before input_after before after status run =
+    λ is. subst (λ (s : Status). ImportClause words keeping before after run.read run.left run.text s) is run.clause
+
+-- where no link was served
+pub unopened_rows :
+    (keeping : Keeping) (why : OpenError) → HoldsAsBefore keeping
+    → (IsTrue keeping.sure → (rows : List Row) → keeping.held rows → Opened rows (Err why))
+    → ServedRows keeping (status_unopened why)
+unopened_rows keeping error.Keeper rows opened = rows
+unopened_rows keeping (error.BadRows kind id) rows opened = (rows, opened)
+unopened_rows keeping (error.UnsoundBook kind id) rows opened = (rows, opened)
+unopened_rows keeping error.OutOfMemory rows opened = inl rows
+
+-- the serving of links leaves the input and the output as they are
+pub run_of_serving :
+    (work : Work) (serve : ServeWords) (keeping : Keeping) (input : Option (List ℕ)) (output : List ℕ → Type 0)
+    (status : Status) → ServedRows keeping status → Serve serve ≡ work
+    → IsBookRun work keeping input input output output status
+run_of_serving work serve keeping input output status rows is =
+    let bytes = Are-some input in
+    subst (λ (w : Work). IsBookRun w keeping input input output output status) is
+    (record {
+      bytes = bytes.0;
+      read = [];
+      left = bytes.0;
+      text = [];
+      bytes_are = bytes.1;
+      left_are = bytes.1;
+      parts = refl;
+      few = omega arith;
+      wrote = Wrote-nil output;
+      clause = (refl, refl, rows);
+    })
+
+-- and never ends by a fault of theirs
+pub no_serving : (keeping : Keeping) (status other : Status) → ServedRows keeping status
+    → (ServedRows keeping other → ⊥) → status ≡ other → ⊥
+no_serving keeping status other rows never is = never (subst (λ (s : Status). ServedRows keeping s) is rows)
 
 -- The rows that the keeper held as an engine was opened from it stand for that engine.
 pub stands_opened :
@@ -320,6 +370,7 @@ module _ (keeping : Keeping) (held : List Row → Type 0)
       (untouched_held read text h.0, opened_held (Bad (row_key kind id)) h.1)
   status_held before after bytes read left text (UnsoundBook kind id) h =
       (untouched_held read text h.0, opened_held (Unsound (row_key kind id)) h.1)
+  status_held before after bytes read left text PortFault h = absurd h
 
   imported_held :
       (words : ImportWords) (before after : List ℕ → Type 0) (read left text : List ℕ) (ended : RunEnd)
@@ -354,6 +405,29 @@ module _ (keeping : Keeping) (held : List Row → Type 0)
       (untouched_held read text h.0, opened_held (Bad (row_key kind id)) h.1)
   import_held words before after read left text (UnsoundBook kind id) h =
       (untouched_held read text h.0, opened_held (Unsound (row_key kind id)) h.1)
+  import_held words before after read left text PortFault h = absurd h
+
+  led_held : HasLed keeping → HasLed (with_held keeping held)
+  led_held it = record {
+    first = it.first;
+    last = it.last;
+    opened = opened_held (Opens it.first) it.opened;
+    led = it.led;
+    kept = it.kept;
+  }
+
+  served_held : (status : Status) → ServedRows keeping status → ServedRows (with_held keeping held) status
+  served_held Done h = led_held h
+  served_held PortFault h = led_held h
+  served_held Memory (inl h) = inl (rows_held h)
+  served_held Memory (inr h) = inr (led_held h)
+  served_held Usage h = rows_held h
+  served_held KeeperFault h = rows_held h
+  served_held (BadRows kind id) h = (rows_held h.0, opened_held (Bad (row_key kind id)) h.1)
+  served_held (UnsoundBook kind id) h = (rows_held h.0, opened_held (Unsound (row_key kind id)) h.1)
+  served_held InputFault h = absurd h
+  served_held OutputFault h = absurd h
+  served_held InputLimit h = absurd h
 
   work_held :
       (work : Work) (before after : List ℕ → Type 0) (bytes read left text : List ℕ) (status : Status)
@@ -362,6 +436,7 @@ module _ (keeping : Keeping) (held : List Row → Type 0)
   work_held Lines before after bytes read left text status h = status_held before after bytes read left text status h
   work_held (Import words) before after bytes read left text status h =
       import_held words before after read left text status h
+  work_held (Serve serve) before after bytes read left text status h = (h.0, h.1, served_held status h.2)
   work_held (Sample number) before after bytes read left text status h = (
     record { input = h.0.input; rows = λ still rows it. h.0.rows still rows (holds still rows it) },
     h.1,

@@ -1,5 +1,6 @@
 -- What holds when the program's work has ended, by its status.
-use Rattle.std.specs.Prelude.{◌≡◌, ℕ, ◌+◌, ◌^◌, ◌<◌, ◌≤◌, ⊤, Bool, false, IsTrue, List, [], ◌++◌, Option, Some, None, Result, Ok, Err}
+use Rattle.std.specs.Prelude.{◌≡◌, ℕ, ◌+◌, ◌^◌, ◌<◌, ◌≤◌, ◌⊎◌, ⊤, Bool, false, IsTrue, List, [], ◌++◌, Option, Some}
+use Rattle.std.specs.Prelude.{None, Result, Ok, Err}
 use Rattle.std.specs.Prelude.{length}
 use Rattle.book_keeper.specs.Stream.{Are, Wrote}
 use Rattle.book_keeper.specs.declared.row.Row.{Row}
@@ -12,15 +13,15 @@ use Rattle.book_engine.specs.Opening.{row_key}
 use Rattle.book_engine.specs.declared.fault.OpenError.{OpenError}
 use Rattle.book_engine.specs.declared.fault.OpenError.TheVariants as error
 use Rattle.book_engine.specs.Opens.{Bad, Opening, Opens, OpensTo, Unsound}
-use Rattle.book_app.specs.Machine.{answers, import_answers}
+use Rattle.book_app.specs.Machine.{Leads, answers, import_answers}
 use Rattle.book_app.specs.Numbers.{status_of}
 use Rattle.book_sample.specs.Sample.{sample_text}
 use Rattle.book_sample.specs.Shown.{AreLastAnswers}
-use Rattle.book_app.specs.Words.{Work, Lines, Import, Sample, named_book, named_number}
+use Rattle.book_app.specs.Words.{Work, Lines, Import, Serve, Sample, named_book, named_number}
 use Rattle.book_app.specs.declared.words.ImportWords.{ImportWords}
 use Rattle.book_app.specs.declared.status.Status.{Status}
 use Rattle.book_app.specs.declared.status.Status.TheVariants.{Done, Usage, Memory, InputFault, OutputFault, KeeperFault}
-use Rattle.book_app.specs.declared.status.Status.TheVariants.{BadRows, UnsoundBook, InputLimit}
+use Rattle.book_app.specs.declared.status.Status.TheVariants.{BadRows, UnsoundBook, PortFault, InputLimit}
 
 -- What is seen of a keeper before and after: whether it still knows its rows, which it holds, and its count of faults.
 pub record Keeping : Type 1 where
@@ -87,6 +88,7 @@ StatusClause keeping before after bytes read left text (BadRows kind id) =
     IsUntouched keeping read text × OpenedTo keeping (Bad (row_key kind id))
 StatusClause keeping before after bytes read left text (UnsoundBook kind id) =
     IsUntouched keeping read text × OpenedTo keeping (Unsound (row_key kind id))
+StatusClause keeping before after bytes read left text PortFault = ⊥
 
 -- Nothing was read, and the keeper's rows are as they were.
 pub record IsLeft (keeping : Keeping) (read : List ℕ) : Type 0 where
@@ -124,6 +126,7 @@ ImportClause import keeping before after read left text (BadRows kind id) =
     IsUntouched keeping read text × OpenedTo keeping (Bad (row_key kind id))
 ImportClause import keeping before after read left text (UnsoundBook kind id) =
     IsUntouched keeping read text × OpenedTo keeping (Unsound (row_key kind id))
+ImportClause import keeping before after read left text PortFault = ⊥
 
 -- With the words of `sample`, by the status: at Done `text` is the last two answers to all lines of the sample, which
 -- the machine answers itself from the fresh one on; at OutputFault a front part of them and not all. There are no other
@@ -138,6 +141,7 @@ SampleClause number text InputFault = ⊥
 SampleClause number text KeeperFault = ⊥
 SampleClause number text (BadRows kind id) = ⊥
 SampleClause number text (UnsoundBook kind id) = ⊥
+SampleClause number text PortFault = ⊥
 SampleClause number text InputLimit = ⊥
 
 -- A text was added to what the output may have been given, and of it holds what belongs to the status of the sample.
@@ -146,6 +150,28 @@ pub record IsShownAs (number : ℕ) (output_before output_after : List ℕ → T
   pub wrote : Wrote output_before output_after text
   pub clause : SampleClause number text status
 
+-- Commands led from the machine as which the keeper's rows opened to that as which its rows open now.
+pub record HasLed (keeping : Keeping) : Type 0 where
+  pub first : Machine
+  pub last : Machine
+  pub opened : OpenedTo keeping (Opens first)
+  pub led : Leads first last
+  pub kept : NowOpensTo keeping last
+
+-- With the words of `serve`, what became of the keeper's rows, by the status: they are as they were, and where the book
+-- was opened, commands may have led from the machine that they opened as to that as which they open now.
+abbrev pub ServedRows : Keeping → Status → Type 0
+ServedRows keeping Done = HasLed keeping
+ServedRows keeping PortFault = HasLed keeping
+ServedRows keeping Memory = HoldsAsBefore keeping ⊎ HasLed keeping
+ServedRows keeping Usage = HoldsAsBefore keeping
+ServedRows keeping KeeperFault = HoldsAsBefore keeping
+ServedRows keeping (BadRows kind id) = HoldsAsBefore keeping × OpenedTo keeping (Bad (row_key kind id))
+ServedRows keeping (UnsoundBook kind id) = HoldsAsBefore keeping × OpenedTo keeping (Unsound (row_key kind id))
+ServedRows keeping InputFault = ⊥
+ServedRows keeping OutputFault = ⊥
+ServedRows keeping InputLimit = ⊥
+
 -- By the work that the words ask for, and by the status.
 abbrev pub WorkClause :
     Work → Keeping → (List ℕ → Type 0) → (List ℕ → Type 0) → List ℕ → List ℕ → List ℕ → List ℕ → Status → Type 0
@@ -153,6 +179,8 @@ WorkClause Lines keeping before after bytes read left text status =
     StatusClause keeping before after bytes read left text status
 WorkClause (Import import) keeping before after bytes read left text status =
     ImportClause import keeping before after read left text status
+WorkClause (Serve serve) keeping before after bytes read left text status =
+    (read ≡ []) × (text ≡ []) × ServedRows keeping status
 WorkClause (Sample number) keeping before after bytes read left text status =
     IsLeft keeping read × SampleClause number text status
 

@@ -1,40 +1,17 @@
 -- The words that a run of the program is given.
-use Rattle.std.specs.Prelude.{◌≡◌, ℕ, ◌^◌, nat_lt, Bool, false, not, ◌&&◌, ◌||◌, ◌==◌, if◌then◌else◌, List, [], ◌∷◌, length}
+use Rattle.std.specs.Prelude.{◌≡◌, ℕ, nat_le, Bool, false, not, ◌&&◌, ◌==◌, if◌then◌else◌, List, [], ◌∷◌}
 use Rattle.std.specs.Prelude.{Option, Some, None, option_map, Result, Ok, Err, codes}
-use Rattle.std.specs.Char.{is_ascii_digit}
-use Rattle.std.specs.List.{list_all}
 use Rattle.std.specs.Str.{bytes_eq}
-use Rattle.std.specs.Str.Parse.{digits_value}
 use Rattle.book_command.specs.declared.command.Format.{Format}
 use Rattle.book_command.specs.declared.command.Format.TheVariants as kind
+use Rattle.book_numerals.specs.Numerals.{number_of}
 use Rattle.book_app.specs.declared.words.ImportWords.{ImportWords}
+use Rattle.book_app.specs.declared.words.ServeWords.{ServeWords}
 
 -- A word names a book where it is not empty and does not begin with a hyphen.
 abbrev pub is_book : List ℕ → Bool
 is_book [] = false
 is_book (byte ∷ more) = not (byte == 45)
-
--- A word has decimal digits alone, at least one.
-abbrev pub has_digits : List ℕ → Bool
-has_digits word = not (length word == 0) && list_all is_ascii_digit word
-
--- A word begins with the digit zero.
-abbrev pub begins_with_zero : List ℕ → Bool
-begins_with_zero [] = false
-begins_with_zero (byte ∷ more) = byte == 48
-
--- A word has no zero before another digit.
-abbrev pub has_no_leading_zero : List ℕ → Bool
-has_no_leading_zero word = not (begins_with_zero word) || (length word == 1)
-
--- A numeral has decimal digits alone, at least one, without leading zeros.
-abbrev pub is_numeral : List ℕ → Bool
-is_numeral word = has_digits word && has_no_leading_zero word
-
--- The number that a word spells, where it is a numeral of a number below 2^62.
-abbrev pub number_of : List ℕ → Option ℕ
-number_of word =
-    if is_numeral word && nat_lt (digits_value 10 word) (2 ^ 62) then Some (digits_value 10 word) else None
 
 -- The format of a bank's file that names its currencies itself.
 abbrev pub bank_format : List ℕ → Option Format
@@ -77,11 +54,35 @@ named_import (word ∷ book ∷ format ∷ account ∷ currency ∷ []) =
     else None
 named_import _ = None
 
--- The book that the words name, where they are `run` and the name of a book, or those of an import.
+-- The number of a port.
+abbrev pub is_port : ℕ → Bool
+is_port number = nat_le 1 number && nat_le number 65535
+
+-- How many links may be asked for.
+abbrev pub is_link_count : ℕ → Bool
+is_link_count number = nat_le 1 number && nat_le number 1000000
+
+-- So many links at this port, if there are such.
+abbrev pub serve_of : Option ℕ → Option ℕ → Option ServeWords
+serve_of None links = None
+serve_of (Some port) None = None
+serve_of (Some port) (Some links) =
+    if is_port port && is_link_count links then Some (record { port = port; links = links }) else None
+
+-- What the words name that are `serve`, the name of a book, and the numerals of a port and of how many links are
+-- served.
+abbrev pub named_serve : List (List ℕ) → Option ServeWords
+named_serve (word ∷ book ∷ port ∷ links ∷ []) =
+    if bytes_eq word (codes "serve") && is_book book then serve_of (number_of port) (number_of links) else None
+named_serve _ = None
+
+-- The book that the words name, where they are `run` and the name of a book, or those of an import, or of `serve`.
 abbrev pub named_book : List (List ℕ) → Option (List ℕ)
 named_book (word ∷ book ∷ []) = if bytes_eq word (codes "run") && is_book book then Some book else None
 named_book (word ∷ book ∷ format ∷ account ∷ currency ∷ []) =
     option_map (λ import. book) (named_import (word ∷ book ∷ format ∷ account ∷ currency ∷ []))
+named_book (word ∷ book ∷ port ∷ links ∷ []) =
+    option_map (λ serve. book) (named_serve (word ∷ book ∷ port ∷ links ∷ []))
 named_book _ = None
 
 -- The number that the words name, where they are `sample` and such a numeral.
@@ -94,24 +95,31 @@ pub record AreNoWords (words : List (List ℕ)) : Type 0 where
   pub no_book : named_book words ≡ None
   pub no_number : named_number words ≡ None
 
--- What the words ask for: that the lines of the input are answered, that the input is imported, or that the sample of a
--- number is shown.
+-- What the words ask for: that the lines of the input are answered, that the input is imported, that the links of a
+-- port are served, or that the sample of a number is shown.
 pub data Work : Type 0 where
   Lines : Work
   Import : ImportWords → Work
+  Serve : ServeWords → Work
   Sample : ℕ → Work
 
 -- The work of words that name these, if any.
-abbrev pub work_named : Option ImportWords → Option ℕ → Work
-work_named import (Some number) = Sample number
-work_named (Some import) None = Import import
-work_named None None = Lines
+abbrev pub work_named : Option ImportWords → Option ServeWords → Option ℕ → Work
+work_named import serve (Some number) = Sample number
+work_named import (Some serve) None = Serve serve
+work_named (Some import) None None = Import import
+work_named None None None = Lines
 
 -- The work of the words. Those that are not of the grammar ask for lines, of which none is read.
 abbrev pub work_of : List (List ℕ) → Work
-work_of words = work_named (named_import words) (named_number words)
+work_of words = work_named (named_import words) (named_serve words) (named_number words)
 
 -- The work of the words, where they could be read.
 abbrev pub given_work : {T E : Type 0} → (T → List (List ℕ)) → Result T E → Work
 given_work words (Ok given) = work_of (words given)
 given_work words (Err error) = Lines
+
+-- What the words of `serve` name, where words could be read and are these.
+abbrev pub given_serve : {T E : Type 0} → (T → List (List ℕ)) → Result T E → Option ServeWords
+given_serve words (Ok given) = named_serve (words given)
+given_serve words (Err error) = None

@@ -1,17 +1,20 @@
-ghost use Rattle.std.specs.Prelude.{◌≡◌, ◌≢◌, ◌↔◌, IfOk, IsTrue, OnErr, MatchResult};
+ghost use Rattle.std.specs.Prelude.{◌≡◌, ◌≢◌, ◌↔◌, None, IfOk, IfSome, IsTrue, OnErr, MatchResult};
 ghost use Rattle.std.specs.IoError.{error_kind};
 ghost use Rattle.std.specs.Process.{exit_status};
 ghost use Rattle.book_keeper.specs.Faults.{Rose};
 ghost use Rattle.book_keeper.specs.OverStd.{left_of, sink_over, source_faults, sink_faults};
 ghost use Rattle.book_keeper.specs.Written.{may_hold};
 ghost use Rattle.book_app.specs.Numbers.{number_of};
+ghost use Rattle.book_serve.specs.Served.{told};
+ghost use Rattle.book_app.specs.ServeClause.{ServeClause, across};
 ghost use Rattle.book_app.specs.StatusClause.{HasBookPath, IsBookRun, over};
-ghost use Rattle.book_app.specs.Words.{AreNoWords, given_work, work_of};
+ghost use Rattle.book_app.specs.Words.{AreNoWords, given_serve, given_work, named_serve, work_of};
 
 use crate::main_call::book_main;
 use crate::status::Status;
 use book_commodity::Text;
 use book_keeper::{FileSource, Keeper, StreamSink};
+use book_ports::Ports;
 use std::alloc::Global;
 use std::io;
 use std::io::{ErrorKind, Read, Write};
@@ -34,13 +37,14 @@ pub struct Ran<I, O> {
 }
 
 /// Does what the words ask over any reader and writer of std, as `book_main` does over the source and the sink that
-/// join them: the answers to what the reader has left are added to what the writer holds.
-pub fn run_over<K: Keeper, I: Read, O: Write>(
+/// join them: the answers to what the reader has left are added to what the writer holds. Links come from the ports.
+pub fn run_over<K: Keeper, I: Read, O: Write, P: Ports>(
     alloc: Global,
     words: &[Text],
     keeper: &mut K,
     reader: I,
     writer: O,
+    ports: &mut P,
 ) -> Ran<I, O>
     ensures run { IsBookRun (work_of words.now) (over K.sure K.holds K.faults keeper.old keeper.new)
         (I.remaining reader) (left_of I.remaining result.input)
@@ -54,10 +58,18 @@ pub fn run_over<K: Keeper, I: Read, O: Write>(
     ensures no_input_fault { result.ended.status ≢ Status.InputFault → source_faults result.input ≡ 0 }
     ensures output_fault { result.ended.status ≡ Status.OutputFault → Rose 0 (sink_faults result.output) }
     ensures no_output_fault { result.ended.status ≢ Status.OutputFault → sink_faults result.output ≡ 0 }
+    ensures serve { IfSome (named_serve words.now) (λ serve. ServeClause serve
+        (over K.sure K.holds K.faults keeper.old keeper.new)
+        (told P.L.left P.L.written P.L.Source.faults P.L.Sink.faults)
+        (across P.coming P.closed P.port_given ports.old ports.new) result.ended.status) }
+    ensures other_words { named_serve words.now ≡ None → ports.new ≡ ports.old }
+    ensures open_links { P.open_links ports.new ≡ P.open_links ports.old }
+    ensures port_fault { result.ended.status ≡ Status.PortFault → Rose (P.faults ports.old) (P.faults ports.new) }
+    ensures no_port_fault { result.ended.status ≢ Status.PortFault → P.faults ports.new ≡ P.faults ports.old }
 {
     let mut input = FileSource::new(reader);
     let mut output = StreamSink::new(writer);
-    let status = book_main(alloc, words, keeper, &mut input, &mut output);
+    let status = book_main(alloc, words, keeper, &mut input, &mut output, ports);
     Ran {
         ended: Ended { status },
         input,
@@ -67,12 +79,13 @@ pub fn run_over<K: Keeper, I: Read, O: Write>(
 
 /// Does what a program's words ask, if they could be read, as `run_over` does. Where they could not, nothing is read or
 /// written, and it ends by Usage if one of them is not UTF-8, else by Memory.
-pub(crate) fn run_words<K: Keeper, I: Read, O: Write>(
+pub(crate) fn run_words<K: Keeper, I: Read, O: Write, P: Ports>(
     alloc: Global,
     words: io::Result<Vec<Text>>,
     keeper: &mut K,
     reader: I,
     writer: O,
+    ports: &mut P,
 ) -> Ran<I, O>
     ensures run { IsBookRun (given_work (λ given. given.items) words)
         (over K.sure K.holds K.faults keeper.old keeper.new) (I.remaining reader) (left_of I.remaining result.input)
@@ -88,9 +101,17 @@ pub(crate) fn run_words<K: Keeper, I: Read, O: Write>(
     ensures no_input_fault { result.ended.status ≢ Status.InputFault → source_faults result.input ≡ 0 }
     ensures output_fault { result.ended.status ≡ Status.OutputFault → Rose 0 (sink_faults result.output) }
     ensures no_output_fault { result.ended.status ≢ Status.OutputFault → sink_faults result.output ≡ 0 }
+    ensures serve { IfSome (given_serve (λ given. given.items) words) (λ serve. ServeClause serve
+        (over K.sure K.holds K.faults keeper.old keeper.new)
+        (told P.L.left P.L.written P.L.Source.faults P.L.Sink.faults)
+        (across P.coming P.closed P.port_given ports.old ports.new) result.ended.status) }
+    ensures other_words { given_serve (λ given. given.items) words ≡ None → ports.new ≡ ports.old }
+    ensures open_links { P.open_links ports.new ≡ P.open_links ports.old }
+    ensures port_fault { result.ended.status ≡ Status.PortFault → Rose (P.faults ports.old) (P.faults ports.new) }
+    ensures no_port_fault { result.ended.status ≢ Status.PortFault → P.faults ports.new ≡ P.faults ports.old }
 {
     match words {
-        Ok(words) => run_over(alloc, words.as_slice(), keeper, reader, writer),
+        Ok(words) => run_over(alloc, words.as_slice(), keeper, reader, writer, ports),
         Err(error) => Ran {
             ended: Ended {
                 status: status_without_words(&error),

@@ -1,22 +1,26 @@
-ghost use Rattle.std.specs.Prelude.{◌≡◌, ◌≢◌, ◌↔◌, None, IsTrue};
+ghost use Rattle.std.specs.Prelude.{◌≡◌, ◌≢◌, ◌↔◌, None, IfSome, IsTrue};
 ghost use Rattle.book_keeper.specs.Faults.{Rose};
 ghost use Rattle.book_lines.specs.RunClause.{at};
 ghost use Rattle.book_engine.specs.Books.{machine_kept};
 ghost use Rattle.book_engine.specs.Standing.{Stands};
+ghost use Rattle.book_serve.specs.Served.{told};
+ghost use Rattle.book_app.specs.ServeClause.{ServeClause, across};
 ghost use Rattle.book_app.specs.StatusClause.{HasBookPath, IsBookRun, IsLineRun, IsShownAs, over};
 ghost use Rattle.book_app.specs.Later.{IsLater};
-ghost use Rattle.book_app.specs.Words.{AreNoWords, Lines, named_book, named_import, work_named, work_of};
+ghost use Rattle.book_app.specs.Words.{AreNoWords, Lines, named_book, named_import, named_serve, work_named, work_of};
 
 use crate::import_call::run_import;
 use crate::opening::{open_book, room_after};
 use crate::reply::Answering;
 use crate::sample::show_in_memory;
+use crate::serve_call::run_serve;
 use crate::status::{Status, status_after, status_shown, status_unopened};
-use crate::words::{named_book, named_import, named_number};
+use crate::words::{named_book, named_import, named_number, named_serve};
 use book_commodity::Text;
 use book_engine::Engine;
 use book_keeper::{Keeper, Sink, Source};
 use book_lines::{LineRoom, run};
+use book_ports::Ports;
 use std::alloc::Global;
 
 /// Answers the lines of the input on the output, from the engine's state on, and keeps each change by the keeper,
@@ -45,7 +49,7 @@ pub fn run_lines<K: Keeper, S: Source, O: Sink>(
 }
 
 /// Opens the keeper at the book that the words name, and answers the lines of the input, from the state as which its
-/// rows open on. The words are not those of `import` or `sample`.
+/// rows open on. The words are not those of `import`, `serve` or `sample`.
 fn run_book<K: Keeper, S: Source, O: Sink>(
     alloc: Global,
     words: &[Text],
@@ -88,7 +92,7 @@ fn run_sample<O: Sink>(alloc: Global, words: &[Text], number: u64, output: &mut 
     status_shown(show_in_memory(alloc, number, output, &mut room))
 }
 
-/// Answers the lines of the input, or imports it, as words ask that are not those of `sample`.
+/// Answers the lines of the input, or imports it, as words ask that are not those of `serve` or `sample`.
 fn run_over_input<K: Keeper, S: Source, O: Sink>(
     alloc: Global,
     words: &[Text],
@@ -96,7 +100,7 @@ fn run_over_input<K: Keeper, S: Source, O: Sink>(
     input: &mut S,
     output: &mut O,
 ) -> Status
-    ensures run { IsBookRun (work_named (named_import words.now) None)
+    ensures run { IsBookRun (work_named (named_import words.now) None None)
         (over K.sure K.holds K.faults keeper.old keeper.new)
         (S.left input.old) (S.left input.new) (O.written output.old) (O.written output.new) result }
     ensures path { HasBookPath words.now (K.path_given keeper.new) result }
@@ -114,20 +118,59 @@ fn run_over_input<K: Keeper, S: Source, O: Sink>(
     }
 }
 
-/// Does what the words ask. `run BOOK` opens the keeper at BOOK and answers the lines of the input, from the state as
-/// which its rows open on. `import BOOK FORMAT ACCOUNT CURRENCY` opens it too, and answers the whole input, of at most
-/// 8 MiB, as the import of one statement file. `sample NUMBER` writes the last two answers to the lines of the sample
-/// of NUMBER, from a new book in memory on; it leaves the keeper and the input as they were, and ends by Done, Memory
-/// or OutputFault. Usage comes exactly where the words are not these; Memory where it is out of memory before the input
-/// is read, or at any time in a sample; KeeperFault where the keeper failed before that, and its count of faults rose;
-/// BadRows and UnsoundBook where the rows are no rows of a sound book; over such rows `run` and `import` end by one of
-/// these five alone. InputFault and OutputFault come exactly where the input or the output failed in this call.
-pub fn book_main<K: Keeper, S: Source, O: Sink>(
+/// Does what words ask that name a book: the lines of the input are answered, or it is imported, or links are served.
+fn run_with_book<K: Keeper, S: Source, O: Sink, P: Ports>(
     alloc: Global,
     words: &[Text],
     keeper: &mut K,
     input: &mut S,
     output: &mut O,
+    ports: &mut P,
+) -> Status
+    ensures run { IsBookRun (work_named (named_import words.now) (named_serve words.now) None)
+        (over K.sure K.holds K.faults keeper.old keeper.new)
+        (S.left input.old) (S.left input.new) (O.written output.old) (O.written output.new) result }
+    ensures path { HasBookPath words.now (K.path_given keeper.new) result }
+    ensures sure { IsTrue (K.sure keeper.new) → IsTrue (K.sure keeper.old) }
+    ensures usage { (result ≡ Status.Usage) ↔ (named_book words.now ≡ None) }
+    ensures keeper_fault { result ≡ Status.KeeperFault → Rose (K.faults keeper.old) (K.faults keeper.new) }
+    ensures input_fault { result ≡ Status.InputFault → Rose (S.faults input.old) (S.faults input.new) }
+    ensures no_input_fault { result ≢ Status.InputFault → S.faults input.new ≡ S.faults input.old }
+    ensures output_fault { result ≡ Status.OutputFault → Rose (O.faults output.old) (O.faults output.new) }
+    ensures no_output_fault { result ≢ Status.OutputFault → O.faults output.new ≡ O.faults output.old }
+    ensures serve { IfSome (named_serve words.now) (λ serve. ServeClause serve
+        (over K.sure K.holds K.faults keeper.old keeper.new)
+        (told P.L.left P.L.written P.L.Source.faults P.L.Sink.faults)
+        (across P.coming P.closed P.port_given ports.old ports.new) result) }
+    ensures other_words { named_serve words.now ≡ None → ports.new ≡ ports.old }
+    ensures open_links { P.open_links ports.new ≡ P.open_links ports.old }
+    ensures port_fault { result ≡ Status.PortFault → Rose (P.faults ports.old) (P.faults ports.new) }
+    ensures no_port_fault { result ≢ Status.PortFault → P.faults ports.new ≡ P.faults ports.old }
+{
+    match named_serve(words) {
+        Some(serve) => run_serve(alloc, words, serve, keeper, ports),
+        None => run_over_input(alloc, words, keeper, input, output),
+    }
+}
+
+/// Does what the words ask. `run BOOK` opens the keeper at BOOK and answers the lines of the input, from the state as
+/// which its rows open on. `import BOOK FORMAT ACCOUNT CURRENCY` opens it too, and answers the whole input, of at most
+/// 8 MiB, as the import of one statement file. `serve BOOK PORT LINKS` opens it too, and answers the requests of LINKS
+/// links that come to PORT, one link after the other; it leaves the input and the output as they were. `sample NUMBER`
+/// writes the last two answers to the lines of the sample of NUMBER, from a new book in memory on; it leaves the keeper
+/// and the input as they were, and ends by Done, Memory or OutputFault. Usage comes exactly where the words are not
+/// these; Memory where it is out of memory before the input is read, or at any time in a sample and in `serve`;
+/// KeeperFault where the keeper failed before that, and its count of faults rose; BadRows and UnsoundBook where the
+/// rows are no rows of a sound book; over such rows `run`, `import` and `serve` end by one of these five alone.
+/// InputFault and OutputFault come exactly where the input or the output failed in this call, and PortFault exactly
+/// where the ports did.
+pub fn book_main<K: Keeper, S: Source, O: Sink, P: Ports>(
+    alloc: Global,
+    words: &[Text],
+    keeper: &mut K,
+    input: &mut S,
+    output: &mut O,
+    ports: &mut P,
 ) -> Status
     ensures run { IsBookRun (work_of words.now) (over K.sure K.holds K.faults keeper.old keeper.new)
         (S.left input.old) (S.left input.new) (O.written output.old) (O.written output.new) result }
@@ -139,9 +182,17 @@ pub fn book_main<K: Keeper, S: Source, O: Sink>(
     ensures no_input_fault { result ≢ Status.InputFault → S.faults input.new ≡ S.faults input.old }
     ensures output_fault { result ≡ Status.OutputFault → Rose (O.faults output.old) (O.faults output.new) }
     ensures no_output_fault { result ≢ Status.OutputFault → O.faults output.new ≡ O.faults output.old }
+    ensures serve { IfSome (named_serve words.now) (λ serve. ServeClause serve
+        (over K.sure K.holds K.faults keeper.old keeper.new)
+        (told P.L.left P.L.written P.L.Source.faults P.L.Sink.faults)
+        (across P.coming P.closed P.port_given ports.old ports.new) result) }
+    ensures other_words { named_serve words.now ≡ None → ports.new ≡ ports.old }
+    ensures open_links { P.open_links ports.new ≡ P.open_links ports.old }
+    ensures port_fault { result ≡ Status.PortFault → Rose (P.faults ports.old) (P.faults ports.new) }
+    ensures no_port_fault { result ≢ Status.PortFault → P.faults ports.new ≡ P.faults ports.old }
 {
     match named_number(words) {
         Some(number) => run_sample(alloc, words, number, output),
-        None => run_over_input(alloc, words, keeper, input, output),
+        None => run_with_book(alloc, words, keeper, input, output, ports),
     }
 }

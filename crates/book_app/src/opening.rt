@@ -7,6 +7,7 @@ ghost use Rattle.book_app.specs.StatusClause.{IsOpenedAt};
 
 use book_commodity::{OutOfMemory, Text};
 use book_engine::{Engine, OpenError};
+use book_http::Routes;
 use book_keeper::{KeepError, Keeper};
 use book_lines::LineRoom;
 use book_words::part;
@@ -35,4 +36,10 @@ pub fn room_after(alloc: Global, words: &[Text]) -> Result<LineRoom, OutOfMemory
 {
     part(alloc, words)?;
     LineRoom::new(alloc)
+}
+
+/// The routes of requests, once `clap` has parted the words, which are of the grammar.
+pub fn routes_after(alloc: Global, words: &[Text]) -> Result<Routes, OutOfMemory> {
+    part(alloc, words)?;
+    Routes::new(alloc)
 }

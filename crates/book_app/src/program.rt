@@ -1,13 +1,16 @@
-ghost use Rattle.std.specs.Prelude.{◌≡◌, ◌≢◌, ◌↔◌, IfOk, IsTrue, MatchResult, OnErr};
+ghost use Rattle.std.specs.Prelude.{◌≡◌, ◌≢◌, ◌↔◌, None, IfOk, IfSome, IsTrue, MatchResult, OnErr};
 ghost use Rattle.std.specs.IoError.{error_kind};
 ghost use Rattle.book_keeper.specs.Faults.{Rose};
+ghost use Rattle.book_serve.specs.Served.{told};
+ghost use Rattle.book_app.specs.ServeClause.{ServeClause, across};
 ghost use Rattle.book_app.specs.StatusClause.{HasBookPath, IsStreamRun, over};
-ghost use Rattle.book_app.specs.Words.{AreNoWords, given_work};
+ghost use Rattle.book_app.specs.Words.{AreNoWords, given_serve, given_work};
 
 use crate::ended::{Ended, run_words};
 use crate::status::Status;
 use book_commodity::Text;
 use book_keeper::Keeper;
+use book_ports::Ports;
 use std::env::Env;
 use std::io::{ErrorKind, Input, Print};
 use std::{env, io};
@@ -16,10 +19,11 @@ use std::{env, io};
 /// host's streams hold, so the bytes that were read and the text that was written are some bytes and some text; of
 /// them and of the keeper's rows holds what `book_main` promises. Where the words could not be read it ends by Usage
 /// if one of them is not UTF-8, else by Memory.
-pub fn run_program<R: Input + Print + AllocGlobal, K: Keeper>(
+pub fn run_program<R: Input + Print + AllocGlobal, K: Keeper, P: Ports>(
     rt: &R,
     words: io::Result<Vec<Text>>,
     keeper: &mut K,
+    ports: &mut P,
 ) -> Ended
     ensures run { IsStreamRun (given_work (λ given. given.items) words)
         (over K.sure K.holds K.faults keeper.old keeper.new) result.status }
@@ -29,11 +33,28 @@ pub fn run_program<R: Input + Print + AllocGlobal, K: Keeper>(
     ensures sure { IsTrue (K.sure keeper.new) → IsTrue (K.sure keeper.old) }
     ensures memory { OnErr words (result.status ≢ Status.Usage → result.status ≡ Status.Memory) }
     ensures keeper_fault { result.status ≡ Status.KeeperFault → Rose (K.faults keeper.old) (K.faults keeper.new) }
+    ensures serve { IfSome (given_serve (λ given. given.items) words) (λ serve. ServeClause serve
+        (over K.sure K.holds K.faults keeper.old keeper.new)
+        (told P.L.left P.L.written P.L.Source.faults P.L.Sink.faults)
+        (across P.coming P.closed P.port_given ports.old ports.new) result.status) }
+    ensures other_words { given_serve (λ given. given.items) words ≡ None → ports.new ≡ ports.old }
+    ensures open_links { P.open_links ports.new ≡ P.open_links ports.old }
+    ensures port_fault { result.status ≡ Status.PortFault → Rose (P.faults ports.old) (P.faults ports.new) }
+    ensures no_port_fault { result.status ≢ Status.PortFault → P.faults ports.new ≡ P.faults ports.old }
 {
-    run_words(rt.alloc(), words, keeper, rt.reader(), io::writer(rt)).ended
+    run_words(
+        rt.alloc(),
+        words,
+        keeper,
+        rt.reader(),
+        io::writer(rt),
+        ports,
+    )
+    .ended
 }
 
-/// The words behind the program's name. An error of kind InvalidData where one of them is not UTF-8, else out of memory.
+/// The words behind the program's name. An error of kind InvalidData where one of them is not UTF-8, else out of
+/// memory.
 pub fn words_of<R: Env + AllocGlobal>(rt: &R) -> io::Result<Vec<Text>> {
     let mut words = Vec::new(rt.alloc());
     for word in env::args(rt)?.skip(1) {

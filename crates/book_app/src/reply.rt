@@ -19,7 +19,7 @@ use book_texts::{answer_text, rule_text, too_long_text, wire_text};
 use book_wire::{WireError, command_of};
 use std::alloc::Global;
 
-/// The way in which this crate joins an engine to the lines.
+/// The way in which this crate joins an engine to the lines and the requests.
 #[derive(Clone, Copy, Debug)]
 pub struct Answering;
 
@@ -34,8 +34,34 @@ fn answered(text: Result<Bytes, OutOfMemory>) -> Result<Bytes, Unanswered>
     }
 }
 
-/// The text of the answer of a plan, which is finished. The text is made before that, so that no answered change is
+/// Finishes a plan, and hands on the bytes that answer it. They are made before that, so that no answered change is
 /// lost for memory.
+/// Keeper: the plan commits, and the keeper failed.
+pub fn keep<K: Keeper>(
+    engine: &mut Engine,
+    keeper: &mut K,
+    plan: Plan,
+    bytes: Bytes,
+) -> Result<Bytes, Unanswered>
+    requires made { IsPlanFor engine.old.state engine.old.saved plan }
+    requires room { HasRoomFor engine.old plan }
+    ensures bytes { IfOk result (λ given. given ≡ bytes) }
+    ensures state { OnOk result (engine.new.state ≡ after engine.old.state plan) }
+    ensures kept { OnErr result (IsUnchanged engine.old engine.new) }
+    ensures commits { result ≡ Err Unanswered.Keeper → IsTrue (commits plan) }
+    ensures failed { result ≡ Err Unanswered.Keeper → Rose (K.faults keeper.old) (K.faults keeper.new) }
+    ensures later { K.faults keeper.old ≤ K.faults keeper.new }
+    ensures stands { Stands K.sure K.holds keeper.old engine.old → Stands K.sure K.holds keeper.new engine.new }
+    ensures follows { IsLater K.path_given K.sure keeper.old keeper.new }
+{
+    match engine.finish(keeper, plan) {
+        Ok(answer) => Ok(discard(answer, bytes)),
+        Err(KeepError::Failed) => Err(discard(bytes, Unanswered::Keeper)),
+        Err(KeepError::OutOfMemory) => Err(discard(bytes, Unanswered::Memory)),
+    }
+}
+
+/// The text of the answer of a plan, which is finished.
 /// Keeper: the plan commits, and the keeper failed.
 fn finished<K: Keeper>(
     alloc: Global,
@@ -54,13 +80,9 @@ fn finished<K: Keeper>(
     ensures stands { Stands K.sure K.holds keeper.old engine.old → Stands K.sure K.holds keeper.new engine.new }
     ensures follows { IsLater K.path_given K.sure keeper.old keeper.new }
 {
-    let Ok(text) = answer_text(alloc, plan.answer(), plan.version()) else {
-        return Err(discard(plan, Unanswered::Memory));
-    };
-    match engine.finish(keeper, plan) {
-        Ok(answer) => Ok(discard(answer, text)),
-        Err(KeepError::Failed) => Err(discard(text, Unanswered::Keeper)),
-        Err(KeepError::OutOfMemory) => Err(discard(text, Unanswered::Memory)),
+    match answer_text(alloc, plan.answer(), plan.version()) {
+        Ok(text) => keep(engine, keeper, plan, text),
+        Err(OutOfMemory) => Err(discard(plan, Unanswered::Memory)),
     }
 }
 

@@ -1,18 +1,21 @@
 ghost use Rattle.std.specs.Prelude.{◌≡◌};
-ghost use Rattle.book_app.specs.Numbers.{number_of, message_of, status_of, status_shown, status_unopened};
+ghost use Rattle.book_app.specs.Numbers.{number_of, message_of, status_of, status_served, status_shown};
+ghost use Rattle.book_app.specs.Numbers.{status_unopened};
 
 use book_engine::OpenError;
 use book_lines::RunEnd;
 use book_sample::SampleEnd;
+use book_serve::ServeEnd;
 
 /// How the program's work ended.
 #[derive(Clone, Copy, Debug, PartialEq, Eq)]
 pub enum Status {
-    /// The input was read to its end and all was written; for a sample, all was written.
+    /// The input was read to its end and all was written; for a sample, all was written; for `serve`, as many links
+    /// were served as the words say, or no more came.
     Done,
     /// The words are not those of a command of the program.
     Usage,
-    /// It was out of memory before the input was read; for a sample, at any time.
+    /// It was out of memory before the input was read; for a sample and for `serve`, at any time.
     Memory,
     /// The input failed.
     InputFault,
@@ -24,6 +27,8 @@ pub enum Status {
     BadRows { kind: u8, id: u64 },
     /// The keeper holds the rows of a book that is not sound: this key is the first that breaks a rule.
     UnsoundBook { kind: u8, id: u64 },
+    /// The ports failed to give the next link.
+    PortFault,
     /// A byte follows 1,000,000 lines or 2^33 bytes; for an import, 8 MiB.
     InputLimit,
 }
@@ -41,6 +46,7 @@ impl Status {
             Status::OutputFault => 5,
             Status::KeeperFault => 6,
             Status::BadRows { .. } | Status::UnsoundBook { .. } => 7,
+            Status::PortFault => 8,
             Status::InputLimit => 9,
         }
     }
@@ -52,13 +58,14 @@ impl Status {
         match self {
             Status::Done => "",
             Status::Usage => {
-                "usage: book run BOOK | import BOOK FORMAT ACCOUNT CURRENCY | sample NUMBER"
+                "usage: book run BOOK | import BOOK FORMAT ACCOUNT CURRENCY | serve BOOK PORT LINKS | sample NUMBER"
             }
             Status::Memory => "book: out of memory",
             Status::InputFault => "book: the input failed",
             Status::OutputFault => "book: the output failed",
             Status::KeeperFault => "book: the book file failed",
             Status::BadRows { .. } | Status::UnsoundBook { .. } => "book: the book is damaged",
+            Status::PortFault => "book: the port failed",
             Status::InputLimit => "book: the input is too long",
         }
     }
@@ -84,6 +91,17 @@ pub(crate) fn status_shown(end: SampleEnd) -> Status
         SampleEnd::Done => Status::Done,
         SampleEnd::OutOfMemory => Status::Memory,
         SampleEnd::OutputFault => Status::OutputFault,
+    }
+}
+
+/// The status of a serving of links.
+pub(crate) fn status_served(end: ServeEnd) -> Status
+    ensures { result ≡ status_served end }
+{
+    match end {
+        ServeEnd::Done => Status::Done,
+        ServeEnd::PortFault => Status::PortFault,
+        ServeEnd::OutOfMemory => Status::Memory,
     }
 }
 

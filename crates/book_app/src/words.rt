@@ -1,15 +1,16 @@
-ghost use Rattle.std.specs.Prelude.{◌≡◌, ◌^◌, nat_lt, if◌then◌else◌, Some, None, option_map};
-ghost use Rattle.std.specs.Char.{is_ascii_digit};
-ghost use Rattle.std.specs.List.{list_all};
-ghost use Rattle.book_app.specs.Words.{account_of, bank_format, begins_with_zero, format_of, has_digits};
-ghost use Rattle.book_app.specs.Words.{has_no_leading_zero, import_of, is_book, is_numeral, named_book, named_import};
-ghost use Rattle.book_app.specs.Words.{named_number, number_of, qif_format};
+ghost use Rattle.std.specs.Prelude.{◌≡◌, option_map};
+ghost use Rattle.book_app.specs.Words.{account_of, bank_format, format_of, import_of, is_book, is_link_count, is_port};
+ghost use Rattle.book_app.specs.Words.{named_book, named_import, named_number, named_serve, qif_format, serve_of};
 
 use book_command::Format;
 use book_commodity::Text;
+use book_numerals::number_of;
 
-/// The numbers that the program's words may name are below 2^62.
-const NUMBER_LIMIT: u64 = 1 << 62;
+/// The greatest port.
+const MAX_PORT: u64 = 65_535;
+
+/// How many links the words may ask for at most.
+const MAX_LINKS: u64 = 1_000_000;
 
 /// What the words of `import` name beside the book: the format of the statement file, with the currency of a QIF file,
 /// and the account, or none where the bindings say which accounts are meant.
@@ -19,6 +20,14 @@ pub struct ImportWords {
     pub account: Option<u64>,
 }
 
+/// What the words of `serve` name beside the book: the port, from 1 to 65535, and how many links are served, from 1 to
+/// 1,000,000.
+#[derive(Clone, Copy, Debug, PartialEq, Eq)]
+pub struct ServeWords {
+    pub port: u16,
+    pub links: u64,
+}
+
 /// Whether a word names a book: it is not empty and does not begin with a hyphen.
 fn names_book(word: &str) -> bool
     ensures { result ≡ is_book word.now }
@@ -26,68 +35,6 @@ fn names_book(word: &str) -> bool
     match word.as_bytes().first() {
         None => false,
         Some(byte) => *byte != b'-',
-    }
-}
-
-/// Whether a word begins with the digit zero.
-fn begins_with_zero(word: &str) -> bool
-    ensures { result ≡ begins_with_zero word.now }
-{
-    match word.as_bytes().first() {
-        None => false,
-        Some(byte) => *byte == b'0',
-    }
-}
-
-/// Whether a word has no zero before another digit.
-fn has_no_leading_zero(word: &str) -> bool
-    ensures { result ≡ has_no_leading_zero word.now }
-{
-    !begins_with_zero(word) || word.len() == 1
-}
-
-/// Whether each byte of a word is a decimal digit.
-fn are_digits(word: &str) -> bool
-    ensures { result ≡ list_all is_ascii_digit word.now }
-{
-    word.as_bytes().iter().all(|byte| byte.is_ascii_digit())
-}
-
-/// Whether a word has decimal digits alone, at least one.
-fn has_digits(word: &str) -> bool
-    ensures { result ≡ has_digits word.now }
-{
-    !word.is_empty() && are_digits(word)
-}
-
-/// Whether a word is a numeral: decimal digits alone, at least one, without leading zeros.
-fn is_numeral(word: &str) -> bool
-    ensures { result ≡ is_numeral word.now }
-{
-    has_digits(word) && has_no_leading_zero(word)
-}
-
-/// The number, where it is below 2^62.
-fn below_limit(number: u64) -> Option<u64>
-    ensures { result ≡ (if nat_lt number (2 ^ 62) then Some number else None) }
-{
-    if number < NUMBER_LIMIT {
-        Some(number)
-    } else {
-        None
-    }
-}
-
-/// The number that a numeral spells, where it is below 2^62; `None` for other words.
-fn number_of(word: &str) -> Option<u64>
-    ensures { result ≡ number_of word.now }
-{
-    if !is_numeral(word) {
-        return None;
-    }
-    match word.parse::<u64>() {
-        Ok(number) => below_limit(number),
-        Err(_) => None,
     }
 }
 
@@ -170,14 +117,64 @@ pub fn named_import(words: &[Text]) -> Option<ImportWords>
     }
 }
 
+/// Whether a number is that of a port.
+fn is_port(number: u64) -> bool
+    ensures { result ≡ is_port number }
+{
+    1 <= number && number <= MAX_PORT
+}
+
+/// Whether so many links may be asked for.
+fn is_link_count(number: u64) -> bool
+    ensures { result ≡ is_link_count number }
+{
+    1 <= number && number <= MAX_LINKS
+}
+
+/// So many links at this port, if there are such.
+fn serve_of(port: Option<u64>, links: Option<u64>) -> Option<ServeWords>
+    ensures { result ≡ serve_of port links }
+{
+    let Some(port) = port else {
+        return None;
+    };
+    let Some(links) = links else {
+        return None;
+    };
+    if is_port(port) && is_link_count(links) {
+        Some(ServeWords {
+            port: port as u16,
+            links,
+        })
+    } else {
+        None
+    }
+}
+
+/// What the words name that are `serve`, the name of a book, and the numerals of a port and of how many links are
+/// served.
+pub fn named_serve(words: &[Text]) -> Option<ServeWords>
+    ensures { result ≡ named_serve words.now }
+{
+    match words {
+        [word, book, port, links] if word.as_str() == "serve" && names_book(book.as_str()) => {
+            let port = number_of(port.as_str());
+            let links = number_of(links.as_str());
+            serve_of(port, links)
+        }
+        _ => None,
+    }
+}
+
 /// The book that the words name, where they are `run` and the name of a book, which is not empty and does not begin
-/// with a hyphen, or those of an import.
+/// with a hyphen, or those of an import, or those of `serve`.
 pub fn named_book(words: &[Text]) -> Option<&str>
     ensures { option_map (λ book. book.now) result ≡ named_book words.now }
 {
     match words {
         [word, book] if word.as_str() == "run" && names_book(book.as_str()) => Some(book.as_str()),
         [_, book, _, _, _] if named_import(words).is_some() => Some(book.as_str()),
+        [_, book, _, _] if named_serve(words).is_some() => Some(book.as_str()),
         _ => None,
     }
 }

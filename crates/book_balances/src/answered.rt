@@ -32,7 +32,7 @@ pub fn answered_step(
     ensures done { IfOk result (IsWholeStep (state_of plain.now next version) update) }
     ensures refused { IfErr result (IsStepRefusal (outcome (state_of plain.now next version) update)) }
 {
-    let step = match step_of(alloc, plain, next, version, index, update) {
+    let step = match step_of(alloc, plain, next, version, registers, index, update) {
         Ok(step) => step,
         Err(refusal) => return Err(refusal),
     };

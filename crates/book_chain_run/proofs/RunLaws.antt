@@ -15,15 +15,16 @@ use Rattle.book_engine.specs.Machine.{Broken, Done, Machine, Reply, fresh, step}
 use Rattle.book_engine.specs.Opens.{Opens, OpensTo}
 use Rattle.book_wire.specs.Asked.{Asked, Asks, NotCommand, NotJson}
 use Rattle.book_texts.specs.RefusedText.{too_long_bytes}
-use Rattle.book_app.specs.Machine.{IsOutcome, IsReply, Replies, answers, import_answers, import_command}
+use Rattle.book_app.specs.Machine.{AreDone, IsOutcome, IsReply, Leads, Replies, answers, import_answers}
+use Rattle.book_app.specs.Machine.{import_command}
 use Rattle.book_app.specs.StatusClause.{IsBookRun, IsImportRun, IsImported, IsLineRun, IsSession, Keeping}
-use Rattle.book_app.specs.StatusClause.{HoldsAsBefore, ImportClause, StatusClause, WorkClause}
-use Rattle.book_app.specs.Words.{Import, Lines, Sample, Work}
+use Rattle.book_app.specs.StatusClause.{HasLed, HoldsAsBefore, ImportClause, ServedRows, StatusClause, WorkClause}
+use Rattle.book_app.specs.Words.{Import, Lines, Sample, Serve, Work}
 use Rattle.book_app.specs.declared.status.Status.{Status}
 use Rattle.book_app.specs.declared.status.Status.TheVariants as status
 use Rattle.book_app.specs.declared.words.ImportWords.{ImportWords}
 use Rattle.book_chain_run.specs.Books.{AreChained, AreSound, AllKeepBroken, AllSumToLast}
-use Rattle.book_chain_run.specs.Made.{ByFile, ByLines, HoldsMade, IsMade, New, OpensMade}
+use Rattle.book_chain_run.specs.Made.{ByFile, ByLines, ByLinks, HoldsMade, IsMade, New, OpensMade}
 use Rattle.book_one_opening.proofs.OneOpening.{only-machine}
 use Rattle.book_chain_run.proofs.StepLaws.{all-books-sum, fresh-all-chained, fresh-all-sound, fresh-keeps-broken}
 use Rattle.book_chain_run.proofs.StepLaws.{step-chained, step-keeps-broken, step-sound}
@@ -31,18 +32,18 @@ use Rattle.book_chain_run.proofs.StepLaws.{step-chained, step-keeps-broken, step
 -- ---- one line, and one file
 
 -- A machine stays, or a step of it leads to another.
-abbrev Leads : Machine → Machine → Type 0
-Leads old new =
+abbrev Steps : Machine → Machine → Type 0
+Steps old new =
     (new ≡ old) ⊎ ((command : Command) × (given : Answer) × (step old command ≡ Done new given))
 
 outcome-leads :
     (command : Command) (old new : Machine) (text : List ℕ) (comes : Reply) → step old command ≡ comes
-    → IsOutcome comes old text new → Leads old new
+    → IsOutcome comes old text new → Steps old new
 outcome-leads command old new text (Broken rule) is outcome = inl outcome.1
 outcome-leads command old new text (Done after given) is outcome =
     inr (command, given, is ∙ ap (λ (m : Machine). Done m given) (sym outcome.1))
 
-reply-leads : (asked : Asked) (old new : Machine) (text : List ℕ) → IsReply asked old text new → Leads old new
+reply-leads : (asked : Asked) (old new : Machine) (text : List ℕ) → IsReply asked old text new → Steps old new
 reply-leads (Asks command) old new text is = outcome-leads command old new text (step old command) refl is
 reply-leads NotJson old new text is = inl is.1
 reply-leads (NotCommand name) old new text is = inl is.1
@@ -50,20 +51,20 @@ reply-leads (NotCommand name) old new text is = inl is.1
 answered-leads :
     (long : Bool) (old new : Machine) (line text : List ℕ)
     → MatchBool long ((text ≡ too_long_bytes (length line)) × (new ≡ old)) (Replies old line text new)
-    → Leads old new
+    → Steps old new
 answered-leads true old new line text is = inl is.1
 answered-leads false old new line text is = reply-leads is.asked old new text is.reply
 
 line-leads :
     (old : Machine) (line : List ℕ) (mark : Mark) (text : List ℕ) (new : Machine) → answers old line mark text new
-    → Leads old new
+    → Steps old new
 line-leads old line Answered text new is = answered-leads (nat_lt (2 ^ 23) (length line)) old new line text is
 line-leads old line Memory text new is = inl is.1
 line-leads old line Keeper text new is = inl is.1
 
 file-leads :
     (words : ImportWords) (old : Machine) (bytes : List ℕ) (mark : Mark) (text : List ℕ) (new : Machine)
-    → import_answers words old bytes mark text new → Leads old new
+    → import_answers words old bytes mark text new → Steps old new
 file-leads words old bytes Answered text new is =
     let command = import_command words bytes in outcome-leads command old new text (step old command) refl is
 file-leads words old bytes Memory text new is = inl is.1
@@ -77,7 +78,7 @@ record Holds (machine : Machine) : Type 0 where
   sound : AreSound machine
   broken : AllKeepBroken machine
 
-leads-hold : (old new : Machine) → Holds old → Leads old new → Holds new
+leads-hold : (old new : Machine) → Holds old → Steps old new → Holds new
 leads-hold old new holds (inl same) = subst Holds (sym same) holds
 leads-hold old new holds (inr done) = record {
   chained = step-chained old done.0 new done.1 holds.sound.state holds.chained done.2;
@@ -95,6 +96,12 @@ run-holds old (line ∷ more) (mark ∷ others) text new holds run =
     run-holds run.1 more others run.2 new (leads-hold old run.1 holds (line-leads old line mark run.0 run.1 run.3))
     run.5
 
+commands-hold :
+    (old : Machine) (commands : List Command) (new : Machine) → Holds old → AreDone old commands new → Holds new
+commands-hold old [] new holds same = subst Holds (sym same) holds
+commands-hold old (command ∷ more) new holds is =
+    commands-hold is.0 more new (leads-hold old is.0 holds (inr (command, is.1, is.2))) is.3
+
 made-holds : (machine : Machine) → IsMade machine → Holds machine
 made-holds machine New = record {
   chained = fresh-all-chained;
@@ -105,6 +112,7 @@ made-holds machine (ByLines old new all shown text made run) =
     run-holds old all shown text new (made-holds old made) run
 made-holds machine (ByFile words old new bytes text mark made is) =
     leads-hold old new (made-holds old made) (file-leads words old bytes mark text new is)
+made-holds machine (ByLinks old new made leads) = commands-hold old leads.0 new (made-holds old made) leads.1
 
 -- The books of a machine that the program makes from nothing are all chained.
 pub made-chained : (machine : Machine) → IsMade machine → AreChained machine
@@ -239,6 +247,7 @@ lines_status-made keeping rows before after bytes read left text (status.BadRows
     as-before keeping rows sure held made clause.0.rows
 lines_status-made keeping rows before after bytes read left text (status.UnsoundBook kind id) sure held made clause =
     as-before keeping rows sure held made clause.0.rows
+lines_status-made keeping rows before after bytes read left text status.PortFault sure held made clause = absurd clause
 
 -- And by that of an import.
 import_status-made :
@@ -263,6 +272,33 @@ import_status-made words keeping rows before after read left text (status.BadRow
     as-before keeping rows sure held made clause.0.rows
 import_status-made words keeping rows before after read left text (status.UnsoundBook kind id) sure held made clause =
     as-before keeping rows sure held made clause.0.rows
+import_status-made words keeping rows before after read left text status.PortFault sure held made clause = absurd clause
+
+led-made :
+    (keeping : Keeping) (rows : List Row) → IsTrue keeping.sure → keeping.held rows → OpensMade rows → HasLed keeping
+    → HoldsMade keeping
+led-made keeping rows sure held made led =
+    let first = first-made rows led.first made (led.opened sure rows held) in
+    let kept = led.kept sure in
+    (kept.0, kept.1, (led.last, kept.2, ByLinks led.first led.last first led.led))
+
+-- And by that of a serving of links.
+serve_status-made :
+    (keeping : Keeping) (rows : List Row) (ended : Status) → IsTrue keeping.sure → keeping.held rows → OpensMade rows
+    → ServedRows keeping ended → HoldsMade keeping
+serve_status-made keeping rows status.Done sure held made led = led-made keeping rows sure held made led
+serve_status-made keeping rows status.PortFault sure held made led = led-made keeping rows sure held made led
+serve_status-made keeping rows status.Memory sure held made (inl same) = as-before keeping rows sure held made same
+serve_status-made keeping rows status.Memory sure held made (inr led) = led-made keeping rows sure held made led
+serve_status-made keeping rows status.Usage sure held made same = as-before keeping rows sure held made same
+serve_status-made keeping rows status.KeeperFault sure held made same = as-before keeping rows sure held made same
+serve_status-made keeping rows (status.BadRows kind id) sure held made clause =
+    as-before keeping rows sure held made clause.0
+serve_status-made keeping rows (status.UnsoundBook kind id) sure held made clause =
+    as-before keeping rows sure held made clause.0
+serve_status-made keeping rows status.InputFault sure held made clause = absurd clause
+serve_status-made keeping rows status.OutputFault sure held made clause = absurd clause
+serve_status-made keeping rows status.InputLimit sure held made clause = absurd clause
 
 work-made :
     (work : Work) (keeping : Keeping) (rows : List Row) (before after : List ℕ → Type 0)
@@ -272,6 +308,8 @@ work-made Lines keeping rows before after bytes read left text ended sure held m
     lines_status-made keeping rows before after bytes read left text ended sure held made clause
 work-made (Import words) keeping rows before after bytes read left text ended sure held made clause =
     import_status-made words keeping rows before after read left text ended sure held made clause
+work-made (Serve serve) keeping rows before after bytes read left text ended sure held made clause =
+    serve_status-made keeping rows ended sure held made clause.2
 work-made (Sample number) keeping rows before after bytes read left text ended sure held made clause =
     as-before keeping rows sure held made clause.0.rows
 

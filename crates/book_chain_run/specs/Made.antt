@@ -5,12 +5,12 @@ use Rattle.book_lines.specs.Marks.{Mark}
 use Rattle.book_lines.specs.Transcript.{Run}
 use Rattle.book_engine.specs.Machine.{Machine, fresh}
 use Rattle.book_engine.specs.Opens.{Opens, OpensTo}
-use Rattle.book_app.specs.Machine.{answers, import_answers}
+use Rattle.book_app.specs.Machine.{Leads, answers, import_answers}
 use Rattle.book_app.specs.StatusClause.{Keeping}
 use Rattle.book_app.specs.declared.words.ImportWords.{ImportWords}
 
 -- A machine that the program makes from nothing: the fresh one, and each that a run leads to from one that it made. A
--- run answers lines, or imports a statement file.
+-- run answers lines, or imports a statement file, or serves links, whose requests lead on by commands.
 pub data IsMade : Machine → Type 0 where
   New : IsMade fresh
   ByLines :
@@ -19,6 +19,7 @@ pub data IsMade : Machine → Type 0 where
   ByFile :
       (words : ImportWords) (old new : Machine) (bytes text : List ℕ) (mark : Mark) → IsMade old
       → import_answers words old bytes mark text new → IsMade new
+  ByLinks : (old new : Machine) → IsMade old → Leads old new → IsMade new
 
 -- Rows open as a machine that the program makes from nothing.
 abbrev pub OpensMade : List Row → Type 0

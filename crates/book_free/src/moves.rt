@@ -8,12 +8,15 @@ use book_match::{Free, sort};
 use std::alloc::Global;
 use std::marker::Model;
 
-/// What becomes of a split by an edit: what it is before it and after it if it is free, as the index has it, and the
-/// number of the line that is matched with it after it.
+/// What becomes of a split by an edit: what the index has of it before the edit and after it, and which line is matched
+/// with it then.
 #[derive(Clone, Copy, Debug, PartialEq, Eq)]
 pub struct Move {
+    /// The split before the edit, where it is free then.
     pub before: Option<Free>,
+    /// The split after the edit, where it is free then.
     pub after: Option<Free>,
+    /// The number of the line that is matched with it after the edit.
     pub line: Option<u64>,
 }
 
@@ -95,7 +98,7 @@ impl Moves {
         Ok(Moves { splits, gone, come })
     }
 
-    /// How many splits are moved.
+    /// How many splits it says something of, also of those that stay as they were.
     pub fn len(&self) -> usize
         ensures count { result ≡ length self.now }
         ensures rises { Rises self.now }

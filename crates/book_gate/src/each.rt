@@ -53,7 +53,7 @@ fn check_fault(
         Sort::Read => check_read(report, case, run, keeper, line, fault),
         Sort::Write => check_write(report, case, run, keeper, line, fault),
         Sort::Commit => check_commit(report, case, run, keeper, line, fault),
-        Sort::Call => check_same(report, case, run, keeper, fault),
+        Sort::Call | Sort::Accept => check_same(report, case, run, keeper, fault),
     }
 }
 
@@ -149,8 +149,8 @@ fn read_before(run: &Run, fault: Fault) -> &[u8] {
     }
 }
 
-/// Makes the run with a write that fails: it ends by that fault. Each answer is one write, so those before it are written,
-/// and the rows are those after its line.
+/// Makes the run with a write that fails: it ends by that fault. Each answer is one write, so those before it are
+/// written, and the rows are those after its line.
 fn check_write(
     report: &mut Report<'_>,
     case: Case<'_>,

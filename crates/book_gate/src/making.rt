@@ -1,3 +1,4 @@
+use crate::links::{ports_of, written};
 use book_app::{Status, book_main};
 use book_commodity::{Bytes, discard};
 use book_keeper::{Keeper, MemKeeper, MemSink, MemSource, Source};
@@ -20,13 +21,15 @@ fn status_text(alloc: Global, status: Status) -> Result<String, AllocError> {
         Status::InputFault => String::from_str(alloc, "input fault"),
         Status::OutputFault => String::from_str(alloc, "output fault"),
         Status::KeeperFault => String::from_str(alloc, "keeper fault"),
+        Status::PortFault => String::from_str(alloc, "port fault"),
         Status::InputLimit => String::from_str(alloc, "input limit"),
         Status::BadRows { kind, id } => format!(in alloc; "bad rows {kind} {id}"),
         Status::UnsoundBook { kind, id } => format!(in alloc; "unsound book {kind} {id}"),
     }
 }
 
-/// Makes a run over a keeper and this input. Beside the reads and writes that are to fail, one more call may fail.
+/// Makes a run over a keeper and this input. Beside the reads and writes that are to fail, one more call may fail. What
+/// it wrote is what its closed links were given, where it has links.
 pub(crate) fn made<K: Keeper>(
     alloc: Global,
     run: &Run,
@@ -41,9 +44,11 @@ pub(crate) fn made<K: Keeper>(
     let Ok(mut output) = MemSink::new(alloc, ROOM, writes) else {
         return Err(memory());
     };
+    let mut ports = ports_of(alloc, run, more)?;
     let words = run.words.as_slice();
-    let status = book_main(alloc, words, keeper, &mut source, &mut output);
+    let status = book_main(alloc, words, keeper, &mut source, &mut output, &mut ports);
     let unread = left(&mut source);
+    let output = written(alloc, output, &ports)?;
     match status_text(alloc, status) {
         Ok(status) => Ok(Outcome {
             status,

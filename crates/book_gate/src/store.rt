@@ -30,8 +30,8 @@ fn place_of(word: &str) -> io::Result<Place> {
     }
 }
 
-/// The rows of a case between its runs: those in memory, or the database. There is none where it has no table of rows, or
-/// where it failed.
+/// The rows of a case between its runs: those in memory, or the database. There is none where it has no table of rows,
+/// or where it failed.
 #[derive(Drop)]
 pub(crate) struct Store {
     place: Place,
@@ -88,7 +88,7 @@ impl Store {
         }
         let alloc = report.alloc();
         let keeper = mem::replace(&mut self.rows, no_rows(alloc));
-        let (outcome, keeper) = made_in_memory(alloc, run, keeper, run.input.as_slice(), None)?;
+        let (outcome, keeper) = made_in_memory(alloc, run, keeper, run.read_input(), None)?;
         self.rows = keeper;
         compare(report, case, run, &outcome, Some(self.rows.rows()))
     }
@@ -188,8 +188,8 @@ fn check_absent(rt: &HostRuntime, name: &str) -> io::Result<()> {
     Ok(())
 }
 
-/// Makes a run over a keeper, and compares. Calls of the keeper that fail, and calls that fail each in turn, are for one
-/// in memory.
+/// Makes a run over a keeper, and compares. Calls of the keeper that fail, and calls that fail each in turn, are for
+/// one in memory.
 fn check_over<K: Keeper>(
     report: &mut Report<'_>,
     case: Case<'_>,
@@ -200,7 +200,7 @@ fn check_over<K: Keeper>(
         return Err(unread());
     }
     let alloc = report.alloc();
-    let outcome = made(alloc, run, keeper, run.input.as_slice(), None)?;
+    let outcome = made(alloc, run, keeper, run.read_input(), None)?;
     let rows = rows_in(alloc, keeper)?;
     compare(report, case, run, &outcome, rows.as_deref())
 }

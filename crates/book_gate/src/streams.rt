@@ -1,3 +1,4 @@
+use crate::links::no_ports;
 use crate::making::made_in_memory;
 use book_app::{Ended, Status, run_over, run_program, words_of};
 use book_commodity::Text;
@@ -88,7 +89,8 @@ fn are_words_right(
         host.break_output();
     }
     let mut keeper = no_rows(alloc);
-    let code = run_program(&host, words_of(&host), &mut keeper).report(&host);
+    let mut ports = no_ports(alloc)?;
+    let code = run_program(&host, words_of(&host), &mut keeper, &mut ports).report(&host);
     Ok(code == ExitCode::from(row.number) && host.is_content())
 }
 
@@ -108,6 +110,7 @@ fn status_of(text: &str) -> io::Result<Status> {
         "input fault" => Ok(Status::InputFault),
         "output fault" => Ok(Status::OutputFault),
         "keeper fault" => Ok(Status::KeeperFault),
+        "port fault" => Ok(Status::PortFault),
         "input limit" => Ok(Status::InputLimit),
         "bad rows 4 5" => Ok(Status::BadRows { kind: 4, id: 5 }),
         "unsound book 4 5" => Ok(Status::UnsoundBook { kind: 4, id: 5 }),
@@ -131,7 +134,15 @@ fn ended<R: Read + Drop, W: Write + Drop>(
 ) -> io::Result<Ended> {
     let words = words(alloc)?;
     let mut keeper = no_rows(alloc);
-    let ran = run_over(alloc, words.as_slice(), &mut keeper, reader, writer);
+    let mut ports = no_ports(alloc)?;
+    let ran = run_over(
+        alloc,
+        words.as_slice(),
+        &mut keeper,
+        reader,
+        writer,
+        &mut ports,
+    );
     Ok(ran.ended)
 }
 

@@ -5,6 +5,7 @@ use Rattle.std.proofs.Math.Seq.{drop-append-add}
 use Rattle.std.proofs.lemmas.List.{take-append-drop, take-append-le, length-take-le}
 use Rattle.std.proofs.lemmas.Bool.{eqb-false}
 use Rattle.std.specs.Io.KnownBytes.{IsAtEnd}
+use Rattle.std.proofs.KnownBytes.{Consumes-trans}
 use Rattle.httparse.specs.Grammar.{RequestHead, print_request, HasNoRequest, NeverHasRequest, MayBecomeRequest}
 use Rattle.httparse.proofs.GrammarLemmas.{ReadsRequest-append}
 use Rattle.book_keeper.specs.Stream.{Are}
@@ -120,6 +121,7 @@ next_of : (begun mid kept : List ℕ) (before after : Option (List ℕ)) (result
 next_of begun mid kept before after result left had are next exchange = record {
   read = had.read;
   left = left;
+  took = had.took;
   bytes_are = Are-Consumes before after had.read left had.took are;
   left_are = are;
   next = subst (λ (bytes : List ℕ). NextIs bytes kept after result) had.kept_is next;
@@ -166,6 +168,7 @@ IsNext-behind begun mid kept before between after result had next =
     ∙ ap (λ l. begun ++ l) (sym (append_assoc had.read next.read next.left)) in record {
       read = had.read ++ next.read;
       left = next.left;
+      took = Consumes-trans before between after had.read next.read had.took next.took;
       bytes_are = subst (λ (l : List ℕ). Are before l) (sym (append_assoc had.read next.read next.left))
           (Are-Consumes before between had.read (next.read ++ next.left) had.took next.bytes_are);
       left_are = next.left_are;

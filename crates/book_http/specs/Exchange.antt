@@ -1,7 +1,7 @@
 -- The requests of a link, as its bytes have them, whatever the pieces in which they come.
 use Rattle.std.specs.Prelude.{◌≡◌, ℕ, ◌^◌, ◌<◌, ◌≤◌, ◌⊎◌, List, [], ◌++◌, length, take, Option, Result, Ok, Err}
 use Rattle.std.specs.Prelude.{if◌then◌else◌}
-use Rattle.std.specs.Io.KnownBytes.{IsAtEnd}
+use Rattle.std.specs.Io.KnownBytes.{Consumes, IsAtEnd}
 use Rattle.httparse.specs.Grammar.{RequestHead, print_request, ReadsRequest, HasNoRequest, NeverHasRequest}
 use Rattle.httparse.specs.Grammar.{MayBecomeRequest}
 use Rattle.book_keeper.specs.Stream.{Are}
@@ -101,6 +101,7 @@ pub record IsNext (begun kept : List ℕ) (before after : Option (List ℕ)) (re
     : Type 0 where
   pub read : List ℕ
   pub left : List ℕ
+  pub took : Consumes before after read
   pub bytes_are : Are before (read ++ left)
   pub left_are : Are after left
   pub next : NextIs (begun ++ read) kept after result

@@ -53,7 +53,9 @@ fn make_router(alloc: Global) -> Result<Router<RouteKind>, OutOfMemory>
 
 impl Routes {
     /// The routes; it takes their memory once.
-    pub fn new(alloc: Global) -> Result<Routes, OutOfMemory> {
+    pub fn new(alloc: Global) -> Result<Routes, OutOfMemory>
+        ensures { IfOk result (λ routes. routes ≡ all_routes) }
+    {
         let router = make_router(alloc)?;
         Ok(Routes { router })
     }

@@ -20,6 +20,7 @@ pub mod ImportWalkLemmas
 pub mod KeepLaws
 pub mod KeepLemmas
 pub mod KeepMarks
+pub mod KeptReconciling
 pub mod LineAddingLemmas
 pub mod LineLemmas
 pub mod MarkingLemmas

@@ -1,8 +1,8 @@
 -- A book stays sound where splits are marked otherwise, and rightly; and the edit that puts the transactions which
 -- become others, with more behind them, is exact and leads to that book.
-use Rattle.std.proofs.Common.{◌≡◌, ◌≢◌, ℕ, ◌^◌, ◌-◌, ◌+◌, ◌<◌, ◌||◌, nat_lt, max, min, Bool, true, false, ℤ, All, List}
+use Rattle.std.proofs.Common.{◌≡◌, ◌≢◌, ℕ, ◌^◌, ◌-◌, ◌<◌, ◌||◌, nat_lt, max, min, Bool, true, false, ℤ, All, List}
 use Rattle.std.proofs.Common.{[], ◌∷◌, ◌++◌, if◌then◌else◌, flat_map, map, Option, Some, None, option_map, refl, sym}
-use Rattle.std.proofs.Common.{ap, subst, ◌∙◌, append_assoc, arith, drop, get_or, length}
+use Rattle.std.proofs.Common.{ap, subst, ◌∙◌, arith}
 use Rattle.std.specs.Prelude.{⊤}
 use Rattle.std.specs.List.{list_all, list_any}
 use Rattle.std.proofs.lemmas.Bool.{or_parts}
@@ -11,7 +11,7 @@ use Rattle.std.proofs.lemmas.List.Elements.{All-append, All-map, All-nil, All-we
 use Rattle.book_commodity.specs.Rules.{broken_where}
 use Rattle.book_commodity.specs.Table.{AllAbove, Rises, value_of, with_entry}
 use Rattle.book_commodity.proofs.DrawnLemmas.{drawn_below, value_beside}
-use Rattle.book_commodity.proofs.ListLemmas.{all_back, all_front, from-item}
+use Rattle.book_commodity.proofs.ListLemmas.{all_back, all_front}
 use Rattle.book_splits.specs.Balance.{splits_of}
 use Rattle.book_splits.specs.declared.split.Split.{Split}
 use Rattle.book_splits.specs.declared.transaction.Txn.{Txn}
@@ -256,33 +256,6 @@ all_remarked-exact touches rule more behind book where_is r is =
     exact_of book whole r allowed
     (subst (λ (ls : List Leaf). AllChange book ls) (sym all)
     (transactions_change touches rule book ts behind where_is r.transactions (λ k x found. found) is.change))
-
--- ---- the edits of a table that is gone through from place to place
-
-remarking_first :
-    (touches : ℤ → Split → Bool) (rule : ℤ → Split → Split) (e : ℕ × Txn) (ts : List (ℕ × Txn))
-    → remarking touches rule (e ∷ ts) ≡ remarking touches rule (e ∷ []) ++ remarking touches rule ts
-remarking_first touches rule e ts =
-    let rest = newly_remarked touches rule ts in
-    let new : ℕ × Txn = (e.0, remarked rule e.1) in
-    elim (has_touched touches e.1) as
-    (λ (b : Bool). transaction_edits (if b then new ∷ rest else rest)
-    ≡ transaction_edits (if b then new ∷ [] else []) ++ transaction_edits rest) [ true ↦ refl | false ↦ refl ]
-
--- the edits so far, that of one transaction, and those for the transactions behind it are those for all
-pub remarking-more :
-    (touches : ℤ → Split → Bool) (rule : ℤ → Split → Split) (ts : List (ℕ × Txn)) (i : ℕ) (e : ℕ × Txn)
-    (done new : List Edit) → i < length ts → e ≡ get_or ts i e
-    → done ++ remarking touches rule (drop i ts) ≡ remarking touches rule ts
-    → new ≡ done ++ remarking touches rule (e ∷ [])
-    → new ++ remarking touches rule (drop (i + 1) ts) ≡ remarking touches rule ts
-remarking-more touches rule ts i e done new below is still more =
-    let rest = remarking touches rule (drop (i + 1) ts) in
-    ap (λ (edits : List Edit). edits ++ rest) more
-    ∙ append_assoc done (remarking touches rule (e ∷ [])) rest
-    ∙ ap (λ (edits : List Edit). done ++ edits)
-    (sym (ap (remarking touches rule) (from-item ts i e below is) ∙ remarking_first touches rule e (drop (i + 1) ts)))
-    ∙ still
 
 -- ---- soundness
 

@@ -1,10 +1,12 @@
 -- The splits of a book's transactions, marked otherwise: in the place of each split stands what a rule makes of it and
 -- of the day of its transaction.
-use Rattle.std.specs.Prelude.{◌≡◌, ◌≢◌, ℕ, ℤ, Bool, true, false, if◌then◌else◌, List, [], ◌∷◌, map}
+use Rattle.std.specs.Prelude.{◌≡◌, ◌≢◌, ℕ, ℤ, Bool, true, false, if◌then◌else◌, List, [], ◌∷◌, map, Option}
+use Rattle.std.specs.Prelude.{Some, None}
 use Rattle.std.specs.List.{list_any}
 use Rattle.book_splits.specs.declared.split.Split.{Split}
 use Rattle.book_splits.specs.declared.transaction.Txn.{Txn}
-use Rattle.book_undo.specs.declared.edit.Edit.{Edit}
+use Rattle.book_undo.specs.declared.edit.Edit.{Edit, Put}
+use Rattle.book_undo.specs.declared.thing.Thing.TheVariants as thing
 use Rattle.book_step.specs.ScheduleRuns.{transaction_edits}
 
 -- A transaction with its splits as the rule makes them.
@@ -43,3 +45,8 @@ newly_remarked touches rule transactions = remarked_where (has_touched touches) 
 -- The edits that put these: one for each transaction that becomes another, and none for the others.
 abbrev pub remarking : (ℤ → Split → Bool) → (ℤ → Split → Split) → List (ℕ × Txn) → List Edit
 remarking touches rule transactions = transaction_edits (newly_remarked touches rule transactions)
+
+-- The edit that puts a transaction under its number, as a rule makes it; none, where there is no transaction.
+abbrev pub remarking_one : (ℤ → Split → Split) → ℕ → Option Txn → List Edit
+remarking_one rule number None = []
+remarking_one rule number (Some transaction) = Put number (thing.Txn (remarked rule transaction)) ∷ []

@@ -1,12 +1,14 @@
 ghost use Rattle.std.specs.Prelude.{◌≡◌, ◌++◌, [], ◌∷◌, None, Some, IfErr, IfOk, map, true};
-ghost use Rattle.std.specs.List.{list_any};
+ghost use Rattle.std.specs.Option.{option_copied};
 ghost use Rattle.book_commodity.specs.Rules.{ReportsFirst};
 ghost use Rattle.book_commodity.specs.Table.{value_of};
 ghost use Rattle.book_splits.specs.Balance.{splits_of};
 ghost use Rattle.book_splits.specs.TransactionRules.{are_once, numbers_of};
 ghost use Rattle.book_splits.specs.declared.split.Mark.TheVariants.{Cleared};
 ghost use Rattle.book_undo.specs.Book.{book_of};
-ghost use Rattle.book_reconcile.specs.Reconciliation.{difference, is_mark};
+ghost use Rattle.book_finish.specs.Kept.{numbers_to_mark};
+ghost use Rattle.book_ledger.specs.Ledger.{Keeps, register_of};
+ghost use Rattle.book_reconcile.specs.Reconciliation.{FinishesBy, difference, is_mark};
 ghost use Rattle.book_sound.specs.ReconciliationRules.{marked_numbers};
 ghost use Rattle.book_sound.specs.Soundness.{IsSoundBook};
 ghost use Rattle.book_command.specs.declared.answer.Answer.TheVariants.{Recons as ReconsAnswer};
@@ -17,7 +19,7 @@ ghost use Rattle.book_step.specs.Reconciling.{IsFinish, differs, finish_rules, f
 ghost use Rattle.book_step.specs.Reconciling.{reconcile, reconcile_statement, reconciling, recon_shown};
 ghost use Rattle.book_step.specs.Reconciling.{recons_among, recons_of, too_many_reconciliations};
 ghost use Rattle.book_step.specs.Reconciling.{unknown_statement};
-ghost use Rattle.book_step.specs.Remarking.{remarked, remarking};
+ghost use Rattle.book_step.specs.Remarking.{remarked, remarking, remarking_one};
 ghost use Rattle.book_step.specs.Schedules.{Finds};
 
 use crate::accounts::known as known_account;
@@ -26,7 +28,10 @@ use crate::importing::whole_edit;
 use crate::present::Present;
 use crate::{Answer, ReconShown, Refusal, Rule, Step};
 use book_commodity::{Counted, Day, Kind, Many, OutOfMemory};
-use book_reconcile::{FinishError, intact, plan_finish};
+use book_finish::{marked_transactions, plan_finish_kept};
+use book_ledger::Registers;
+use book_reconcile::{FinishError, intact};
+use book_register::Register;
 use book_splits::{Mark, Recon, Split, Txn, Txns};
 use book_statement::Held;
 use book_undo::{Edit, Plain, Thing};
@@ -39,14 +44,16 @@ const MAX_RECONS: usize = 100_000;
 /// units of the account's commodity. Broken with the difference where they don't.
 pub(crate) fn reconcile(
     present: &Present,
+    registers: &Registers,
     account: u64,
     day: Day,
     closing: i64,
 ) -> Result<Step, Refusal>
+    requires { Keeps registers.now.entries present.now.book }
     ensures { StepsTo present.now (reconcile present.now account day closing) result }
 {
     known_account(present, account)?;
-    let (edit, marked) = match finish(present, account, day, closing) {
+    let (edit, marked) = match finish(present, registers, account, day, closing) {
         Ok(finished) => finished,
         Err(refusal) => return Err(refusal),
     };
@@ -59,12 +66,17 @@ pub(crate) fn reconcile(
 
 /// The same for the account of the statement of this number, at its day and with its closing balance. Broken where it
 /// has none.
-pub(crate) fn reconcile_statement(present: &Present, statement: u64) -> Result<Step, Refusal>
+pub(crate) fn reconcile_statement(
+    present: &Present,
+    registers: &Registers,
+    statement: u64,
+) -> Result<Step, Refusal>
+    requires { Keeps registers.now.entries present.now.book }
     ensures { StepsTo present.now (reconcile_statement present.now statement) result }
 {
     let held = known_statement(present, statement)?;
     let closing = closing_balance(statement, held)?;
-    let (edit, marked) = match finish(present, held.account, held.day, closing) {
+    let (edit, marked) = match finish(present, registers, held.account, held.day, closing) {
         Ok(finished) => finished,
         Err(refusal) => return Err(refusal),
     };
@@ -103,35 +115,71 @@ fn closing_balance(number: u64, held: &Held) -> Result<i64, Rule>
 /// The edit that puts a reconciliation of the account, and the splits that it marks; and the numbers of these.
 fn finish(
     present: &Present,
+    registers: &Registers,
     account: u64,
     day: Day,
     closing: i64,
 ) -> Result<(Edit, Many<u64>), Refusal>
+    requires { Keeps registers.now.entries present.now.book }
     ensures { Finds (finish_rules present.now.book account day closing)
         (IsFinish present.now.book present.now.next account day closing) result }
 {
-    let recon = match planned(present, account, day, closing) {
+    let none = Register::new(present.alloc);
+    let register = register_or(registers, account, &none);
+    let recon = match planned(present, register, account, day, closing) {
         Ok(recon) => recon,
         Err(refusal) => return Err(refusal),
     };
     check_count(present)?;
     let marked = marked_numbers(present.alloc, &recon)?;
-    let edit = reconciling(present, recon)?;
+    let edit = reconciling(present, register, recon)?;
     Ok((edit, marked))
+}
+
+/// The register of the account; where none is kept, the one given, which is empty.
+fn register_or<'a>(registers: &'a Registers, account: u64, none: &'a Register) -> &'a Register
+    requires { none.now.rows ≡ [] }
+    ensures { (book : _) → Keeps registers.now.entries book
+        → result.now.rows ≡ register_of account book.transactions }
+{
+    match registers.kept(account) {
+        Some(register) => register,
+        None => none,
+    }
 }
 
 /// The record of a reconciliation of the account, whose closing balance is what would be reconciled; else the
 /// difference.
-fn planned(present: &Present, account: u64, day: Day, closing: i64) -> Result<Recon, Refusal>
+fn planned(
+    present: &Present,
+    register: &Register,
+    account: u64,
+    day: Day,
+    closing: i64,
+) -> Result<Recon, Refusal>
+    requires { register.now.rows ≡ register_of account present.now.book.transactions }
     ensures { Finds (differs (difference account day closing present.now.book.transactions) ∷ [])
         (λ recon. recon ≡ finished present.now.book account day closing) result }
 {
-    let transactions = &present.plain.transactions;
-    match plan_finish(present.alloc, transactions, account, day, closing) {
+    match plan_finish(present, register, account, day, closing) {
         Ok(recon) => Ok(recon),
         Err(FinishError::Difference { by }) => Err(Refusal::Broken(Rule::Difference { by })),
         Err(FinishError::OutOfMemory) => Err(Refusal::OutOfMemory),
     }
+}
+
+/// What a reconciliation of the account answers, from its register.
+fn plan_finish(
+    present: &Present,
+    register: &Register,
+    account: u64,
+    day: Day,
+    closing: i64,
+) -> Result<Recon, FinishError>
+    requires { register.now.rows ≡ register_of account present.now.book.transactions }
+    ensures { FinishesBy account day closing present.now.book.transactions result }
+{
+    plan_finish_kept(present.alloc, register, account, day, closing)
 }
 
 /// The book has room for one reconciliation more.
@@ -158,7 +206,8 @@ fn marked_numbers(alloc: Global, recon: &Recon) -> Result<Many<u64>, OutOfMemory
 
 /// The edit that puts the transactions whose splits the reconciliation marks, and the reconciliation under the next
 /// number.
-fn reconciling(present: &Present, recon: Recon) -> Result<Edit, OutOfMemory>
+fn reconciling(present: &Present, register: &Register, recon: Recon) -> Result<Edit, OutOfMemory>
+    requires { register.now.rows ≡ register_of recon.account present.now.book.transactions }
     ensures { IfOk result (λ edit. edit ≡ reconciling present.now.book present.now.next recon) }
 {
     let marking = Marking {
@@ -166,10 +215,30 @@ fn reconciling(present: &Present, recon: Recon) -> Result<Edit, OutOfMemory>
         account: recon.account,
         upto: recon.day,
     };
-    let transactions = present.plain.transactions.as_slice();
-    let mut edits = marking.edits(present.alloc, transactions)?;
+    let numbers = transactions_to_mark(present, register, recon.account, recon.day)?;
+    let mut edits = marking.edits(present, numbers.as_slice())?;
     edits.push(Edit::Put(present.next, Thing::Recon(recon)))?;
     Ok(whole_edit(edits))
+}
+
+/// The numbers of the transactions that have a cleared split on the account on or before the day, by number.
+fn transactions_to_mark(
+    present: &Present,
+    register: &Register,
+    account: u64,
+    upto: Day,
+) -> Result<Many<u64>, OutOfMemory>
+    requires { register.now.rows ≡ register_of account present.now.book.transactions }
+    ensures { IfOk result (λ numbers. numbers ≡ numbers_to_mark account upto present.now.book.transactions) }
+{
+    marked_transactions(present.alloc, register, upto)
+}
+
+/// The transaction of this number, if there is one.
+fn transaction_of<'a>(present: &Present<'a>, number: u64) -> Option<&'a Txn>
+    ensures { option_copied result ≡ value_of number present.now.book.transactions }
+{
+    present.plain.transactions.find(number)
 }
 
 /// What a reconciliation marks: the cleared splits of the account on or before the day, which become reconciled under
@@ -182,46 +251,37 @@ struct Marking {
 }
 
 impl Marking {
-    /// The edits that put the transactions with a split that it marks, by number.
-    fn edits(&self, alloc: Global, transactions: &[(u64, Txn)]) -> Result<Many<Edit>, OutOfMemory>
+    /// The edits that put the transactions with a split that it marks, whose numbers these are.
+    fn edits(&self, present: &Present, numbers: &[u64]) -> Result<Many<Edit>, OutOfMemory>
+        requires { numbers.now ≡ numbers_to_mark self.now.account self.now.upto present.now.book.transactions }
         ensures { IfOk result (λ edits. edits ≡ remarking (is_to_mark self.now.account self.now.upto)
-            (marked_under self.now.number self.now.account self.now.upto) transactions.now) }
+            (marked_under self.now.number self.now.account self.now.upto) present.now.book.transactions) }
     {
-        let mut edits = Many::new(alloc);
-        for (number, transaction) in transactions {
-            self.add_edit(alloc, &mut edits, *number, transaction)?;
+        let mut edits = Many::new(present.alloc);
+        for number in numbers {
+            let found = transaction_of(present, *number);
+            self.add_edit(present.alloc, &mut edits, *number, found)?;
         }
         Ok(edits)
     }
 
-    /// Adds the edit that puts the transaction where it has a split that is marked.
+    /// Adds the edit that puts the transaction under the number, if there is one, with its splits marked.
     fn add_edit(
         &self,
         alloc: Global,
         edits: &mut Many<Edit>,
         number: u64,
-        transaction: &Txn,
+        transaction: Option<&Txn>,
     ) -> Result<(), OutOfMemory>
-        ensures { IfOk result (λ _. edits.new ≡ edits.old ++ remarking (is_to_mark self.now.account self.now.upto)
-            (marked_under self.now.number self.now.account self.now.upto) ((number, transaction.now) ∷ [])) }
+        ensures { IfOk result (λ _. edits.new ≡ edits.old
+            ++ remarking_one (marked_under self.now.number self.now.account self.now.upto) number
+            (option_copied transaction.entry)) }
     {
-        if self.has_any(transaction.day, transaction.splits.as_slice()) {
+        if let Some(transaction) = transaction {
             let marked = self.transaction(alloc, transaction)?;
             edits.push(Edit::Put(number, Thing::Txn(marked)))?;
         }
         Ok(())
-    }
-
-    /// Whether one of the splits of a transaction of the day is marked.
-    fn has_any(&self, day: Day, splits: &[Split]) -> bool
-        ensures { result ≡ list_any (is_to_mark self.now.account self.now.upto day) splits.now }
-    {
-        for split in splits {
-            if self.has(day, split) {
-                return true;
-            }
-        }
-        false
     }
 
     /// Whether the split of a transaction of the day is marked.

@@ -6,6 +6,7 @@ ghost use Rattle.book_undo.specs.Book.{book_of};
 ghost use Rattle.book_undo.specs.Edit.{edited, is_nothing};
 ghost use Rattle.book_undo.specs.Exact.{IsExact};
 ghost use Rattle.book_free.specs.FreeSplits.{free_splits};
+ghost use Rattle.book_ledger.specs.Ledger.{Keeps};
 ghost use Rattle.book_step.specs.Laws.{HasFile, KeepsLines, KeepsStatements};
 ghost use Rattle.book_step.specs.Outcome.{ChangesBy, LeavesBy, StepsTo, numbers};
 ghost use Rattle.book_step.specs.Soundness.{IsSound};
@@ -31,6 +32,7 @@ use crate::schedule_runs::schedule_run;
 use crate::schedules::{schedule_add, schedule_drop};
 use crate::{Answer, Refusal, Rule, Update};
 use book_commodity::{Counted, discard};
+use book_ledger::Registers;
 use book_match::AmountIndex;
 use book_undo::{Edit, Plain};
 use std::alloc::Global;
@@ -87,7 +89,7 @@ impl Step {
 /// leaf for each key at which the book becomes different and for no other. The version is the same after it if the edit
 /// changes nothing, and one more if not. The answer is whole but for its balances. Out of memory where there is none
 /// for texts, for the edit or for the answer. Whether the change is for this version is asked by `check_version`. The
-/// index holds exactly the splits of the book that may be matched.
+/// registers are those of the book, and the index holds exactly its splits that may be matched.
 ///
 /// Whatever the change is, the edit leaves each bank statement of the book as it is, and each of their lines but for
 /// what became of it. An import of a file that is all in the book changes nothing.
@@ -96,10 +98,12 @@ pub fn step_of(
     plain: &Plain,
     next: u64,
     version: u64,
+    registers: &Registers,
     index: &AmountIndex,
     update: Update,
 ) -> Result<Step, Refusal>
     requires sound { IsSound (state_of plain.now next version) }
+    requires registers { Keeps registers.now.entries (book_of plain.now) }
     requires index { index.now.entries ≡ free_splits (book_of plain.now) }
     ensures steps { StepsTo (state_of plain.now next version) (outcome (state_of plain.now next version) update) result }
     ensures lines { IfOk result (λ step. KeepsLines (book_of plain.now) (edited step.edit (book_of plain.now))) }
@@ -113,12 +117,18 @@ pub fn step_of(
         next,
         version,
     };
-    step_at(present, index, update)
+    step_at(present, registers, index, update)
 }
 
 /// What a change comes to that is asked of the present state.
-fn step_at(present: &Present, index: &AmountIndex, update: Update) -> Result<Step, Refusal>
-    requires { index.now.entries ≡ free_splits present.now.book }
+fn step_at(
+    present: &Present,
+    registers: &Registers,
+    index: &AmountIndex,
+    update: Update,
+) -> Result<Step, Refusal>
+    requires registers { Keeps registers.now.entries present.now.book }
+    requires index { index.now.entries ≡ free_splits present.now.book }
     ensures { StepsTo present.now (outcome present.now update) result }
 {
     match update {
@@ -164,8 +174,10 @@ fn step_at(present: &Present, index: &AmountIndex, update: Update) -> Result<Ste
             account,
             day,
             closing,
-        } => reconcile(present, account, day, closing),
-        Update::ReconcileStatement { statement } => reconcile_statement(present, statement),
+        } => reconcile(present, registers, account, day, closing),
+        Update::ReconcileStatement { statement } => {
+            reconcile_statement(present, registers, statement)
+        }
     }
 }
 

@@ -17,6 +17,11 @@ const ACCOUNT: &str = "account";
 
 const CURRENCY: &str = "currency";
 
+/// The names of the operands that `serve` has behind its book.
+const PORT: &str = "port";
+
+const LINKS: &str = "links";
+
 /// An operand, which is required.
 fn operand<'a>(alloc: Global, name: &'a str) -> Arg<'a> {
     Arg::new(alloc, name).required(true).action(ArgAction::Set)
@@ -35,15 +40,25 @@ fn import<'a>(alloc: Global) -> Result<Command<'a>, AllocError> {
         .arg(operand(alloc, CURRENCY))
 }
 
+/// The subcommand `serve` with its three operands.
+fn serve<'a>(alloc: Global) -> Result<Command<'a>, AllocError> {
+    subcommand(alloc, "serve")?
+        .arg(operand(alloc, PORT))?
+        .arg(operand(alloc, LINKS))
+}
+
 /// The program's words: the subcommand `run` with a book, the subcommand `import` with a book, a format, an account and
-/// a currency, and the subcommand `sample` with a number.
+/// a currency, the subcommand `serve` with a book, a port and a number of links, and the subcommand `sample` with a
+/// number.
 fn grammar<'a>(alloc: Global) -> Result<Command<'a>, AllocError> {
     let run = subcommand(alloc, "run")?;
     let import = import(alloc)?;
+    let serve = serve(alloc)?;
     let sample = subcommand(alloc, "sample")?;
     Command::new(alloc, "book")
         .subcommand(run)?
         .subcommand(import)?
+        .subcommand(serve)?
         .subcommand(sample)
 }
 
@@ -62,10 +77,15 @@ fn is_operand(found: &ArgMatches<'_>, name: &str, operand: &Text) -> bool {
     found.get_str(name) == Some(operand.as_str())
 }
 
-/// Whether these are a subcommand's operands, the only one or the four of `import`.
+/// Whether these are a subcommand's operands, the only one, the three of `serve` or the four of `import`.
 fn are_operands(found: &ArgMatches<'_>, operands: &[Text]) -> bool {
     match operands {
         [only] => is_operand(found, OPERAND, only),
+        [book, port, links] => {
+            is_operand(found, OPERAND, book)
+                && is_operand(found, PORT, port)
+                && is_operand(found, LINKS, links)
+        }
         [book, format, account, currency] => {
             is_operand(found, OPERAND, book)
                 && is_operand(found, FORMAT, format)

@@ -41,8 +41,8 @@ pub struct WantedRow {
     pub body: Vec<u8>,
 }
 
-/// What a run wants: its answers; how it ends; how many bytes of the input are not read; how many rows the keeper holds,
-/// and which.
+/// What a run wants: its answers; how it ends; how many bytes of the input are not read; how many rows the keeper
+/// holds, and which.
 #[derive(Drop)]
 pub struct Wanted {
     pub answers: Vec<Answer>,
@@ -74,6 +74,7 @@ impl Wanted {
     {
         match mark {
             "<" => self.add_answer(alloc, rest, true, line)?,
+            "<c" => self.add_returned(alloc, rest, line)?,
             "<^" => self.add_answer(alloc, rest, false, line)?,
             "<$" => self.add_end(alloc, rest, line)?,
             "<*" => self.add_answers(alloc, rest, line)?,
@@ -104,6 +105,13 @@ impl Wanted {
             is_whole,
         })?;
         Ok(())
+    }
+
+    /// Adds an answer that ends by a carriage return.
+    fn add_returned(&mut self, alloc: Global, text: &str, line: usize) -> io::Result<()> {
+        let text = format!(in alloc; "{text}\r")?;
+        let added = self.add_answer(alloc, text.as_str(), true, line);
+        discard(text, added)
     }
 
     /// Says how the answer that was added last ends, where only its beginning was said, or else how one more ends.

@@ -1,4 +1,4 @@
-ghost use Rattle.std.specs.Prelude.{◌≡◌, IfSome, OnOk};
+ghost use Rattle.std.specs.Prelude.{◌≡◌, [], IfSome, None, OnOk};
 ghost use Rattle.gate_rows.specs.Comparing.{CountsUnless};
 
 use crate::report::{Place, Report};
@@ -57,7 +57,10 @@ pub fn compare(
 }
 
 /// Where the rows can't be read, none may be wanted.
-fn compare_unread_rows(report: &mut Report<'_>, case: Case<'_>, run: &Run) -> io::Result<()> {
+fn compare_unread_rows(report: &mut Report<'_>, case: Case<'_>, run: &Run) -> io::Result<()>
+    ensures { CountsUnless ((run.now.wanted.count ≡ None) × (run.now.wanted.rows.items ≡ []))
+        report.old.failed report.new.failed }
+{
     if run.wanted.count.is_none() && run.wanted.rows.is_empty() {
         return Ok(());
     }

@@ -110,7 +110,8 @@ impl<'a> StatementFile<'a> {
     }
 }
 
-/// Reads the statement files of a file, and says how many there are.
+/// Reads the statement files of a file, compares the rows of each with those that are wanted, and says how many there
+/// are.
 pub fn check_files(report: &mut Report<'_>, file: &str) -> io::Result<()> {
     let text = report.read(file)?;
     let sections = sections_of(report.alloc(), text.as_str())?;

@@ -1,4 +1,4 @@
-ghost use Rattle.std.specs.Prelude.{◌≡◌, true};
+ghost use Rattle.std.specs.Prelude.{◌≡◌, [], true, false};
 
 use std::alloc::{Alloc, Allocator, Global};
 use std::cell::Cell;
@@ -25,7 +25,11 @@ pub struct Host<'a> {
 impl<'a> Host<'a> {
     /// A host without words and input, that wants these bytes to be written, and this line, if it isn't empty, to be
     /// said on standard error.
-    pub fn new(alloc: Global, output: &'a [u8], line: &'a str) -> Host<'a> {
+    pub fn new(alloc: Global, output: &'a [u8], line: &'a str) -> Host<'a>
+        ensures given { (result.words.now ≡ []) × (result.input.now ≡ []) }
+        ensures wanted { (result.output ≡ output.entry) × (result.line ≡ line.entry) }
+        ensures whole { result.fails ≡ false }
+    {
         Host::with_words(alloc, &[], &[], output, line)
     }
 
@@ -36,7 +40,11 @@ impl<'a> Host<'a> {
         input: &'a [u8],
         output: &'a [u8],
         line: &'a str,
-    ) -> Host<'a> {
+    ) -> Host<'a>
+        ensures given { (result.words ≡ words.entry) × (result.input ≡ input.entry) }
+        ensures wanted { (result.output ≡ output.entry) × (result.line ≡ line.entry) }
+        ensures whole { result.fails ≡ false }
+    {
         Host {
             alloc,
             words,

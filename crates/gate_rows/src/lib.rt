@@ -1,6 +1,6 @@
-//! The rows of the gate as its files spell them: cases of runs, pages, statement files, and rows of a keeper; what a run
-//! is given and what it wants; how what came is compared with that, and how a row that fails is said. A crate of its own,
-//! since none of it needs the program that the gate runs.
+//! The rows of the gate as its files spell them: cases of runs, pages, statement files, and rows of a keeper; what a
+//! run is given and what it wants; how what came is compared with that, and how a row that fails is said. A crate of
+//! its own, since none of it needs the program that the gate runs.
 #![tactic(auto)]
 
 mod answers;

@@ -1,4 +1,6 @@
 ghost use Rattle.std.specs.Prelude.{◌≡◌, [], false, IfOk, None, Ok};
+ghost use Rattle.std.specs.List.{list_any};
+ghost use Rattle.gate_rows.specs.Faults.{is_keeper_fault};
 
 use crate::answers::Wanted;
 use crate::counters::{count, counted, expanded, number, unread};
@@ -6,13 +8,15 @@ use book_commodity::{Many, Text};
 use std::alloc::{AllocError, Global};
 use std::io;
 
-/// The calls that may fail: reads of the input, writes of the output, commits of the keeper, and all of its calls.
+/// The calls that may fail: reads of the input or of a link, writes of the output or of a link, commits of the keeper,
+/// and all of its calls, and calls for the next link.
 #[derive(Clone, Copy, PartialEq, Eq)]
 pub enum Sort {
     Read,
     Write,
     Commit,
     Call,
+    Accept,
 }
 
 /// A call that fails: its sort, and its number among the calls of this sort, counted from 1.
@@ -36,6 +40,8 @@ pub struct Run {
     pub line: usize,
     pub words: Vec<Text>,
     pub input: Vec<u8>,
+    /// The places in the input at which links begin; each ends where the next one begins.
+    pub links: Vec<usize>,
     pub piece: usize,
     pub faults: Vec<Fault>,
     pub each: Option<Each>,
@@ -55,6 +61,7 @@ impl Run {
             line,
             words: words_of(alloc, "run household.book")?,
             input: Vec::new(alloc),
+            links: Vec::new(alloc),
             piece: 4096,
             faults: Vec::new(alloc),
             each: None,
@@ -78,8 +85,25 @@ impl Run {
         Ok(Many::of(numbers))
     }
 
+    /// The bytes of the input proper: those before the first link.
+    pub fn read_input(&self) -> &[u8] {
+        let end = self.links.first().copied().unwrap_or(self.input.len());
+        self.input.get(..end).unwrap_or(&[])
+    }
+
+    /// The bytes of the link at a place of the links.
+    pub fn link(&self, place: usize) -> &[u8] {
+        let first = self.links.get(place).copied().unwrap_or(self.input.len());
+        let next = self.links.get(place.saturating_add(1)).copied();
+        self.input
+            .get(first..next.unwrap_or(self.input.len()))
+            .unwrap_or(&[])
+    }
+
     /// Whether a call of the keeper is to fail.
-    pub fn has_keeper_fault(&self) -> bool {
+    pub fn has_keeper_fault(&self) -> bool
+        ensures { result ≡ list_any is_keeper_fault self.now.faults.items }
+    {
         self.faults.iter().any(|fault| fault.sort == Sort::Commit || fault.sort == Sort::Call)
     }
 
@@ -96,7 +120,9 @@ impl Run {
         match mark {
             "words" => self.words = words_of(alloc, rest)?,
             "piece" => self.piece = count(rest)?.max(1),
+            "link" => self.links.push(self.input.len())?,
             ">" => self.add_input(rest, "\n")?,
+            ">c" => self.add_input(rest, "\r\n")?,
             "-" => self.add_input(rest, "")?,
             ">*" => self.add_many(alloc, rest, "\n")?,
             "-*" => self.add_many(alloc, rest, "")?,
@@ -168,6 +194,7 @@ fn sort_of(word: &str) -> io::Result<Sort> {
         "write" => Ok(Sort::Write),
         "commit" => Ok(Sort::Commit),
         "call" => Ok(Sort::Call),
+        "accept" => Ok(Sort::Accept),
         _ => Err(unread()),
     }
 }

@@ -84,8 +84,8 @@ impl<'a> Write for Writer<'a> {
     }
 }
 
-/// A writer that takes what it is given, and fails where what it took before is not flushed. It counts the bytes that it
-/// took, and those of them that are not flushed.
+/// A writer that takes what it is given, and fails where what it took before is not flushed. It counts the bytes that
+/// it took, and those of them that are not flushed.
 #[derive(Drop)]
 pub struct Unforgiving<'a> {
     taken: &'a Cell<usize>,

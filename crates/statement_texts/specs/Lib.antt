@@ -1,4 +1,5 @@
 pub mod Answers
 pub mod Faults
 pub mod Rows
+pub mod Usual
 pub mod Words

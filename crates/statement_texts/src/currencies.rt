@@ -1,7 +1,8 @@
-ghost use Rattle.std.specs.Prelude.{◌≡◌, [], IfOk, OnOk, length};
+ghost use Rattle.std.specs.Prelude.{◌≡◌, [], IfOk, OnOk, length, map};
 ghost use Rattle.book_commodity.specs.Table.{with_entry};
 ghost use Rattle.book_statement.specs.Currencies.{HaveFractions, IsFraction};
 ghost use Rattle.statement_texts.specs.Answers.{currency};
+ghost use Rattle.statement_texts.specs.Usual.{usual, with_codes};
 
 use book_commodity::{Commodities, Commodity, OutOfMemory, Text};
 use std::alloc::Global;
@@ -48,7 +49,9 @@ impl Currencies {
     }
 
     /// The currencies that are known where no book says which ones are.
-    pub fn usual(alloc: Global) -> Result<Currencies, OutOfMemory> {
+    pub fn usual(alloc: Global) -> Result<Currencies, OutOfMemory>
+        ensures { IfOk result (λ known. known ≡ usual) }
+    {
         let mut known = Currencies::new(alloc);
         known.add_all(alloc, &WITH_CENTS, 100)?;
         known.add_all(alloc, &WHOLE, 1)?;
@@ -59,6 +62,7 @@ impl Currencies {
     /// Adds currencies with this fraction.
     fn add_all(&mut self, alloc: Global, codes: &[&str], fraction: u64) -> Result<(), OutOfMemory>
         requires { IsFraction fraction }
+        ensures { OnOk result (self.new ≡ with_codes fraction (map (λ code. code.now) codes.now) self.old) }
     {
         for code in codes {
             self.add(alloc, code, fraction)?;

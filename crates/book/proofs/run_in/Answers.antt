@@ -17,4 +17,8 @@ returns g c = record {
   memory = c.run_program-ended.ensures.memory;
   keeper_fault = λ fault.
       rose_from_none _ _ c.at-keeper.ensures.faults (c.run_program-ended.ensures.keeper_fault fault);
+  other_words = c.run_program-ended.ensures.other_words;
+  open_links = c.run_program-ended.ensures.open_links;
+  port_fault = c.run_program-ended.ensures.port_fault;
+  no_port_fault = c.run_program-ended.ensures.no_port_fault;
 }

@@ -1,7 +1,12 @@
 use Rattle.std.proofs.Common.{ℕ, Option, None, Some, ◌≡◌, ◌∙◌, sym, ap, subst}
+use Rattle.std.specs.Prelude.{IfSome}
+use Rattle.book_serve.specs.Served.{told}
+use Rattle.book_app.specs.ServeClause.{ServeClause, across}
 use Rattle.book_app.specs.StatusClause.{IsBookRun, over}
-use Rattle.book_app.specs.Words.{named_import, work_named}
-use Rattle.book_app.specs.declared.status.Status.TheVariants.{InputFault, KeeperFault, Usage}
+use Rattle.book_app.specs.Words.{named_import, named_serve, work_named}
+use Rattle.book_app.specs.declared.status.Status.TheVariants.{InputFault, KeeperFault, PortFault, Usage}
+use Rattle.book_app.specs.declared.words.ServeWords.{ServeWords}
+use Rattle.book_app.proofs.ServeLemmas.{sample_serves_none}
 use Rattle.book_app.proofs.StatusClauseLemmas.{no_sample, path_of_sample, run_of_sample}
 use Rattle.book_app.proofs.main_call.book_main.Goals as goal
 
@@ -10,7 +15,8 @@ pub returns-in-Some-clause-run : goal.returns-in-Some-clause-run
 returns-in-Some-clause-run g c =
     run_of_sample _ c.in-Some.number
     (over g.K.Keeper.sure g.K.Keeper.holds g.K.Keeper.faults c.args.keeper.now c.args.keeper.now) _ _ _
-    c.run_sample.result (λ still rows held. held) (ap (work_named (named_import c.args.words.now)) c.in-Some.ensures)
+    c.run_sample.result (λ still rows held. held)
+    (ap (work_named (named_import c.args.words.now) (named_serve c.args.words.now)) c.in-Some.ensures)
     c.run_sample.ensures.shown
 
 pub returns-in-Some-clause-path : goal.returns-in-Some-clause-path
@@ -35,18 +41,31 @@ returns-in-Some-clause-input_fault g c =
     λ is. absurd (no_sample c.in-Some.number _ _ c.run_sample.result InputFault c.run_sample.ensures.shown
     (λ text never. never) is)
 
+pub returns-in-Some-clause-port_fault : goal.returns-in-Some-clause-port_fault
+returns-in-Some-clause-port_fault g c =
+    λ is. absurd (no_sample c.in-Some.number _ _ c.run_sample.result PortFault c.run_sample.ensures.shown
+    (λ text never. never) is)
+
+pub returns-in-Some-clause-serve : goal.returns-in-Some-clause-serve
+returns-in-Some-clause-serve g c =
+    let keeping = over g.K.Keeper.sure g.K.Keeper.holds g.K.Keeper.faults c.args.keeper.now c.args.keeper.now in
+    let of = told g.P.L.Source.left g.P.L.Sink.written g.P.L.Source.faults g.P.L.Sink.faults in
+    let ports = across g.P.Ports.coming g.P.Ports.closed g.P.Ports.port_given c.args.ports.now c.args.ports.now in
+    subst (λ (named : Option ServeWords). IfSome named (λ serve. ServeClause serve keeping of ports c.run_sample.result))
+    (sym (sample_serves_none c.args.words.now c.in-Some.number c.in-Some.ensures)) tt
+
 -- they name none
 pub returns-in-None-clause-run : goal.returns-in-None-clause-run
 returns-in-None-clause-run g c =
     subst
-    (λ (named : Option ℕ). IsBookRun (work_named (named_import c.args.words.now) named)
-    (over g.K.Keeper.sure g.K.Keeper.holds g.K.Keeper.faults c.args.keeper.now c.run_over_input.new.keeper)
-    (g.S.Source.left c.args.input.now) (g.S.Source.left c.run_over_input.new.input)
-    (g.O.Sink.written c.args.output.now) (g.O.Sink.written c.run_over_input.new.output) c.run_over_input.result)
-    c.in-None.ensures c.run_over_input.ensures.run
+    (λ (named : Option ℕ). IsBookRun (work_named (named_import c.args.words.now) (named_serve c.args.words.now) named)
+    (over g.K.Keeper.sure g.K.Keeper.holds g.K.Keeper.faults c.args.keeper.now c.run_with_book.new.keeper)
+    (g.S.Source.left c.args.input.now) (g.S.Source.left c.run_with_book.new.input)
+    (g.O.Sink.written c.args.output.now) (g.O.Sink.written c.run_with_book.new.output) c.run_with_book.result)
+    c.in-None.ensures c.run_with_book.ensures.run
 
 pub returns-in-None-clause-usage : goal.returns-in-None-clause-usage
 returns-in-None-clause-usage g c = (
-  λ is. record { no_book = c.run_over_input.ensures.usage.0 is; no_number = sym c.in-None.ensures },
-  λ none. c.run_over_input.ensures.usage.1 none.no_book,
+  λ is. record { no_book = c.run_with_book.ensures.usage.0 is; no_number = sym c.in-None.ensures },
+  λ none. c.run_with_book.ensures.usage.1 none.no_book,
 )

@@ -1,8 +1,9 @@
-use Rattle.std.proofs.Common.{rules, ◌≡◌, ℕ, ℤ, List, FitsSigned, w64, to_z, of_z, [], ◌∷◌, None, Err, ap, subst, ◌∙◌}
+use Rattle.std.proofs.Common.{rules, ◌≡◌, ℕ, ℤ, List, FitsSigned, w64, to_z, of_z, [], ◌∷◌, None, Err, ap, sym, subst, ◌∙◌}
 use Rattle.std.proofs.lemmas.Int.{to_z-of_z}
 use Rattle.book_commodity.specs.Rules.{first_broken}
 use Rattle.book_commodity.proofs.RuleLemmas.{first-past}
 use Rattle.book_splits.specs.declared.reconciliation.Recon.{Recon}
+use Rattle.book_ledger.specs.Ledger.{register_of}
 use Rattle.book_reconcile.specs.Reconciliation.{difference}
 use Rattle.book_sound.specs.ReconciliationRules.{marked_numbers}
 use Rattle.book_undo.specs.declared.edit.Edit.{Edit}
@@ -10,6 +11,15 @@ use Rattle.book_step.specs.Reconciling.{IsFinish, differs, finished, reconciling
 use Rattle.book_step.specs.Schedules.{Finds}
 use Rattle.book_step.proofs.ExactReconciling.{finds-broken, finds-refused}
 use Rattle.book_step.proofs.reconciling.finish.Goals as goal
+
+pub planned-requires : goal.planned-requires
+planned-requires c = c.register_or-register.ensures c.args.present.now.book c.requires
+
+pub reconciling-requires : goal.reconciling-requires
+reconciling-requires c =
+    let book = c.args.present.now.book in
+    c.register_or-register.ensures book c.requires
+    ∙ ap (λ (r : Recon). register_of r.account book.transactions) (sym c.in-Ok.ensures.1)
 
 pub returns-in-Err : goal.returns-in-Err
 returns-in-Err c =

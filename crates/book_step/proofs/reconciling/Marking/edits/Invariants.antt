@@ -1,11 +1,10 @@
-use Rattle.std.proofs.Common.{◌≡◌, ◌++◌, drop}
-use Rattle.book_step.specs.Reconciling.{is_to_mark, marked_under}
-use Rattle.book_step.specs.Remarking.{remarking}
+use Rattle.std.proofs.Common.{◌≡◌, take}
+use Rattle.book_step.specs.Reconciling.{marked_under}
+use Rattle.book_step.proofs.KeptReconciling.{remarking_at}
 use Rattle.book_step.proofs.reconciling.Marking.edits.Given as goal
 
 abbrev pub invariant-loop-number : goal.invariant-loop-number
 invariant-loop-number l =
-    l.edits ++ remarking (is_to_mark l.self.account l.self.upto) (marked_under l.self.number l.self.account l.self.upto)
-    (drop l.number-index l.transactions)
-    ≡ remarking (is_to_mark l.self.account l.self.upto) (marked_under l.self.number l.self.account l.self.upto)
-    l.transactions
+    l.edits
+    ≡ remarking_at (marked_under l.self.number l.self.account l.self.upto) l.present.book.transactions
+    (take l.number-index l.numbers)

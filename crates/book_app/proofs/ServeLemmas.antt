@@ -1,0 +1,131 @@
+-- From what holds of links that were served to what holds when the program's work has ended.
+use Rattle.std.proofs.Common.{◌≡◌, ◌≢◌, ℕ, List, [], ◌∷◌, Option, Some, None, IsTrue, inl, inr, refl, sym, ap, ◌∙◌}
+use Rattle.std.proofs.Common.{subst}
+use Rattle.std.specs.Prelude.{Err, IfSome}
+use Rattle.book_keeper.specs.declared.row.Row.{Row}
+use Rattle.book_lines.specs.RunClause.{at}
+use Rattle.book_engine.specs.Books.{machine_kept}
+use Rattle.book_engine.specs.Kept.{Kept}
+use Rattle.book_engine.specs.Opening.{Opened}
+use Rattle.book_engine.specs.Opens.{Opens}
+use Rattle.book_engine.specs.declared.fault.OpenError.{OpenError}
+use Rattle.book_engine.specs.declared.fault.OpenError.TheVariants as error
+use Rattle.book_serve.specs.Served.{IsServing, IsVisit, Served, Told, Visit, scene}
+use Rattle.book_serve.specs.declared.serve_end.ServeEnd.{ServeEnd}
+use Rattle.book_serve.specs.declared.serve_end.ServeEnd.TheVariants as end
+use Rattle.book_app.specs.Numbers.{status_served, status_unopened}
+use Rattle.book_app.specs.Respond.{kept_answers}
+use Rattle.book_app.specs.ServeClause.{HasServed, NoneCame, Porting, ServeClause}
+use Rattle.book_app.specs.StatusClause.{HasLed, HoldsAsBefore, Keeping, NowOpensTo, OpenedTo, ServedRows}
+use Rattle.book_app.specs.Words.{named_number, named_serve}
+use Rattle.book_app.specs.declared.status.Status.{Status}
+use Rattle.book_app.specs.declared.status.Status.TheVariants.{PortFault}
+use Rattle.book_app.specs.declared.words.ServeWords.{ServeWords}
+use Rattle.book_app.proofs.LeadsLemmas.{To, leads-through, link-leads, stays}
+
+module _ {L : Type 0} (of : Told L) where
+  visit-leads :
+      (old : Kept) (before : ℕ) (visit : Visit L) (new : Kept) (after : ℕ)
+      → IsVisit kept_answers of old before visit new after → To old new
+  visit-leads old before visit new after is =
+      let link = is.served in
+      link-leads 1000000 (at old (of.written visit.opened) before) link.read link.left link.text
+      (at new (of.written visit.closed) after) visit.end link.clause
+
+  -- commands lead through all links
+  served-leads :
+      (old : Kept) (before : ℕ) (visits : List (Visit L)) (new : Kept) (after : ℕ)
+      → Served kept_answers of old before visits new after → To old new
+  served-leads old before [] new after is = stays (machine_kept old) (machine_kept new) (ap machine_kept is.0)
+  served-leads old before (visit ∷ more) new after is =
+      leads-through (machine_kept old) (machine_kept is.0) (machine_kept new)
+      (visit-leads old before visit is.0 is.1 is.2) (served-leads is.0 is.1 more new after is.3)
+
+module _ {L : Type 0} (serve : ServeWords) (keeping : Keeping) (of : Told L) (ports : Porting L) where
+  has_led : (ended : ServeEnd) → HasServed serve keeping of ports ended → HasLed keeping
+  has_led ended h = record {
+    first = machine_kept h.first;
+    last = machine_kept h.last;
+    opened = h.opened;
+    led = served-leads of h.first keeping.faults_before h.served.visits h.last keeping.faults_after
+        h.served.links.served;
+    kept = h.kept;
+  }
+
+  -- what became of the keeper's rows where links were served
+  pub served_rows : (ended : ServeEnd) → HasServed serve keeping of ports ended → ServedRows keeping (status_served ended)
+  served_rows end.Done h = has_led end.Done h
+  served_rows end.PortFault h = has_led end.PortFault h
+  served_rows end.OutOfMemory h = inr (has_led end.OutOfMemory h)
+
+  -- what became of the links
+  pub served_clause :
+      (ended : ServeEnd) → HasServed serve keeping of ports ended
+      → ServeClause serve keeping of ports (status_served ended)
+  served_clause end.Done h = h
+  served_clause end.PortFault h = h
+  served_clause end.OutOfMemory h = inr h
+
+  -- where no book was opened, no link was accepted, and the rows are as they were
+  pub unopened_links :
+      (why : OpenError) → NoneCame ports → HoldsAsBefore keeping → ServeClause serve keeping of ports (status_unopened why)
+  unopened_links error.Keeper none held = none
+  unopened_links (error.BadRows kind id) none held = none
+  unopened_links (error.UnsoundBook kind id) none held = none
+  unopened_links error.OutOfMemory none held = inl (none, held)
+
+  -- links that were served from the engine which was opened, seen with the faults that were counted before
+  pub has_served :
+      (first last : Kept) (faults : ℕ) (ended : ServeEnd) → faults ≡ keeping.faults_before
+      → OpenedTo keeping (Opens (machine_kept first)) → NowOpensTo keeping (machine_kept last)
+      → IsServing kept_answers of serve.links serve.port
+      (scene first faults ports.coming_before ports.closed_before ports.port_before)
+      (scene last keeping.faults_after ports.coming_after ports.closed_after ports.port_after) ended
+      → HasServed serve keeping of ports ended
+  has_served first last faults ended same opened kept served = record {
+    first = first;
+    last = last;
+    opened = opened;
+    served = subst
+        (λ (n : ℕ). IsServing kept_answers of serve.links serve.port
+        (scene first n ports.coming_before ports.closed_before ports.port_before)
+        (scene last keeping.faults_after ports.coming_after ports.closed_after ports.port_after) ended)
+        same served;
+    kept = kept;
+  }
+
+-- ports that were not asked
+pub none_came : {L : Type 0} (coming closed : Option (List L)) (port : ℕ) → NoneCame (record {
+  coming_before = coming;
+  coming_after = coming;
+  closed_before = closed;
+  closed_after = closed;
+  port_before = port;
+  port_after = port;
+})
+none_came coming closed port = record { coming = refl; closed = refl; port = refl }
+
+-- a fault of the ports is said where they failed alone
+pub port_end : (ended : ServeEnd) → status_served ended ≡ PortFault → ended ≡ end.PortFault
+port_end end.Done is = absurd cc
+port_end end.PortFault is = refl
+port_end end.OutOfMemory is = absurd cc
+
+pub no_port_unopened : (why : OpenError) → status_unopened why ≡ PortFault → ⊥
+no_port_unopened error.Keeper is = cc
+no_port_unopened (error.BadRows kind id) is = cc
+no_port_unopened (error.UnsoundBook kind id) is = cc
+no_port_unopened error.OutOfMemory is = cc
+
+-- the words of a sample are not those of `serve`
+pub sample_serves_none :
+    (words : List (List ℕ)) (number : ℕ) → Some number ≡ named_number words → named_serve words ≡ None
+sample_serves_none [] number is = refl
+sample_serves_none (word ∷ []) number is = refl
+sample_serves_none (word ∷ other ∷ []) number is = refl
+sample_serves_none (word ∷ other ∷ third ∷ more) number is = absurd cc
+
+-- what is said of what words name is said of it where it is named otherwise
+pub named_same :
+    {X : Type 0} (P : X → Type 0) (one other : Option X) → one ≡ other → IfSome one P → IfSome other P
+named_same P one other same h = subst (λ named. IfSome named P) same h

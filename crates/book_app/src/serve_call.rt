@@ -1,0 +1,89 @@
+ghost use Rattle.std.specs.Prelude.{◌≡◌, ◌≢◌, ◌↔◌, None, IsTrue};
+ghost use Rattle.book_keeper.specs.Faults.{Rose};
+ghost use Rattle.book_engine.specs.Standing.{Stands};
+ghost use Rattle.book_serve.specs.Served.{IsServing, scene, told};
+ghost use Rattle.book_app.specs.Later.{IsLater};
+ghost use Rattle.book_app.specs.Numbers.{status_served};
+ghost use Rattle.book_app.specs.Respond.{kept_answers};
+ghost use Rattle.book_app.specs.ServeClause.{ServeClause, across};
+ghost use Rattle.book_app.specs.StatusClause.{HasBookPath, ServedRows, over};
+ghost use Rattle.book_app.specs.Words.{named_book};
+
+use crate::opening::{open_book, routes_after};
+use crate::reply::Answering;
+use crate::status::{Status, status_served, status_unopened};
+use crate::words::{ServeWords, named_book};
+use book_commodity::Text;
+use book_engine::Engine;
+use book_http::Routes;
+use book_keeper::Keeper;
+use book_ports::Ports;
+use book_serve::{ServeEnd, serve};
+use std::alloc::Global;
+
+/// Serves the links that come to the port, from the engine's state on.
+fn serve_links<K: Keeper, P: Ports>(
+    alloc: Global,
+    engine: &mut Engine,
+    keeper: &mut K,
+    routes: &Routes,
+    ports: &mut P,
+    words: ServeWords,
+) -> ServeEnd
+    requires stands { Stands K.sure K.holds keeper.old engine.old }
+    ensures served { IsServing kept_answers (told P.L.left P.L.written P.L.Source.faults P.L.Sink.faults)
+        words.links words.port
+        (scene engine.old (K.faults keeper.old) (P.coming ports.old) (P.closed ports.old) (P.port_given ports.old))
+        (scene engine.new (K.faults keeper.new) (P.coming ports.new) (P.closed ports.new) (P.port_given ports.new))
+        result }
+    ensures stands { Stands K.sure K.holds keeper.new engine.new }
+    ensures keeper { IsLater K.path_given K.sure keeper.old keeper.new }
+    ensures open_links { P.open_links ports.new ≡ P.open_links ports.old }
+    ensures port_fault { result ≡ ServeEnd.PortFault → Rose (P.faults ports.old) (P.faults ports.new) }
+    ensures no_port_fault { result ≢ ServeEnd.PortFault → P.faults ports.new ≡ P.faults ports.old }
+{
+    serve::<Answering, K, Engine, P>(
+        alloc,
+        engine,
+        keeper,
+        routes,
+        ports,
+        words.port,
+        words.links,
+    )
+}
+
+/// Opens the keeper at the book that the words name, and serves the links that come to the port, from the state as
+/// which its rows open on.
+pub fn run_serve<K: Keeper, P: Ports>(
+    alloc: Global,
+    words: &[Text],
+    serve: ServeWords,
+    keeper: &mut K,
+    ports: &mut P,
+) -> Status
+    ensures rows { ServedRows (over K.sure K.holds K.faults keeper.old keeper.new) result }
+    ensures serve { ServeClause serve (over K.sure K.holds K.faults keeper.old keeper.new)
+        (told P.L.left P.L.written P.L.Source.faults P.L.Sink.faults)
+        (across P.coming P.closed P.port_given ports.old ports.new) result }
+    ensures open_links { P.open_links ports.new ≡ P.open_links ports.old }
+    ensures port_fault { result ≡ Status.PortFault → Rose (P.faults ports.old) (P.faults ports.new) }
+    ensures no_port_fault { result ≢ Status.PortFault → P.faults ports.new ≡ P.faults ports.old }
+    ensures path { HasBookPath words.now (K.path_given keeper.new) result }
+    ensures sure { IsTrue (K.sure keeper.new) → IsTrue (K.sure keeper.old) }
+    ensures usage { (result ≡ Status.Usage) ↔ (named_book words.now ≡ None) }
+    ensures keeper_fault { result ≡ Status.KeeperFault → Rose (K.faults keeper.old) (K.faults keeper.new) }
+{
+    let Some(book) = named_book(words) else {
+        return Status::Usage;
+    };
+    let Ok(routes) = routes_after(alloc, words) else {
+        return Status::Memory;
+    };
+    match open_book(alloc, keeper, book) {
+        Ok(mut engine) => {
+            status_served(serve_links(alloc, &mut engine, keeper, &routes, ports, serve))
+        }
+        Err(error) => status_unopened(error),
+    }
+}
