@@ -29,15 +29,17 @@ rows_step book lines fraction rows i row there =
 
 -- so what was added, with the rows that are left, stays the whole
 pub rows_next :
-    (book : Book) (lines : List (ℕ × ℕ)) (fraction : ℕ) (rows : List Entry) (i : ℕ) (row : Entry) (after : ℤ) (made : List (List ℕ))
-    (old new whole : List (List (List ℕ))) → slice_get rows i ≡ Some row → made ≡ register_row book lines fraction row after
+    (book : Book) (seen lines : List (ℕ × ℕ)) (fraction : ℕ) (rows : List Entry) (i : ℕ) (row : Entry) (after : ℤ)
+    (made : List (List ℕ)) (old new whole : List (List (List ℕ))) → seen ≡ lines → slice_get rows i ≡ Some row
+    → made ≡ register_row book seen fraction row after
     → new ≡ old ++ made ∷ [] → old ++ rows_after book lines fraction (take i rows) (drop i rows) ≡ whole
     → after ≡ balance (take (i + 1) rows)
     → new ++ rows_after book lines fraction (take (i + 1) rows) (drop (i + 1) rows) ≡ whole
-rows_next book lines fraction rows i row after made old new whole there is added held same =
+rows_next book seen lines fraction rows i row after made old new whole alike there is added held same =
     let rest = rows_after book lines fraction (take (i + 1) rows) (drop (i + 1) rows) in
     let here : made ≡ register_row book lines fraction row (balance (take (i + 1) rows)) =
-    is ∙ ap (register_row book lines fraction row) same in
+    is ∙ ap (λ (l : List (ℕ × ℕ)). register_row book l fraction row after) alike
+    ∙ ap (register_row book lines fraction row) same in
     ap (λ (l : List (List (List ℕ))). l ++ rest) (added ∙ ap (λ (r : List (List ℕ)). old ++ r ∷ []) here)
     ∙ append_assoc old (register_row book lines fraction row (balance (take (i + 1) rows)) ∷ []) rest
     ∙ ap (λ (l : List (List (List ℕ))). old ++ l) (sym (rows_step book lines fraction rows i row there)) ∙ held

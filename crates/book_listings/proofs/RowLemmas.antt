@@ -25,3 +25,11 @@ entry_at [] i n x d number value = absurd (none-some n number)
 entry_at {X} (e ∷ xs) zero n x d number value =
     sym (ap (λ (m : ℕ). (m, e.1)) (same_Some e.0 n number) ∙ ap (λ (y : X). (n, y)) (same_Some e.1 x value))
 entry_at (e ∷ xs) (suc i) n x d number value = entry_at xs i n x d number value
+
+-- one more item stands behind those that were added
+pub put :
+    {Y : Type 0} (old added before after : List Y) (y made : Y) → before ≡ old ++ added → y ≡ made → after ≡ before ++ y ∷ []
+    → after ≡ old ++ (added ++ made ∷ [])
+put {Y} old added before after y made held is pushed =
+    pushed ∙ ap (λ (item : Y). before ++ item ∷ []) is ∙ ap (λ (l : List Y). l ++ made ∷ []) held
+    ∙ append_assoc old added (made ∷ [])

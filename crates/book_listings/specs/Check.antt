@@ -12,20 +12,29 @@ use Rattle.book_undo.specs.Book.{Book}
 abbrev pub count_row : ℕ → List ℕ → List (List ℕ)
 count_row count what = decimal count ∷ what ∷ []
 
--- How much of each kind a book has.
-abbrev pub count_rows : Book → List (List (List ℕ))
-count_rows book =
+-- How much there is of each kind that is entered.
+abbrev pub entered_rows : Book → List (List (List ℕ))
+entered_rows book =
     count_row (length book.accounts) (codes "accounts")
     ∷ count_row (length book.commodities) (codes "commodities")
     ∷ count_row (length book.transactions) (codes "transactions")
     ∷ count_row (length (splits_of book.transactions)) (codes "splits")
     ∷ count_row (length book.prices) (codes "prices")
     ∷ count_row (length book.schedules) (codes "schedules")
-    ∷ count_row (length book.statements) (codes "statements")
+    ∷ []
+
+-- How much there is of each kind that came from a bank, or says how the book agrees with it.
+abbrev pub bank_rows : Book → List (List (List ℕ))
+bank_rows book =
+    count_row (length book.statements) (codes "statements")
     ∷ count_row (length book.lines) (codes "lines of statements")
     ∷ count_row (length book.bindings) (codes "bindings")
     ∷ count_row (length book.reconciliations) (codes "reconciliations")
     ∷ []
+
+-- How much of each kind a book has.
+abbrev pub count_rows : Book → List (List (List ℕ))
+count_rows book = entered_rows book ++ bank_rows book
 
 abbrev pub count_columns : List (List ℕ)
 count_columns = codes "count" ∷ codes "of" ∷ []

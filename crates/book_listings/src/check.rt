@@ -1,5 +1,5 @@
-ghost use Rattle.std.specs.Prelude.{◌≡◌, ◌∷◌, IfOk};
-ghost use Rattle.book_listings.specs.Check.{check_text, count_columns, count_row, count_rows, counts_text};
+ghost use Rattle.std.specs.Prelude.{◌≡◌, ◌∷◌, ◌++◌, IfOk, OnOk};
+ghost use Rattle.book_listings.specs.Check.{bank_rows, check_text, count_columns, count_row, count_rows, counts_text, entered_rows};
 
 use crate::PresentBook;
 use book_commodity::{Many, OutOfMemory, Text};
@@ -38,21 +38,46 @@ fn counts_text(alloc: Global, book: &PresentBook) -> Result<Text, OutOfMemory>
 fn count_rows(alloc: Global, book: &PresentBook) -> Result<Many<Many<Text>>, OutOfMemory>
     ensures { IfOk result (λ rows. rows ≡ count_columns ∷ count_rows book.now) }
 {
-    let plain = book.plain();
-    let splits = book.split_count();
     let mut rows = Many::new(alloc);
     rows.push(row_of(alloc, &COLUMNS)?)?;
+    add_entered(alloc, &mut rows, book)?;
+    add_of_bank(alloc, &mut rows, book)?;
+    Ok(rows)
+}
+
+/// Adds the rows of what is entered.
+fn add_entered(
+    alloc: Global,
+    rows: &mut Many<Many<Text>>,
+    book: &PresentBook,
+) -> Result<(), OutOfMemory>
+    ensures { OnOk result (rows.new ≡ rows.old ++ entered_rows book.now) }
+{
+    let plain = book.plain();
+    let splits = book.split_count();
     rows.push(count_row(alloc, plain.accounts.len() as u64, "accounts")?)?;
     rows.push(count_row(alloc, plain.commodities.len() as u64, "commodities")?)?;
     rows.push(count_row(alloc, plain.transactions.len() as u64, "transactions")?)?;
     rows.push(count_row(alloc, splits, "splits")?)?;
     rows.push(count_row(alloc, plain.prices.len() as u64, "prices")?)?;
     rows.push(count_row(alloc, plain.schedules.len() as u64, "schedules")?)?;
+    Ok(())
+}
+
+/// Adds the rows of what came from a bank, or says how the book agrees with it.
+fn add_of_bank(
+    alloc: Global,
+    rows: &mut Many<Many<Text>>,
+    book: &PresentBook,
+) -> Result<(), OutOfMemory>
+    ensures { OnOk result (rows.new ≡ rows.old ++ bank_rows book.now) }
+{
+    let plain = book.plain();
     rows.push(count_row(alloc, plain.statements.len() as u64, "statements")?)?;
     rows.push(count_row(alloc, plain.lines.len() as u64, "lines of statements")?)?;
     rows.push(count_row(alloc, plain.bindings.len() as u64, "bindings")?)?;
     rows.push(count_row(alloc, plain.reconciliations.len() as u64, "reconciliations")?)?;
-    Ok(rows)
+    Ok(())
 }
 
 /// A count, and what is counted.
