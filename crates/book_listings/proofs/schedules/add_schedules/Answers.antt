@@ -1,4 +1,4 @@
-use Rattle.std.proofs.Common.{List, ◌++◌, ap, append_assoc, ◌∙◌}
+use Rattle.std.proofs.Common.{◌++◌, ap, append_assoc, ◌∙◌}
 use Rattle.book_listings.specs.Schedules.{rows_of}
 use Rattle.book_listings.proofs.ScheduleRowLemmas.{rows_next}
 use Rattle.book_listings.proofs.schedules.add_schedules.Goals as goal
