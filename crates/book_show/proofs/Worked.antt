@@ -1,122 +1,8 @@
--- Worked texts: a book with a broker's account, a hidden account, and an entry of three splits.
-use Rattle.std.proofs.Common.{◌≡◌, ℕ, ℤ, pos, negsuc, Bool, true, false, List, [], ◌∷◌, ◌++◌, Some, None, codes, refl}
-use Rattle.std.specs.Fmt.{digits}
-use Rattle.book_accounts.specs.Order.{with_generations}
-use Rattle.book_accounts.specs.Tree.{nearest_parents}
-use Rattle.book_accounts.specs.declared.account.Account.{Account}
-use Rattle.book_accounts.specs.declared.kind.AccountKind.{AccountKind}
-use Rattle.book_accounts.specs.declared.kind.AccountKind.TheVariants.{Bank, Expense, Root, Stock}
-use Rattle.book_commodity.specs.Amount.{amount_text, decimals_of}
-use Rattle.book_commodity.specs.Day.{day_text}
-use Rattle.book_commodity.specs.declared.commodity.Commodity.{Commodity}
-use Rattle.book_splits.specs.declared.split.Mark.TheVariants.{New}
-use Rattle.book_splits.specs.declared.split.Split.{Split}
-use Rattle.book_splits.specs.declared.transaction.Txn.{Txn}
-use Rattle.book_undo.specs.Book.{Book, empty_book}
-use Rattle.csv.specs.Writing.{escaped, fields_text, is_blank}
-use Rattle.book_reports.specs.Layout.{record_text}
+-- Worked words: what is asked, and what is refused.
+use Rattle.std.proofs.Common.{◌≡◌, [], ◌∷◌, Some, None, codes, refl}
 use Rattle.book_reports.specs.declared.form.Form.TheVariants.{Csv, Plain}
-use Rattle.unicode_width.proofs.Computing.{unicode_width}
-use Rattle.book_show.specs.Accounts.{account_columns, account_rows, kind_word}
-use Rattle.book_show.specs.Columns.{lines, placed, table_text, width}
-use Rattle.book_show.specs.Journal.{dated, rows_of}
 use Rattle.book_show.specs.Words.{asked_of}
-use Rattle.book_show.specs.declared.columns.Side.TheVariants.{Free, Left, Right}
-use Rattle.book_show.specs.declared.question.Question.TheVariants.{Accounts, Command, Export}
-
-abbrev commodity : List ℕ → List ℕ → ℕ → Commodity
-commodity space name fraction = record { space = space; name = name; full_name = []; fraction = fraction }
-
-abbrev account : List ℕ → AccountKind → ℕ → Bool → Account
-account name kind commodity hidden = record {
-  name = name;
-  kind = kind;
-  commodity = commodity;
-  parent = Some 2;
-  code = [];
-  note = [];
-  hidden = hidden;
-  placeholder = false;
-  basis = None;
-}
-
-abbrev split : ℕ → ℕ → List ℕ → ℤ → ℤ → Split
-split id account memo value quantity = record {
-  id = id;
-  account = account;
-  memo = memo;
-  action = [];
-  mark = New;
-  recon = None;
-  value = value;
-  quantity = quantity;
-}
-
--- ten shares for 100.00, with a fee of 1.50
-abbrev buy : Txn
-buy = record {
-  currency = 1;
-  day = pos 40;
-  num = codes "7";
-  description = codes "Buy";
-  splits = split 8 4 [] (pos 10000) (pos 10) ∷ split 9 6 (codes "fee") (pos 150) (pos 150)
-      ∷ split 10 5 [] (negsuc 10149) (negsuc 10149) ∷ [];
-}
-
-abbrev book : Book
-book = record (empty_book 1) {
-  commodities = (1, commodity (codes "CURRENCY") (codes "EUR") 100) ∷ (3, commodity (codes "NYSE") (codes "ACME") 1) ∷ [];
-  accounts = (2, record (account (codes "Root") Root 1 false) { parent = None; placeholder = true })
-      ∷ (4, account (codes "Broker") Stock 3 false) ∷ (5, account (codes "Cash") Bank 1 true)
-      ∷ (6, account (codes "Fees") Expense 1 false) ∷ [];
-  transactions = (7, buy) ∷ [];
-}
-
--- every account has its row, the hidden one too
-all_accounts :
-    account_rows book
-    ≡ account_columns
-    ∷ (codes "2" ∷ codes "0.00" ∷ codes "EUR" ∷ codes "ROOT" ∷ codes "p" ∷ codes "Root" ∷ [])
-    ∷ (codes "4" ∷ codes "10" ∷ codes "ACME" ∷ codes "STOCK" ∷ [] ∷ codes "Broker" ∷ [])
-    ∷ (codes "5" ∷ codes "-101.50" ∷ codes "EUR" ∷ codes "BANK" ∷ codes "h" ∷ codes "Cash" ∷ [])
-    ∷ (codes "6" ∷ codes "1.50" ∷ codes "EUR" ∷ codes "EXPENSE" ∷ [] ∷ codes "Fees" ∷ [])
-    ∷ []
-unfolding amount_text decimals_of with_generations nearest_parents digits kind_word
-all_accounts = refl
-
--- a split is named by its own number, and not by its place
-rows_of_buy :
-    rows_of Plain book 7 buy
-    ≡ (day_text (pos 40) ∷ codes "7" ∷ [] ∷ codes "EUR" ∷ [] ∷ codes "7" ∷ codes "Buy" ∷ [] ∷ [])
-    ∷ ([] ∷ codes "8" ∷ codes "n" ∷ codes "100.00" ∷ codes "10 ACME" ∷ [] ∷ codes "Broker" ∷ [] ∷ [])
-    ∷ ([] ∷ codes "9" ∷ codes "n" ∷ codes "1.50" ∷ [] ∷ [] ∷ codes "Fees" ∷ codes "fee" ∷ [])
-    ∷ ([] ∷ codes "10" ∷ codes "n" ∷ codes "-101.50" ∷ [] ∷ [] ∷ codes "Cash" ∷ [] ∷ [])
-    ∷ []
-unfolding amount_text decimals_of with_generations nearest_parents digits
-rows_of_buy = refl
-
--- the two characters of U+4E1C and U+4EAC
-abbrev wide : List ℕ
-wide = 228 ∷ 184 ∷ 156 ∷ 228 ∷ 186 ∷ 172 ∷ []
-
--- columns are as wide as what a terminal shows: each of these characters takes two places
-wide_columns :
-    lines (Left ∷ Right ∷ Free ∷ [])
-    ((codes "abc" ∷ codes "n" ∷ codes "text" ∷ []) ∷ (wide ∷ codes "10" ∷ codes "x" ∷ []) ∷ [])
-    ≡ codes "abc    n  text\n" ++ wide ++ codes "  10  x\n"
-unfolding width placed unicode_width
-wide_columns = refl
-
--- comma-separated values quote what has a comma
-csv_rows :
-    table_text Csv (Left ∷ []) ((codes "a" ∷ codes "b" ∷ []) ∷ (codes "1,5" ∷ [] ∷ []) ∷ [])
-    ≡ codes "a,b\n" ++ codes "\"1,5\",\n"
-unfolding table_text record_text escaped fields_text is_blank
-csv_rows = refl
-
--- the transactions of days that have none
-no_days : dated (Some (record { from = pos 41; to = pos 50 })) book.transactions ≡ []
-no_days = refl
+use Rattle.book_show.specs.declared.question.Question.TheVariants.{Accounts, Command, Export, Schedules}
 
 -- words
 asks_accounts : asked_of (codes "my.book" ∷ codes "accounts" ∷ codes "--csv" ∷ [])
@@ -137,6 +23,13 @@ no_table = refl
 
 no_table_of_all : asked_of (codes "my.book" ∷ codes "export" ∷ codes "--csv" ∷ []) ≡ None
 no_table_of_all = refl
+
+asks_schedules : asked_of (codes "my.book" ∷ codes "schedules" ∷ codes "--csv" ∷ [])
+    ≡ Some (record { book = codes "my.book"; question = Schedules; form = Csv })
+asks_schedules = refl
+
+no_table_of_check : asked_of (codes "my.book" ∷ codes "check" ∷ codes "--csv" ∷ []) ≡ None
+no_table_of_check = refl
 
 no_book : asked_of (codes "-x" ∷ codes "accounts" ∷ []) ≡ None
 no_book = refl

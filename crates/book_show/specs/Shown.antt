@@ -4,17 +4,20 @@ use Rattle.book_keeper.specs.Faults.{Rose}
 use Rattle.book_keeper.specs.Stream.{Wrote, WrotePart}
 use Rattle.book_keeper.specs.declared.row.Row.{Row}
 use Rattle.book_reports.specs.declared.form.Form.{Form}
-use Rattle.book_undo.specs.Book.{Book}
 use Rattle.book_export.specs.Export.{IsExport, WroteFront}
-use Rattle.book_show.specs.Account.{account_text}
-use Rattle.book_show.specs.Accounts.{accounts_text}
-use Rattle.book_show.specs.Command.{command_text}
-use Rattle.book_show.specs.Commodities.{commodities_text, prices_text}
-use Rattle.book_show.specs.Find.{AreFound}
-use Rattle.book_show.specs.Journal.{IsJournal}
+use Rattle.book_listings.specs.Account.{account_text}
+use Rattle.book_listings.specs.Accounts.{accounts_text}
+use Rattle.book_listings.specs.Check.{check_text}
+use Rattle.book_listings.specs.Command.{command_text}
+use Rattle.book_listings.specs.Commodities.{commodities_text, prices_text}
+use Rattle.book_listings.specs.Find.{AreFound}
+use Rattle.book_listings.specs.Journal.{IsJournal}
 use Rattle.book_show.specs.Opening.{AreRefused, HaveBook}
+use Rattle.book_listings.specs.Schedules.{AreSchedules}
+use Rattle.book_show.specs.declared.opening.Opened.{Opened}
 use Rattle.book_show.specs.declared.question.Question.{Question}
-use Rattle.book_show.specs.declared.question.Question.TheVariants.{Account, Accounts, Command, Commodities, Export, Find, Journal, Prices}
+use Rattle.book_show.specs.declared.question.Question.TheVariants.{Account, Accounts, Check, Command, Commodities, Export, Find, Journal, Prices}
+use Rattle.book_show.specs.declared.question.Question.TheVariants.{Schedules}
 use Rattle.book_show.specs.declared.showing.ShowError.{ShowError}
 use Rattle.book_show.specs.declared.showing.ShowError.TheVariants as error
 
@@ -24,15 +27,17 @@ IsSomeText (Some text) Is = Is text
 IsSomeText None Is = ⊥
 
 -- The answer of a book to a question: a text, or none where the book has nothing of the number that is asked for.
-abbrev pub Answers : Book → Question → Form → Option (List ℕ) → Type 0
-Answers book Accounts form answer = answer ≡ Some (accounts_text book form)
-Answers book Commodities form answer = answer ≡ Some (commodities_text book form)
-Answers book Prices form answer = answer ≡ Some (prices_text book form)
-Answers book (Journal days) form answer = IsSomeText answer (IsJournal book days form)
-Answers book (Find sought) form answer = IsSomeText answer (AreFound book sought form)
-Answers book (Account number) form answer = answer ≡ account_text book number form
-Answers book (Command number) form answer = answer ≡ command_text book number
-Answers book Export form answer = IsSomeText answer (IsExport book)
+abbrev pub Answers : Opened → Question → Form → Option (List ℕ) → Type 0
+Answers now Accounts form answer = answer ≡ Some (accounts_text now.book form)
+Answers now Commodities form answer = answer ≡ Some (commodities_text now.book form)
+Answers now Prices form answer = answer ≡ Some (prices_text now.book form)
+Answers now Schedules form answer = IsSomeText answer (AreSchedules now.book form)
+Answers now (Journal days) form answer = IsSomeText answer (IsJournal now.book days form)
+Answers now (Find sought) form answer = IsSomeText answer (AreFound now.book sought form)
+Answers now (Account number) form answer = answer ≡ account_text now.book number form
+Answers now (Command number) form answer = answer ≡ command_text now.book number
+Answers now Export form answer = IsSomeText answer (IsExport now.book)
+Answers now Check form answer = answer ≡ Some (check_text now.book now.version)
 
 -- ---- what a call writes of an answer
 
@@ -60,7 +65,7 @@ HasFault before now (Err (error.Open why)) = now ≡ before
 abbrev pub HasAnsweredOf :
     (List ℕ → Type 0) → (List ℕ → Type 0) → List Row → Question → Form → Result Unit ShowError → Type 0
 HasAnsweredOf old new rows question form result =
-    (book : Book) × HaveBook rows book × HasAnswered old new (Answers book question form) result
+    (now : Opened) × HaveBook rows now × HasAnswered old new (Answers now question form) result
 
 -- What was written of rows: what was of the answer of their present book; or nothing, where the rows are refused.
 abbrev pub HasShown :

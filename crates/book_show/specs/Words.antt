@@ -9,9 +9,10 @@ use Rattle.std.specs.Str.Parse.{digits_value}
 use Rattle.book_json.specs.Forms.{day_named}
 use Rattle.book_reports.specs.declared.form.Form.{Form}
 use Rattle.book_reports.specs.declared.form.Form.TheVariants.{Csv, Plain}
-use Rattle.book_show.specs.declared.days.Days.{Days}
+use Rattle.book_listings.specs.declared.days.Days.{Days}
 use Rattle.book_show.specs.declared.question.Question.{Question}
-use Rattle.book_show.specs.declared.question.Question.TheVariants.{Account, Accounts, Command, Commodities, Export, Find, Journal, Prices}
+use Rattle.book_show.specs.declared.question.Question.TheVariants.{Account, Accounts, Check, Command, Commodities, Export, Find, Journal, Prices}
+use Rattle.book_show.specs.declared.question.Question.TheVariants.{Schedules}
 
 -- A word names a book where it is not empty and does not begin with a hyphen.
 abbrev pub is_book : List ℕ → Bool
@@ -38,8 +39,10 @@ alone word =
     if bytes_eq word (codes "accounts") then Some Accounts
     else if bytes_eq word (codes "commodities") then Some Commodities
     else if bytes_eq word (codes "prices") then Some Prices
+    else if bytes_eq word (codes "schedules") then Some Schedules
     else if bytes_eq word (codes "journal") then Some (Journal None)
     else if bytes_eq word (codes "export") then Some Export
+    else if bytes_eq word (codes "check") then Some Check
     else None
 
 -- The question of a word with one more.
@@ -63,10 +66,11 @@ question_of (word ∷ one ∷ []) = with_one word one
 question_of (word ∷ one ∷ two ∷ []) = with_two word one two
 question_of _ = None
 
--- Whether a question is answered in a form: a command line and the exported book are no tables.
+-- Whether a question is answered in a form: a command line, the exported book and what a check finds are no tables.
 abbrev pub in_form : Form → Question → Option Question
 in_form Csv (Command number) = None
 in_form Csv Export = None
+in_form Csv Check = None
 in_form form question = Some question
 
 -- What is asked: a question on a book, answered in a form.

@@ -1,38 +1,15 @@
-//! What a book has, as texts for a person or as comma-separated values, with the numbers by which commands name things:
-//! its accounts and their registers, its commodities and prices, its journal,
-//! the transactions in which a text stands, and the command that changes a transaction; and the whole book as a journal
-//! for ledger and hledger. `asked_of` reads the words of a program, and `show` writes the answer to them, from a keeper's
-//! rows, which stay as they are. Each text is stated as a function of the book or, as the journal, as the one text of
-//! which its definition holds.
+//! What the present book of a keeper's rows has: `open_book` opens it, `asked_of` reads the words of a program, and
+//! `show` writes the answer to them, a text of `book_listings` or the whole book as a journal for ledger and hledger,
+//! from a keeper's rows, which stay as they are.
 #![tactic(auto)]
 
-mod account;
-mod accounts;
-mod cells;
-mod columns;
-mod command;
-mod commodities;
-mod days;
-mod find;
-mod journal;
-mod layout;
 mod opening;
-mod order;
-mod present;
 mod question;
 mod showing;
 mod words;
 mod writing;
 
-pub use account::account_text;
-pub use accounts::accounts_text;
-pub use command::command_text;
-pub use commodities::{commodities_text, prices_text};
-pub use days::Days;
-pub use find::found_text;
-pub use journal::journal_text;
-pub use opening::open_book;
-pub use present::PresentBook;
+pub use opening::{Opened, open_book};
 pub use question::Question;
 pub use showing::{ShowError, show};
-pub use words::{Asked, asked_of};
+pub use words::{Asked, asked_of, names_book};

@@ -9,20 +9,27 @@ ghost use Rattle.book_undo.specs.Book.{book_of};
 ghost use Rattle.book_engine.specs.Opening.{HasOpenCause, open_error};
 ghost use Rattle.book_show.specs.Opening.{CheckedAs, OpenedAs};
 
-use crate::PresentBook;
 use book_commodity::OutOfMemory;
 use book_engine::OpenError;
 use book_keeper::Keeper;
 use book_ledger::Registers;
+use book_listings::PresentBook;
 use book_opening::{OpenFault, Saved, read_rows};
 use book_state_check::first_unsound_key;
 use book_turns::fresh_book;
 use book_undo::Plain;
 use std::alloc::Global;
 
-/// The present book of the keeper's rows, which stay: that of the machine that opens from them, and without rows the
-/// fresh book. The errors are those of `Engine::open`, which asks the same of the rows.
-pub fn open_book<K: Keeper>(alloc: Global, keeper: &mut K) -> Result<PresentBook, OpenError>
+/// A book that was opened: what it has, and its version, the count of the changes so far.
+#[derive(Drop)]
+pub struct Opened {
+    pub book: PresentBook,
+    pub version: u64,
+}
+
+/// The present book of the keeper's rows, which stay, with its version: those of the machine that opens from them, and
+/// without rows the fresh book. The errors are those of `Engine::open`, which asks the same of the rows.
+pub fn open_book<K: Keeper>(alloc: Global, keeper: &mut K) -> Result<Opened, OpenError>
     ensures keeper { WasRead K.path_given K.sure K.holds keeper.old keeper.new }
     ensures opened { IsTrue (K.sure keeper.new) → (rows : List Row) → K.holds keeper.old rows → OpenedAs rows result }
     ensures cause { HasOpenCause (K.faults keeper.old) (K.faults keeper.new) result }
@@ -35,26 +42,27 @@ pub fn open_book<K: Keeper>(alloc: Global, keeper: &mut K) -> Result<PresentBook
 }
 
 /// The fresh book.
-fn begin(alloc: Global) -> Result<PresentBook, OpenError>
-    ensures book { IfOk result (λ book. book ≡ fresh_book_is) }
+fn begin(alloc: Global) -> Result<Opened, OpenError>
+    ensures book { IfOk result (λ now. now.book ≡ fresh_book_is) }
+    ensures version { IfOk result (λ now. now.version ≡ 0) }
     ensures memory { IfErr result (λ error. error ≡ OpenError.OutOfMemory) }
 {
     match fresh_book(alloc) {
-        Ok(plain) => with_registers(alloc, plain),
+        Ok(plain) => with_registers(alloc, plain, 0),
         Err(OutOfMemory) => Err(OpenError::OutOfMemory),
     }
 }
 
 /// The book of a state that was read, or the first key at which that is unsound.
-fn checked(alloc: Global, state: Saved) -> Result<PresentBook, OpenError>
+fn checked(alloc: Global, state: Saved) -> Result<Opened, OpenError>
     requires { IsReadable (state_of state) }
     ensures { CheckedAs (state_of state) result }
 {
     let mut state = state;
     match first_unsound_key(alloc, &mut state) {
         Ok(None) => {
-            let Saved { plain, .. } = state;
-            with_registers(alloc, plain)
+            let Saved { plain, version, .. } = state;
+            with_registers(alloc, plain, version)
         }
         Ok(Some(key)) => Err(OpenError::UnsoundBook {
             kind: key.kind,
@@ -64,14 +72,18 @@ fn checked(alloc: Global, state: Saved) -> Result<PresentBook, OpenError>
     }
 }
 
-/// A sound book with its registers.
-fn with_registers(alloc: Global, plain: Plain) -> Result<PresentBook, OpenError>
+/// A sound book with its registers, and its version.
+fn with_registers(alloc: Global, plain: Plain, version: u64) -> Result<Opened, OpenError>
     requires { IsSoundBook (book_of plain) }
-    ensures book { IfOk result (λ book. book ≡ book_of plain) }
+    ensures book { IfOk result (λ now. now.book ≡ book_of plain) }
+    ensures version { IfOk result (λ now. now.version ≡ version) }
     ensures memory { IfErr result (λ error. error ≡ OpenError.OutOfMemory) }
 {
     match Registers::of(alloc, &plain) {
-        Ok(registers) => Ok(PresentBook::of(plain, registers)),
+        Ok(registers) => Ok(Opened {
+            book: PresentBook::of(plain, registers),
+            version,
+        }),
         Err(OutOfMemory) => Err(OpenError::OutOfMemory),
     }
 }

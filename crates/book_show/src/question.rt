@@ -1,5 +1,5 @@
-use crate::Days;
 use book_commodity::Text;
+use book_listings::Days;
 
 /// What is asked of a book.
 #[derive(Drop)]
@@ -10,6 +10,8 @@ pub enum Question {
     Commodities,
     /// All prices, by number.
     Prices,
+    /// All schedules, by number.
+    Schedules,
     /// The transactions by day: those of these days or, where none are given, all.
     Journal(Option<Days>),
     /// The register of the account with this number.
@@ -20,4 +22,6 @@ pub enum Question {
     Command(u64),
     /// The whole book as a journal that ledger and hledger read.
     Export,
+    /// That the book is sound, and how much of each kind it has.
+    Check,
 }

@@ -5,17 +5,15 @@ ghost use Rattle.book_engine.specs.Opening.{HasOpenCause};
 ghost use Rattle.book_show.specs.Opening.{OpenedAs};
 ghost use Rattle.book_show.specs.Shown.{Answers, HasAnswered, HasFault, HasShown};
 
-use crate::account::account_text;
-use crate::accounts::accounts_text;
-use crate::command::command_text;
-use crate::commodities::{commodities_text, prices_text};
-use crate::find::found_text;
-use crate::journal::journal_text;
-use crate::opening::open_book;
+use crate::Question;
+use crate::opening::{Opened, open_book};
 use crate::writing::{write_found, write_journal, write_text};
-use crate::{PresentBook, Question};
 use book_engine::OpenError;
 use book_keeper::{KeepError, Keeper, Sink};
+use book_listings::{
+    account_text, accounts_text, check_text, command_text, commodities_text, found_text,
+    journal_text, prices_text, schedules_text,
+};
 use book_reports::Form;
 use std::alloc::Global;
 
@@ -55,13 +53,13 @@ pub fn show<K: Keeper, O: Sink>(
     ensures output_faults { HasFault (O.faults output.old) (O.faults output.new) result }
 {
     match open_at(alloc, keeper, path) {
-        Ok(book) => write_answer(alloc, &book, question, form, output),
+        Ok(opened) => write_answer(alloc, &opened, question, form, output),
         Err(error) => Err(ShowError::Open(error)),
     }
 }
 
-/// The present book that the keeper has at a path.
-fn open_at<K: Keeper>(alloc: Global, keeper: &mut K, path: &str) -> Result<PresentBook, OpenError>
+/// The present book that the keeper has at a path, with its version.
+fn open_at<K: Keeper>(alloc: Global, keeper: &mut K, path: &str) -> Result<Opened, OpenError>
     ensures sure { IsTrue (K.sure keeper.new) → IsTrue (K.sure keeper.old) }
     ensures rows { IsTrue (K.sure keeper.new) → (rows : List Row) → K.holds keeper.old rows → K.holds keeper.new rows }
     ensures opened { IsTrue (K.sure keeper.new) → (rows : List Row) → K.holds keeper.old rows → OpenedAs rows result }
@@ -80,19 +78,21 @@ fn open_at<K: Keeper>(alloc: Global, keeper: &mut K, path: &str) -> Result<Prese
 /// output failed.
 fn write_answer<O: Sink>(
     alloc: Global,
-    book: &PresentBook,
+    opened: &Opened,
     question: &Question,
     form: Form,
     output: &mut O,
 ) -> Result<(), ShowError>
-    ensures written { HasAnswered (O.written output.old) (O.written output.new) (Answers book.now question.now form)
+    ensures written { HasAnswered (O.written output.old) (O.written output.new) (Answers opened.now question.now form)
         result }
     ensures faults { HasFault (O.faults output.old) (O.faults output.new) result }
 {
+    let book = &opened.book;
     match question {
         Question::Accounts => write_text(output, accounts_text(alloc, book, form)),
         Question::Commodities => write_text(output, commodities_text(alloc, book, form)),
         Question::Prices => write_text(output, prices_text(alloc, book, form)),
+        Question::Schedules => write_text(output, schedules_text(alloc, book, form)),
         Question::Journal(days) => write_text(output, journal_text(alloc, book, days, form)),
         Question::Account(number) => write_found(output, account_text(alloc, book, *number, form)),
         Question::Find(sought) => {
@@ -100,5 +100,6 @@ fn write_answer<O: Sink>(
         }
         Question::Command(number) => write_found(output, command_text(alloc, book, *number)),
         Question::Export => write_journal(alloc, book, output),
+        Question::Check => write_text(output, check_text(alloc, book, opened.version)),
     }
 }

@@ -5,8 +5,9 @@ ghost use Rattle.book_json.specs.Forms.{day_named};
 ghost use Rattle.book_show.specs.Words.{alone, asked_of, asks, form_of, has_digits, in_form, is_book, number_of, question_of, with_one, with_two, without_form};
 ghost use Rattle.book_show.specs.Asked.{seen};
 
-use crate::{Days, Question};
+use crate::Question;
 use book_commodity::{Day, OutOfMemory, Text};
+use book_listings::Days;
 use book_reports::Form;
 
 /// What the words ask: a question on a book, answered in a form.
@@ -77,12 +78,12 @@ fn question_in(form: Form, words: &[Text]) -> Result<Option<Question>, OutOfMemo
     }
 }
 
-/// The question, where it is answered in a form: a command line and the exported book are no tables.
+/// The question, where it is answered in a form: a command line, the exported book and what a check finds are no tables.
 fn in_form(form: Form, question: Question) -> Option<Question>
     ensures { result ≡ in_form form question }
 {
     match (form, question) {
-        (Form::Csv, Question::Command(_) | Question::Export) => None,
+        (Form::Csv, Question::Command(_) | Question::Export | Question::Check) => None,
         (_, question) => Some(question),
     }
 }
@@ -91,7 +92,7 @@ fn in_form(form: Form, question: Question) -> Option<Question>
 const NUMBER_LIMIT: u64 = 1 << 62;
 
 /// Whether a word names a book: it is not empty and does not begin with a hyphen.
-fn names_book(word: &str) -> bool
+pub fn names_book(word: &str) -> bool
     ensures { result ≡ is_book word.now }
 {
     match word.as_bytes().first() {
@@ -165,8 +166,10 @@ fn alone(word: &str) -> Option<Question>
         "accounts" => Some(Question::Accounts),
         "commodities" => Some(Question::Commodities),
         "prices" => Some(Question::Prices),
+        "schedules" => Some(Question::Schedules),
         "journal" => Some(Question::Journal(None)),
         "export" => Some(Question::Export),
+        "check" => Some(Question::Check),
         _ => None,
     }
 }

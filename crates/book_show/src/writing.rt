@@ -2,10 +2,11 @@ ghost use Rattle.std.specs.Prelude.{◌≡◌, Ok, Some};
 ghost use Rattle.book_export.specs.Export.{IsExport};
 ghost use Rattle.book_show.specs.Shown.{HasAnswered, HasFault, IsSomeText};
 
-use crate::{PresentBook, ShowError};
+use crate::ShowError;
 use book_commodity::{OutOfMemory, Text};
 use book_export::ExportError;
 use book_keeper::{Sink, write_all};
+use book_listings::PresentBook;
 use std::alloc::Global;
 
 /// Writes a text, where there was memory for it.

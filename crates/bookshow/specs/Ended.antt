@@ -1,12 +1,18 @@
--- The number with which the program ends: those of `book`, and 1 where the book has nothing of the number asked for.
+-- The number with which the program ends: those of `book`; 1 where the book has nothing of the number asked for; and 8
+-- where a copy was not made.
 use Rattle.std.specs.Prelude.{ℕ}
+use Rattle.book_copy.specs.declared.copying.CopyError.{CopyError}
+use Rattle.book_copy.specs.declared.copying.CopyError.TheVariants as rows
 use Rattle.book_engine.specs.declared.fault.OpenError.{OpenError}
 use Rattle.book_engine.specs.declared.fault.OpenError.TheVariants as fault
+use Rattle.book_files.specs.declared.copying.FileCopyError.{FileCopyError}
+use Rattle.book_files.specs.declared.copying.FileCopyError.TheVariants as copying
 use Rattle.book_show.specs.declared.showing.ShowError.{ShowError}
 use Rattle.book_show.specs.declared.showing.ShowError.TheVariants as error
 use Rattle.bookshow.specs.declared.ended.Ended.{Ended}
 use Rattle.bookshow.specs.declared.ended.Ended.TheVariants.{Done, NotThere, Usage, Memory, Closed, OutputFault}
-use Rattle.bookshow.specs.declared.ended.Ended.TheVariants.{NoBook, KeeperFault, BadRows, UnsoundBook}
+use Rattle.bookshow.specs.declared.ended.Ended.TheVariants.{NoBook, KeeperFault, BadRows, UnsoundBook, Refused}
+use Rattle.bookshow.specs.declared.ended.Ended.TheVariants.{Damaged, Taken, PartThere, CopyFailed}
 
 abbrev pub number_of : Ended → ℕ
 number_of Done = 0
@@ -19,6 +25,11 @@ number_of NoBook = 6
 number_of KeeperFault = 6
 number_of (BadRows kind id) = 7
 number_of (UnsoundBook kind id) = 7
+number_of Refused = 6
+number_of Damaged = 7
+number_of Taken = 8
+number_of PartThere = 8
+number_of CopyFailed = 8
 
 -- The end where rows are refused.
 abbrev pub end_of_opening : OpenError → Ended
@@ -33,3 +44,18 @@ end_of error.Unknown = NotThere
 end_of error.Output = OutputFault
 end_of error.OutOfMemory = Memory
 end_of (error.Open cause) = end_of_opening cause
+
+-- The end where no row was copied.
+abbrev pub end_of_rows : CopyError → Ended
+end_of_rows rows.Source = KeeperFault
+end_of_rows rows.Target = CopyFailed
+end_of_rows (rows.NoBookRow kind id) = BadRows kind id
+end_of_rows rows.OutOfMemory = Memory
+
+-- The end where no copy was made.
+abbrev pub end_of_copying : FileCopyError → Ended
+end_of_copying copying.Taken = Taken
+end_of_copying copying.PartThere = PartThere
+end_of_copying (copying.Rows cause) = end_of_rows cause
+end_of_copying copying.File = CopyFailed
+end_of_copying copying.OutOfMemory = Memory

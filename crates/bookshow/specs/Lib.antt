@@ -1,2 +1,3 @@
+pub mod CheckedRows
+pub mod CopyWords
 pub mod Ended
-pub mod FileRows

@@ -1,8 +1,10 @@
 ghost use Rattle.std.specs.Prelude.{◌≡◌};
 ghost use Rattle.std.specs.Process.{exit_status};
-ghost use Rattle.bookshow.specs.Ended.{end_of, number_of};
+ghost use Rattle.bookshow.specs.Ended.{end_of, end_of_copying, number_of};
 
+use book_copy::CopyError;
 use book_engine::OpenError;
+use book_files::FileCopyError;
 use book_show::ShowError;
 use std::io;
 use std::io::ErrorKind;
@@ -10,8 +12,8 @@ use std::process::{ExitCode, Termination};
 
 /// What the program prints where the words ask nothing.
 const USAGE: &str =
-    "usage: bookshow BOOK accounts|commodities|prices|journal [FROM TO]|account NUMBER|find TEXT|command NUMBER|\
-    export [--csv], or bookshow --help";
+    "usage: bookshow BOOK accounts|commodities|prices|schedules|journal [FROM TO]|account NUMBER|find TEXT|\
+    command NUMBER|export|check|copy TO [--csv], or bookshow --help";
 
 /// How the program ended.
 #[derive(Clone, Copy, Debug, PartialEq, Eq)]
@@ -36,6 +38,16 @@ pub(crate) enum Ended {
     BadRows { kind: u8, id: u64 },
     /// This key is the first at which the book breaks a rule.
     UnsoundBook { kind: u8, id: u64 },
+    /// A check said that the file is no book, or can't be used.
+    Refused,
+    /// A check said at which row the book is damaged.
+    Damaged,
+    /// Something is at the path that a copy was to get, or its log is.
+    Taken,
+    /// Another copy to this path was stopped, and left a part.
+    PartThere,
+    /// A copy could not be written.
+    CopyFailed,
 }
 
 impl Ended {
@@ -50,6 +62,21 @@ impl Ended {
             ShowError::Open(OpenError::Keeper) => Ended::KeeperFault,
             ShowError::Open(OpenError::BadRows { kind, id }) => Ended::BadRows { kind, id },
             ShowError::Open(OpenError::UnsoundBook { kind, id }) => Ended::UnsoundBook { kind, id },
+        }
+    }
+
+    /// The end where no copy was made.
+    pub(crate) fn of_copying(error: FileCopyError) -> Ended
+        ensures { result ≡ end_of_copying error }
+    {
+        match error {
+            FileCopyError::Taken => Ended::Taken,
+            FileCopyError::PartThere => Ended::PartThere,
+            FileCopyError::Rows(CopyError::Source) => Ended::KeeperFault,
+            FileCopyError::Rows(CopyError::NoBookRow { kind, id }) => Ended::BadRows { kind, id },
+            FileCopyError::Rows(CopyError::Target) | FileCopyError::File => Ended::CopyFailed,
+            FileCopyError::Rows(CopyError::OutOfMemory) | FileCopyError::OutOfMemory =>
+                Ended::Memory,
         }
     }
 
@@ -81,15 +108,16 @@ impl Ended {
             Ended::Usage => 2,
             Ended::Memory => 3,
             Ended::Closed | Ended::OutputFault => 5,
-            Ended::NoBook | Ended::KeeperFault => 6,
-            Ended::BadRows { .. } | Ended::UnsoundBook { .. } => 7,
+            Ended::NoBook | Ended::KeeperFault | Ended::Refused => 6,
+            Ended::BadRows { .. } | Ended::UnsoundBook { .. } | Ended::Damaged => 7,
+            Ended::Taken | Ended::PartThere | Ended::CopyFailed => 8,
         }
     }
 
     /// The line that the program prints on standard error; empty where it prints none.
     fn message(self) -> &'static str {
         match self {
-            Ended::Done | Ended::Closed => "",
+            Ended::Done | Ended::Closed | Ended::Refused | Ended::Damaged => "",
             Ended::NotThere => "bookshow: the book has nothing with this number",
             Ended::Usage => USAGE,
             Ended::Memory => "bookshow: out of memory",
@@ -97,6 +125,10 @@ impl Ended {
             Ended::NoBook => "bookshow: there is no book at this path",
             Ended::KeeperFault => "bookshow: the book file failed",
             Ended::BadRows { .. } | Ended::UnsoundBook { .. } => "bookshow: the book is damaged",
+            Ended::Taken => "bookshow: there is something at the path of the copy",
+            Ended::PartThere =>
+                "bookshow: a copy to this path was stopped; remove its .part and .part-wal",
+            Ended::CopyFailed => "bookshow: the copy could not be written",
         }
     }
 }

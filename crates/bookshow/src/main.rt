@@ -1,26 +1,34 @@
 //! The program `bookshow`: `bookshow BOOK WORD ..` shows what the book in a file has, with the numbers by which commands
 //! name things. It reads the file through the keeper that `book` writes it by, and commits nothing: the rows of the file
-//! stay as they are, whatever the words. A log may be left beside the file, as by each run over it.
+//! stay as they are, whatever the words. A log may be left beside the file, as by each run over it. `bookshow BOOK check`
+//! also says what is wrong with a file that is no sound book, and `bookshow BOOK copy TO` makes a copy of a book.
 #![tactic(auto)]
 
+mod copying;
 mod ended;
 mod watched;
 
-ghost use Rattle.std.specs.Prelude.{◌≡◌, List, IsTrue, OnOk};
+ghost use Rattle.std.specs.Prelude.{◌≡◌, List, IfOk, IsTrue, OnOk};
 ghost use Rattle.sqlite.specs.Files.{over_files};
 ghost use Rattle.sqlite.specs.WalFiles.{image_at};
 ghost use Rattle.book_keeper.specs.declared.row.Row.{Row};
 ghost use Rattle.book_sqlite.specs.KeeperInSqlite.{HoldsRows, is_sure};
 ghost use Rattle.book_show.specs.Shown.{HasFault, HasShown};
-ghost use Rattle.bookshow.specs.FileRows.{BeginsWith};
+ghost use Rattle.bookshow.specs.CheckedRows.{row_text};
+ghost use Rattle.book_files.specs.FileRows.{BeginsWith};
 
+use crate::copying::copy_of;
 use crate::ended::Ended;
 use crate::watched::Watched;
 use book_commodity::{OutOfMemory, Text};
+use book_engine::OpenError;
+use book_files::{copy_file, fault_before, fault_behind};
 use book_keeper::{Sink, StreamSink};
-use book_show::{Asked, ShowError, asked_of, show};
+use book_show::{Asked, Question, ShowError, asked_of, show};
 use book_sqlite::FileKeeper;
+use book_verdict::{unread_row_text, unsound_row_text};
 use sqlite::{Start, Unknown};
+use std::alloc::Global;
 use std::io::{ErrorKind, Write};
 use std::{env, fs, io};
 
@@ -32,15 +40,18 @@ Shows what the book in the file BOOK has, and changes nothing in it. WORD .. is 
   accounts            the accounts, with their numbers and balances
   commodities         the commodities, with their numbers
   prices              the prices, with their numbers
+  schedules           the schedules, with their numbers, next days and ends
   journal             all transactions by day, with their splits
   journal FROM TO     those from one day to another, as 2024-01-31
   account NUMBER      the register of an account, with the other side of each split
   find TEXT           the transactions with TEXT in num, description or a memo
   command NUMBER      the line `edit` of a transaction as it stands
   export              the whole book, as a journal for ledger and hledger
+  check               what is wrong with the file, or how much a sound book has
+  copy TO             makes a copy of the book at the path TO
 
---csv asks for comma-separated values in place of columns, but for `command`
-and `export`.
+--csv asks for comma-separated values in place of columns, but for `command`,
+`export`, `check` and `copy`.
 ";
 
 /// What `--version` shows.
@@ -120,10 +131,66 @@ fn show_file(rt: &HostRuntime, asked: &Asked) -> Ended {
     }
 }
 
-/// Writes a text on standard output.
-fn print(rt: &HostRuntime, text: &str) -> Ended {
+/// Says what is wrong with the file of a book, and what a person does next, or how much a sound book has.
+fn check_file(rt: &HostRuntime, asked: &Asked) -> Ended {
+    match fault_before(rt, asked.book) {
+        Ok(None) => {}
+        Ok(Some(fault)) => return print(rt, fault.words(), Ended::Refused),
+        Err(_) => return Ended::Memory,
+    }
+    let mut writer = Watched::new(io::writer(rt));
+    let (answer, keeper) = show_in(rt, asked, Unknown, &mut StreamSink::new(&mut writer));
+    drop(keeper);
+    match answer {
+        Ok(()) => print_size(rt, asked.book),
+        Err(ShowError::Open(error)) => print_opening(rt, asked.book, error),
+        Err(ShowError::Output) if writer.is_closed() => Ended::Closed,
+        Err(error) => Ended::of_error(error),
+    }
+}
+
+/// Says why a book was not opened.
+fn print_opening(rt: &HostRuntime, path: &str, error: OpenError) -> Ended {
+    match row_text(rt.alloc(), error) {
+        Ok(Some(text)) => return print(rt, text.as_str(), Ended::Damaged),
+        Ok(None) => {}
+        Err(OutOfMemory) => return Ended::Memory,
+    }
+    match error {
+        OpenError::Keeper => match fault_behind(rt, path) {
+            Some(fault) => print(rt, fault.words(), Ended::Refused),
+            None => Ended::Memory,
+        },
+        _ => Ended::Memory,
+    }
+}
+
+/// The text on the row at which a book is damaged; None where no row is.
+fn row_text(alloc: Global, error: OpenError) -> Result<Option<Text>, OutOfMemory>
+    ensures { IfOk result (λ text. text ≡ row_text error) }
+{
+    match error {
+        OpenError::BadRows { kind, id } => Ok(Some(unread_row_text(alloc, kind, id)?)),
+        OpenError::UnsoundBook { kind, id } => Ok(Some(unsound_row_text(alloc, kind, id)?)),
+        OpenError::Keeper | OpenError::OutOfMemory => Ok(None),
+    }
+}
+
+/// Says how long the file is.
+fn print_size(rt: &HostRuntime, path: &str) -> Ended {
+    let Ok(found) = fs::metadata(rt, path) else {
+        return Ended::KeeperFault;
+    };
+    match format!(in rt.alloc(); "\nThe file has {} bytes.\n", found.len()) {
+        Ok(text) => print(rt, text.as_str(), Ended::Done),
+        Err(_) => Ended::Memory,
+    }
+}
+
+/// Writes a text on standard output, and ends so, unless the output fails.
+fn print(rt: &HostRuntime, text: &str, ended: Ended) -> Ended {
     match io::writer(rt).write_all(text.as_bytes()) {
-        Ok(()) => Ended::Done,
+        Ok(()) => ended,
         Err(error) => Ended::of_output(&error),
     }
 }
@@ -131,13 +198,35 @@ fn print(rt: &HostRuntime, text: &str) -> Ended {
 /// Does what the words ask.
 fn run(rt: &HostRuntime, words: &[Text]) -> Ended {
     match words {
-        [word] if word.as_str() == "--help" => print(rt, HELP),
-        [word] if word.as_str() == "--version" => print(rt, VERSION),
-        _ => match asked_of(words) {
-            Ok(Some(asked)) => show_file(rt, &asked),
-            Ok(None) => Ended::Usage,
-            Err(OutOfMemory) => Ended::Memory,
+        [word] if word.as_str() == "--help" => print(rt, HELP, Ended::Done),
+        [word] if word.as_str() == "--version" => print(rt, VERSION, Ended::Done),
+        _ => match copy_of(words) {
+            Some((book, to)) => copy_book(rt, book, to),
+            None => answer(rt, words),
         },
+    }
+}
+
+/// Makes a copy of the book in a file.
+fn copy_book(rt: &HostRuntime, book: &str, to: &str) -> Ended {
+    if let Some(ended) = refused(rt, book) {
+        return ended;
+    }
+    match copy_file(rt, book, to) {
+        Ok(()) => Ended::Done,
+        Err(error) => Ended::of_copying(error),
+    }
+}
+
+/// Answers what the words ask of a book.
+fn answer(rt: &HostRuntime, words: &[Text]) -> Ended {
+    match asked_of(words) {
+        Ok(Some(asked)) => match asked.question {
+            Question::Check => check_file(rt, &asked),
+            _ => show_file(rt, &asked),
+        },
+        Ok(None) => Ended::Usage,
+        Err(OutOfMemory) => Ended::Memory,
     }
 }
 

@@ -1,4 +1,4 @@
-use Rattle.bookshow.proofs.FileLemmas.{from_rows}
+use Rattle.book_files.proofs.FileLemmas.{from_rows}
 use Rattle.bookshow.proofs.show_in.Goals as goal
 
 -- the keeper held the rows of the file as the run began

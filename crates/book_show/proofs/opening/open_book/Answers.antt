@@ -10,4 +10,4 @@ returns-in-Ok-Some-clause-opened g c = λ still rows held.
 pub returns-in-Ok-None-clause-opened : goal.returns-in-Ok-None-clause-opened
 returns-in-Ok-None-clause-opened g c = λ still rows held.
     let none = rw c.in-Ok-None.field-0-is at (c.in-Ok-None.ensures.answer still rows held) in
-    fresh_of rows c.begin.result none c.begin.ensures.book c.begin.ensures.memory
+    fresh_of rows c.begin.result none c.begin.ensures.book c.begin.ensures.version c.begin.ensures.memory

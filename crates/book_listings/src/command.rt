@@ -1,0 +1,94 @@
+ghost use Rattle.std.specs.Prelude.{◌≡◌, IfOk, map};
+ghost use Rattle.serde_json.specs.Data.{array};
+ghost use Rattle.serde_json.specs.View.{items_of, view};
+ghost use Rattle.book_commodity.specs.Day.{day_text};
+ghost use Rattle.book_listings.specs.Command.{command_text, edit_data, edit_line, split_data};
+
+use crate::PresentBook;
+use book_commodity::{OutOfMemory, Text};
+use book_splits::{Split, Txn};
+use book_table::day_cell;
+use serde_json::{Value, json};
+use std::alloc::{AllocError, Global};
+
+/// The line of the command `edit` that gives the transaction with a number what it has, with the numbers and memos of
+/// its splits, ready to be changed; None exactly where the book has no such transaction.
+pub fn command_text(
+    alloc: Global,
+    book: &PresentBook,
+    number: u64,
+) -> Result<Option<Text>, OutOfMemory>
+    ensures { IfOk result (λ found. found ≡ command_text book.now number) }
+{
+    match book.plain().transactions.find(number) {
+        Some(transaction) => Ok(Some(edit_line(alloc, number, transaction)?)),
+        None => Ok(None),
+    }
+}
+
+/// The line of the command, with its line feed.
+fn edit_line(alloc: Global, number: u64, transaction: &Txn) -> Result<Text, OutOfMemory>
+    ensures { IfOk result (λ line. line ≡ edit_line number transaction.now) }
+{
+    let value = edit_value(alloc, number, transaction)?;
+    let mut line = value.to_string(alloc)?;
+    line.push('\n')?;
+    Ok(Text::of(line))
+}
+
+/// The command as a value.
+fn edit_value(alloc: Global, number: u64, transaction: &Txn) -> Result<Value, OutOfMemory>
+    ensures { IfOk result (λ value. view value ≡ edit_data number transaction.now) }
+{
+    let day = day_cell(alloc, transaction.day)?;
+    let splits = splits_value(alloc, transaction.splits.as_slice())?;
+    Ok(members_value(alloc, number, transaction, day.as_str(), splits)?)
+}
+
+/// The command of these members.
+fn members_value(
+    alloc: Global,
+    number: u64,
+    transaction: &Txn,
+    day: &str,
+    splits: Value,
+) -> Result<Value, AllocError>
+    requires day { day.now ≡ day_text transaction.now.day }
+    requires splits { view splits ≡ array (items_of (map split_data transaction.now.splits)) }
+    ensures { IfOk result (λ value. view value ≡ edit_data number transaction.now) }
+{
+    json!(in alloc; {
+        "currency": transaction.currency,
+        "day": day,
+        "description": transaction.description.as_str(),
+        "do": "edit",
+        "num": transaction.num.as_str(),
+        "splits": splits,
+        "transaction": number
+    })
+}
+
+/// The splits as a value.
+fn splits_value(alloc: Global, splits: &[Split]) -> Result<Value, AllocError>
+    ensures { IfOk result (λ value. view value ≡ array (items_of (map split_data splits.now))) }
+{
+    let mut values = Vec::new(alloc);
+    for split in splits {
+        values.push(split_value(alloc, split)?)?;
+    }
+    Ok(Value::Array(values))
+}
+
+/// A split as a value.
+fn split_value(alloc: Global, split: &Split) -> Result<Value, AllocError>
+    ensures { IfOk result (λ value. view value ≡ split_data split.now) }
+{
+    json!(in alloc; {
+        "account": split.account,
+        "action": split.action.as_str(),
+        "id": split.id,
+        "memo": split.memo.as_str(),
+        "quantity": split.quantity,
+        "value": split.value
+    })
+}

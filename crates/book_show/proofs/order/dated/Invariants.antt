@@ -1,7 +1,0 @@
-use Rattle.std.proofs.Common.{◌≡◌, take}
-use Rattle.book_show.specs.Journal.{dated}
-use Rattle.book_show.proofs.order.dated.Given as goal
-
--- those of the transactions so far
-abbrev pub invariant-loop-number : goal.invariant-loop-number
-invariant-loop-number l = l.all.items ≡ dated l.days (take l.number-index l.transactions)
