@@ -10,16 +10,20 @@ use book_copy::{CopyError, copy_rows};
 use book_keeper::{KeepError, Keeper};
 use book_sqlite::FileKeeper;
 use sqlite::{Start, Unknown};
-use std::fs::File;
+use std::fs::{File, OpenOptions};
 use std::io::ErrorKind;
+use std::os::unix::fs::OpenOptionsExt;
 use std::{fs, io};
+
+/// How many bytes a log has at most that holds no commit.
+const EMPTY_LOG: u64 = 41;
 
 /// Why a copy of a book was not made. Nothing stands at its path then, unless something did before.
 #[derive(Clone, Copy, Debug, PartialEq, Eq)]
 pub enum FileCopyError {
     /// Something is at the path of the copy, or a log beside it.
     Taken,
-    /// Something is at the path of the part that is written first, as where a copy was stopped.
+    /// Something is at the path of the part that is written first, as where a copy was stopped or is being made.
     PartThere,
     /// The rows were not copied.
     Rows(CopyError),
@@ -30,8 +34,8 @@ pub enum FileCopyError {
 }
 
 /// Copies all rows of the book in a file into another file; with the keepers over both as they were left. The book's
-/// rows stay, and those of the copy are exactly these. `T` and `U` stand for what the files and their logs held before. It
-/// is proved for all of them, so it holds of any file that is new.
+/// rows stay, and those of the copy are exactly these. `T` and `U` stand for what the files and their logs held before.
+/// It is proved for all of them, so it holds of any file that is new.
 fn copy_in<T: Start, U: Start>(
     rt: &HostRuntime,
     from: &str,
@@ -79,15 +83,34 @@ pub fn copy_file(rt: &HostRuntime, from: &str, to: &str) -> Result<(), FileCopyE
     if is_there(rt, to) || is_there(rt, log.as_str()) {
         return Err(FileCopyError::Taken);
     }
-    if is_there(rt, part.as_str()) || is_there(rt, part_log.as_str()) {
+    if is_there(rt, part_log.as_str()) {
         return Err(FileCopyError::PartThere);
     }
+    begin(rt, part.as_str())?;
     let made = copy_through(rt, from, part.as_str(), part_log.as_str(), to);
     if made.is_err() {
         let _ = fs::remove_file(rt, part.as_str());
         let _ = fs::remove_file(rt, part_log.as_str());
     }
     made
+}
+
+/// Makes the part, without bytes, where nothing is at its path. Its user alone may read it until it gets the rights of
+/// the book.
+fn begin(rt: &HostRuntime, part: &str) -> Result<(), FileCopyError> {
+    let made = OpenOptions::new()
+        .write(true)
+        .create_new(true)
+        .mode(0o600)
+        .open(rt, part);
+    match made {
+        Ok(file) => {
+            drop(file);
+            Ok(())
+        }
+        Err(error) if error.kind() == ErrorKind::AlreadyExists => Err(FileCopyError::PartThere),
+        Err(_) => Err(FileCopyError::File),
+    }
 }
 
 /// Whether something is at a path, or that can't be seen.
@@ -122,16 +145,27 @@ fn copy_through(
     }
 }
 
-/// Gives a file that is closed and has its rows alone the rights of the book and its own path, and waits for the disk
-/// before and after.
+/// Gives a file that is closed and has its rows alone the rights of the book and its own path. It waits for the disk
+/// before that, and asks it to keep the new path behind that, which not each file system does.
 fn given(rt: &HostRuntime, from: &str, part: &str, part_log: &str, to: &str) -> io::Result<()> {
-    if is_there(rt, part_log) {
-        fs::remove_file(rt, part_log)?;
-    }
+    remove_log(rt, part_log)?;
     fs::set_permissions(rt, part, fs::metadata(rt, from)?.permissions())?;
     File::open(rt, part)?.sync_all()?;
+    let folder = File::open(rt, folder_of(to))?;
     fs::rename(rt, part, to)?;
-    File::open(rt, folder_of(to))?.sync_all()
+    drop(folder.sync_all());
+    Ok(())
+}
+
+/// Removes the log of a file that is closed. An error where it holds more than its head: then the file lacks rows.
+fn remove_log(rt: &HostRuntime, log: &str) -> io::Result<()> {
+    if !is_there(rt, log) {
+        return Ok(());
+    }
+    if fs::metadata(rt, log)?.len() > EMPTY_LOG {
+        return Err(io::Error::other("the log holds rows"));
+    }
+    fs::remove_file(rt, log)
 }
 
 /// The folder of a path.

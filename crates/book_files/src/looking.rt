@@ -5,6 +5,9 @@ use std::io::{ErrorKind, Read};
 use std::os::unix::fs::MetadataExt;
 use std::{fs, io};
 
+/// How many bytes a log has at least that holds a commit.
+const LEAST_LOG: u64 = 568;
+
 /// What is wrong with the file at a path, as far as it shows before a keeper opens it; None where nothing does.
 /// An error is that of a call that was out of memory.
 pub fn fault_before(rt: &HostRuntime, path: &str) -> io::Result<Option<FileFault>> {
@@ -32,19 +35,32 @@ pub fn fault_before(rt: &HostRuntime, path: &str) -> io::Result<Option<FileFault
 
 /// The fault where the file is missing or empty: this one, unless the log stands alone.
 fn without_bytes(rt: &HostRuntime, path: &str, fault: FileFault) -> io::Result<Option<FileFault>> {
-    let log = format!(in rt.alloc(); "{path}-wal")?;
-    match fs::metadata(rt, log.as_str()) {
-        Ok(found) if found.len() > 0 => Ok(Some(FileFault::LogAlone)),
-        _ => Ok(Some(fault)),
+    if has_commit(rt, path)? {
+        Ok(Some(FileFault::LogAlone))
+    } else {
+        Ok(Some(fault))
     }
 }
 
-/// The fault that the bytes of a file show, or that it may not be read and written.
+/// Whether the log beside a file may hold a commit.
+fn has_commit(rt: &HostRuntime, path: &str) -> io::Result<bool> {
+    let log = format!(in rt.alloc(); "{path}-wal")?;
+    match fs::metadata(rt, log.as_str()) {
+        Ok(found) => Ok(found.len() >= LEAST_LOG),
+        Err(_) => Ok(false),
+    }
+}
+
+/// The fault that the bytes of a file show, or that it may not be read and written. With a log that holds a commit they
+/// show none: a run that was stopped may have left pages of the file to the log.
 fn fault_in(rt: &HostRuntime, path: &str, length: u64) -> io::Result<Option<FileFault>> {
     let mut file = match OpenOptions::new().read(true).write(true).open(rt, path) {
         Ok(file) => file,
         Err(error) => return fault_of(error),
     };
+    if has_commit(rt, path)? {
+        return Ok(None);
+    }
     let mut head = [0u8; HEAD];
     match file.read(&mut head) {
         Ok(count) => Ok(fault_of_head(&head[..count], length)),

@@ -98,7 +98,7 @@ impl Ended {
         }
     }
 
-    /// The number with which the program ends, as those of `book`.
+    /// The number with which the program ends: those of `book`, but for 8, where no copy was made.
     pub(crate) fn number(self) -> u8
         ensures { result ≡ number_of self }
     {
@@ -127,7 +127,7 @@ impl Ended {
             Ended::BadRows { .. } | Ended::UnsoundBook { .. } => "bookshow: the book is damaged",
             Ended::Taken => "bookshow: there is something at the path of the copy",
             Ended::PartThere =>
-                "bookshow: a copy to this path was stopped; remove its .part and .part-wal",
+                "bookshow: something is at the .part of the copy: one that was stopped, or is made now",
             Ended::CopyFailed => "bookshow: the copy could not be written",
         }
     }
