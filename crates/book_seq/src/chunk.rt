@@ -1,8 +1,9 @@
 ghost use Rattle.std.specs.Prelude.{◌≡◌, ◌+◌, ◌-◌, ◌<◌, ◌≤◌, [], ◌++◌, IfOk, OnOk, Some, length, slice_get, take, drop};
 ghost use Rattle.std.specs.Prelude.{insert, remove, vec_capacity, vec_len};
+ghost use Rattle.book_seq.specs.Cuts.{IsCut, IsParted, last_passes};
 ghost use Rattle.book_seq.specs.Sums.{AreWithin, sums_of};
 
-use crate::Weigh;
+use crate::{Test, Weigh};
 use crate::sums::Sums;
 use book_commodity::{OutOfMemory, Steps};
 use std::alloc::Global;
@@ -62,6 +63,33 @@ impl<E: Weigh> Chunk<E> {
         ensures { result ≡ self.now.room }
     {
         self.entries.capacity()
+    }
+
+    /// The entries from a place on.
+    pub(crate) fn from(&self, place: usize) -> &[E]
+        requires { place ≤ length self.now.entries }
+        ensures { result.now ≡ drop place self.now.entries }
+    {
+        &self.entries[place..]
+    }
+
+    /// Whether there is a last entry and it passes the test.
+    pub(crate) fn is_passed<T: Test<E>>(&self, test: &T) -> bool
+        ensures { result ≡ last_passes (T.is_passed test.now) self.now.entries }
+    {
+        match self.entries.last() {
+            Some(entry) => test.passes(entry),
+            None => false,
+        }
+    }
+
+    /// How many first entries pass the test.
+    pub(crate) fn cut<T: Test<E>>(&self, test: &T) -> usize
+        requires parted { IsParted (T.is_passed test.now) self.now.entries }
+        ensures cut { IsCut (T.is_passed test.now) self.now.entries result }
+        ensures within { result ≤ length self.now.entries }
+    {
+        self.entries.partition_point(|entry| test.passes(entry))
     }
 
     /// Makes room for so many more entries.
