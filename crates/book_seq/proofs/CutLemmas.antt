@@ -2,7 +2,7 @@
 use Rattle.std.proofs.Common.{◌≡◌, ℕ, zero, suc, ◌+◌, ◌-◌, ◌<◌, ◌≤◌, Bool, true, false, List, [], ◌∷◌, ◌++◌, length}
 use Rattle.std.proofs.Common.{take, drop, get_or, Some, slice_get, refl, sym, ap, ◌∙◌, subst, arith}
 use Rattle.std.specs.List.Sorted.{IsPartitionedBy}
-use Rattle.std.proofs.lemmas.List.{length-drop, take-append-le}
+use Rattle.std.proofs.lemmas.List.{length-drop}
 use Rattle.std.proofs.Math.ListN.{length-append}
 use Rattle.book_seq.specs.Chunks.{ArePacked, Piece, list_of}
 use Rattle.book_seq.specs.Cuts.{IsCut, IsParted, NonePasses, is_passed, last_passes}
@@ -123,9 +123,9 @@ module _ {E : Type 0} (test : E → Bool) where
       by_test : (t : Bool) → is_passed test p ≡ t → is_passed test p ≡ true
       by_test true is = is
       by_test false is = absurd (
-        let some : 1 ≤ length p.entries = omega (arith, packed-least p ps packed (omega (arith, lt))) in
-        let none = none-passed ps j d (last-none p.entries (list_of ps) some parted is) (omega (arith, lt)) in cc
-      )
+          let some : 1 ≤ length p.entries = omega (arith, packed-least p ps packed (omega (arith, lt))) in
+          let none = none-passed ps j d (last-none p.entries (list_of ps) some parted is) (omega (arith, lt)) in cc
+          )
   chunks-parted (p ∷ ps) packed parted (suc i) zero d le lt h = absurd (omega (arith, le))
   chunks-parted (p ∷ ps) packed parted (suc i) (suc j) d le lt h =
       chunks-parted ps (packed-tail p ps packed) (parted-back p.entries (list_of ps) parted) i j d (omega (arith, le))

@@ -1,5 +1,5 @@
 -- Where the first entries end that pass a test, in a list where those that pass it come first.
-use Rattle.std.specs.Prelude.{◌≡◌, ⊤, ℕ, zero, suc, Bool, true, false, if◌then◌else◌, List, [], ◌∷◌, length}
+use Rattle.std.specs.Prelude.{◌≡◌, ⊤, ℕ, zero, suc, Bool, true, false, List, [], ◌∷◌}
 use Rattle.book_seq.specs.Chunks.{Piece}
 
 -- No entry passes the test.

@@ -3,8 +3,8 @@ ghost use Rattle.std.specs.Prelude.{insert, remove, vec_capacity, vec_len};
 ghost use Rattle.book_seq.specs.Cuts.{IsCut, IsParted, last_passes};
 ghost use Rattle.book_seq.specs.Sums.{AreWithin, sums_of};
 
-use crate::{Test, Weigh};
 use crate::sums::Sums;
+use crate::{Test, Weigh};
 use book_commodity::{OutOfMemory, Steps};
 use std::alloc::Global;
 use std::marker::Model;

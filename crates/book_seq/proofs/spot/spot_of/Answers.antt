@@ -1,6 +1,6 @@
 use Rattle.std.proofs.Common.{◌≡◌, ℕ, ◌+◌, ◌-◌, ◌<◌, length, take, subst, arith}
 use Rattle.book_seq.specs.Chunks.{list_of}
-use Rattle.book_seq.proofs.ChunkLemmas.{length_more, spot_end, spot_here, spot_last}
+use Rattle.book_seq.proofs.ChunkLemmas.{length_more, spot_here, spot_last}
 use Rattle.book_seq.proofs.spot.spot_of.Goals as goal
 
 pub returns-then-offset-len : goal.returns-then-offset-len

@@ -1,4 +1,4 @@
-use Rattle.std.proofs.Common.{Bool, List, ◌≡◌, ◌+◌, ◌<◌, ◌≤◌, length, get_or, take, subst, sym, ◌∙◌, ap, arith}
+use Rattle.std.proofs.Common.{Bool, List, ◌+◌, ◌<◌, length, take, subst, sym, ◌∙◌, ap, arith}
 use Rattle.book_seq.specs.Chunks.{Listed, Piece, list_of}
 use Rattle.book_seq.specs.Cuts.{IsCut, IsParted, is_passed}
 use Rattle.book_seq.proofs.ChunkLemmas.{length-most, length_more, length_taken}

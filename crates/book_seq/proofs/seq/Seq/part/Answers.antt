@@ -1,5 +1,5 @@
-use Rattle.std.proofs.Common.{◌≡◌, ◌<◌, ◌≤◌, drop, length, take, List, sym, subst}
-use Rattle.book_seq.specs.Chunks.{Listed, list_of}
+use Rattle.std.proofs.Common.{◌≡◌, ◌<◌, drop, length, take, sym, subst}
+use Rattle.book_seq.specs.Chunks.{Listed}
 use Rattle.book_seq.proofs.ChangeLemmas.{placed}
 use Rattle.book_seq.proofs.CutLemmas.{part_of}
 use Rattle.book_seq.proofs.seq.Seq.part.Goals as goal
