@@ -134,7 +134,8 @@ impl Engine {
 
     /// The present book.
     pub fn plain(&self) -> &Plain
-        ensures { result.now ≡ self.now.plain }
+        ensures plain { result.now ≡ self.now.plain }
+        ensures book { book_of result.now ≡ self.now.state.book }
     {
         &self.state.plain
     }

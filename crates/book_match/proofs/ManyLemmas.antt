@@ -1,6 +1,7 @@
 -- Many splits put in or taken out: which stand there then, and that they rise.
-use Rattle.std.proofs.Common.{◌≡◌, ℕ, ◌+◌, ◌≤◌, Bool, true, false, not, ◌&&◌, ◌||◌, if◌then◌else◌, List, [], ◌∷◌, length}
-use Rattle.std.proofs.Common.{min, drop, refl, sym, ap, ◌∙◌, subst, arith}
+use Rattle.std.proofs.Common.{◌≡◌, ℕ, ◌+◌, Bool, true, false, not, ◌&&◌, ◌||◌, if◌then◌else◌, List, [], ◌∷◌, length}
+use Rattle.std.proofs.Common.{◌<◌, drop, get_or, refl, sym, ap, ◌∙◌}
+use Rattle.std.proofs.lemmas.List.{drop_more}
 use Rattle.book_match.specs.AmountIndex.{AreAbsent, AreThere, PrecedesAll, Rises, is_same, is_there, with_all}
 use Rattle.book_match.specs.AmountIndex.{with_free, without_all, without_free}
 use Rattle.book_match.specs.declared.free.Free.{Free}
@@ -67,3 +68,7 @@ rises-with_all [] es up_c up_e are = up_e
 rises-with_all (c ∷ cs) es up_c up_e are =
     rises-with_all cs (with_free c es) up_c.1 (rises-with c es up_e are.0) (absent-with c cs es up_c.0 are.1)
 
+-- ---- one of them, and those behind it
+pub drop-here : (fs : List Free) (i : ℕ) (free : Free) → i < length fs → free ≡ get_or fs i free
+    → drop i fs ≡ free ∷ drop (i + 1) fs
+drop-here fs i free lt is = drop_more fs i free lt ∙ ap (λ (f : Free). f ∷ drop (i + 1) fs) (sym is)

@@ -1,7 +1,8 @@
 ghost use Rattle.std.specs.Prelude.{◌≡◌, ◌+◌, ◌-◌, ◌^◌, ◌<◌, ◌≤◌, [], ◌∷◌, ◌++◌, false, filter, length, min, take};
 ghost use Rattle.std.specs.Prelude.{OnOk, OnErr, IfOk, if◌then◌else◌};
 ghost use Rattle.std.specs.List.{slice_range};
-ghost use Rattle.book_match.specs.AmountIndex.{Rises, is_there, of_amount, with_free};
+ghost use Rattle.book_seq.specs.Cuts.{IsCut};
+ghost use Rattle.book_match.specs.AmountIndex.{Rises, is_there, of_amount, precedes as stands_before, with_free};
 ghost use Rattle.book_match.specs.AmountIndex.{AreAbsent, AreApart, AreThere, ordered, with_all, without_all};
 ghost use Rattle.book_match.specs.AmountIndex.{without_free};
 ghost use Rattle.book_match.specs.Bounds.{is_near};
@@ -62,14 +63,6 @@ impl AmountIndex {
         })
     }
 
-    /// How many splits there are.
-    pub fn len(&self) -> usize
-        ensures len { result ≡ length self.now.entries }
-        ensures rises { Rises self.now.entries }
-    {
-        self.entries.len()
-    }
-
     /// How many splits were put in and taken out so far; at 2^64 - 1 it stays.
     pub fn changes(&self) -> u64
         ensures { result ≡ self.now.changes }
@@ -96,7 +89,7 @@ impl AmountIndex {
         ensures changes { self.new.changes ≡ min (self.old.changes + 1) (2 ^ 64 - 1) }
         ensures spare { self.old.spare ≤ self.new.spare + 1 }
     {
-        let place = self.entries.cut(&Before { free });
+        let place = place_of(&self.entries, &free);
         self.entries.insert(place, free, &mut Steps::new());
         self.changes = self.changes.saturating_add(1);
     }
@@ -109,7 +102,7 @@ impl AmountIndex {
             ≡ (if result then min (self.old.changes + 1) (2 ^ 64 - 1) else self.old.changes) }
         ensures spare { self.old.spare ≤ self.new.spare }
     {
-        let place = self.entries.cut(&Before { free });
+        let place = place_of(&self.entries, &free);
         if place == self.entries.len() {
             return false;
         }
@@ -131,6 +124,7 @@ impl AmountIndex {
         ensures changes { self.new.changes ≡ min (self.old.changes + length come.now) (2 ^ 64 - 1) }
         ensures spare { self.old.spare ≤ self.new.spare + length come.now }
     {
+        self.in_order();
         for free in come {
             self.put(*free);
         }
@@ -144,9 +138,19 @@ impl AmountIndex {
         ensures changes { self.new.changes ≡ min (self.old.changes + length gone.now) (2 ^ 64 - 1) }
         ensures spare { self.old.spare ≤ self.new.spare }
     {
+        self.in_order();
         for free in gone {
             let _ = self.take(*free);
         }
+    }
+
+    /// The splits rise, and the count of changes is one of 64 bits.
+    fn in_order(&self)
+        ensures rises { Rises self.now.entries }
+        ensures counted { self.now.changes ≤ 2 ^ 64 - 1 }
+    {
+        let _ = self.entries.len();
+        let _ = self.changes();
     }
 
     /// The splits of the account with this amount, by day and number.
@@ -193,6 +197,15 @@ pub fn sort(entries: &mut Vec<Free>) -> Result<(), OutOfMemory>
         (entry.account, entry.amount, entry.day.number(), entry.split)
     })?;
     Ok(())
+}
+
+/// How many of the splits come before this one.
+fn place_of(entries: &Seq<Free>, free: &Free) -> usize
+    requires { Rises entries.now.list }
+    ensures cut { IsCut (λ entry. stands_before entry free.now) entries.now.list result }
+    ensures within { result ≤ length entries.now.list }
+{
+    entries.cut(&Before { free: *free })
 }
 
 /// These splits in chunks.
