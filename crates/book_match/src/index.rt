@@ -157,8 +157,11 @@ impl AmountIndex {
     pub fn of(&self, alloc: Global, account: u64, amount: i64) -> Result<Vec<Free>, OutOfMemory>
         ensures { IfOk result (λ splits. splits.items ≡ of_amount account amount self.now.entries) }
     {
-        let start = self.entries.cut(&AmountStart { account, amount });
-        let end = self.entries.cut(&AmountEnd { account, amount });
+        let mut steps = Steps::new();
+        let start = self
+            .entries
+            .cut(&AmountStart { account, amount }, &mut steps);
+        let end = self.entries.cut(&AmountEnd { account, amount }, &mut steps);
         copied(alloc, &self.entries, start, end)
     }
 
@@ -173,18 +176,21 @@ impl AmountIndex {
     ) -> Result<Vec<Free>, OutOfMemory>
         ensures { IfOk result (λ splits. splits.items ≡ filter (is_near account amount day window) self.now.entries) }
     {
-        let start = self.entries.cut(&DaysStart {
+        let mut steps = Steps::new();
+        let first = DaysStart {
             account,
             amount,
             day,
             window,
-        });
-        let end = self.entries.cut(&DaysEnd {
+        };
+        let start = self.entries.cut(&first, &mut steps);
+        let last = DaysEnd {
             account,
             amount,
             day,
             window,
-        });
+        };
+        let end = self.entries.cut(&last, &mut steps);
         copied(alloc, &self.entries, start, end)
     }
 }
@@ -205,7 +211,7 @@ fn place_of(entries: &Seq<Free>, free: &Free) -> usize
     ensures cut { IsCut (λ entry. stands_before entry free.now) entries.now.list result }
     ensures within { result ≤ length entries.now.list }
 {
-    entries.cut(&Before { free: *free })
+    entries.cut(&Before { free: *free }, &mut Steps::new())
 }
 
 /// These splits in chunks.

@@ -1,6 +1,6 @@
 -- Lists in chunks: what one chunk changed, split, filled or taken away does to the list, to the sizes and to the
 -- memory.
-use Rattle.std.proofs.Common.{◌≡◌, ℕ, ◌+◌, ◌-◌, ◌*◌, ◌/◌, ◌<◌, ◌≤◌, List, [], ◌∷◌, ◌++◌, length, take, drop}
+use Rattle.std.proofs.Common.{◌≡◌, ℕ, zero, suc, ◌+◌, ◌-◌, ◌*◌, ◌/◌, ◌<◌, ◌≤◌, List, [], ◌∷◌, ◌++◌, length, take, drop}
 use Rattle.std.proofs.Common.{get_or, sym, ap, ◌∙◌, arith}
 use Rattle.std.proofs.Math.ListN.{length-append}
 use Rattle.std.proofs.lemmas.List.{append-nil, drop_more, get_or_default, length-take-le, take_all, take_more}
@@ -32,6 +32,13 @@ module _ {E : Type 0} where
   pub packed-tail : (piece : Piece E) (more : List (Piece E)) → ArePacked (piece ∷ more) → ArePacked more
   packed-tail piece [] packed = tt
   packed-tail piece (next ∷ more) packed = packed.1.1
+
+  pub packed-at : (pieces : List (Piece E)) (k : ℕ) (d : Piece E) → ArePacked pieces → k < length pieces
+      → length (get_or pieces k d).entries ≤ 512
+  packed-at [] k d packed lt = absurd (omega (arith, lt))
+  packed-at (piece ∷ more) zero d packed lt = packed-most piece more packed
+  packed-at (piece ∷ more) (suc k) d packed lt =
+      packed-at more k d (packed-tail piece more packed) (omega (arith, lt))
 
   pub packed-front : (before : List (Piece E)) (here : Piece E) (after : List (Piece E))
       → ArePacked (before ++ here ∷ after) → AreFull before

@@ -1,8 +1,10 @@
 -- Where the first entries end that pass a test: in one list, and in the list that chunks hold.
+use Rattle.std.proofs.Common.{◌*◌, ◌/◌, ◌^◌}
 use Rattle.std.proofs.Common.{◌≡◌, ℕ, zero, suc, ◌+◌, ◌-◌, ◌<◌, ◌≤◌, Bool, true, false, List, [], ◌∷◌, ◌++◌, length}
 use Rattle.std.proofs.Common.{take, drop, get_or, Some, slice_get, refl, sym, ap, ◌∙◌, subst, arith}
 use Rattle.std.specs.List.Sorted.{IsPartitionedBy}
-use Rattle.std.proofs.lemmas.List.{length-drop}
+use Rattle.std.proofs.lemmas.Grind.{pow_more}
+use Rattle.std.proofs.lemmas.List.{get_or_default, length-drop}
 use Rattle.std.proofs.Math.ListN.{length-append}
 use Rattle.book_seq.specs.Chunks.{ArePacked, Piece, list_of}
 use Rattle.book_seq.specs.Cuts.{IsCut, IsParted, NonePasses, is_passed, last_passes}
@@ -45,6 +47,25 @@ module _ {E : Type 0} (test : E → Bool) where
   parted-by (e ∷ es) parted (suc i) zero d le lt h = absurd (omega (arith, le))
   parted-by (e ∷ es) parted (suc i) (suc j) d le lt h =
       parted-by es parted.1 i j d (omega (arith, le)) (omega (arith, lt)) h
+
+  -- ---- halving
+  -- those up to an entry that passes do so too
+  pub before_more : (es : List E) (m : ℕ) (x : E) → IsPartitionedBy test es → m < length es → x ≡ get_or es m x
+      → test x ≡ true → (k : ℕ) (d : E) → k < m + 1 → test (get_or es k d) ≡ true
+  before_more es m x parted below read is k d lt =
+      parted k m d (omega (arith, lt)) below (ap test (get_or_default es m d x below ∙ sym read) ∙ is)
+
+  -- those from an entry on that doesn't pass don't
+  pub others_more : (es : List E) (m : ℕ) (x : E) → IsPartitionedBy test es → m < length es → x ≡ get_or es m x
+      → test x ≡ false → (k : ℕ) (d : E) → m ≤ k → k < length es → test (get_or es k d) ≡ false
+  others_more es m x parted below read fails k d ge lt = by_test (test (get_or es k d)) refl
+    where
+      by_test : (t : Bool) → test (get_or es k d) ≡ t → test (get_or es k d) ≡ false
+      by_test true is = absurd (
+          let one : test (get_or es m d) ≡ true = parted m k d ge lt is in
+          let other : test (get_or es m d) ≡ false = ap test (get_or_default es m d x below ∙ sym read) ∙ fails in cc
+          )
+      by_test false is = is
 
   -- ---- a list and another behind it
   none-front : (xs ys : List E) → NonePasses test (xs ++ ys) → NonePasses test xs
@@ -171,6 +192,23 @@ module _ {E : Type 0} (test : E → Bool) where
       subst (IsCut test (list_of (p ∷ ps))) (sym (length-append p.entries (list_of (take c ps))))
       (all-cut p.entries (list_of ps) (length (list_of (take c ps))) (parted-front p.entries (list_of ps) parted) cut.0
       rest)
+
+-- ---- so many rounds are left, and one less
+halved : (n r : ℕ) → r < n → 2 ^ (n - r) ≡ 2 ^ (n - (r + 1)) * 2
+halved n r lt = ap (λ k. 2 ^ k) (let e : n - r ≡ (n - (r + 1)) + 1 = omega (arith, lt) in e) ∙ pow_more 2 (n - (r + 1))
+
+pub narrow_low : (n r low high : ℕ) → r < n → low < high → high - low < 2 ^ (n - r)
+    → high - (low + (high - low) / 2 + 1) < 2 ^ (n - (r + 1))
+narrow_low n r low high lt less narrow = omega (arith, halved n r lt, narrow, less)
+
+pub narrow_high : (n r low high : ℕ) → r < n → low < high → high - low < 2 ^ (n - r)
+    → (low + (high - low) / 2) - low < 2 ^ (n - (r + 1))
+narrow_high n r low high lt less narrow = omega (arith, halved n r lt, narrow, less)
+
+-- after the last round none is left
+pub narrow_none : (n r gap : ℕ) → r ≡ n → gap < 2 ^ (n - r) → gap < 1
+narrow_none n r gap last narrow =
+    let none : n - r ≡ 0 = omega (arith, last) in subst (λ (k : ℕ). gap < 2 ^ k) none narrow
 
 module _ {E : Type 0} where
   -- the rest of a chunk is a part of the list

@@ -73,23 +73,40 @@ impl<E: Weigh> Chunk<E> {
         &self.entries[place..]
     }
 
-    /// Whether there is a last entry and it passes the test.
-    pub(crate) fn is_passed<T: Test<E>>(&self, test: &T) -> bool
-        ensures { result ≡ last_passes (T.is_passed test.now) self.now.entries }
+    /// Whether there is a last entry and it passes the test: one step.
+    pub(crate) fn is_passed<T: Test<E>, L>(&self, test: &T, steps: &mut Steps<L>) -> bool
+        ensures passed { result ≡ last_passes (T.is_passed test.now) self.now.entries }
+        ensures steps { steps.new ≡ steps.old + 1 }
     {
+        steps.tick();
         match self.entries.last() {
             Some(entry) => test.passes(entry),
             None => false,
         }
     }
 
-    /// How many first entries pass the test.
-    pub(crate) fn cut<T: Test<E>>(&self, test: &T) -> usize
+    /// How many first entries pass the test, found by halving them.
+    pub(crate) fn cut<T: Test<E>, L>(&self, test: &T, steps: &mut Steps<L>) -> usize
+        requires few { length self.now.entries ≤ 512 }
         requires parted { IsParted (T.is_passed test.now) self.now.entries }
         ensures cut { IsCut (T.is_passed test.now) self.now.entries result }
         ensures within { result ≤ length self.now.entries }
+        ensures steps { steps.new ≤ steps.old + 10 }
     {
-        self.entries.partition_point(|entry| test.passes(entry))
+        let mut low = 0;
+        let mut high = self.entries.len();
+        for _round in 0..10usize {
+            if low == high {
+                return low;
+            }
+            let middle = low + (high - low) / 2;
+            if test.passes(self.entry(middle, steps)) {
+                low = middle + 1;
+            } else {
+                high = middle;
+            }
+        }
+        low
     }
 
     /// Makes room for so many more entries.

@@ -87,18 +87,20 @@ impl<E: Weigh> Seq<E> {
     }
 
     /// How many first entries pass the test, where behind one that doesn't none does. It halves the chunks by their
-    /// last entries and then the entries of one chunk, and passes over the chunks before by their lengths.
-    pub fn cut<T: Test<E>>(&self, test: &T) -> usize
+    /// last entries and then the entries of one chunk, and passes over the chunks before by their lengths: at most 65
+    /// steps.
+    pub fn cut<T: Test<E>, L>(&self, test: &T, steps: &mut Steps<L>) -> usize
         requires { IsParted (T.is_passed test.now) self.now.list }
         ensures cut { IsCut (T.is_passed test.now) self.now.list result }
         ensures within { result ≤ length self.now.list }
+        ensures steps { steps.new ≤ steps.old + 65 }
     {
-        let count = search::chunk_of(self.chunks.as_slice(), test);
+        let count = search::chunk_of(self.chunks.as_slice(), test, steps);
         let before = search::len_before(self.chunks.as_slice(), count);
         if count == self.chunks.len() {
             return before;
         }
-        before + self.chunks[count].cut(test)
+        before + self.chunks[count].cut(test, steps)
     }
 
     /// The sums of the weights of so many first entries: the sums of the chunks before the place, and the weights of

@@ -1,18 +1,38 @@
-ghost use Rattle.std.specs.Prelude.{◌≡◌, ◌^◌, ◌<◌, ◌≤◌, length, take};
+ghost use Rattle.std.specs.Prelude.{◌≡◌, ◌+◌, ◌^◌, ◌<◌, ◌≤◌, length, take};
 ghost use Rattle.book_seq.specs.Chunks.{ArePacked, list_of};
 ghost use Rattle.book_seq.specs.Cuts.{IsCut, IsParted, is_passed};
 
 use crate::chunk::Chunk;
 use crate::{Test, Weigh};
+use book_commodity::Steps;
 
-/// How many first chunks have a last entry that passes the test.
-pub(super) fn chunk_of<E: Weigh, T: Test<E>>(chunks: &[Chunk<E>], test: &T) -> usize
+/// How many first chunks have a last entry that passes the test, found by halving them.
+pub(super) fn chunk_of<E: Weigh, T: Test<E>, L>(
+    chunks: &[Chunk<E>],
+    test: &T,
+    steps: &mut Steps<L>,
+) -> usize
+    requires few { length chunks.now ≤ 2 ^ 54 }
     requires packed { ArePacked chunks.now }
     requires parted { IsParted (T.is_passed test.now) (list_of chunks.now) }
     ensures cut { IsCut (is_passed (T.is_passed test.now)) chunks.now result }
     ensures within { result ≤ length chunks.now }
+    ensures steps { steps.new ≤ steps.old + 55 }
 {
-    chunks.partition_point(|chunk| chunk.is_passed(test))
+    let mut low = 0;
+    let mut high = chunks.len();
+    for _round in 0..55usize {
+        if low == high {
+            return low;
+        }
+        let middle = low + (high - low) / 2;
+        if chunks[middle].is_passed(test, steps) {
+            low = middle + 1;
+        } else {
+            high = middle;
+        }
+    }
+    low
 }
 
 /// How many entries so many first chunks have. It passes over the chunks by their lengths.

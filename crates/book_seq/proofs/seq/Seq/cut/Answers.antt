@@ -1,7 +1,7 @@
-use Rattle.std.proofs.Common.{Bool, List, ◌+◌, ◌<◌, length, take, subst, sym, ◌∙◌, ap, arith}
+use Rattle.std.proofs.Common.{Bool, List, ◌+◌, ◌<◌, ◌≤◌, length, take, subst, sym, ◌∙◌, ap, arith}
 use Rattle.book_seq.specs.Chunks.{Listed, Piece, list_of}
 use Rattle.book_seq.specs.Cuts.{IsCut, IsParted, is_passed}
-use Rattle.book_seq.proofs.ChunkLemmas.{length-most, length_more, length_taken}
+use Rattle.book_seq.proofs.ChunkLemmas.{length-most, length_more, length_taken, packed-at}
 use Rattle.book_seq.proofs.CutLemmas.{cut-end, cut-here, here-parted}
 use Rattle.book_seq.proofs.seq.Seq.cut.Goals as goal
 
@@ -35,6 +35,8 @@ cut-requires g c =
     let below : c.chunk_of-count.result < length ps =
     omega (arith, c.chunk_of-count.ensures.within, size, c.if-count-len.false, c.len.ensures) in
     record {
+      few = subst (λ (p : Piece g.row.E.Denot). length p.entries ≤ 512) (sym c.index.ensures)
+          (packed-at ps c.chunk_of-count.result c.index.result.now c.self.invariant.0.packed below);
       parted = subst (λ (p : Piece g.row.E.Denot). IsParted test p.entries) (sym c.index.ensures)
           (here-parted test ps c.chunk_of-count.result c.index.result.now below parted);
     }
