@@ -27,11 +27,13 @@ size_of Broken = 0
 abbrev pub body_size : RequestHead → ℕ
 body_size head = size_of (said_by head).length
 
+-- The length is said in another form, or more than once.
 abbrev pub is_broken : BodyLength → Bool
 is_broken Absent = false
 is_broken (Given size) = false
 is_broken Broken = true
 
+-- No length is said.
 abbrev pub is_absent : BodyLength → Bool
 is_absent Absent = true
 is_absent (Given size) = false

@@ -5,6 +5,7 @@ use book_serve::Responder;
 use std::alloc::Global;
 
 /// A machine that answers each request with the request's own body, and keeps nothing.
+#[derive(Drop)]
 pub struct Echo;
 
 impl Responder<(), ()> for Echo {
