@@ -88,17 +88,17 @@ pub accepted : (head : RequestHead) (count : ℕ) (fields : Fields) (method : Li
     → a.close ≡ ((minor == 0) || fields.close) → Accepts head size a
 accepted head count fields method size minor a is passed found same kept head_is body_is few minor_is close_is =
     record {
-  accepted_is = record {
-    fields = sym (refusals_are head count fields is) ∙ passed;
-    has_route = found;
-    by_route = sym (route_refusals_are head count fields method a.route is same) ∙ kept;
-  };
-  head_is = head_is;
-  body_is = body_is ∙ ap (λ (f : Fields). size_of f.length) is.fields_are;
-  few = few;
-  close_is = close_is ∙ ap (λ n. (n == 0) || fields.close) minor_is
-      ∙ ap (λ (f : Fields). (head.minor == 0) || f.close) is.fields_are;
-}
+      accepted_is = record {
+        fields = sym (refusals_are head count fields is) ∙ passed;
+        has_route = found;
+        by_route = sym (route_refusals_are head count fields method a.route is same) ∙ kept;
+      };
+      head_is = head_is;
+      body_is = body_is ∙ ap (λ (f : Fields). size_of f.length) is.fields_are;
+      few = few;
+      close_is = close_is ∙ ap (λ n. (n == 0) || fields.close) minor_is
+          ∙ ap (λ (f : Fields). (head.minor == 0) || f.close) is.fields_are;
+    }
 
 -- ---- windows
 

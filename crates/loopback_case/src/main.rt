@@ -16,7 +16,8 @@ use std::io::{ErrorKind, Read, Write};
 use std::net::{Ipv4Addr, Shutdown, SocketAddr, TcpStream};
 
 /// A request that is answered, and closes its link.
-const ASKED: &str = "POST /command HTTP/1.1\r\nContent-Length: 23\r\nConnection: close\r\n\r\na text that comes whole";
+const ASKED: &str =
+    "POST /command HTTP/1.1\r\nContent-Length: 23\r\nConnection: close\r\n\r\na text that comes whole";
 
 /// A request that is refused.
 const REFUSED: &str = "POST /nothing HTTP/1.1\r\nContent-Length: 90000\r\n\r\n";
