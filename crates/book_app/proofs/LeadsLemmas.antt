@@ -8,7 +8,7 @@ use Rattle.book_engine.specs.Kept.{Kept}
 use Rattle.book_engine.specs.Machine.{Broken, Done, Machine, Reply, step}
 use Rattle.book_http.specs.declared.next.Request.{Request}
 use Rattle.book_serve.specs.Exchange.{Exchange, RequestRelation}
-use Rattle.book_serve.specs.Link.{HasAnswered, HasBroken, HasDone, LinkClause}
+use Rattle.book_serve.specs.Link.{HasAnswered, HasCutResponse, HasDone, LinkClause}
 use Rattle.book_serve.specs.Statuses.{mark_of}
 use Rattle.book_serve.specs.declared.link_end.LinkEnd.{LinkEnd}
 use Rattle.book_serve.specs.declared.link_end.LinkEnd.TheVariants as end
@@ -84,7 +84,7 @@ done-leads most old bytes left text new (inr (inr is)) =
 
 broken-leads :
     (most : ℕ) (old : Moment Kept) (bytes text : List ℕ) (new : Moment Kept)
-    → HasBroken kept_answers most old bytes text new → To old.machine new.machine
+    → HasCutResponse kept_answers most old bytes text new → To old.machine new.machine
 broken-leads most old bytes text new is =
     leads-through (machine_kept old.machine) (machine_kept is.cut.mid) (machine_kept new.machine)
     (exchange-leads old.machine is.requests is.cut.statuses is.cut.front is.cut.mid is.cut.responses)

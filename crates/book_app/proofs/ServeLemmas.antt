@@ -10,7 +10,7 @@ use Rattle.book_engine.specs.Opening.{Opened}
 use Rattle.book_engine.specs.Opens.{Opens}
 use Rattle.book_engine.specs.declared.fault.OpenError.{OpenError}
 use Rattle.book_engine.specs.declared.fault.OpenError.TheVariants as error
-use Rattle.book_serve.specs.Served.{IsServing, IsVisit, Served, Told, Visit, scene}
+use Rattle.book_serve.specs.Served.{IsServing, IsServedLink, ServedInTurn, LinkReports, ServedLink, server_state}
 use Rattle.book_serve.specs.declared.serve_end.ServeEnd.{ServeEnd}
 use Rattle.book_serve.specs.declared.serve_end.ServeEnd.TheVariants as end
 use Rattle.book_app.specs.Numbers.{status_served, status_unopened}
@@ -23,37 +23,38 @@ use Rattle.book_app.specs.declared.status.Status.TheVariants.{PortFault}
 use Rattle.book_app.specs.declared.words.ServeWords.{ServeWords}
 use Rattle.book_app.proofs.LeadsLemmas.{To, leads-through, link-leads, stays}
 
-module _ {L : Type 0} (of : Told L) where
-  visit-leads :
-      (old : Kept) (before : ℕ) (visit : Visit L) (new : Kept) (after : ℕ)
-      → IsVisit kept_answers of old before visit new after → To old new
-  visit-leads old before visit new after is =
-      let link = is.served in
-      link-leads 1000000 (at old (of.written visit.opened) before) link.read link.left link.text
-      (at new (of.written visit.closed) after) visit.end link.clause
+module _ {L : Type 0} (of : LinkReports L) where
+  served-link-leads :
+      (old : Kept) (before : ℕ) (link : ServedLink L) (new : Kept) (after : ℕ)
+      → IsServedLink kept_answers of old before link new after → To old new
+  served-link-leads old before link new after is =
+      let served = is.served in
+      link-leads 1000000 (at old (of.written link.accepted) before) served.read served.left served.text
+      (at new (of.written link.closed) after) link.end served.clause
 
   -- commands lead through all links
   served-leads :
-      (old : Kept) (before : ℕ) (visits : List (Visit L)) (new : Kept) (after : ℕ)
-      → Served kept_answers of old before visits new after → To old new
+      (old : Kept) (before : ℕ) (links : List (ServedLink L)) (new : Kept) (after : ℕ)
+      → ServedInTurn kept_answers of old before links new after → To old new
   served-leads old before [] new after is = stays (machine_kept old) (machine_kept new) (ap machine_kept is.0)
-  served-leads old before (visit ∷ more) new after is =
+  served-leads old before (link ∷ more) new after is =
       leads-through (machine_kept old) (machine_kept is.0) (machine_kept new)
-      (visit-leads old before visit is.0 is.1 is.2) (served-leads is.0 is.1 more new after is.3)
+      (served-link-leads old before link is.0 is.1 is.2) (served-leads is.0 is.1 more new after is.3)
 
-module _ {L : Type 0} (serve : ServeWords) (keeping : Keeping) (of : Told L) (ports : Porting L) where
+module _ {L : Type 0} (serve : ServeWords) (keeping : Keeping) (of : LinkReports L) (ports : Porting L) where
   has_led : (ended : ServeEnd) → HasServed serve keeping of ports ended → HasLed keeping
   has_led ended h = record {
     first = machine_kept h.first;
     last = machine_kept h.last;
     opened = h.opened;
-    led = served-leads of h.first keeping.faults_before h.served.visits h.last keeping.faults_after
-        h.served.links.served;
+    led = served-leads of h.first keeping.faults_before h.served.links h.last keeping.faults_after
+        h.served.served.in_turn;
     kept = h.kept;
   }
 
   -- what became of the keeper's rows where links were served
-  pub served_rows : (ended : ServeEnd) → HasServed serve keeping of ports ended → ServedRows keeping (status_served ended)
+  pub served_rows :
+      (ended : ServeEnd) → HasServed serve keeping of ports ended → ServedRows keeping (status_served ended)
   served_rows end.Done h = has_led end.Done h
   served_rows end.PortFault h = has_led end.PortFault h
   served_rows end.OutOfMemory h = inr (has_led end.OutOfMemory h)
@@ -68,7 +69,8 @@ module _ {L : Type 0} (serve : ServeWords) (keeping : Keeping) (of : Told L) (po
 
   -- where no book was opened, no link was accepted, and the rows are as they were
   pub unopened_links :
-      (why : OpenError) → NoneCame ports → HoldsAsBefore keeping → ServeClause serve keeping of ports (status_unopened why)
+      (why : OpenError) → NoneCame ports → HoldsAsBefore keeping
+      → ServeClause serve keeping of ports (status_unopened why)
   unopened_links error.Keeper none held = none
   unopened_links (error.BadRows kind id) none held = none
   unopened_links (error.UnsoundBook kind id) none held = none
@@ -79,8 +81,9 @@ module _ {L : Type 0} (serve : ServeWords) (keeping : Keeping) (of : Told L) (po
       (first last : Kept) (faults : ℕ) (ended : ServeEnd) → faults ≡ keeping.faults_before
       → OpenedTo keeping (Opens (machine_kept first)) → NowOpensTo keeping (machine_kept last)
       → IsServing kept_answers of serve.links serve.port
-      (scene first faults ports.coming_before ports.closed_before ports.port_before)
-      (scene last keeping.faults_after ports.coming_after ports.closed_after ports.port_after) ended
+      (server_state first faults ports.coming_before ports.closed_before ports.accepted_before ports.port_before)
+      (server_state last keeping.faults_after ports.coming_after ports.closed_after ports.accepted_after
+      ports.port_after) ended
       → HasServed serve keeping of ports ended
   has_served first last faults ended same opened kept served = record {
     first = first;
@@ -88,22 +91,25 @@ module _ {L : Type 0} (serve : ServeWords) (keeping : Keeping) (of : Told L) (po
     opened = opened;
     served = subst
         (λ (n : ℕ). IsServing kept_answers of serve.links serve.port
-        (scene first n ports.coming_before ports.closed_before ports.port_before)
-        (scene last keeping.faults_after ports.coming_after ports.closed_after ports.port_after) ended)
+        (server_state first n ports.coming_before ports.closed_before ports.accepted_before ports.port_before)
+        (server_state last keeping.faults_after ports.coming_after ports.closed_after ports.accepted_after
+        ports.port_after) ended)
         same served;
     kept = kept;
   }
 
 -- ports that were not asked
-pub none_came : {L : Type 0} (coming closed : Option (List L)) (port : ℕ) → NoneCame (record {
+pub none_came : {L : Type 0} (coming closed : Option (List L)) (accepted port : ℕ) → NoneCame (record {
   coming_before = coming;
   coming_after = coming;
   closed_before = closed;
   closed_after = closed;
+  accepted_before = accepted;
+  accepted_after = accepted;
   port_before = port;
   port_after = port;
 })
-none_came coming closed port = record { coming = refl; closed = refl; port = refl }
+none_came coming closed accepted port = record { coming = refl; closed = refl; accepted = refl; port = refl }
 
 -- a fault of the ports is said where they failed alone
 pub port_end : (ended : ServeEnd) → status_served ended ≡ PortFault → ended ≡ end.PortFault

@@ -3,7 +3,7 @@ use Rattle.std.specs.Prelude.{◌≡◌, ℕ, ◌⊎◌, List, Option}
 use Rattle.book_engine.specs.Books.{machine_kept}
 use Rattle.book_engine.specs.Kept.{Kept}
 use Rattle.book_engine.specs.Opens.{Opens}
-use Rattle.book_serve.specs.Served.{IsServing, Told, scene}
+use Rattle.book_serve.specs.Served.{IsServing, LinkReports, server_state}
 use Rattle.book_serve.specs.declared.serve_end.ServeEnd.{ServeEnd}
 use Rattle.book_serve.specs.declared.serve_end.ServeEnd.TheVariants as end
 use Rattle.book_app.specs.Respond.{kept_answers}
@@ -13,24 +13,28 @@ use Rattle.book_app.specs.declared.status.Status.TheVariants.{Done, Usage, Memor
 use Rattle.book_app.specs.declared.status.Status.TheVariants.{BadRows, UnsoundBook, PortFault, InputLimit}
 use Rattle.book_app.specs.declared.words.ServeWords.{ServeWords}
 
--- What is seen of ports before and after: the links to come and the closed ones, as far as they report them, and the
--- port of the last link that was accepted.
+-- What is seen of ports before and after: the links to come and the closed ones, as far as they report them, how many
+-- links they have accepted, and the port of the last one.
 pub record Porting (L : Type 0) : Type 0 where
   pub coming_before : Option (List L)
   pub coming_after : Option (List L)
   pub closed_before : Option (List L)
   pub closed_after : Option (List L)
+  pub accepted_before : ℕ
+  pub accepted_after : ℕ
   pub port_before : ℕ
   pub port_after : ℕ
 
 -- What is seen of these ports, before and after.
 abbrev pub across :
-    {P L : Type 0} → (P → Option (List L)) → (P → Option (List L)) → (P → ℕ) → P → P → Porting L
-across coming closed port before after = record {
+    {P L : Type 0} → (P → Option (List L)) → (P → Option (List L)) → (P → ℕ) → (P → ℕ) → P → P → Porting L
+across coming closed accepted port before after = record {
   coming_before = coming before;
   coming_after = coming after;
   closed_before = closed before;
   closed_after = closed after;
+  accepted_before = accepted before;
+  accepted_after = accepted after;
   port_before = port before;
   port_after = port after;
 }
@@ -39,23 +43,26 @@ across coming closed port before after = record {
 pub record NoneCame {L : Type 0} (ports : Porting L) : Type 0 where
   pub coming : ports.coming_after ≡ ports.coming_before
   pub closed : ports.closed_after ≡ ports.closed_before
+  pub accepted : ports.accepted_after ≡ ports.accepted_before
   pub port : ports.port_after ≡ ports.port_before
 
 -- Links were served up to an end, at most as many as the words say and at their port: from an engine with the machine
 -- as which the keeper's rows opened, to one with the machine as which its rows open now. The engine answers requests as
 -- its machine does.
-pub record HasServed {L : Type 0} (serve : ServeWords) (keeping : Keeping) (of : Told L) (ports : Porting L)
+pub record HasServed {L : Type 0} (serve : ServeWords) (keeping : Keeping) (of : LinkReports L) (ports : Porting L)
     (ended : ServeEnd) : Type 0 where
   pub first : Kept
   pub last : Kept
   pub opened : OpenedTo keeping (Opens (machine_kept first))
   pub served : IsServing kept_answers of serve.links serve.port
-      (scene first keeping.faults_before ports.coming_before ports.closed_before ports.port_before)
-      (scene last keeping.faults_after ports.coming_after ports.closed_after ports.port_after) ended
+      (server_state first keeping.faults_before ports.coming_before ports.closed_before ports.accepted_before
+      ports.port_before)
+      (server_state last keeping.faults_after ports.coming_after ports.closed_after ports.accepted_after
+      ports.port_after) ended
   pub kept : NowOpensTo keeping (machine_kept last)
 
 -- With the words of `serve`, by the status. The status is none of the last three.
-abbrev pub ServeClause : {L : Type 0} → ServeWords → Keeping → Told L → Porting L → Status → Type 0
+abbrev pub ServeClause : {L : Type 0} → ServeWords → Keeping → LinkReports L → Porting L → Status → Type 0
 ServeClause serve keeping of ports Done = HasServed serve keeping of ports end.Done
 ServeClause serve keeping of ports PortFault = HasServed serve keeping of ports end.PortFault
 ServeClause serve keeping of ports Memory =

@@ -5,7 +5,7 @@ ghost use Rattle.book_keeper.specs.Faults.{Rose};
 ghost use Rattle.book_keeper.specs.OverStd.{left_of, sink_over, source_faults, sink_faults};
 ghost use Rattle.book_keeper.specs.Written.{may_hold};
 ghost use Rattle.book_app.specs.Numbers.{number_of};
-ghost use Rattle.book_serve.specs.Served.{told};
+ghost use Rattle.book_serve.specs.Served.{link_reports};
 ghost use Rattle.book_app.specs.ServeClause.{ServeClause, across};
 ghost use Rattle.book_app.specs.StatusClause.{HasBookPath, IsBookRun, over};
 ghost use Rattle.book_app.specs.Words.{AreNoWords, given_serve, given_work, named_serve, work_of};
@@ -60,8 +60,8 @@ pub fn run_over<K: Keeper, I: Read, O: Write, P: Ports>(
     ensures no_output_fault { result.ended.status ≢ Status.OutputFault → sink_faults result.output ≡ 0 }
     ensures serve { IfSome (named_serve words.now) (λ serve. ServeClause serve
         (over K.sure K.holds K.faults keeper.old keeper.new)
-        (told P.L.left P.L.written P.L.Source.faults P.L.Sink.faults)
-        (across P.coming P.closed P.port_given ports.old ports.new) result.ended.status) }
+        (link_reports P.L.left P.L.written P.L.Source.faults P.L.Sink.faults)
+        (across P.coming P.closed P.accepted_links P.port_given ports.old ports.new) result.ended.status) }
     ensures other_words { named_serve words.now ≡ None → ports.new ≡ ports.old }
     ensures open_links { P.open_links ports.new ≡ P.open_links ports.old }
     ensures port_fault { result.ended.status ≡ Status.PortFault → Rose (P.faults ports.old) (P.faults ports.new) }
@@ -103,8 +103,8 @@ pub(crate) fn run_words<K: Keeper, I: Read, O: Write, P: Ports>(
     ensures no_output_fault { result.ended.status ≢ Status.OutputFault → sink_faults result.output ≡ 0 }
     ensures serve { IfSome (given_serve (λ given. given.items) words) (λ serve. ServeClause serve
         (over K.sure K.holds K.faults keeper.old keeper.new)
-        (told P.L.left P.L.written P.L.Source.faults P.L.Sink.faults)
-        (across P.coming P.closed P.port_given ports.old ports.new) result.ended.status) }
+        (link_reports P.L.left P.L.written P.L.Source.faults P.L.Sink.faults)
+        (across P.coming P.closed P.accepted_links P.port_given ports.old ports.new) result.ended.status) }
     ensures other_words { given_serve (λ given. given.items) words ≡ None → ports.new ≡ ports.old }
     ensures open_links { P.open_links ports.new ≡ P.open_links ports.old }
     ensures port_fault { result.ended.status ≡ Status.PortFault → Rose (P.faults ports.old) (P.faults ports.new) }

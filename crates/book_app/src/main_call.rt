@@ -3,7 +3,7 @@ ghost use Rattle.book_keeper.specs.Faults.{Rose};
 ghost use Rattle.book_lines.specs.RunClause.{at};
 ghost use Rattle.book_engine.specs.Books.{machine_kept};
 ghost use Rattle.book_engine.specs.Standing.{Stands};
-ghost use Rattle.book_serve.specs.Served.{told};
+ghost use Rattle.book_serve.specs.Served.{link_reports};
 ghost use Rattle.book_app.specs.ServeClause.{ServeClause, across};
 ghost use Rattle.book_app.specs.StatusClause.{HasBookPath, IsBookRun, IsLineRun, IsShownAs, over};
 ghost use Rattle.book_app.specs.Later.{IsLater};
@@ -140,8 +140,8 @@ fn run_with_book<K: Keeper, S: Source, O: Sink, P: Ports>(
     ensures no_output_fault { result ≢ Status.OutputFault → O.faults output.new ≡ O.faults output.old }
     ensures serve { IfSome (named_serve words.now) (λ serve. ServeClause serve
         (over K.sure K.holds K.faults keeper.old keeper.new)
-        (told P.L.left P.L.written P.L.Source.faults P.L.Sink.faults)
-        (across P.coming P.closed P.port_given ports.old ports.new) result) }
+        (link_reports P.L.left P.L.written P.L.Source.faults P.L.Sink.faults)
+        (across P.coming P.closed P.accepted_links P.port_given ports.old ports.new) result) }
     ensures other_words { named_serve words.now ≡ None → ports.new ≡ ports.old }
     ensures open_links { P.open_links ports.new ≡ P.open_links ports.old }
     ensures port_fault { result ≡ Status.PortFault → Rose (P.faults ports.old) (P.faults ports.new) }
@@ -184,8 +184,8 @@ pub fn book_main<K: Keeper, S: Source, O: Sink, P: Ports>(
     ensures no_output_fault { result ≢ Status.OutputFault → O.faults output.new ≡ O.faults output.old }
     ensures serve { IfSome (named_serve words.now) (λ serve. ServeClause serve
         (over K.sure K.holds K.faults keeper.old keeper.new)
-        (told P.L.left P.L.written P.L.Source.faults P.L.Sink.faults)
-        (across P.coming P.closed P.port_given ports.old ports.new) result) }
+        (link_reports P.L.left P.L.written P.L.Source.faults P.L.Sink.faults)
+        (across P.coming P.closed P.accepted_links P.port_given ports.old ports.new) result) }
     ensures other_words { named_serve words.now ≡ None → ports.new ≡ ports.old }
     ensures open_links { P.open_links ports.new ≡ P.open_links ports.old }
     ensures port_fault { result ≡ Status.PortFault → Rose (P.faults ports.old) (P.faults ports.new) }

@@ -1,7 +1,7 @@
 ghost use Rattle.std.specs.Prelude.{◌≡◌, ◌≢◌, ◌↔◌, None, IfOk, IfSome, IsTrue, MatchResult, OnErr};
 ghost use Rattle.std.specs.IoError.{error_kind};
 ghost use Rattle.book_keeper.specs.Faults.{Rose};
-ghost use Rattle.book_serve.specs.Served.{told};
+ghost use Rattle.book_serve.specs.Served.{link_reports};
 ghost use Rattle.book_app.specs.ServeClause.{ServeClause, across};
 ghost use Rattle.book_app.specs.StatusClause.{HasBookPath, IsStreamRun, over};
 ghost use Rattle.book_app.specs.Words.{AreNoWords, given_serve, given_work};
@@ -35,8 +35,8 @@ pub fn run_program<R: Input + Print + AllocGlobal, K: Keeper, P: Ports>(
     ensures keeper_fault { result.status ≡ Status.KeeperFault → Rose (K.faults keeper.old) (K.faults keeper.new) }
     ensures serve { IfSome (given_serve (λ given. given.items) words) (λ serve. ServeClause serve
         (over K.sure K.holds K.faults keeper.old keeper.new)
-        (told P.L.left P.L.written P.L.Source.faults P.L.Sink.faults)
-        (across P.coming P.closed P.port_given ports.old ports.new) result.status) }
+        (link_reports P.L.left P.L.written P.L.Source.faults P.L.Sink.faults)
+        (across P.coming P.closed P.accepted_links P.port_given ports.old ports.new) result.status) }
     ensures other_words { given_serve (λ given. given.items) words ≡ None → ports.new ≡ ports.old }
     ensures open_links { P.open_links ports.new ≡ P.open_links ports.old }
     ensures port_fault { result.status ≡ Status.PortFault → Rose (P.faults ports.old) (P.faults ports.new) }

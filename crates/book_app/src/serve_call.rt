@@ -1,7 +1,7 @@
 ghost use Rattle.std.specs.Prelude.{◌≡◌, ◌≢◌, ◌↔◌, None, IsTrue};
 ghost use Rattle.book_keeper.specs.Faults.{Rose};
 ghost use Rattle.book_engine.specs.Standing.{Stands};
-ghost use Rattle.book_serve.specs.Served.{IsServing, scene, told};
+ghost use Rattle.book_serve.specs.Served.{IsServing, server_state, link_reports};
 ghost use Rattle.book_app.specs.Later.{IsLater};
 ghost use Rattle.book_app.specs.Numbers.{status_served};
 ghost use Rattle.book_app.specs.Respond.{kept_answers};
@@ -31,10 +31,12 @@ fn serve_links<K: Keeper, P: Ports>(
     words: ServeWords,
 ) -> ServeEnd
     requires stands { Stands K.sure K.holds keeper.old engine.old }
-    ensures served { IsServing kept_answers (told P.L.left P.L.written P.L.Source.faults P.L.Sink.faults)
+    ensures served { IsServing kept_answers (link_reports P.L.left P.L.written P.L.Source.faults P.L.Sink.faults)
         words.links words.port
-        (scene engine.old (K.faults keeper.old) (P.coming ports.old) (P.closed ports.old) (P.port_given ports.old))
-        (scene engine.new (K.faults keeper.new) (P.coming ports.new) (P.closed ports.new) (P.port_given ports.new))
+        (server_state engine.old (K.faults keeper.old) (P.coming ports.old) (P.closed ports.old)
+        (P.accepted_links ports.old) (P.port_given ports.old))
+        (server_state engine.new (K.faults keeper.new) (P.coming ports.new) (P.closed ports.new)
+        (P.accepted_links ports.new) (P.port_given ports.new))
         result }
     ensures stands { Stands K.sure K.holds keeper.new engine.new }
     ensures keeper { IsLater K.path_given K.sure keeper.old keeper.new }
@@ -64,8 +66,8 @@ pub fn run_serve<K: Keeper, P: Ports>(
 ) -> Status
     ensures rows { ServedRows (over K.sure K.holds K.faults keeper.old keeper.new) result }
     ensures serve { ServeClause serve (over K.sure K.holds K.faults keeper.old keeper.new)
-        (told P.L.left P.L.written P.L.Source.faults P.L.Sink.faults)
-        (across P.coming P.closed P.port_given ports.old ports.new) result }
+        (link_reports P.L.left P.L.written P.L.Source.faults P.L.Sink.faults)
+        (across P.coming P.closed P.accepted_links P.port_given ports.old ports.new) result }
     ensures open_links { P.open_links ports.new ≡ P.open_links ports.old }
     ensures port_fault { result ≡ Status.PortFault → Rose (P.faults ports.old) (P.faults ports.new) }
     ensures no_port_fault { result ≢ Status.PortFault → P.faults ports.new ≡ P.faults ports.old }

@@ -1,6 +1,8 @@
 -- What is said of bytes stays where more of them come, and what that says of a link.
-use Rattle.std.proofs.Common.{◌≡◌, ℕ, zero, suc, ◌+◌, ◌^◌, ◌<◌, ◌≤◌, ◌==◌, Bool, false, cond, List, [], ◌∷◌, ◌++◌, length, take, drop, Option}
-use Rattle.std.proofs.Common.{Result, Ok, Err, refl, sym, ap, ◌∙◌, subst, arith, length-append, append_assoc, append-nil, inl, inr}
+use Rattle.std.proofs.Common.{◌≡◌, ℕ, zero, suc, ◌+◌, ◌^◌, ◌<◌, ◌≤◌, ◌==◌, Bool, false, cond, List, [], ◌∷◌, ◌++◌}
+use Rattle.std.proofs.Common.{length, take, drop, Option}
+use Rattle.std.proofs.Common.{Result, Ok, Err, refl, sym, ap, ◌∙◌, subst, arith, length-append, append_assoc}
+use Rattle.std.proofs.Common.{append-nil, inl, inr}
 use Rattle.std.proofs.Math.Seq.{drop-append-add}
 use Rattle.std.proofs.lemmas.List.{take-append-drop, take-append-le, length-take-le}
 use Rattle.std.proofs.lemmas.Bool.{eqb-false}
@@ -179,7 +181,8 @@ IsNext-behind begun mid kept before between after result had next =
 -- ---- bodies
 
 -- bytes behind an accepted head that are too few for its body
-body_lacks : (bytes : List ℕ) (a : AcceptedHead) → BeginsAccepted bytes a → length bytes < a.head + a.body → LacksBody bytes
+body_lacks : (bytes : List ℕ) (a : AcceptedHead) → BeginsAccepted bytes a → length bytes < a.head + a.body
+    → LacksBody bytes
 body_lacks bytes a is few = record {
   head = is.head;
   behind = is.behind;
@@ -232,7 +235,8 @@ head_failed bytes after OutOfMemory lacks = refl
 -- a head and a body were taken
 pub body_taken : (bytes : List ℕ) (a : AcceptedHead) (after : Option (List ℕ)) (kept rest : List ℕ)
     → BeginsAccepted bytes a → a.head + a.body ≤ length bytes
-    → kept ≡ cond (takes_body (kind_of a.route)) (take a.body (drop a.head bytes)) [] → rest ≡ drop (a.head + a.body) bytes
+    → kept ≡ cond (takes_body (kind_of a.route)) (take a.body (drop a.head bytes)) []
+    → rest ≡ drop (a.head + a.body) bytes
     → NextIs bytes rest after (Ok (Asked (record { route = a.route; body = kept; close = a.close })))
 body_taken bytes a after kept rest is fits kept_is rest_is =
     let front = print_request is.head in

@@ -1,11 +1,13 @@
 -- What the parser says of a window, and what that says of the bytes.
 use Rattle.std.proofs.Common.{◌≡◌, ℕ, suc, ◌+◌, ◌*◌, ◌^◌, ◌<◌, ◌≤◌, ◌==◌, ◌||◌, List, []}
-use Rattle.std.proofs.Common.{◌∷◌, ◌++◌, length, map, take, drop, min, None, Some, All, refl, sym, ap, ◌∙◌, subst, arith}
+use Rattle.std.proofs.Common.{◌∷◌, ◌++◌, length, map, take, drop, min, None, Some, All, refl, sym, ap, ◌∙◌, subst}
+use Rattle.std.proofs.Common.{arith}
 use Rattle.std.proofs.Common.{length-append, inl, inr, length-take}
 use Rattle.std.proofs.lemmas.List.{take-append-drop, take_all, length-map, length-take-le}
 use Rattle.std.specs.List.{flat_map}
 use Rattle.httparse.specs.Grammar.{LineEnd, crlf, lf, print_end, Field, print_field, IsField}
-use Rattle.httparse.specs.Grammar.{RequestHead, print_request, IsRequestHead, ReadsRequest, HasNoRequest, NeverHasRequest}
+use Rattle.httparse.specs.Grammar.{RequestHead, print_request, IsRequestHead, ReadsRequest, HasNoRequest}
+use Rattle.httparse.specs.Grammar.{NeverHasRequest}
 use Rattle.httparse.specs.Grammar.{MayBecomeRequest}
 use Rattle.httparse.specs.Spans.{name_and_value, header_bytes, RequestExceeds, IsRequestAt}
 use Rattle.httparse.specs.declared.spans.HeaderSpan.{HeaderSpan}
@@ -84,18 +86,19 @@ pub accepted : (head : RequestHead) (count : ℕ) (fields : Fields) (method : Li
     → method ≡ head.method → first_broken (route_refusals method fields.length (Some a.route)) ≡ None
     → a.head ≡ size → a.body ≡ size_of fields.length → a.body ≤ 2 ^ 23 → minor ≡ head.minor
     → a.close ≡ ((minor == 0) || fields.close) → Accepts head size a
-accepted head count fields method size minor a is passed found same kept head_is body_is few minor_is close_is = record {
-  accepted_is = record {
-    fields = sym (refusals_are head count fields is) ∙ passed;
-    has_route = found;
-    by_route = sym (route_refusals_are head count fields method a.route is same) ∙ kept;
-  };
-  head_is = head_is;
-  body_is = body_is ∙ ap (λ (f : Fields). size_of f.length) is.fields_are;
-  few = few;
-  close_is = close_is ∙ ap (λ n. (n == 0) || fields.close) minor_is
-      ∙ ap (λ (f : Fields). (head.minor == 0) || f.close) is.fields_are;
-}
+accepted head count fields method size minor a is passed found same kept head_is body_is few minor_is close_is =
+    record {
+      accepted_is = record {
+        fields = sym (refusals_are head count fields is) ∙ passed;
+        has_route = found;
+        by_route = sym (route_refusals_are head count fields method a.route is same) ∙ kept;
+      };
+      head_is = head_is;
+      body_is = body_is ∙ ap (λ (f : Fields). size_of f.length) is.fields_are;
+      few = few;
+      close_is = close_is ∙ ap (λ n. (n == 0) || fields.close) minor_is
+          ∙ ap (λ (f : Fields). (head.minor == 0) || f.close) is.fields_are;
+    }
 
 -- ---- windows
 

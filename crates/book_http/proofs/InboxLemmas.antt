@@ -13,7 +13,8 @@ front_kept old ys size more e =
     ap (λ l. take size (l ++ ys)) all ∙ take_at old ys size (sym e)
 
 -- the front of the bytes that a call has written, with what stands behind
-pub piece_kept : (old written rest : List ℕ) (n size count : ℕ) → take size written ≡ old → size + count ≤ length written
+pub piece_kept : (old written rest : List ℕ) (n size count : ℕ) → take size written ≡ old
+    → size + count ≤ length written
     → size + count ≤ n
     → take (size + count) (take n (written ++ rest)) ≡ old ++ take count (drop size written)
 piece_kept old written rest n size count front fits room =
@@ -29,7 +30,8 @@ piece_kept old written rest n size count front fits room =
     ∙ ap (λ l. l ++ take count (drop size written)) front
 
 -- the same where nothing was read
-pub piece_dropped : (old written rest : List ℕ) (n size : ℕ) → take size written ≡ old → size ≤ length written → size ≤ n
+pub piece_dropped : (old written rest : List ℕ) (n size : ℕ) → take size written ≡ old → size ≤ length written
+    → size ≤ n
     → take size (take n (written ++ rest)) ≡ old
 piece_dropped old written rest n size front fits room =
     let none : size + 0 ≡ size = omega arith in
@@ -48,7 +50,8 @@ HasRead-piece begun kept read a b old is e took = record {
 -- nothing was read
 pub HasRead-nothing : (begun kept : List ℕ) (a b : Option (List ℕ)) (old : List ℕ) → old ≡ begun → kept ≡ old
     → Keeps a b → HasRead begun kept a b
-HasRead-nothing begun kept None b old is e k = record { read = []; took = tt; kept_is = e ∙ is ∙ sym (append-nil begun) }
+HasRead-nothing begun kept None b old is e k =
+    record { read = []; took = tt; kept_is = e ∙ is ∙ sym (append-nil begun) }
 HasRead-nothing begun kept (Some x) None old is e k = absurd k
 HasRead-nothing begun kept (Some x) (Some y) old is e k = record {
   read = [];

@@ -1,5 +1,6 @@
 -- Targets and their parameters.
-use Rattle.std.proofs.Common.{◌≡◌, ◌≢◌, ℕ, zero, suc, ◌<◌, ◌==◌, Bool, true, false, not, ◌&&◌, List, [], ◌∷◌, ◌++◌, length, get_or}
+use Rattle.std.proofs.Common.{◌≡◌, ◌≢◌, ℕ, zero, suc, ◌<◌, ◌==◌, Bool, true, false, not, ◌&&◌, List, [], ◌∷◌, ◌++◌}
+use Rattle.std.proofs.Common.{length, get_or}
 use Rattle.std.proofs.Common.{Option, None, Some, MatchOption, refl, sym, ap, ◌∙◌, subst, arith, Bor}
 use Rattle.std.specs.List.{list_all}
 use Rattle.std.proofs.lemmas.Bool.{eqb-false}
@@ -49,5 +50,6 @@ split_is text r x split some first last e p =
     subst P some (split_after 47 text first last r split (omega arith) e (plain first (parameter_bytes first p)))
 
 -- what is no parameter is not the same as one that is
-pub unlike : (text parameter : List ℕ) → is_parameter text ≡ false → text ≡ parameter → is_parameter parameter ≡ true → ⊥
+pub unlike : (text parameter : List ℕ) → is_parameter text ≡ false → text ≡ parameter → is_parameter parameter ≡ true
+    → ⊥
 unlike text parameter bad same good = absurd (let e : false ≡ true = sym bad ∙ ap is_parameter same ∙ good in cc)

@@ -1,6 +1,8 @@
 -- What the router finds: the target of each route is found with that route's kind.
-use Rattle.std.proofs.Common.{◌≡◌, ◌≢◌, ℕ, zero, suc, ◌+◌, ◌-◌, ◌<◌, ◌==◌, Bool, true, false, not, ◌&&◌, cond, List, [], ◌∷◌}
-use Rattle.std.proofs.Common.{◌++◌, length, get_or, Option, None, Some, refl, sym, ap, ◌∙◌, subst, arith, codes, drop, nat_eq, inl, inr}
+use Rattle.std.proofs.Common.{◌≡◌, ◌≢◌, ℕ, zero, suc, ◌+◌, ◌-◌, ◌<◌, ◌==◌, Bool, true, false, not, ◌&&◌, cond, List}
+use Rattle.std.proofs.Common.{[], ◌∷◌}
+use Rattle.std.proofs.Common.{◌++◌, length, get_or, Option, None, Some, refl, sym, ap, ◌∙◌, subst, arith, codes, drop}
+use Rattle.std.proofs.Common.{nat_eq, inl, inr}
 use Rattle.std.proofs.Common.{length-append}
 use Rattle.std.specs.Prelude.{option_map, ltb}
 use Rattle.std.specs.List.{list_all, ends_with}
@@ -8,7 +10,8 @@ use Rattle.std.proofs.lemmas.Bool.{lt-ltb}
 use Rattle.std.proofs.lemmas.Bool.Decides.{eqb_tells}
 use Rattle.std.proofs.Math.Seq.{drop-append-add}
 use Rattle.std.specs.Cmp.Lexicographic.{pointwise}
-use Rattle.matchit.specs.Seek.{seek, first, step, own, or_else, param_step, longest_suffix, segment, has_slash, with_suffix, cuts}
+use Rattle.matchit.specs.Seek.{seek, first, step, own, or_else, param_step, longest_suffix, segment, has_slash}
+use Rattle.matchit.specs.Seek.{with_suffix, cuts}
 use Rattle.matchit.specs.Router.{RouteOf}
 use Rattle.matchit.specs.Route.{scan}
 use Rattle.book_http.specs.declared.route.RouteKind.{RouteKind}
@@ -46,7 +49,8 @@ seek-nil zero (byte ∷ path) =
     let next = param_step Nowhere (byte ∷ path) in
     or_none (seek 0 Nowhere path) (seek-nil 0 path) _
     ∙ or_none (seek (next.0 - 1) next.1 path)
-    (ap (λ (rows : RouteRows). seek (next.0 - 1) rows path) (param_step-nil (byte ∷ path)) ∙ seek-nil (next.0 - 1) path) None
+    (ap (λ (rows : RouteRows). seek (next.0 - 1) rows path) (param_step-nil (byte ∷ path))
+    ∙ seek-nil (next.0 - 1) path) None
 
 -- a walk that skips a part of the path
 seek-skip : (skipped path : List ℕ) (rows : RouteRows) → seek (length skipped) rows (skipped ++ path) ≡ seek 0 rows path
@@ -80,7 +84,8 @@ steps (byte ∷ more) rows = steps more (step byte rows)
 seek-steps : (front path : List ℕ) (rows : RouteRows) (r : Row) → seek 0 (steps front rows) path ≡ Some r
     → seek 0 rows (front ++ path) ≡ Some r
 seek-steps [] path rows r e = e
-seek-steps (byte ∷ more) path rows r e = seek-step byte rows (more ++ path) r (seek-steps more path (step byte rows) r e)
+seek-steps (byte ∷ more) path rows r e = seek-step byte rows (more ++ path) r
+    (seek-steps more path (step byte rows) r e)
 
 -- each byte is below 256
 pub Small : List ℕ → Type 0
@@ -180,7 +185,8 @@ first_parameter r (byte ∷ more) last low h k =
     ∙ ap (λ n. or_else (seek n left rest) None) size
     ∙ ap (λ o. or_else o None)
     (seek-skip more (47 ∷ last) left
-    ∙ seek-step 47 left last r (last_parameter r last (small-behind (47 ∷ []) last (small-behind (byte ∷ more) (47 ∷ last) low)) k))
+    ∙ seek-step 47 left last r
+    (last_parameter r last (small-behind (47 ∷ []) last (small-behind (byte ∷ more) (47 ∷ last) low)) k))
 
 -- the row that is left
 abbrev row_of : RouteRows → Row

@@ -35,7 +35,8 @@ closing : said ((codes "CONTENT-length", codes "12") ∷ (codes "connection", co
 closing = refl
 
 -- a list of connection options is not the word alone
-listed : said ((codes "Connection", codes "keep-alive, close") ∷ []) ≡ record { encoded = false; length = Absent; close = false }
+listed :
+    said ((codes "Connection", codes "keep-alive, close") ∷ []) ≡ record { encoded = false; length = Absent; close = false }
 listed = refl
 
 -- two lengths are broken, also where they are the same

@@ -1,5 +1,6 @@
 -- Which heads are refused, and with which status (RFC 9112, sections 3 and 6; RFC 9110, section 15).
-use Rattle.std.specs.Prelude.{◌≡◌, ℕ, ◌^◌, ◌==◌, nat_lt, Bool, true, false, not, ◌&&◌, ◌||◌, ◌⊎◌, List, [], ◌∷◌, length, map}
+use Rattle.std.specs.Prelude.{◌≡◌, ℕ, ◌^◌, ◌==◌, nat_lt, Bool, true, false, not, ◌&&◌, ◌||◌, ◌⊎◌, List, [], ◌∷◌}
+use Rattle.std.specs.Prelude.{length, map}
 use Rattle.std.specs.Prelude.{Option, Some, None, if◌then◌else◌, codes}
 use Rattle.std.specs.Str.{bytes_eq}
 use Rattle.httparse.specs.Grammar.{RequestHead}
@@ -26,11 +27,13 @@ size_of Broken = 0
 abbrev pub body_size : RequestHead → ℕ
 body_size head = size_of (said_by head).length
 
+-- The length is said in another form, or more than once.
 abbrev pub is_broken : BodyLength → Bool
 is_broken Absent = false
 is_broken (Given size) = false
 is_broken Broken = true
 
+-- No length is said.
 abbrev pub is_absent : BodyLength → Bool
 is_absent Absent = true
 is_absent (Given size) = false

@@ -11,8 +11,8 @@ pub record IsUnused (link : MemLink) : Type 0 where
   pub no_write_fault : link.sink.faults ≡ 0
   pub unwritten : link.sink.written ≡ []
 
--- The links to come and those that were closed, in order; how many are open; the port of the last call that gave a link;
--- the numbers of the calls of `accept` that fail, the number of these calls so far, and the count of faults.
+-- The links to come and those that were closed, in order; how many are open; the port of the last call that gave a
+-- link; the numbers of the calls of `accept` that fail, the number of these calls so far, and the count of faults.
 pub record PortsInMemory : Type 0 where
   pub coming : List MemLink
   pub closed : List MemLink

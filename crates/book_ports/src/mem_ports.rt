@@ -83,13 +83,15 @@ impl MemPorts {
 }
 
 impl Ports for MemPorts {
-    ghost use Rattle.std.specs.Prelude.{Some};
+    ghost use Rattle.std.specs.Prelude.{◌+◌, Some, length};
 
     type L = MemLink;
 
     ghost port_given = { λ ports. ports.port };
 
     ghost open_links = { λ ports. ports.open_links };
+
+    ghost accepted_links = { λ ports. ports.open_links + length ports.closed };
 
     ghost coming = { λ ports. Some ports.coming };
 

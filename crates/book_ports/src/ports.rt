@@ -15,6 +15,9 @@ pub trait Ports {
     /// How many links were accepted and not closed yet.
     ghost open_links: { Self → ℕ };
 
+    /// How many links were accepted so far, whatever became of them.
+    ghost accepted_links: { Self → ℕ };
+
     /// The links that are still to come, in order, where the ports report them.
     ghost coming: { Self → Option (List Self.L) };
 
@@ -30,6 +33,8 @@ pub trait Ports {
     fn accept(&mut self, port: u16) -> Result<Option<Self::L>, Failed>
         ensures port { IfOk result (λ found. IfSome found (λ _. port_given self.new ≡ port)) }
         ensures opened { IfOk result (λ found. IfSome found (λ _. open_links self.new ≡ open_links self.old + 1)) }
+        ensures accepted { IfOk result (λ found.
+            IfSome found (λ _. accepted_links self.new ≡ accepted_links self.old + 1)) }
         ensures first { IfOk result (λ found. IfSome found (λ link. IsFirst link (coming self.old) (coming self.new))) }
         ensures unwritten { IfOk result (λ found. IfSome found (λ link. HasNothing (Self.L.written link))) }
         ensures no_read_fault { IfOk result (λ found. IfSome found (λ link. Self.L.Source.faults link ≡ 0)) }
@@ -37,8 +42,10 @@ pub trait Ports {
         ensures spent { result ≡ Ok None → (coming self.old ≡ Some []) × (coming self.new ≡ Some []) }
         ensures spent_port { result ≡ Ok None → port_given self.new ≡ port_given self.old }
         ensures spent_open { result ≡ Ok None → open_links self.new ≡ open_links self.old }
+        ensures spent_accepted { result ≡ Ok None → accepted_links self.new ≡ accepted_links self.old }
         ensures failed_port { OnErr result (port_given self.new ≡ port_given self.old) }
         ensures failed_open { OnErr result (open_links self.new ≡ open_links self.old) }
+        ensures failed_accepted { OnErr result (accepted_links self.new ≡ accepted_links self.old) }
         ensures failed_coming { OnErr result (coming self.new ≡ coming self.old) }
         ensures closed { closed self.new ≡ closed self.old }
         ensures cause { HasCause (faults self.old) (faults self.new) result };
@@ -48,6 +55,7 @@ pub trait Ports {
         requires { 0 < open_links self.old }
         ensures closed { closed self.new ≡ with_last link (closed self.old) }
         ensures open { open_links self.new + 1 ≡ open_links self.old }
+        ensures accepted { accepted_links self.new ≡ accepted_links self.old }
         ensures port { port_given self.new ≡ port_given self.old }
         ensures coming { coming self.new ≡ coming self.old }
         ensures faults { faults self.new ≡ faults self.old };

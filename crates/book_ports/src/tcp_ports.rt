@@ -1,4 +1,4 @@
-ghost use Rattle.std.specs.Prelude.{◌≡◌, ◌+◌, ◌-◌, ◌<◌, ◌∷◌, [], None, IfOk, IfSome, IsErr, IsSome, OnOk, OnErr};
+ghost use Rattle.std.specs.Prelude.{◌≡◌, ◌+◌, ◌-◌, ◌<◌, ◌∷◌, [], None, IfOk, IfSome, IsErr, IsOk, IsSome, OnOk, OnErr};
 ghost use Rattle.std.specs.declared.net.ip_addr.IpAddr.TheVariants.{V4};
 ghost use Rattle.std.specs.Net.Socket.{socket_ip, socket_port};
 ghost use Rattle.book_keeper.specs.Faults.{HasCause, next_count};
@@ -24,6 +24,7 @@ pub struct TcpPorts<R> {
     bound: Option<Bound>,
     port: u16,
     open_links: u64,
+    accepted_links: u64,
     faults: u64,
 }
 
@@ -38,23 +39,32 @@ fn loopback(port: u16) -> SocketAddr
 impl<R: Net<Listener = TcpListener, Stream = TcpStream>> TcpPorts<R> {
     /// Ports of which none is bound yet.
     pub fn new(net: R) -> TcpPorts<R>
-        ensures { result ≡ record { net = net; bound = None; port = 0; open_links = 0; faults = 0 } }
+        ensures { result ≡ record {
+          net = net;
+          bound = None;
+          port = 0;
+          open_links = 0;
+          accepted_links = 0;
+          faults = 0;
+        } }
     {
         TcpPorts {
             net,
             bound: None,
             port: 0,
             open_links: 0,
+            accepted_links: 0,
             faults: 0,
         }
     }
 
-    /// Binds the port where it is not bound yet; from then on connections to it wait for `accept`. Another port that was
-    /// bound is free again.
+    /// Binds the port where it is not bound yet; from then on connections to it wait for `accept`. Another port that
+    /// was bound is free again.
     /// Failed, and one fault counted, where the port can't be bound: then what was bound stays so.
     pub fn listen(&mut self, port: u16) -> Result<(), Failed>
         ensures bound { OnOk result (IsBoundTo port self.new) }
         ensures listened { OnOk result (self.new ≡ record self.old { bound = self.new.bound }) }
+        ensures stays { IsBoundTo port self.old → IsOk result × (self.new ≡ self.old) }
         ensures failed { OnErr result (self.new ≡ record self.old { faults = next_count self.old.faults }) }
         ensures cause { HasCause self.old.faults self.new.faults result }
     {
@@ -102,20 +112,24 @@ impl<R: Net<Listener = TcpListener, Stream = TcpStream>> Ports for TcpPorts<R> {
 
     ghost open_links = { λ ports. ports.open_links };
 
+    ghost accepted_links = { λ ports. ports.accepted_links };
+
     ghost coming = { λ _. None };
 
     ghost closed = { λ _. None };
 
     ghost faults = { λ ports. ports.faults };
 
-    /// Binds the port where it is not bound yet, and waits for the next connection to it; it never answers None. Failed,
-    /// and one fault counted, where the port can't be bound, std gives no connection, or 2^64 - 1 links are open.
+    /// Binds the port where it is not bound yet, and waits for the next connection to it; it never answers None.
+    /// Failed, and one fault counted, where the port can't be bound, std gives no connection, or 2^64 - 1 links were
+    /// accepted.
     fn accept(&mut self, port: u16) -> Result<Option<TcpLink>, Failed>
         ensures given { IfOk result IsSome }
         ensures accepted { OnOk result (self.new ≡ record self.old {
           bound = self.new.bound;
           port = port;
           open_links = self.old.open_links + 1;
+          accepted_links = self.old.accepted_links + 1;
         }) }
         ensures bound { OnOk result (IsBoundTo port self.new) }
         ensures no_fault { IfOk result (λ found. IfSome found HasNoFault) }
@@ -129,10 +143,14 @@ impl<R: Net<Listener = TcpListener, Stream = TcpStream>> Ports for TcpPorts<R> {
         let Some(open_links) = self.open_links.checked_add(1) else {
             return self.fail();
         };
+        let Some(accepted_links) = self.accepted_links.checked_add(1) else {
+            return self.fail();
+        };
         match self.next_link() {
             Ok(link) => {
                 self.port = port;
                 self.open_links = open_links;
+                self.accepted_links = accepted_links;
                 Ok(Some(link))
             }
             Err(_) => self.fail(),

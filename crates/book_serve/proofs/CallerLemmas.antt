@@ -1,5 +1,5 @@
--- For callers: what a link's clause says, said over another type of states, and of a whole of which the two sides of the
--- link are parts.
+-- For callers: what a link's clause says, said over another type of states, and of a whole of which the two sides of
+-- the link are parts.
 use Rattle.std.proofs.Common.{ℕ, List, [], ◌∷◌, ◌++◌, Option, ap, inl, inr}
 use Rattle.std.specs.Io.KnownBytes.{Keeps}
 use Rattle.book_keeper.specs.Stream.{Wrote}
@@ -8,7 +8,8 @@ use Rattle.book_lines.specs.RunClause.{Moment, at}
 use Rattle.book_http.specs.declared.next.Request.{Request}
 use Rattle.book_serve.specs.Statuses.{mark_of}
 use Rattle.book_serve.specs.Exchange.{RequestRelation, Exchange}
-use Rattle.book_serve.specs.Link.{IsExchange, HasAnswered, HasRefused, HasClosed, IsCutShort, HasBroken, HasBrokenRefusal}
+use Rattle.book_serve.specs.Link.{IsExchange, HasAnswered, HasRefused, HasClosed, IsCutShort, HasCutResponse}
+use Rattle.book_serve.specs.Link.{HasCutRefusal}
 use Rattle.book_serve.specs.Link.{LinkClause, IsServed}
 use Rattle.book_serve.specs.declared.link_end.LinkEnd.{LinkEnd}
 use Rattle.book_serve.specs.declared.link_end.LinkEnd.TheVariants.{Done, Cut, ReadFault, WriteFault, Limit, OutOfMemory}
@@ -96,10 +97,10 @@ IsCutShort-map A B f h w v a b xs x t p = record {
   kept = p.kept;
 }
 
-HasBroken-map : {S T : Type 0} (A : RequestRelation S) (B : RequestRelation T) (f : S → T) → Maps A B f
-    → (w v : List ℕ → Type 0) (a b : Moment S) (most : ℕ) (bytes t : List ℕ) → HasBroken A most a bytes t b
-    → HasBroken B most (moment_map f w a) bytes t (moment_map f v b)
-HasBroken-map A B f h w v a b most bytes t p = record {
+HasCutResponse-map : {S T : Type 0} (A : RequestRelation S) (B : RequestRelation T) (f : S → T) → Maps A B f
+    → (w v : List ℕ → Type 0) (a b : Moment S) (most : ℕ) (bytes t : List ℕ) → HasCutResponse A most a bytes t b
+    → HasCutResponse B most (moment_map f w a) bytes t (moment_map f v b)
+HasCutResponse-map A B f h w v a b most bytes t p = record {
   requests = p.requests;
   few = p.few;
   rest = p.rest;
@@ -110,10 +111,10 @@ HasBroken-map A B f h w v a b most bytes t p = record {
   cut = IsCutShort-map A B f h w v a b p.requests p.request t p.cut;
 }
 
-HasBrokenRefusal-map : {S T : Type 0} (A : RequestRelation S) (B : RequestRelation T) (f : S → T) → Maps A B f
-    → (w v : List ℕ → Type 0) (a b : Moment S) (most : ℕ) (bytes t : List ℕ) → HasBrokenRefusal A most a bytes t b
-    → HasBrokenRefusal B most (moment_map f w a) bytes t (moment_map f v b)
-HasBrokenRefusal-map A B f h w v a b most bytes t p = record {
+HasCutRefusal-map : {S T : Type 0} (A : RequestRelation S) (B : RequestRelation T) (f : S → T) → Maps A B f
+    → (w v : List ℕ → Type 0) (a b : Moment S) (most : ℕ) (bytes t : List ℕ) → HasCutRefusal A most a bytes t b
+    → HasCutRefusal B most (moment_map f w a) bytes t (moment_map f v b)
+HasCutRefusal-map A B f h w v a b most bytes t p = record {
   rest = p.rest;
   status = p.status;
   front = p.front;
@@ -150,8 +151,8 @@ LinkClause-map A B f h w v a b most read left t ReadFault p = record {
   unfinished = p.unfinished;
 }
 LinkClause-map A B f h w v a b most read left t WriteFault p = elim p [
-  | inl broken ↦ inl (HasBroken-map A B f h w v a b most (read ++ left) t broken)
-  | inr broken ↦ inr (HasBrokenRefusal-map A B f h w v a b most (read ++ left) t broken)
+  | inl broken ↦ inl (HasCutResponse-map A B f h w v a b most (read ++ left) t broken)
+  | inr broken ↦ inr (HasCutRefusal-map A B f h w v a b most (read ++ left) t broken)
 ]
 LinkClause-map A B f h w v a b most read left t Limit p = record {
   requests = p.requests;

@@ -31,7 +31,8 @@ Exchange-append answers a (x ∷ xs) (s ∷ ss) t b ys us v c p q = (
 
 -- the same with the faults of what is kept
 pub IsExchange-append : {S : Type 0} (answers : RequestRelation S) (a b c : Moment S) (xs ys : List Request)
-    (t v : List ℕ) → IsExchange answers a xs t b → IsExchange answers b ys v c → IsExchange answers a (xs ++ ys) (t ++ v) c
+    (t v : List ℕ) → IsExchange answers a xs t b → IsExchange answers b ys v c → IsExchange answers a (xs ++ ys)
+    (t ++ v) c
 IsExchange-append answers a b c xs ys t v p q = record {
   statuses = p.statuses ++ q.statuses;
   responses = Exchange-append answers a.machine xs p.statuses t b.machine ys q.statuses v c.machine p.responses

@@ -10,8 +10,8 @@ use Rattle.book_http.specs.declared.next.Request.{Request}
 use Rattle.book_http.specs.Response.{response, refusal}
 use Rattle.book_serve.specs.Statuses.{mark_of, marks}
 use Rattle.book_serve.specs.Exchange.{RequestRelation}
-use Rattle.book_serve.specs.Link.{AreOpen, IsExchange, HasAnswered, HasRefused, HasClosed, IsCutShort, HasBroken}
-use Rattle.book_serve.specs.Link.{HasBrokenRefusal, LinkClause, IsServed}
+use Rattle.book_serve.specs.Link.{AreOpen, IsExchange, HasAnswered, HasRefused, HasClosed, IsCutShort, HasCutResponse}
+use Rattle.book_serve.specs.Link.{HasCutRefusal, LinkClause, IsServed}
 use Rattle.book_serve.specs.Serving.{HasServed}
 use Rattle.book_serve.specs.declared.link_end.LinkEnd.{LinkEnd}
 use Rattle.book_serve.specs.declared.link_end.LinkEnd.TheVariants.{Done, Cut, ReadFault, WriteFault, Limit, OutOfMemory}
@@ -71,7 +71,8 @@ behind_short : {S : Type 0} (answers : RequestRelation S) (a b c : Moment S) (xs
 behind_short answers a b c xs ys request t u p q =
     let all = q.statuses ++ q.status ∷ [] in
     let split : marks ((p.statuses ++ q.statuses) ++ q.status ∷ []) ≡ marks p.statuses ++ marks all =
-    ap (λ l. marks l) (append_assoc p.statuses q.statuses (q.status ∷ [])) ∙ map-append mark_of p.statuses all in record {
+    ap (λ l. marks l) (append_assoc p.statuses q.statuses (q.status ∷ []))
+    ∙ map-append mark_of p.statuses all in record {
       statuses = p.statuses ++ q.statuses;
       front = t ++ q.front;
       mid = q.mid;
@@ -91,7 +92,7 @@ behind_short answers a b c xs ys request t u p q =
 
 behind_broken : {S : Type 0} (answers : RequestRelation S) (count most all : ℕ) (a b c : Moment S)
     (bytes mid t u : List ℕ) → count + most ≤ all → Begins answers count a b bytes mid t
-    → HasBroken answers most b mid u c → HasBroken answers all a bytes (t ++ u) c
+    → HasCutResponse answers most b mid u c → HasCutResponse answers all a bytes (t ++ u) c
 behind_broken answers count most all a b c bytes mid t u fits p q = record {
   requests = p.requests ++ q.requests;
   few = omega (arith, length-append p.requests q.requests, p.count_is, q.few, fits);
@@ -105,7 +106,7 @@ behind_broken answers count most all a b c bytes mid t u fits p q = record {
 
 behind_broken_refusal : {S : Type 0} (answers : RequestRelation S) (count most all : ℕ) (a b c : Moment S)
     (bytes mid t u : List ℕ) → count + most ≤ all → Begins answers count a b bytes mid t
-    → HasBrokenRefusal answers most b mid u c → HasBrokenRefusal answers all a bytes (t ++ u) c
+    → HasCutRefusal answers most b mid u c → HasCutRefusal answers all a bytes (t ++ u) c
 behind_broken_refusal answers count most all a b c bytes mid t u fits p q = record {
   rest = q.rest;
   status = q.status;

@@ -10,10 +10,11 @@ use Rattle.book_keeper.specs.Stream.{Are}
 use Rattle.book_lines.specs.RunClause.{at}
 use Rattle.book_ports.specs.Opening.{HasNothing, IsFirst, with_last}
 use Rattle.book_serve.specs.Exchange.{RequestRelation}
-use Rattle.book_serve.specs.Link.{IsLink}
+use Rattle.book_serve.specs.Link.{IsLinkServed}
 use Rattle.book_serve.specs.declared.link_end.LinkEnd.TheVariants as end
-use Rattle.book_serve.specs.Served.{Told, Scene, Visit, Served, HasRoom, PortAfter, HasServedLinks}
-use Rattle.book_serve.specs.Served.{IsServing, HasVisited, HasGone, EndsServing}
+use Rattle.book_serve.specs.Served.{LinkReports, ServerState, ServedLink, ServedInTurn, HadMemory, PortAfter}
+use Rattle.book_serve.specs.Served.{HasServedLinks}
+use Rattle.book_serve.specs.Served.{IsServing, HasServedLink, HasServedNext, EndsServing}
 use Rattle.book_serve.specs.declared.serve_end.ServeEnd.{ServeEnd}
 use Rattle.book_serve.specs.declared.serve_end.ServeEnd.TheVariants.{Done, PortFault, OutOfMemory}
 
@@ -27,15 +28,16 @@ Are-kept (Some x) (Some y) bytes p q = sym p ∙ q
 rose_some : (a b : ℕ) → a ≡ 0 → Rose a b → 0 < b
 rose_some a b none rose = omega (arith, none, rose)
 
-Served-append : {S L : Type 0} (answers : RequestRelation S) (of : Told L) (a : S) (f : ℕ) (xs : List (Visit L)) (b : S)
-    (g : ℕ) (ys : List (Visit L)) (c : S) (h : ℕ)
-    → Served answers of a f xs b g → Served answers of b g ys c h → Served answers of a f (xs ++ ys) c h
-Served-append answers of a f [] b g ys c h p q =
-    subst (λ s. Served answers of s f ys c h) p.0 (subst (λ n. Served answers of b n ys c h) p.1 q)
-Served-append answers of a f (x ∷ xs) b g ys c h p q =
-    (p.0, p.1, p.2, Served-append answers of p.0 p.1 xs b g ys c h p.3 q)
+ServedInTurn-append : {S L : Type 0} (answers : RequestRelation S) (of : LinkReports L) (a : S) (f : ℕ)
+    (xs : List (ServedLink L)) (b : S) (g : ℕ) (ys : List (ServedLink L)) (c : S) (h : ℕ)
+    → ServedInTurn answers of a f xs b g → ServedInTurn answers of b g ys c h
+    → ServedInTurn answers of a f (xs ++ ys) c h
+ServedInTurn-append answers of a f [] b g ys c h p q =
+    subst (λ s. ServedInTurn answers of s f ys c h) p.0 (subst (λ n. ServedInTurn answers of b n ys c h) p.1 q)
+ServedInTurn-append answers of a f (x ∷ xs) b g ys c h p q =
+    (p.0, p.1, p.2, ServedInTurn-append answers of p.0 p.1 xs b g ys c h p.3 q)
 
-PortAfter-append : {L : Type 0} (port : ℕ) (xs ys : List (Visit L)) (a b c : ℕ)
+PortAfter-append : {L : Type 0} (port : ℕ) (xs ys : List (ServedLink L)) (a b c : ℕ)
     → PortAfter port xs a b → PortAfter port ys b c → PortAfter port (xs ++ ys) a c
 PortAfter-append port [] ys a b c p q = subst (λ n. PortAfter port ys n c) p q
 PortAfter-append port (x ∷ xs) [] a b c p q = q ∙ p
@@ -54,17 +56,20 @@ closed_append xs ys (Some l) b c p q =
     q ∙ ap (option_map (λ others. others ++ ys)) p ∙ ap Some (append_assoc l xs ys)
 
 -- links that were served behind others
-pub HasServedLinks-append : {S L : Type 0} (answers : RequestRelation S) (of : Told L) (port : ℕ) (a b c : Scene S L)
-    (xs ys : List (Visit L)) → HasServedLinks answers of port a b xs → HasServedLinks answers of port b c ys
+pub HasServedLinks-append : {S L : Type 0} (answers : RequestRelation S) (of : LinkReports L) (port : ℕ)
+    (a b c : ServerState S L) (xs ys : List (ServedLink L)) → HasServedLinks answers of port a b xs
+    → HasServedLinks answers of port b c ys
     → HasServedLinks answers of port a c (xs ++ ys)
 HasServedLinks-append {S} {L} answers of port a b c xs ys p q =
-    let opened : Visit L → L = λ visit. visit.opened in
-    let closed' : Visit L → L = λ visit. visit.closed in record {
-      served = Served-append answers of a.machine a.faults xs b.machine b.faults ys c.machine c.faults p.served q.served;
-      came = subst (λ l. a.coming ≡ option_map (λ others. l ++ others) c.coming) (sym (map-append opened xs ys))
-          (came_append (map opened xs) (map opened ys) a.coming b.coming c.coming p.came q.came);
+    let accepted : ServedLink L → L = λ link. link.accepted in
+    let closed' : ServedLink L → L = λ link. link.closed in record {
+      in_turn = ServedInTurn-append answers of a.machine a.faults xs b.machine b.faults ys c.machine c.faults
+          p.in_turn q.in_turn;
+      came = subst (λ l. a.coming ≡ option_map (λ others. l ++ others) c.coming) (sym (map-append accepted xs ys))
+          (came_append (map accepted xs) (map accepted ys) a.coming b.coming c.coming p.came q.came);
       closed = subst (λ l. c.closed ≡ option_map (λ others. others ++ l) a.closed) (sym (map-append closed' xs ys))
           (closed_append (map closed' xs) (map closed' ys) a.closed b.closed c.closed p.closed q.closed);
+      counted = omega (arith, length-append xs ys, p.counted, q.counted);
       port_is = PortAfter-append port xs ys a.port b.port c.port p.port_is q.port_is;
     }
 
@@ -77,86 +82,101 @@ closed_none None = refl
 closed_none (Some l) = ap Some (sym (append-nil l))
 
 -- no link was served
-pub HasServedLinks-nil : {S L : Type 0} (answers : RequestRelation S) (of : Told L) (port : ℕ) (a : Scene S L)
+pub HasServedLinks-nil : {S L : Type 0} (answers : RequestRelation S) (of : LinkReports L) (port : ℕ)
+    (a : ServerState S L)
     → HasServedLinks answers of port a a []
 HasServedLinks-nil answers of port a =
-    record { served = (refl, refl); came = came_none a.coming; closed = closed_none a.closed; port_is = refl }
+    record {
+      in_turn = (refl, refl);
+      came = came_none a.coming;
+      closed = closed_none a.closed;
+      counted = omega arith;
+      port_is = refl;
+    }
 
 -- So many links were served, and none has ended since there was no memory.
-pub record HasCounted {S L : Type 0} (answers : RequestRelation S) (of : Told L) (port : ℕ) (old new : Scene S L)
+pub record HasCounted {S L : Type 0} (answers : RequestRelation S) (of : LinkReports L) (port : ℕ)
+    (old new : ServerState S L)
     (count : ℕ) : Type 0 where
-  pub visits : List (Visit L)
-  pub links : HasServedLinks answers of port old new visits
-  pub count_is : length visits ≡ count
-  pub room : All HasRoom visits
+  pub links : List (ServedLink L)
+  pub served : HasServedLinks answers of port old new links
+  pub count_is : length links ≡ count
+  pub room : All HadMemory links
 
-pub HasCounted-nil : {S L : Type 0} (answers : RequestRelation S) (of : Told L) (port : ℕ) (a : Scene S L)
+pub HasCounted-nil : {S L : Type 0} (answers : RequestRelation S) (of : LinkReports L) (port : ℕ) (a : ServerState S L)
     → HasCounted answers of port a a 0
 HasCounted-nil answers of port a = record {
-  visits = [];
-  links = HasServedLinks-nil answers of port a;
+  links = [];
+  served = HasServedLinks-nil answers of port a;
   count_is = refl;
-  room = All-nil HasRoom;
+  room = All-nil HadMemory;
 }
 
 -- one more link
-pub HasCounted-step : {S L : Type 0} (answers : RequestRelation S) (of : Told L) (port : ℕ) (a b c : Scene S L)
-    (count : ℕ) → HasCounted answers of port a b count → HasGone answers of port b c
+pub HasCounted-step : {S L : Type 0} (answers : RequestRelation S) (of : LinkReports L) (port : ℕ)
+    (a b c : ServerState S L)
+    (count : ℕ) → HasCounted answers of port a b count → HasServedNext answers of port b c
     → HasCounted answers of port a c (count + 1)
 HasCounted-step answers of port a b c count p q = record {
-  visits = p.visits ++ q.0 ∷ [];
-  links = HasServedLinks-append answers of port a b c p.visits (q.0 ∷ []) p.links q.1;
-  count_is = omega (arith, length-append p.visits (q.0 ∷ []), p.count_is);
-  room = All-append HasRoom p.visits (q.0 ∷ []) p.room (All-cons HasRoom q.0 [] q.2 (All-nil HasRoom));
+  links = p.links ++ q.0 ∷ [];
+  served = HasServedLinks-append answers of port a b c p.links (q.0 ∷ []) p.served q.1;
+  count_is = omega (arith, length-append p.links (q.0 ∷ []), p.count_is);
+  room = All-append HadMemory p.links (q.0 ∷ []) p.room (All-cons HadMemory q.0 [] q.2 (All-nil HadMemory));
 }
 
 -- as many links were served as were asked for
-pub IsServing-most : {S L : Type 0} (answers : RequestRelation S) (of : Told L) (most port : ℕ) (a b : Scene S L)
+pub IsServing-most : {S L : Type 0} (answers : RequestRelation S) (of : LinkReports L) (most port : ℕ)
+    (a b : ServerState S L)
     (count : ℕ) → HasCounted answers of port a b count → count ≡ most → IsServing answers of most port a b Done
 IsServing-most answers of most port a b count p full = record {
-  visits = p.visits;
   links = p.links;
+  served = p.served;
   clause =
       (let all = p.count_is ∙ full in (omega (arith, all), p.room, inl all));
 }
 
 -- the next link ends the serving
-pub IsServing-ended : {S L : Type 0} (answers : RequestRelation S) (of : Told L) (most port : ℕ) (a b c : Scene S L)
+pub IsServing-ended : {S L : Type 0} (answers : RequestRelation S) (of : LinkReports L) (most port : ℕ)
+    (a b c : ServerState S L)
     (count : ℕ) (end : ServeEnd) → count < most → HasCounted answers of port a b count
     → EndsServing answers of port b c end → IsServing answers of most port a c end
 IsServing-ended answers of most port a b c count Done few p q = record {
-  visits = p.visits;
-  links = subst (λ s. HasServedLinks answers of port a s p.visits) (sym q.0) p.links;
+  links = p.links;
+  served = subst (λ s. HasServedLinks answers of port a s p.links) (sym q.0) p.served;
   clause = (omega (arith, few, p.count_is), p.room, inr q.1);
 }
 IsServing-ended answers of most port a b c count PortFault few p q = record {
-  visits = p.visits;
-  links = subst (λ s. HasServedLinks answers of port a s p.visits) (sym q) p.links;
+  links = p.links;
+  served = subst (λ s. HasServedLinks answers of port a s p.links) (sym q) p.served;
   clause = (omega (arith, few, p.count_is), p.room);
 }
 IsServing-ended answers of most port a b c count OutOfMemory few p q = record {
-  visits = p.visits ++ q.0 ∷ [];
-  links = HasServedLinks-append answers of port a b c p.visits (q.0 ∷ []) p.links q.1;
+  links = p.links ++ q.0 ∷ [];
+  served = HasServedLinks-append answers of port a b c p.links (q.0 ∷ []) p.served q.1;
   clause =
-      (p.visits, q.0, refl, omega (arith, few, length-append p.visits (q.0 ∷ []), p.count_is), p.room, q.2);
+      (p.links, q.0, refl, omega (arith, few, length-append p.links (q.0 ∷ []), p.count_is), p.room, q.2);
 }
 
 -- one link was accepted, served and closed
-pub visited : {S L : Type 0} (answers : RequestRelation S) (of : Told L) (port : ℕ) (a b : Scene S L) (visit : Visit L)
-    (coming closed : Option (List L)) (given : ℕ)
-    → HasNothing (of.written visit.opened) → of.read_faults visit.opened ≡ 0 → of.write_faults visit.opened ≡ 0
-    → IsLink answers (of.left visit.opened) (of.left visit.closed) (at a.machine (of.written visit.opened) a.faults)
-    (at b.machine (of.written visit.closed) b.faults) visit.end
-    → (visit.end ≡ end.ReadFault → Rose (of.read_faults visit.opened) (of.read_faults visit.closed))
-    → ((visit.end ≡ end.ReadFault → ⊥) → of.read_faults visit.closed ≡ of.read_faults visit.opened)
-    → (visit.end ≡ end.WriteFault → Rose (of.write_faults visit.opened) (of.write_faults visit.closed))
-    → ((visit.end ≡ end.WriteFault → ⊥) → of.write_faults visit.closed ≡ of.write_faults visit.opened)
-    → IsFirst visit.opened a.coming coming → b.coming ≡ coming
-    → closed ≡ a.closed → b.closed ≡ with_last visit.closed closed
-    → given ≡ port → b.port ≡ given → HasVisited answers of port a b visit
-visited answers of port a b visit coming closed given unwritten none_read none_written served read_fault no_read_fault
-    write_fault no_write_fault first coming_is closed_is last given_is port_is = record {
-      served = (
+pub served_link : {S L : Type 0} (answers : RequestRelation S) (of : LinkReports L) (port : ℕ) (a b : ServerState S L)
+    (link : ServedLink L)
+    (coming closed : Option (List L)) (count given : ℕ)
+    → HasNothing (of.written link.accepted) → of.read_faults link.accepted ≡ 0 → of.write_faults link.accepted ≡ 0
+    → IsLinkServed answers (of.left link.accepted) (of.left link.closed)
+    (at a.machine (of.written link.accepted) a.faults)
+    (at b.machine (of.written link.closed) b.faults) link.end
+    → (link.end ≡ end.ReadFault → Rose (of.read_faults link.accepted) (of.read_faults link.closed))
+    → ((link.end ≡ end.ReadFault → ⊥) → of.read_faults link.closed ≡ of.read_faults link.accepted)
+    → (link.end ≡ end.WriteFault → Rose (of.write_faults link.accepted) (of.write_faults link.closed))
+    → ((link.end ≡ end.WriteFault → ⊥) → of.write_faults link.closed ≡ of.write_faults link.accepted)
+    → IsFirst link.accepted a.coming coming → b.coming ≡ coming
+    → closed ≡ a.closed → b.closed ≡ with_last link.closed closed
+    → count ≡ a.accepted + 1 → b.accepted ≡ count → given ≡ port → b.port ≡ given
+    → HasServedLink answers of port a b link
+served_link answers of port a b link coming closed count given unwritten none_read none_written served read_fault
+    no_read_fault write_fault no_write_fault first coming_is closed_is last count_is accepted_is given_is port_is =
+    record {
+      in_turn = (
         b.machine,
         b.faults,
         record {
@@ -169,7 +189,8 @@ visited answers of port a b visit coming closed given unwritten none_read none_w
         },
         (refl, refl),
       );
-      came = subst (λ l. a.coming ≡ option_map (λ others. visit.opened ∷ others) l) (sym coming_is) first;
-      closed = last ∙ ap (with_last visit.closed) closed_is;
+      came = subst (λ l. a.coming ≡ option_map (λ others. link.accepted ∷ others) l) (sym coming_is) first;
+      closed = last ∙ ap (with_last link.closed) closed_is;
+      counted = accepted_is ∙ count_is;
       port_is = port_is ∙ given_is;
     }

@@ -16,9 +16,9 @@ use Rattle.book_http.specs.Exchange.{IsNext}
 use Rattle.book_http.specs.Response.{response, refusal}
 use Rattle.book_http.proofs.ExchangeLemmas.{IsRequest-append, IsRefused-append}
 use Rattle.book_serve.specs.Exchange.{RequestRelation, IsResponse}
-use Rattle.book_serve.specs.Link.{IsExchange, HasAnswered, IsServed, IsLink}
-use Rattle.book_serve.specs.Serving.{response_of, GaveResponse, HasReplied, EndsBehind, EndsRefused}
-use Rattle.book_serve.specs.Serving.{HasStepped, HasServed}
+use Rattle.book_serve.specs.Link.{IsExchange, HasAnswered, IsServed, IsLinkServed}
+use Rattle.book_serve.specs.Serving.{response_of, GaveResponse, HasReplied, EndsByRequest, EndsByRefusal}
+use Rattle.book_serve.specs.Serving.{HasAnsweredNext, HasServed}
 use Rattle.book_serve.specs.declared.link_end.LinkEnd.{LinkEnd}
 use Rattle.book_serve.specs.declared.link_end.LinkEnd.TheVariants.{Done, Cut, ReadFault, WriteFault, Limit, OutOfMemory}
 use Rattle.book_serve.proofs.ExchangeLemmas.{IsExchange-append, IsExchange-nil, AreOpen-more, AreOpen-append}
@@ -26,7 +26,8 @@ use Rattle.book_serve.proofs.ExchangeLemmas.{IsExchange-append, IsExchange-nil, 
 -- ---- one request
 
 -- what answered a request, whatever it was
-pub gave : {S : Type 0} (answers : RequestRelation S) (old : S) (request : Request) (result : Result (List ℕ) Unanswered)
+pub gave : {S : Type 0} (answers : RequestRelation S) (old : S) (request : Request)
+    (result : Result (List ℕ) Unanswered)
     (new : S) (f g : ℕ)
     → IfOk result (λ bytes. IsResponse answers old request bytes new)
     → (result ≡ Err NoMemory → answers old request Memory 507 memory_answer new)
@@ -89,7 +90,7 @@ none_yet answers machine w v faults bytes rest same = record {
 pub step_open : {S : Type 0} (answers : RequestRelation S) (begun kept : List ℕ) (before after : Option (List ℕ))
     (request : Request) (a b : Moment S)
     → IsNext begun kept before after (Ok (Asked request)) → HasReplied answers a request b → request.close ≡ false
-    → HasStepped answers begun kept before after a b
+    → HasAnsweredNext answers begun kept before after a b
 step_open answers begun kept before after request a b next replied stays = record {
   read = next.read;
   took = next.took;
@@ -102,7 +103,7 @@ step_open answers begun kept before after request a b next replied stays = recor
 -- a request that is the last of its link
 pub step_last : {S : Type 0} (answers : RequestRelation S) (begun kept : List ℕ) (before after : Option (List ℕ))
     (request : Request) (a b : Moment S) (end : LinkEnd)
-    → IsNext begun kept before after (Ok (Asked request)) → EndsBehind answers a request b end
+    → IsNext begun kept before after (Ok (Asked request)) → EndsByRequest answers a request b end
     → IsServed answers 1 begun before after a b end
 step_last answers begun kept before after request a b Cut next h = absurd h
 step_last answers begun kept before after request a b ReadFault next h = absurd h
@@ -167,7 +168,7 @@ step_last answers begun kept before after request a b WriteFault next h =
 -- a request that is refused
 pub step_refused : {S : Type 0} (answers : RequestRelation S) (begun kept : List ℕ) (before after : Option (List ℕ))
     (status : ℕ) (machine : S) (w v : List ℕ → Type 0) (faults : ℕ) (end : LinkEnd)
-    → IsNext begun kept before after (Ok (Refused status)) → EndsRefused w v status end
+    → IsNext begun kept before after (Ok (Refused status)) → EndsByRefusal w v status end
     → IsServed answers 1 begun before after (at machine w faults) (at machine v faults) end
 step_refused answers begun kept before after status machine w v faults Cut next h = absurd h
 step_refused answers begun kept before after status machine w v faults ReadFault next h = absurd h
@@ -322,7 +323,7 @@ HasServed-nil answers before a = record {
 -- one more request
 pub HasServed-step : {S : Type 0} (answers : RequestRelation S) (kept then' : List ℕ)
     (before between after : Option (List ℕ)) (a b c : Moment S) (count : ℕ)
-    → HasServed answers kept before between a b count → HasStepped answers kept then' between after b c
+    → HasServed answers kept before between a b count → HasAnsweredNext answers kept then' between after b c
     → HasServed answers then' before after a c (count + 1)
 HasServed-step answers kept then' before between after a b c count p q = record {
   read = p.read ++ q.read;
@@ -338,10 +339,10 @@ HasServed-step answers kept then' before between after a b c count p q = record 
 }
 
 -- the most requests that are answered
-pub IsLink-most : {S : Type 0} (answers : RequestRelation S) (kept : List ℕ) (before after : Option (List ℕ))
+pub IsLinkServed-most : {S : Type 0} (answers : RequestRelation S) (kept : List ℕ) (before after : Option (List ℕ))
     (a b : Moment S) (count : ℕ) → HasServed answers kept before after a b count → count ≡ 1000000
-    → IsLink answers before after a b Limit
-IsLink-most answers kept before after a b count p full =
+    → IsLinkServed answers before after a b Limit
+IsLinkServed-most answers kept before after a b count p full =
     let left = Are-some after in record {
       read = p.read;
       left = left.0;

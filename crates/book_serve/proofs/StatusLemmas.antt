@@ -1,5 +1,6 @@
 -- Statuses of refusals, and the responses that take no memory.
-use Rattle.std.proofs.Common.{◌≡◌, ℕ, Bool, true, false, List, [], ◌∷◌, ◌++◌, Option, Some, None, refl, sym, subst, IsTrue, codes}
+use Rattle.std.proofs.Common.{◌≡◌, ℕ, Bool, true, false, List, [], ◌∷◌, ◌++◌, Option, Some, None, refl, sym, subst}
+use Rattle.std.proofs.Common.{IsTrue, codes}
 use Rattle.std.proofs.Common.{length, not, ◌&&◌, nat_lt, ◌^◌, inl, inr}
 use Rattle.std.specs.Fmt.{digits}
 use Rattle.std.specs.Prelude.{⊤}

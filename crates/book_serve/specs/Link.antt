@@ -75,7 +75,7 @@ pub record IsCutShort {S : Type 0} (answers : RequestRelation S) (old : Moment S
   pub kept : RoseForEach old.faults new.faults (marks (statuses ++ status ∷ []))
 
 -- The response to the request behind those that were answered was cut short.
-pub record HasBroken {S : Type 0} (answers : RequestRelation S) (most : ℕ) (old : Moment S) (bytes text : List ℕ)
+pub record HasCutResponse {S : Type 0} (answers : RequestRelation S) (most : ℕ) (old : Moment S) (bytes text : List ℕ)
     (new : Moment S) : Type 0 where
   pub requests : List Request
   pub few : length requests < most
@@ -87,7 +87,7 @@ pub record HasBroken {S : Type 0} (answers : RequestRelation S) (most : ℕ) (ol
   pub cut : IsCutShort answers old requests request text new
 
 -- The response to the refused request behind those that were answered was cut short.
-pub record HasBrokenRefusal {S : Type 0} (answers : RequestRelation S) (most : ℕ) (old : Moment S) (bytes text : List ℕ)
+pub record HasCutRefusal {S : Type 0} (answers : RequestRelation S) (most : ℕ) (old : Moment S) (bytes text : List ℕ)
     (new : Moment S) : Type 0 where
   pub rest : List ℕ
   pub status : ℕ
@@ -101,7 +101,7 @@ pub record HasBrokenRefusal {S : Type 0} (answers : RequestRelation S) (most : �
   pub text_is : text ≡ front ++ part
 
 -- So many requests, each of which left the link open, were answered.
-pub record HasMost {S : Type 0} (answers : RequestRelation S) (most : ℕ) (old : Moment S) (bytes text : List ℕ)
+pub record HasAnsweredMost {S : Type 0} (answers : RequestRelation S) (most : ℕ) (old : Moment S) (bytes text : List ℕ)
     (new : Moment S) : Type 0 where
   pub requests : List Request
   pub count : length requests ≡ most
@@ -126,14 +126,14 @@ pub record HasCut {S : Type 0} (answers : RequestRelation S) (most : ℕ) (old :
   pub none_left : left ≡ []
 
 -- The link failed to be read within a request; those that came whole were answered.
-pub record HasFailed {S : Type 0} (answers : RequestRelation S) (most : ℕ) (old : Moment S) (read text : List ℕ)
+pub record HasFailedRead {S : Type 0} (answers : RequestRelation S) (most : ℕ) (old : Moment S) (read text : List ℕ)
     (new : Moment S) : Type 0 where
   pub rest : List ℕ
   pub answered : HasAnswered answers most old read rest text new
   pub unfinished : IsUnfinished rest
 
 -- There was no memory to read the next request, or to refuse it; those before it were answered.
-pub record HasStopped {S : Type 0} (answers : RequestRelation S) (most : ℕ) (old : Moment S) (read text : List ℕ)
+pub record HasNoMemory {S : Type 0} (answers : RequestRelation S) (most : ℕ) (old : Moment S) (read text : List ℕ)
     (new : Moment S) : Type 0 where
   pub rest : List ℕ
   pub answered : HasAnswered answers most old read rest text new
@@ -144,11 +144,11 @@ abbrev pub LinkClause :
     {S : Type 0} → RequestRelation S → ℕ → Moment S → List ℕ → List ℕ → List ℕ → Moment S → LinkEnd → Type 0
 LinkClause answers most old read left text new Done = HasDone answers most old (read ++ left) left text new
 LinkClause answers most old read left text new Cut = HasCut answers most old (read ++ left) left text new
-LinkClause answers most old read left text new ReadFault = HasFailed answers most old read text new
+LinkClause answers most old read left text new ReadFault = HasFailedRead answers most old read text new
 LinkClause answers most old read left text new WriteFault =
-    HasBroken answers most old (read ++ left) text new ⊎ HasBrokenRefusal answers most old (read ++ left) text new
-LinkClause answers most old read left text new Limit = HasMost answers most old (read ++ left) text new
-LinkClause answers most old read left text new OutOfMemory = HasStopped answers most old read text new
+    HasCutResponse answers most old (read ++ left) text new ⊎ HasCutRefusal answers most old (read ++ left) text new
+LinkClause answers most old read left text new Limit = HasAnsweredMost answers most old (read ++ left) text new
+LinkClause answers most old read left text new OutOfMemory = HasNoMemory answers most old read text new
 
 -- A link was served up to an end, where at most so many of its requests are answered and `begun` was read of it before.
 -- There are the bytes that were read in between, those that it has left now, as far as it reports them, and the text
@@ -164,6 +164,6 @@ pub record IsServed {S : Type 0} (answers : RequestRelation S) (most : ℕ) (beg
   pub clause : LinkClause answers most old (begun ++ read) left text new end
 
 -- A link was served: at most a million of its requests are answered.
-abbrev pub IsLink :
+abbrev pub IsLinkServed :
     {S : Type 0} → RequestRelation S → Option (List ℕ) → Option (List ℕ) → Moment S → Moment S → LinkEnd → Type 0
-IsLink answers before after old new end = IsServed answers 1000000 [] before after old new end
+IsLinkServed answers before after old new end = IsServed answers 1000000 [] before after old new end

@@ -43,7 +43,8 @@ pub record HasReplied {S : Type 0} (answers : RequestRelation S) (old : Moment S
   pub gave : GaveResponse answers old.machine request text new.machine old.faults new.faults
 
 -- The request was answered, and the response was not written whole.
-pub record HasFaltered {S : Type 0} (answers : RequestRelation S) (old : Moment S) (request : Request) (new : Moment S)
+pub record HasRepliedInPart {S : Type 0} (answers : RequestRelation S) (old : Moment S) (request : Request)
+    (new : Moment S)
     : Type 0 where
   pub text : List ℕ
   pub more : List ℕ
@@ -52,26 +53,27 @@ pub record HasFaltered {S : Type 0} (answers : RequestRelation S) (old : Moment 
   pub gave : GaveResponse answers old.machine request (text ++ more) new.machine old.faults new.faults
 
 -- How a request ends its link: it closes it, or its response was not written whole.
-abbrev pub EndsBehind : {S : Type 0} → RequestRelation S → Moment S → Request → Moment S → LinkEnd → Type 0
-EndsBehind answers old request new Done = HasReplied answers old request new × (request.close ≡ true)
-EndsBehind answers old request new WriteFault = HasFaltered answers old request new
-EndsBehind answers old request new Cut = ⊥
-EndsBehind answers old request new ReadFault = ⊥
-EndsBehind answers old request new Limit = ⊥
-EndsBehind answers old request new OutOfMemory = ⊥
+abbrev pub EndsByRequest : {S : Type 0} → RequestRelation S → Moment S → Request → Moment S → LinkEnd → Type 0
+EndsByRequest answers old request new Done = HasReplied answers old request new × (request.close ≡ true)
+EndsByRequest answers old request new WriteFault = HasRepliedInPart answers old request new
+EndsByRequest answers old request new Cut = ⊥
+EndsByRequest answers old request new ReadFault = ⊥
+EndsByRequest answers old request new Limit = ⊥
+EndsByRequest answers old request new OutOfMemory = ⊥
 
 -- How a refused request ends its link: its response was written, or a part of it, or there was no memory for it.
-abbrev pub EndsRefused : (List ℕ → Type 0) → (List ℕ → Type 0) → ℕ → LinkEnd → Type 0
-EndsRefused old new status Done = Wrote old new (response status (refusal status) true)
-EndsRefused old new status WriteFault = WrotePart old new (response status (refusal status) true)
-EndsRefused old new status OutOfMemory = Wrote old new []
-EndsRefused old new status Cut = ⊥
-EndsRefused old new status ReadFault = ⊥
-EndsRefused old new status Limit = ⊥
+abbrev pub EndsByRefusal : (List ℕ → Type 0) → (List ℕ → Type 0) → ℕ → LinkEnd → Type 0
+EndsByRefusal old new status Done = Wrote old new (response status (refusal status) true)
+EndsByRefusal old new status WriteFault = WrotePart old new (response status (refusal status) true)
+EndsByRefusal old new status OutOfMemory = Wrote old new []
+EndsByRefusal old new status Cut = ⊥
+EndsByRefusal old new status ReadFault = ⊥
+EndsByRefusal old new status Limit = ⊥
 
 -- The next request of a link was read and answered, and it leaves the link open. `begun` was read before and not used,
 -- and `kept` is so now.
-pub record HasStepped {S : Type 0} (answers : RequestRelation S) (begun kept : List ℕ) (before after : Option (List ℕ))
+pub record HasAnsweredNext {S : Type 0} (answers : RequestRelation S) (begun kept : List ℕ)
+    (before after : Option (List ℕ))
     (old new : Moment S) : Type 0 where
   pub read : List ℕ
   pub took : Consumes before after read

@@ -5,7 +5,7 @@ ghost use Rattle.book_lines.specs.Loop.{text_of};
 ghost use Rattle.book_lines.specs.Marks.{memory_answer, keeper_answer};
 ghost use Rattle.book_lines.specs.RunClause.{at};
 ghost use Rattle.book_http.specs.Response.{is_answered, refusal, response};
-ghost use Rattle.book_serve.specs.Serving.{response_of, status_of, EndsBehind, EndsRefused, HasReplied};
+ghost use Rattle.book_serve.specs.Serving.{response_of, status_of, EndsByRequest, EndsByRefusal, HasReplied};
 
 use crate::{LinkEnd, Responder};
 use book_commodity::{Bytes, OutOfMemory};
@@ -90,7 +90,7 @@ pub fn answer_request<W, K, M: Responder<W, K>, O: Sink>(
     ensures stays { OnOk result (request.close ≡ false) }
     ensures ended { let before = at machine.old (O.written output.old) (M.faults keeper.old) in
         let after = at machine.new (O.written output.new) (M.faults keeper.new) in
-        IfErr result (EndsBehind M.answers before request after) }
+        IfErr result (EndsByRequest M.answers before request after) }
     ensures fault { result ≡ Err LinkEnd.WriteFault → Rose (O.faults output.old) (O.faults output.new) }
     ensures no_fault { result ≢ Err LinkEnd.WriteFault → O.faults output.new ≡ O.faults output.old }
     ensures stands { M.stands machine.new keeper.new }
@@ -118,7 +118,7 @@ fn refusal_response(alloc: Global, status: u16) -> Result<Bytes, OutOfMemory>
 /// where the output failed, or OutOfMemory.
 pub fn refuse<O: Sink>(alloc: Global, output: &mut O, status: u16) -> LinkEnd
     requires { IsTrue (is_answered status) }
-    ensures ended { EndsRefused (O.written output.old) (O.written output.new) status result }
+    ensures ended { EndsByRefusal (O.written output.old) (O.written output.new) status result }
     ensures fault { result ≡ LinkEnd.WriteFault → Rose (O.faults output.old) (O.faults output.new) }
     ensures no_fault { result ≢ LinkEnd.WriteFault → O.faults output.new ≡ O.faults output.old }
 {

@@ -1,8 +1,8 @@
 ghost use Rattle.std.specs.Prelude.{◌≡◌, ◌≢◌, Err, IfErr, OnOk};
 ghost use Rattle.book_keeper.specs.Faults.{Rose};
 ghost use Rattle.book_lines.specs.RunClause.{at};
-ghost use Rattle.book_serve.specs.Link.{IsLink};
-ghost use Rattle.book_serve.specs.Served.{EndsServing, HasGone, IsServing, scene, told};
+ghost use Rattle.book_serve.specs.Link.{IsLinkServed};
+ghost use Rattle.book_serve.specs.Served.{EndsServing, HasServedNext, IsServing, server_state, link_reports};
 
 use crate::{LinkEnd, Responder, ServeEnd, serve_link};
 use book_http::Routes;
@@ -21,7 +21,7 @@ fn serve_whole<W, K, M: Responder<W, K>, L: Link>(
     requires { M.stands machine.old keeper.old }
     ensures served { let before = at machine.old (L.written link) (M.faults keeper.old) in
         let after = at machine.new (L.written result.0) (M.faults keeper.new) in
-        IsLink M.answers (L.left link) (L.left result.0) before after result.1 }
+        IsLinkServed M.answers (L.left link) (L.left result.0) before after result.1 }
     ensures read_fault { result.1 ≡ LinkEnd.ReadFault → Rose (L.Source.faults link) (L.Source.faults result.0) }
     ensures no_read_fault { result.1 ≢ LinkEnd.ReadFault → L.Source.faults result.0 ≡ L.Source.faults link }
     ensures write_fault { result.1 ≡ LinkEnd.WriteFault → Rose (L.Sink.faults link) (L.Sink.faults result.0) }
@@ -45,17 +45,17 @@ fn serve_next_link<W, K, M: Responder<W, K>, P: Ports>(
     port: u16,
 ) -> Result<(), ServeEnd>
     requires { M.stands machine.old keeper.old }
-    ensures gone { let of = told P.L.left P.L.written P.L.Source.faults P.L.Sink.faults in
-        let before = scene machine.old (M.faults keeper.old) (P.coming ports.old) (P.closed ports.old)
-        (P.port_given ports.old) in
-        let after = scene machine.new (M.faults keeper.new) (P.coming ports.new) (P.closed ports.new)
-        (P.port_given ports.new) in
-        OnOk result (HasGone M.answers of port before after) }
-    ensures ended { let of = told P.L.left P.L.written P.L.Source.faults P.L.Sink.faults in
-        let before = scene machine.old (M.faults keeper.old) (P.coming ports.old) (P.closed ports.old)
-        (P.port_given ports.old) in
-        let after = scene machine.new (M.faults keeper.new) (P.coming ports.new) (P.closed ports.new)
-        (P.port_given ports.new) in
+    ensures served { let of = link_reports P.L.left P.L.written P.L.Source.faults P.L.Sink.faults in
+        let before = server_state machine.old (M.faults keeper.old) (P.coming ports.old) (P.closed ports.old)
+        (P.accepted_links ports.old) (P.port_given ports.old) in
+        let after = server_state machine.new (M.faults keeper.new) (P.coming ports.new) (P.closed ports.new)
+        (P.accepted_links ports.new) (P.port_given ports.new) in
+        OnOk result (HasServedNext M.answers of port before after) }
+    ensures ended { let of = link_reports P.L.left P.L.written P.L.Source.faults P.L.Sink.faults in
+        let before = server_state machine.old (M.faults keeper.old) (P.coming ports.old) (P.closed ports.old)
+        (P.accepted_links ports.old) (P.port_given ports.old) in
+        let after = server_state machine.new (M.faults keeper.new) (P.coming ports.new) (P.closed ports.new)
+        (P.accepted_links ports.new) (P.port_given ports.new) in
         IfErr result (EndsServing M.answers of port before after) }
     ensures open_links { P.open_links ports.new ≡ P.open_links ports.old }
     ensures fault { result ≡ Err ServeEnd.PortFault → Rose (P.faults ports.old) (P.faults ports.new) }
@@ -88,11 +88,11 @@ pub fn serve<W, K, M: Responder<W, K>, P: Ports>(
     links: u64,
 ) -> ServeEnd
     requires { M.stands machine.old keeper.old }
-    ensures served { let of = told P.L.left P.L.written P.L.Source.faults P.L.Sink.faults in
-        let before = scene machine.old (M.faults keeper.old) (P.coming ports.old) (P.closed ports.old)
-        (P.port_given ports.old) in
-        let after = scene machine.new (M.faults keeper.new) (P.coming ports.new) (P.closed ports.new)
-        (P.port_given ports.new) in
+    ensures served { let of = link_reports P.L.left P.L.written P.L.Source.faults P.L.Sink.faults in
+        let before = server_state machine.old (M.faults keeper.old) (P.coming ports.old) (P.closed ports.old)
+        (P.accepted_links ports.old) (P.port_given ports.old) in
+        let after = server_state machine.new (M.faults keeper.new) (P.coming ports.new) (P.closed ports.new)
+        (P.accepted_links ports.new) (P.port_given ports.new) in
         IsServing M.answers of links port before after result }
     ensures open_links { P.open_links ports.new ≡ P.open_links ports.old }
     ensures fault { result ≡ ServeEnd.PortFault → Rose (P.faults ports.old) (P.faults ports.new) }

@@ -1,8 +1,8 @@
 ghost use Rattle.std.specs.Prelude.{◌≡◌, ◌≢◌, [], Err, IfErr, OnOk};
 ghost use Rattle.book_keeper.specs.Faults.{Rose};
 ghost use Rattle.book_lines.specs.RunClause.{at};
-ghost use Rattle.book_serve.specs.Link.{IsLink, IsServed};
-ghost use Rattle.book_serve.specs.Serving.{HasStepped};
+ghost use Rattle.book_serve.specs.Link.{IsLinkServed, IsServed};
+ghost use Rattle.book_serve.specs.Serving.{HasAnsweredNext};
 
 use crate::answer::{answer_request, refuse};
 use crate::{LinkEnd, Responder};
@@ -26,7 +26,7 @@ fn serve_next<W, K, M: Responder<W, K>, S: Source, O: Sink>(
     requires { M.stands machine.old keeper.old }
     ensures stepped { let before = at machine.old (O.written output.old) (M.faults keeper.old) in
         let after = at machine.new (O.written output.new) (M.faults keeper.new) in
-        OnOk result (HasStepped M.answers inbox.old inbox.new (S.left input.old) (S.left input.new) before after) }
+        OnOk result (HasAnsweredNext M.answers inbox.old inbox.new (S.left input.old) (S.left input.new) before after) }
     ensures ended { let before = at machine.old (O.written output.old) (M.faults keeper.old) in
         let after = at machine.new (O.written output.new) (M.faults keeper.new) in
         IfErr result (IsServed M.answers 1 inbox.old (S.left input.old) (S.left input.new) before after) }
@@ -62,7 +62,7 @@ pub fn serve_link<W, K, M: Responder<W, K>, S: Source, O: Sink>(
     requires { M.stands machine.old keeper.old }
     ensures served { let before = at machine.old (O.written output.old) (M.faults keeper.old) in
         let after = at machine.new (O.written output.new) (M.faults keeper.new) in
-        IsLink M.answers (S.left input.old) (S.left input.new) before after result }
+        IsLinkServed M.answers (S.left input.old) (S.left input.new) before after result }
     ensures read_fault { result ≡ LinkEnd.ReadFault → Rose (S.faults input.old) (S.faults input.new) }
     ensures no_read_fault { result ≢ LinkEnd.ReadFault → S.faults input.new ≡ S.faults input.old }
     ensures write_fault { result ≡ LinkEnd.WriteFault → Rose (O.faults output.old) (O.faults output.new) }

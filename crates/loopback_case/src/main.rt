@@ -1,22 +1,32 @@
-//! Shows that `TcpPorts` give a connection of this machine and that its end reaches the other side: within one process
-//! a client connects and sends a text, the server accepts, reads it, answers and closes, and the client reads the
-//! answer and the end. It prints what came on each side.
+//! Shows that the links of `TcpPorts` come from this machine and that `serve` answers on them: within one process two
+//! clients connect, each sends a request, the server serves both links, and each client reads its response and the end
+//! of its link. The first request is answered with its own body. The second is refused, and behind it more comes than
+//! the server reads at once: what is left is read at the link's end, so that the client has the whole response. It
+//! prints what each client read.
 #![tactic(auto)]
 
-ghost use Rattle.std.specs.Prelude.{◌≤◌, IfOk, length};
+mod echo;
 
-use book_keeper::{Failed, Source, write_all};
-use book_ports::{Ports, TcpLink, TcpPorts};
+use crate::echo::Echo;
+use book_http::Routes;
+use book_ports::TcpPorts;
+use book_serve::{ServeEnd, serve};
 use std::io;
 use std::io::{ErrorKind, Read, Write};
 use std::net::{Ipv4Addr, Shutdown, SocketAddr, TcpStream};
 
-const ASKED: &str = "a text that comes whole";
+/// A request that is answered, and closes its link.
+const ASKED: &str =
+    "POST /command HTTP/1.1\r\nContent-Length: 23\r\nConnection: close\r\n\r\na text that comes whole";
 
-const ANSWERED: &str = "an answer that comes whole";
+/// A request that is refused.
+const REFUSED: &str = "POST /nothing HTTP/1.1\r\nContent-Length: 90000\r\n\r\n";
 
-/// The error for a call on ports or a link that failed.
-fn failure(_failed: Failed) -> io::Error {
+/// How many bytes come behind the refused request.
+const MORE: usize = 90_000;
+
+/// The error of a server that failed.
+fn failure() -> io::Error {
     io::Error::from(ErrorKind::Other)
 }
 
@@ -25,44 +35,51 @@ fn listen(ports: &mut TcpPorts<&HostRuntime>) -> Option<u16> {
     (47_321..47_821).find(|port| ports.listen(*port).is_ok())
 }
 
-/// Reads what the client sent and then the end, and answers: how many bytes came, and how many behind them.
-fn serve_link(link: &mut TcpLink, buffer: &mut [u8]) -> Result<(usize, usize), Failed>
-    ensures { IfOk result (λ counts. counts.0 ≤ length buffer.new) }
-{
-    let count = link.read(buffer)?;
-    let behind = link.read(&mut [0; 1])?;
-    write_all(link, ANSWERED.as_bytes())?;
-    Ok((count, behind))
+/// A client that has sent these bytes to the port, and sends no more.
+fn client(rt: &HostRuntime, port: u16, sent: &str, more: usize) -> io::Result<TcpStream> {
+    let mut client = TcpStream::connect(rt, SocketAddr::from((Ipv4Addr::LOCALHOST, port)))?;
+    client.write_all(sent.as_bytes())?;
+    let rest = vec![in rt.alloc(); 120u8; more]?;
+    client.write_all(&rest)?;
+    client.shutdown(Shutdown::Write)?;
+    Ok(client)
 }
 
-/// Serves the next connection to the port, and closes it.
-fn serve(rt: &HostRuntime, ports: &mut TcpPorts<&HostRuntime>, port: u16) -> io::Result<()> {
-    let mut buffer = [0; 256];
-    let Ok(Some(mut link)) = ports.accept(port) else {
-        return Err(failure(Failed));
+/// Prints what comes to the client, up to the end of its link.
+fn show(rt: &HostRuntime, name: &str, client: &mut TcpStream) -> io::Result<()> {
+    let mut came = String::new(rt.alloc());
+    client.read_to_string(&mut came)?;
+    println!(rt; "the {name} client read:")?;
+    for line in came.lines() {
+        println!(rt; "    {line}")?;
+    }
+    Ok(())
+}
+
+/// Serves the next two links that come to the port.
+fn serve_two(rt: &HostRuntime, ports: &mut TcpPorts<&HostRuntime>, port: u16) -> io::Result<()> {
+    let Ok(routes) = Routes::new(rt.alloc()) else {
+        return Err(failure());
     };
-    let served = serve_link(&mut link, &mut buffer);
-    ports.close(link);
-    let (count, behind) = served.map_err(failure)?;
-    let text = str::from_utf8(&buffer[..count]).unwrap_or("no text");
-    println!(rt; "the server read: {text}, and {behind} bytes behind it")
+    match serve::<(), (), Echo, _>(rt.alloc(), &mut Echo, &mut (), &routes, ports, port, 2) {
+        ServeEnd::Done => Ok(()),
+        _ => Err(failure()),
+    }
 }
 
 fn main(rt: HostRuntime) -> io::Result<()> {
     let mut ports = TcpPorts::new(&rt);
     let Some(port) = listen(&mut ports) else {
-        return Err(failure(Failed));
+        return Err(failure());
     };
     let taken = TcpPorts::new(&rt).listen(port);
     println!(rt;
         "the same port again: {}",
         if taken.is_ok() { "bound" } else { "failed" }
     )?;
-    let mut client = TcpStream::connect(&rt, SocketAddr::from((Ipv4Addr::LOCALHOST, port)))?;
-    client.write_all(ASKED.as_bytes())?;
-    client.shutdown(Shutdown::Write)?;
-    serve(&rt, &mut ports, port)?;
-    let mut answer = String::new(rt.alloc());
-    client.read_to_string(&mut answer)?;
-    println!(rt; "the client read: {answer}")
+    let mut first = client(&rt, port, ASKED, 0)?;
+    let mut second = client(&rt, port, REFUSED, MORE)?;
+    serve_two(&rt, &mut ports, port)?;
+    show(&rt, "first", &mut first)?;
+    show(&rt, "second", &mut second)
 }

@@ -1,6 +1,6 @@
 use Rattle.std.proofs.Common.{ℕ, Option, None, Some, ◌≡◌, ◌∙◌, sym, ap, subst}
 use Rattle.std.specs.Prelude.{IfSome}
-use Rattle.book_serve.specs.Served.{told}
+use Rattle.book_serve.specs.Served.{link_reports}
 use Rattle.book_app.specs.ServeClause.{ServeClause, across}
 use Rattle.book_app.specs.StatusClause.{IsBookRun, over}
 use Rattle.book_app.specs.Words.{named_import, named_serve, work_named}
@@ -49,8 +49,9 @@ returns-in-Some-clause-port_fault g c =
 pub returns-in-Some-clause-serve : goal.returns-in-Some-clause-serve
 returns-in-Some-clause-serve g c =
     let keeping = over g.K.Keeper.sure g.K.Keeper.holds g.K.Keeper.faults c.args.keeper.now c.args.keeper.now in
-    let of = told g.P.L.Source.left g.P.L.Sink.written g.P.L.Source.faults g.P.L.Sink.faults in
-    let ports = across g.P.Ports.coming g.P.Ports.closed g.P.Ports.port_given c.args.ports.now c.args.ports.now in
+    let of = link_reports g.P.L.Source.left g.P.L.Sink.written g.P.L.Source.faults g.P.L.Sink.faults in
+    let ports = across g.P.Ports.coming g.P.Ports.closed g.P.Ports.accepted_links g.P.Ports.port_given
+    c.args.ports.now c.args.ports.now in
     subst (λ (named : Option ServeWords). IfSome named (λ serve. ServeClause serve keeping of ports c.run_sample.result))
     (sym (sample_serves_none c.args.words.now c.in-Some.number c.in-Some.ensures)) tt
 

@@ -1,6 +1,6 @@
 use Rattle.std.proofs.Common.{◌≡◌, ap, sym, subst, ◌∙◌, inl}
 use Rattle.book_engine.specs.Books.{machine_kept}
-use Rattle.book_serve.specs.Served.{told}
+use Rattle.book_serve.specs.Served.{link_reports}
 use Rattle.book_app.specs.Numbers.{status_served}
 use Rattle.book_app.specs.ServeClause.{ServeClause, across}
 use Rattle.book_app.specs.StatusClause.{ServedRows, over}
@@ -15,21 +15,22 @@ pub returns-in_default-clause-rows : goal.returns-in_default-clause-rows
 returns-in_default-clause-rows g c = λ still rows held. held
 
 pub returns-in_default-clause-serve : goal.returns-in_default-clause-serve
-returns-in_default-clause-serve g c = none_came _ _ _
+returns-in_default-clause-serve g c = none_came _ _ _ _
 
 -- there was no memory before the keeper was opened
 pub returns-in_default-routes_after-clause-rows : goal.returns-in_default-routes_after-clause-rows
 returns-in_default-routes_after-clause-rows g c = inl (λ still rows held. held)
 
 pub returns-in_default-routes_after-clause-serve : goal.returns-in_default-routes_after-clause-serve
-returns-in_default-routes_after-clause-serve g c = inl (none_came _ _ _, λ still rows held. held)
+returns-in_default-routes_after-clause-serve g c = inl (none_came _ _ _ _, λ still rows held. held)
 
 -- links were served
 pub returns-in-Ok-open_book-clause-rows : goal.returns-in-Ok-open_book-clause-rows
 returns-in-Ok-open_book-clause-rows g c =
     let keeping = over g.K.Keeper.sure g.K.Keeper.holds g.K.Keeper.faults c.args.keeper.now c.serve_links.new.keeper in
-    let of = told g.P.L.Source.left g.P.L.Sink.written g.P.L.Source.faults g.P.L.Sink.faults in
-    let ports = across g.P.Ports.coming g.P.Ports.closed g.P.Ports.port_given c.args.ports.now c.serve_links.new.ports in
+    let of = link_reports g.P.L.Source.left g.P.L.Sink.written g.P.L.Source.faults g.P.L.Sink.faults in
+    let ports = across g.P.Ports.coming g.P.Ports.closed g.P.Ports.accepted_links g.P.Ports.port_given
+    c.args.ports.now c.serve_links.new.ports in
     let later = c.serve_links.ensures.keeper in
     let served = has_served c.args.serve keeping of ports c.in-Ok-open_book.engine c.serve_links.new.engine
     (g.K.Keeper.faults c.open_book.new.keeper) c.serve_links.result c.in-Ok-open_book.ensures.cause.done
@@ -42,8 +43,9 @@ returns-in-Ok-open_book-clause-rows g c =
 pub returns-in-Ok-open_book-clause-serve : goal.returns-in-Ok-open_book-clause-serve
 returns-in-Ok-open_book-clause-serve g c =
     let keeping = over g.K.Keeper.sure g.K.Keeper.holds g.K.Keeper.faults c.args.keeper.now c.serve_links.new.keeper in
-    let of = told g.P.L.Source.left g.P.L.Sink.written g.P.L.Source.faults g.P.L.Sink.faults in
-    let ports = across g.P.Ports.coming g.P.Ports.closed g.P.Ports.port_given c.args.ports.now c.serve_links.new.ports in
+    let of = link_reports g.P.L.Source.left g.P.L.Sink.written g.P.L.Source.faults g.P.L.Sink.faults in
+    let ports = across g.P.Ports.coming g.P.Ports.closed g.P.Ports.accepted_links g.P.Ports.port_given
+    c.args.ports.now c.serve_links.new.ports in
     let later = c.serve_links.ensures.keeper in
     let served = has_served c.args.serve keeping of ports c.in-Ok-open_book.engine c.serve_links.new.engine
     (g.K.Keeper.faults c.open_book.new.keeper) c.serve_links.result c.in-Ok-open_book.ensures.cause.done
@@ -71,10 +73,11 @@ returns-clause-rows g c =
 pub returns-clause-serve : goal.returns-clause-serve
 returns-clause-serve g c =
     let keeping = over g.K.Keeper.sure g.K.Keeper.holds g.K.Keeper.faults c.args.keeper.now c.open_book.new.keeper in
-    let of = told g.P.L.Source.left g.P.L.Sink.written g.P.L.Source.faults g.P.L.Sink.faults in
-    let ports = across g.P.Ports.coming g.P.Ports.closed g.P.Ports.port_given c.args.ports.now c.args.ports.now in
+    let of = link_reports g.P.L.Source.left g.P.L.Sink.written g.P.L.Source.faults g.P.L.Sink.faults in
+    let ports = across g.P.Ports.coming g.P.Ports.closed g.P.Ports.accepted_links g.P.Ports.port_given
+    c.args.ports.now c.args.ports.now in
     subst (λ (s : Status). ServeClause c.args.serve keeping of ports s) (sym c.status_unopened.ensures)
-    (unopened_links c.args.serve keeping of ports c.in-Err.error (none_came _ _ _) c.open_book.ensures.rows)
+    (unopened_links c.args.serve keeping of ports c.in-Err.error (none_came _ _ _ _) c.open_book.ensures.rows)
 
 pub returns-clause-port_fault : goal.returns-clause-port_fault
 returns-clause-port_fault g c = λ is. absurd (no_port_unopened c.in-Err.error (sym c.status_unopened.ensures ∙ is))

@@ -13,6 +13,7 @@ pub unreachable-requires-in-Err : goal.unreachable-requires-in-Err
 unreachable-requires-in-Err c =
     let same = c.in-Ok.ensures.cases.0 in
     let parses = subst (λ (word : List ℕ). ParsesUnsigned 64 10 word c.parse.result) same c.parse.ensures.value.0 in
-    let read = length_read c.args.value.now c.parse.result (sym c.is_length.ensures ∙ c.if-not-is_length.false) parses in
+    let read = length_read c.args.value.now c.parse.result
+    (sym c.is_length.ensures ∙ c.if-not-is_length.false) parses in
     let failed = c.in-Err.is in
     absurd (cc)

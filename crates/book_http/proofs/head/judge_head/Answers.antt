@@ -11,7 +11,8 @@ pub returns-in-Err : goal.returns-in-Err
 returns-in-Err c head is =
     let read = reading c.args.window.now c.args.spans.now c.args.found.now head c.read_fields-fields.result is
     c.requires.within.section.count_fits c.read_fields-fields.ensures in
-    refused_fields head c.args.found.now.headers c.read_fields-fields.result c.in-Err.status read c.in-Err.ensures.refused
+    refused_fields head c.args.found.now.headers c.read_fields-fields.result c.in-Err.status read
+    c.in-Err.ensures.refused
 
 -- it has no route
 pub returns-in_default : goal.returns-in_default
@@ -28,7 +29,8 @@ returns-in-Err-refuse_by_route c head is =
     let read = reading c.args.window.now c.args.spans.now c.args.found.now head c.read_fields-fields.result is
     c.requires.within.section.count_fits c.read_fields-fields.ensures in
     let found = subst (λ (found : Option Route). Finds c.of.result.now found) c.in-Some.is c.in_ok-route.ensures in
-    let refused = refused_route head c.args.found.now.headers c.read_fields-fields.result c.of-2.result.now c.in-Some.route
+    let refused = refused_route head c.args.found.now.headers c.read_fields-fields.result c.of-2.result.now
+    c.in-Some.route
     c.in-Err-refuse_by_route.status read c.in-Ok.ensures.refused
     (subst (λ (t : List ℕ). Finds t (Some c.in-Some.route)) (c.of.ensures ∙ is.path) found) (c.of-2.ensures ∙ is.method)
     c.in-Err-refuse_by_route.ensures in

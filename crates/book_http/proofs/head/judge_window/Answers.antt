@@ -13,7 +13,8 @@ pub returns-in-Ok-Complete : goal.returns-in-Ok-Complete
 returns-in-Ok-Complete c =
     let found = rw c.in-Ok-Complete.field-0-is at c.in-Ok-Complete.ensures.complete in
     IfOk-weaker c.judge_head.result _ _
-    (λ judgement judged bytes is. window_judged c.args.window.now bytes c.parse_request.new.headers c.in-Ok-Complete.found
+    (λ judgement judged bytes is. window_judged c.args.window.now bytes c.parse_request.new.headers
+    c.in-Ok-Complete.found
     found.0 judgement is found.1 (judged found.0 found.1)) c.judge_head.ensures
 
 -- none has, and more bytes may come

@@ -9,4 +9,5 @@ pub returns : goal.returns
 unfolding phrase
 returns c =
     ap (λ text. text.now) c.unwrap_or.ensures ∙ unwrapped c.canonical_reason.result _
-    ∙ ap (λ (found : Option (List ℕ)). unwrap_or found []) (c.canonical_reason.ensures.value ∙ ap reason_phrase c.in-Ok.ensures.1)
+    ∙ ap (λ (found : Option (List ℕ)). unwrap_or found [])
+    (c.canonical_reason.ensures.value ∙ ap reason_phrase c.in-Ok.ensures.1)

@@ -11,4 +11,5 @@ returns c =
     (c.in_ok-add-5.ensures ∙ ap (with_route (codes "/income/{from}/{to}") Income)
     (c.in_ok-add-4.ensures ∙ ap (with_route (codes "/sheet/{day}") Sheet)
     (c.in_ok-add-3.ensures ∙ ap (with_route (codes "/trial/{day}") Trial)
-    (c.in_ok-add-2.ensures ∙ ap (with_route (codes "/status") Status) (c.in_ok-add.ensures ∙ ap (with_route (codes "/command") Command) c.new-router.ensures))))))
+    (c.in_ok-add-2.ensures ∙ ap (with_route (codes "/status") Status)
+    (c.in_ok-add.ensures ∙ ap (with_route (codes "/command") Command) c.new-router.ensures))))))

@@ -1,7 +1,7 @@
 use Rattle.std.proofs.lemmas.Result.{IfErr-weaker}
 use Rattle.book_lines.specs.RunClause.{at}
 use Rattle.book_serve.specs.Link.{IsServed}
-use Rattle.book_serve.specs.Serving.{EndsBehind}
+use Rattle.book_serve.specs.Serving.{EndsByRequest}
 use Rattle.book_serve.proofs.StatusLemmas.{refused_answered}
 use Rattle.book_serve.proofs.ServingLemmas.{step_last, step_refused, step_end, step_cut, step_failed, step_stopped}
 use Rattle.book_serve.proofs.serving.serve_next.Goals as goal
@@ -16,7 +16,7 @@ returns-in-Ok-Request-clause-ended g c =
     let old = at c.args.machine.now (g.O.Sink.written c.args.output.now) (g.M.Responder.faults c.args.keeper.now) in
     let new = at c.answer_request.new.machine (g.O.Sink.written c.answer_request.new.output)
     (g.M.Responder.faults c.answer_request.new.keeper) in
-    IfErr-weaker c.answer_request.result (EndsBehind g.M.Responder.answers old c.in-Ok-Request.request new)
+    IfErr-weaker c.answer_request.result (EndsByRequest g.M.Responder.answers old c.in-Ok-Request.request new)
     (IsServed g.M.Responder.answers 1 c.args.inbox.now (g.S.Source.left c.args.input.now)
     (g.S.Source.left c.next_request.new.link) old new)
     (λ end h. step_last g.M.Responder.answers c.args.inbox.now c.next_request.new.inbox
