@@ -5,9 +5,13 @@
 
 ghost use Rattle.sqlite.specs.Files.{over_files};
 ghost use Rattle.sqlite.specs.WalFiles.{image_at};
-ghost use Rattle.std.specs.Prelude.{◌≡◌, ◌≢◌, ◌↔◌, IfOk, MatchResult, None, OnErr};
+ghost use Rattle.std.specs.Prelude.{◌≡◌, ◌≢◌, ◌↔◌, IfOk, IfSome, MatchResult, None, OnErr};
 ghost use Rattle.std.specs.IoError.{error_kind};
 ghost use Rattle.book_keeper.specs.Faults.{Rose};
+ghost use Rattle.book_ports.specs.OverTcp.{accepted_by, left_of, links_of, port_of, read_faults_of, written_to};
+ghost use Rattle.book_ports.specs.OverTcp.{write_faults_of};
+ghost use Rattle.book_serve.specs.Served.{link_reports};
+ghost use Rattle.book_app.specs.ServeClause.{ServeClause, across};
 ghost use Rattle.book_app.specs.StatusClause.{HasBookPath, IsStreamRun};
 ghost use Rattle.book_app.specs.Words.{AreNoWords, given_serve, given_work};
 ghost use Rattle.book_sqlite.specs.KeeperInSqlite.{HoldsRows, is_sure};
@@ -45,6 +49,10 @@ fn run_in<T: Start>(
     ensures path { IfOk words (λ given. HasBookPath given.items result.1.path result.0.status) }
     ensures memory { OnErr words (result.0.status ≢ Status.Usage → result.0.status ≡ Status.Memory) }
     ensures keeper_fault { result.0.status ≡ Status.KeeperFault → Rose 0 result.1.faults }
+    ensures serve { IfSome (given_serve (λ given. given.items) words) (λ serve. ServeClause serve
+        (over_file (image_at T.Start) (is_sure over_files) (HoldsRows over_files) (λ keeper. keeper.faults) result.1)
+        (link_reports left_of written_to read_faults_of write_faults_of)
+        (across links_of links_of accepted_by port_of ports.old ports.new) result.0.status) }
     ensures other_words { given_serve (λ given. given.items) words ≡ None → ports.new ≡ ports.old }
     ensures open_links { ports.new.open_links ≡ ports.old.open_links }
     ensures port_fault { result.0.status ≡ Status.PortFault → Rose ports.old.faults ports.new.faults }

@@ -15,7 +15,7 @@ use Rattle.book_serve.specs.declared.serve_end.ServeEnd.{ServeEnd}
 use Rattle.book_serve.specs.declared.serve_end.ServeEnd.TheVariants as end
 use Rattle.book_app.specs.Numbers.{status_served, status_unopened}
 use Rattle.book_app.specs.Respond.{kept_answers}
-use Rattle.book_app.specs.ServeClause.{HasServed, NoneCame, Porting, ServeClause}
+use Rattle.book_app.specs.ServeClause.{HasServedBook, NoneAccepted, PortsSeen, ServeClause}
 use Rattle.book_app.specs.StatusClause.{HasLed, HoldsAsBefore, Keeping, NowOpensTo, OpenedTo, ServedRows}
 use Rattle.book_app.specs.Words.{named_number, named_serve}
 use Rattle.book_app.specs.declared.status.Status.{Status}
@@ -41,8 +41,8 @@ module _ {L : Type 0} (of : LinkReports L) where
       leads-through (machine_kept old) (machine_kept is.0) (machine_kept new)
       (served-link-leads old before link is.0 is.1 is.2) (served-leads is.0 is.1 more new after is.3)
 
-module _ {L : Type 0} (serve : ServeWords) (keeping : Keeping) (of : LinkReports L) (ports : Porting L) where
-  has_led : (ended : ServeEnd) → HasServed serve keeping of ports ended → HasLed keeping
+module _ {L : Type 0} (serve : ServeWords) (keeping : Keeping) (of : LinkReports L) (ports : PortsSeen L) where
+  has_led : (ended : ServeEnd) → HasServedBook serve keeping of ports ended → HasLed keeping
   has_led ended h = record {
     first = machine_kept h.first;
     last = machine_kept h.last;
@@ -54,14 +54,14 @@ module _ {L : Type 0} (serve : ServeWords) (keeping : Keeping) (of : LinkReports
 
   -- what became of the keeper's rows where links were served
   pub served_rows :
-      (ended : ServeEnd) → HasServed serve keeping of ports ended → ServedRows keeping (status_served ended)
+      (ended : ServeEnd) → HasServedBook serve keeping of ports ended → ServedRows keeping (status_served ended)
   served_rows end.Done h = has_led end.Done h
   served_rows end.PortFault h = has_led end.PortFault h
   served_rows end.OutOfMemory h = inr (has_led end.OutOfMemory h)
 
   -- what became of the links
   pub served_clause :
-      (ended : ServeEnd) → HasServed serve keeping of ports ended
+      (ended : ServeEnd) → HasServedBook serve keeping of ports ended
       → ServeClause serve keeping of ports (status_served ended)
   served_clause end.Done h = h
   served_clause end.PortFault h = h
@@ -69,7 +69,7 @@ module _ {L : Type 0} (serve : ServeWords) (keeping : Keeping) (of : LinkReports
 
   -- where no book was opened, no link was accepted, and the rows are as they were
   pub unopened_links :
-      (why : OpenError) → NoneCame ports → HoldsAsBefore keeping
+      (why : OpenError) → NoneAccepted ports → HoldsAsBefore keeping
       → ServeClause serve keeping of ports (status_unopened why)
   unopened_links error.Keeper none held = none
   unopened_links (error.BadRows kind id) none held = none
@@ -84,7 +84,7 @@ module _ {L : Type 0} (serve : ServeWords) (keeping : Keeping) (of : LinkReports
       (server_state first faults ports.coming_before ports.closed_before ports.accepted_before ports.port_before)
       (server_state last keeping.faults_after ports.coming_after ports.closed_after ports.accepted_after
       ports.port_after) ended
-      → HasServed serve keeping of ports ended
+      → HasServedBook serve keeping of ports ended
   has_served first last faults ended same opened kept served = record {
     first = first;
     last = last;
@@ -99,7 +99,7 @@ module _ {L : Type 0} (serve : ServeWords) (keeping : Keeping) (of : LinkReports
   }
 
 -- ports that were not asked
-pub none_came : {L : Type 0} (coming closed : Option (List L)) (accepted port : ℕ) → NoneCame (record {
+pub none_accepted : {L : Type 0} (coming closed : Option (List L)) (accepted port : ℕ) → NoneAccepted (record {
   coming_before = coming;
   coming_after = coming;
   closed_before = closed;
@@ -109,7 +109,7 @@ pub none_came : {L : Type 0} (coming closed : Option (List L)) (accepted port : 
   port_before = port;
   port_after = port;
 })
-none_came coming closed accepted port = record { coming = refl; closed = refl; accepted = refl; port = refl }
+none_accepted coming closed accepted port = record { coming = refl; closed = refl; accepted = refl; port = refl }
 
 -- a fault of the ports is said where they failed alone
 pub port_end : (ended : ServeEnd) → status_served ended ≡ PortFault → ended ≡ end.PortFault

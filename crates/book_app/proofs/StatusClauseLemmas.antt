@@ -1,12 +1,13 @@
 -- From what holds at a run's end to what holds when the program's work has ended.
 use Rattle.std.proofs.Common.{◌≡◌, ◌≢◌, ℕ, Bool, List, [], Option, Some, None, IsTrue, inl, inr}
-use Rattle.std.proofs.Common.{Result, Ok, Err, IfOk, refl, sym, subst, ◌∙◌, arith}
+use Rattle.std.proofs.Common.{Result, Ok, Err, IfOk, IfSome, refl, sym, subst, ◌∙◌, arith}
 use Rattle.book_keeper.proofs.StreamLemmas.{Are-some, Wrote-nil}
 use Rattle.book_keeper.specs.declared.row.Row.{Row}
 use Rattle.book_lines.specs.RunClause.{at, RunClause}
 use Rattle.book_lines.specs.declared.running.RunEnd.{RunEnd}
 use Rattle.book_lines.specs.declared.running.RunEnd.TheVariants as end
 use Rattle.book_opening.specs.Opening.{WasRead}
+use Rattle.book_engine.specs.Books.{machine_kept}
 use Rattle.book_engine.specs.Kept.{Kept}
 use Rattle.book_engine.specs.Machine.{Machine}
 use Rattle.book_engine.specs.Opening.{Opened}
@@ -18,6 +19,9 @@ use Rattle.book_engine.specs.declared.fault.OpenError.TheVariants as error
 use Rattle.book_lines.specs.WholeClause.{WholeClause}
 use Rattle.book_app.specs.Machine.{answers, import_answers}
 use Rattle.book_app.specs.Numbers.{status_of, status_shown, status_unopened}
+use Rattle.book_serve.specs.Served.{LinkReports}
+use Rattle.book_serve.specs.declared.serve_end.ServeEnd.{ServeEnd}
+use Rattle.book_app.specs.ServeClause.{HasServedBook, PortsSeen, ServeClause}
 use Rattle.book_app.specs.StatusClause.{IsBookRun, IsLineRun, IsSession, IsUntouched, Keeping, NowOpensTo, OpenedTo}
 use Rattle.book_app.specs.StatusClause.{HasBookPath, HoldsAsBefore, ImportClause, IsImported, IsImportRun, IsShownAs}
 use Rattle.book_app.specs.StatusClause.{HasLed, IsStreamRun, SampleClause, ServedRows, StatusClause, WorkClause, over}
@@ -470,6 +474,63 @@ module _ (keeping : Keeping) (held : List Row → Type 0)
     is_unknown = it.is_unknown;
     run = book_run_held work it.input_before it.input_after _ _ status it.run;
   }
+
+  -- and what holds of the links
+  book_held : {L : Type 0} (serve : ServeWords) (of : LinkReports L) (ports : PortsSeen L) (ended : ServeEnd)
+      → HasServedBook serve keeping of ports ended → HasServedBook serve (with_held keeping held) of ports ended
+  book_held serve of ports ended it = record {
+    first = it.first;
+    last = it.last;
+    opened = opened_held (Opens (machine_kept it.first)) it.opened;
+    served = it.served;
+    kept = it.kept;
+  }
+
+  serve_held : {L : Type 0} (serve : ServeWords) (of : LinkReports L) (ports : PortsSeen L) (status : Status)
+      → ServeClause serve keeping of ports status → ServeClause serve (with_held keeping held) of ports status
+  serve_held serve of ports Done h = book_held serve of ports _ h
+  serve_held serve of ports PortFault h = book_held serve of ports _ h
+  serve_held serve of ports Memory (inl h) = inl (h.0, rows_held h.1)
+  serve_held serve of ports Memory (inr h) = inr (book_held serve of ports _ h)
+  serve_held serve of ports Usage h = h
+  serve_held serve of ports KeeperFault h = h
+  serve_held serve of ports (BadRows kind id) h = h
+  serve_held serve of ports (UnsoundBook kind id) h = h
+  serve_held serve of ports InputFault h = absurd h
+  serve_held serve of ports OutputFault h = absurd h
+  serve_held serve of ports InputLimit h = absurd h
+
+  pub serves_held :
+      {L : Type 0} (words : Option ServeWords) (of : LinkReports L) (ports : PortsSeen L) (status : Status)
+      → IfSome words (λ serve. ServeClause serve keeping of ports status)
+      → IfSome words (λ serve. ServeClause serve (with_held keeping held) of ports status)
+  serves_held None of ports status h = h
+  serves_held (Some serve) of ports status h = serve_held serve of ports status h
+
+-- what holds of the links, seen with other rows that the keeper held before, if it held these, and with the count of
+-- faults that it had
+pub serve_seen :
+    {L : Type 0} (keeping : Keeping) (held : List Row → Type 0) (faults : ℕ) (words : Option ServeWords)
+    (of : LinkReports L) (ports : PortsSeen L) (status : Status)
+    → keeping.faults_before ≡ faults → (IsTrue keeping.sure → (rows : List Row) → held rows → keeping.held rows)
+    → IfSome words (λ serve. ServeClause serve keeping of ports status)
+    → IfSome words (λ serve. ServeClause serve (record {
+      sure = keeping.sure;
+      held = held;
+      holds = keeping.holds;
+      faults_before = faults;
+      faults_after = keeping.faults_after;
+    }) of ports status)
+serve_seen keeping held faults words of ports status same holds clause =
+    subst
+    (λ (n : ℕ). IfSome words (λ serve. ServeClause serve (record {
+      sure = keeping.sure;
+      held = held;
+      holds = keeping.holds;
+      faults_before = n;
+      faults_after = keeping.faults_after;
+    }) of ports status))
+    same (serves_held keeping held holds words of ports status clause)
 
 -- a run, seen with other rows that the keeper held before, if it held these, and with the count of faults that it had
 pub stream_run_seen :

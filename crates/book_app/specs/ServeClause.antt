@@ -15,7 +15,7 @@ use Rattle.book_app.specs.declared.words.ServeWords.{ServeWords}
 
 -- What is seen of ports before and after: the links to come and the closed ones, as far as they report them, how many
 -- links they have accepted, and the port of the last one.
-pub record Porting (L : Type 0) : Type 0 where
+pub record PortsSeen (L : Type 0) : Type 0 where
   pub coming_before : Option (List L)
   pub coming_after : Option (List L)
   pub closed_before : Option (List L)
@@ -27,7 +27,7 @@ pub record Porting (L : Type 0) : Type 0 where
 
 -- What is seen of these ports, before and after.
 abbrev pub across :
-    {P L : Type 0} → (P → Option (List L)) → (P → Option (List L)) → (P → ℕ) → (P → ℕ) → P → P → Porting L
+    {P L : Type 0} → (P → Option (List L)) → (P → Option (List L)) → (P → ℕ) → (P → ℕ) → P → P → PortsSeen L
 across coming closed accepted port before after = record {
   coming_before = coming before;
   coming_after = coming after;
@@ -40,7 +40,7 @@ across coming closed accepted port before after = record {
 }
 
 -- No link was accepted.
-pub record NoneCame {L : Type 0} (ports : Porting L) : Type 0 where
+pub record NoneAccepted {L : Type 0} (ports : PortsSeen L) : Type 0 where
   pub coming : ports.coming_after ≡ ports.coming_before
   pub closed : ports.closed_after ≡ ports.closed_before
   pub accepted : ports.accepted_after ≡ ports.accepted_before
@@ -49,7 +49,7 @@ pub record NoneCame {L : Type 0} (ports : Porting L) : Type 0 where
 -- Links were served up to an end, at most as many as the words say and at their port: from an engine with the machine
 -- as which the keeper's rows opened, to one with the machine as which its rows open now. The engine answers requests as
 -- its machine does.
-pub record HasServed {L : Type 0} (serve : ServeWords) (keeping : Keeping) (of : LinkReports L) (ports : Porting L)
+pub record HasServedBook {L : Type 0} (serve : ServeWords) (keeping : Keeping) (of : LinkReports L) (ports : PortsSeen L)
     (ended : ServeEnd) : Type 0 where
   pub first : Kept
   pub last : Kept
@@ -62,15 +62,15 @@ pub record HasServed {L : Type 0} (serve : ServeWords) (keeping : Keeping) (of :
   pub kept : NowOpensTo keeping (machine_kept last)
 
 -- With the words of `serve`, by the status. The status is none of the last three.
-abbrev pub ServeClause : {L : Type 0} → ServeWords → Keeping → LinkReports L → Porting L → Status → Type 0
-ServeClause serve keeping of ports Done = HasServed serve keeping of ports end.Done
-ServeClause serve keeping of ports PortFault = HasServed serve keeping of ports end.PortFault
+abbrev pub ServeClause : {L : Type 0} → ServeWords → Keeping → LinkReports L → PortsSeen L → Status → Type 0
+ServeClause serve keeping of ports Done = HasServedBook serve keeping of ports end.Done
+ServeClause serve keeping of ports PortFault = HasServedBook serve keeping of ports end.PortFault
 ServeClause serve keeping of ports Memory =
-    (NoneCame ports × HoldsAsBefore keeping) ⊎ HasServed serve keeping of ports end.OutOfMemory
-ServeClause serve keeping of ports Usage = NoneCame ports
-ServeClause serve keeping of ports KeeperFault = NoneCame ports
-ServeClause serve keeping of ports (BadRows kind id) = NoneCame ports
-ServeClause serve keeping of ports (UnsoundBook kind id) = NoneCame ports
+    (NoneAccepted ports × HoldsAsBefore keeping) ⊎ HasServedBook serve keeping of ports end.OutOfMemory
+ServeClause serve keeping of ports Usage = NoneAccepted ports
+ServeClause serve keeping of ports KeeperFault = NoneAccepted ports
+ServeClause serve keeping of ports (BadRows kind id) = NoneAccepted ports
+ServeClause serve keeping of ports (UnsoundBook kind id) = NoneAccepted ports
 ServeClause serve keeping of ports InputFault = ⊥
 ServeClause serve keeping of ports OutputFault = ⊥
 ServeClause serve keeping of ports InputLimit = ⊥

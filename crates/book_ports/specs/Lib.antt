@@ -1,3 +1,3 @@
-pub mod Opening
+pub mod Accepting
 pub mod OverTcp
 pub mod PortsInMemory

@@ -1,6 +1,6 @@
 ghost use Rattle.std.specs.Prelude.{◌≡◌, ℕ, ◌+◌, ◌<◌, [], List, Ok, Option, Some, None, IfOk, IfSome, OnErr};
 ghost use Rattle.book_keeper.specs.Faults.{HasCause};
-ghost use Rattle.book_ports.specs.Opening.{HasNothing, IsFirst, with_last};
+ghost use Rattle.book_ports.specs.Accepting.{HasNothing, IsFirst, with_last};
 
 use crate::Link;
 use book_keeper::Failed;
@@ -29,7 +29,7 @@ pub trait Ports {
 
     /// Gives the next link that comes to the port, of which nothing was read or written yet and which has counted no
     /// fault; None where no more links come, which ports that do not report their links never say.
-    /// Failed: the count of faults rose, and nothing else changed. A call that succeeds leaves the count.
+    /// Failed: the count of faults rose, and no link was given. A call that succeeds leaves the count.
     fn accept(&mut self, port: u16) -> Result<Option<Self::L>, Failed>
         ensures port { IfOk result (λ found. IfSome found (λ _. port_given self.new ≡ port)) }
         ensures opened { IfOk result (λ found. IfSome found (λ _. open_links self.new ≡ open_links self.old + 1)) }

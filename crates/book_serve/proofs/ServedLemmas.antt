@@ -8,9 +8,9 @@ use Rattle.std.proofs.lemmas.List.Elements.{All-append, All-cons, All-nil}
 use Rattle.book_keeper.specs.Faults.{Rose}
 use Rattle.book_keeper.specs.Stream.{Are}
 use Rattle.book_lines.specs.RunClause.{at}
-use Rattle.book_ports.specs.Opening.{HasNothing, IsFirst, with_last}
+use Rattle.book_ports.specs.Accepting.{HasNothing, IsFirst, with_last}
 use Rattle.book_serve.specs.Exchange.{RequestRelation}
-use Rattle.book_serve.specs.Link.{IsLinkServed}
+use Rattle.book_serve.specs.Link.{HasAnsweredLink}
 use Rattle.book_serve.specs.declared.link_end.LinkEnd.TheVariants as end
 use Rattle.book_serve.specs.Served.{LinkReports, ServerState, ServedLink, ServedInTurn, HadMemory, PortAfter}
 use Rattle.book_serve.specs.Served.{HasServedLinks}
@@ -162,7 +162,7 @@ pub served_link : {S L : Type 0} (answers : RequestRelation S) (of : LinkReports
     (link : ServedLink L)
     (coming closed : Option (List L)) (count given : ℕ)
     → HasNothing (of.written link.accepted) → of.read_faults link.accepted ≡ 0 → of.write_faults link.accepted ≡ 0
-    → IsLinkServed answers (of.left link.accepted) (of.left link.closed)
+    → HasAnsweredLink answers (of.left link.accepted) (of.left link.closed)
     (at a.machine (of.written link.accepted) a.faults)
     (at b.machine (of.written link.closed) b.faults) link.end
     → (link.end ≡ end.ReadFault → Rose (of.read_faults link.accepted) (of.read_faults link.closed))

@@ -16,7 +16,7 @@ use Rattle.book_http.specs.Exchange.{IsNext}
 use Rattle.book_http.specs.Response.{response, refusal}
 use Rattle.book_http.proofs.ExchangeLemmas.{IsRequest-append, IsRefused-append}
 use Rattle.book_serve.specs.Exchange.{RequestRelation, IsResponse}
-use Rattle.book_serve.specs.Link.{IsExchange, HasAnswered, IsServed, IsLinkServed}
+use Rattle.book_serve.specs.Link.{IsExchange, HasAnswered, IsServed, HasAnsweredLink}
 use Rattle.book_serve.specs.Serving.{response_of, GaveResponse, HasReplied, EndsByRequest, EndsByRefusal}
 use Rattle.book_serve.specs.Serving.{HasAnsweredNext, HasServed}
 use Rattle.book_serve.specs.declared.link_end.LinkEnd.{LinkEnd}
@@ -339,10 +339,10 @@ HasServed-step answers kept then' before between after a b c count p q = record 
 }
 
 -- the most requests that are answered
-pub IsLinkServed-most : {S : Type 0} (answers : RequestRelation S) (kept : List ℕ) (before after : Option (List ℕ))
+pub HasAnsweredLink-most : {S : Type 0} (answers : RequestRelation S) (kept : List ℕ) (before after : Option (List ℕ))
     (a b : Moment S) (count : ℕ) → HasServed answers kept before after a b count → count ≡ 1000000
-    → IsLinkServed answers before after a b Limit
-IsLinkServed-most answers kept before after a b count p full =
+    → HasAnsweredLink answers before after a b Limit
+HasAnsweredLink-most answers kept before after a b count p full =
     let left = Are-some after in record {
       read = p.read;
       left = left.0;

@@ -164,6 +164,6 @@ pub record IsServed {S : Type 0} (answers : RequestRelation S) (most : ℕ) (beg
   pub clause : LinkClause answers most old (begun ++ read) left text new end
 
 -- A link was served: at most a million of its requests are answered.
-abbrev pub IsLinkServed :
+abbrev pub HasAnsweredLink :
     {S : Type 0} → RequestRelation S → Option (List ℕ) → Option (List ℕ) → Moment S → Moment S → LinkEnd → Type 0
-IsLinkServed answers before after old new end = IsServed answers 1000000 [] before after old new end
+HasAnsweredLink answers before after old new end = IsServed answers 1000000 [] before after old new end

@@ -3,7 +3,7 @@ use Rattle.std.specs.Prelude.{◌≡◌, ℕ, ◌+◌, ◌<◌, ◌≤◌, ◌�
 use Rattle.std.specs.Prelude.{length, All}
 use Rattle.book_lines.specs.RunClause.{at}
 use Rattle.book_serve.specs.Exchange.{RequestRelation}
-use Rattle.book_serve.specs.Link.{IsLinkServed}
+use Rattle.book_serve.specs.Link.{HasAnsweredLink}
 use Rattle.book_serve.specs.declared.link_end.LinkEnd.{LinkEnd}
 use Rattle.book_serve.specs.declared.link_end.LinkEnd.TheVariants as end
 use Rattle.book_serve.specs.declared.serve_end.ServeEnd.{ServeEnd}
@@ -56,7 +56,7 @@ pub record ServedLink (L : Type 0) : Type 0 where
 pub record IsServedLink {S L : Type 0} (answers : RequestRelation S) (of : LinkReports L) (old : S) (before : ℕ)
     (link : ServedLink L) (new : S) (after : ℕ) : Type 0 where
   pub unwritten : (bytes : List ℕ) → of.written link.accepted bytes → bytes ≡ []
-  pub served : IsLinkServed answers (of.left link.accepted) (of.left link.closed)
+  pub served : HasAnsweredLink answers (of.left link.accepted) (of.left link.closed)
       (at old (of.written link.accepted) before) (at new (of.written link.closed) after) link.end
   pub read_fault : link.end ≡ end.ReadFault → 0 < of.read_faults link.closed
   pub no_read_fault : (link.end ≡ end.ReadFault → ⊥) → of.read_faults link.closed ≡ 0

@@ -1,7 +1,7 @@
 ghost use Rattle.std.specs.Prelude.{◌≡◌, ◌≢◌, Err, IfErr, OnOk};
 ghost use Rattle.book_keeper.specs.Faults.{Rose};
 ghost use Rattle.book_lines.specs.RunClause.{at};
-ghost use Rattle.book_serve.specs.Link.{IsLinkServed};
+ghost use Rattle.book_serve.specs.Link.{HasAnsweredLink};
 ghost use Rattle.book_serve.specs.Served.{EndsServing, HasServedNext, IsServing, server_state, link_reports};
 
 use crate::{LinkEnd, Responder, ServeEnd, serve_link};
@@ -21,7 +21,7 @@ fn serve_whole<W, K, M: Responder<W, K>, L: Link>(
     requires { M.stands machine.old keeper.old }
     ensures served { let before = at machine.old (L.written link) (M.faults keeper.old) in
         let after = at machine.new (L.written result.0) (M.faults keeper.new) in
-        IsLinkServed M.answers (L.left link) (L.left result.0) before after result.1 }
+        HasAnsweredLink M.answers (L.left link) (L.left result.0) before after result.1 }
     ensures read_fault { result.1 ≡ LinkEnd.ReadFault → Rose (L.Source.faults link) (L.Source.faults result.0) }
     ensures no_read_fault { result.1 ≢ LinkEnd.ReadFault → L.Source.faults result.0 ≡ L.Source.faults link }
     ensures write_fault { result.1 ≡ LinkEnd.WriteFault → Rose (L.Sink.faults link) (L.Sink.faults result.0) }

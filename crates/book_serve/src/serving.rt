@@ -1,7 +1,7 @@
 ghost use Rattle.std.specs.Prelude.{◌≡◌, ◌≢◌, [], Err, IfErr, OnOk};
 ghost use Rattle.book_keeper.specs.Faults.{Rose};
 ghost use Rattle.book_lines.specs.RunClause.{at};
-ghost use Rattle.book_serve.specs.Link.{IsLinkServed, IsServed};
+ghost use Rattle.book_serve.specs.Link.{HasAnsweredLink, IsServed};
 ghost use Rattle.book_serve.specs.Serving.{HasAnsweredNext};
 
 use crate::answer::{answer_request, refuse};
@@ -62,7 +62,7 @@ pub fn serve_link<W, K, M: Responder<W, K>, S: Source, O: Sink>(
     requires { M.stands machine.old keeper.old }
     ensures served { let before = at machine.old (O.written output.old) (M.faults keeper.old) in
         let after = at machine.new (O.written output.new) (M.faults keeper.new) in
-        IsLinkServed M.answers (S.left input.old) (S.left input.new) before after result }
+        HasAnsweredLink M.answers (S.left input.old) (S.left input.new) before after result }
     ensures read_fault { result ≡ LinkEnd.ReadFault → Rose (S.faults input.old) (S.faults input.new) }
     ensures no_read_fault { result ≢ LinkEnd.ReadFault → S.faults input.new ≡ S.faults input.old }
     ensures write_fault { result ≡ LinkEnd.WriteFault → Rose (O.faults output.old) (O.faults output.new) }

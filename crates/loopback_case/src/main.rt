@@ -1,6 +1,6 @@
-//! Shows that the links of `TcpPorts` come from this machine and that `serve` answers on them: within one process two
-//! clients connect, each sends a request, the server serves both links, and each client reads its response and the end
-//! of its link. The first request is answered with its own body. The second is refused, and behind it more comes than
+//! Shows that `serve` answers on the links of `TcpPorts`, over sockets of this machine: within one process two clients
+//! connect, each sends a request, the server serves both links, and each client reads its response and the end of its
+//! link. The first request is answered with its own body. The second is refused, and behind it more comes than
 //! the server reads at once: what is left is read at the link's end, so that the client has the whole response. It
 //! prints what each client read.
 #![tactic(auto)]

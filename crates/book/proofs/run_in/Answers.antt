@@ -1,4 +1,4 @@
-use Rattle.book_app.proofs.StatusClauseLemmas.{stream_run_seen}
+use Rattle.book_app.proofs.StatusClauseLemmas.{serve_seen, stream_run_seen}
 use Rattle.book.specs.FileRun.{BeginsWith}
 use Rattle.book.proofs.FileLemmas.{of_rows, rose_from_none}
 use Rattle.book.proofs.run_in.Goals as goal
@@ -17,6 +17,12 @@ returns g c = record {
   memory = c.run_program-ended.ensures.memory;
   keeper_fault = λ fault.
       rose_from_none _ _ c.at-keeper.ensures.faults (c.run_program-ended.ensures.keeper_fault fault);
+  serve =
+      serve_seen _ (BeginsWith _) 0 _ _ _ _ c.at-keeper.ensures.faults
+      (λ still.
+      of_rows _ _ (c.at-keeper.ensures.found (c.run_program-ended.ensures.sure still))
+      (c.at-keeper.ensures.empty (c.run_program-ended.ensures.sure still)))
+      c.run_program-ended.ensures.serve;
   other_words = c.run_program-ended.ensures.other_words;
   open_links = c.run_program-ended.ensures.open_links;
   port_fault = c.run_program-ended.ensures.port_fault;

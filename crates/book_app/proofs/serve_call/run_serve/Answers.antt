@@ -5,7 +5,7 @@ use Rattle.book_app.specs.Numbers.{status_served}
 use Rattle.book_app.specs.ServeClause.{ServeClause, across}
 use Rattle.book_app.specs.StatusClause.{ServedRows, over}
 use Rattle.book_app.specs.declared.status.Status.{Status}
-use Rattle.book_app.proofs.ServeLemmas.{has_served, no_port_unopened, none_came, port_end, served_clause, served_rows}
+use Rattle.book_app.proofs.ServeLemmas.{has_served, no_port_unopened, none_accepted, port_end, served_clause, served_rows}
 use Rattle.book_app.proofs.ServeLemmas.{unopened_links}
 use Rattle.book_app.proofs.StatusClauseLemmas.{unopened_rows}
 use Rattle.book_app.proofs.serve_call.run_serve.Goals as goal
@@ -15,14 +15,14 @@ pub returns-in_default-clause-rows : goal.returns-in_default-clause-rows
 returns-in_default-clause-rows g c = λ still rows held. held
 
 pub returns-in_default-clause-serve : goal.returns-in_default-clause-serve
-returns-in_default-clause-serve g c = none_came _ _ _ _
+returns-in_default-clause-serve g c = none_accepted _ _ _ _
 
 -- there was no memory before the keeper was opened
 pub returns-in_default-routes_after-clause-rows : goal.returns-in_default-routes_after-clause-rows
 returns-in_default-routes_after-clause-rows g c = inl (λ still rows held. held)
 
 pub returns-in_default-routes_after-clause-serve : goal.returns-in_default-routes_after-clause-serve
-returns-in_default-routes_after-clause-serve g c = inl (none_came _ _ _ _, λ still rows held. held)
+returns-in_default-routes_after-clause-serve g c = inl (none_accepted _ _ _ _, λ still rows held. held)
 
 -- links were served
 pub returns-in-Ok-open_book-clause-rows : goal.returns-in-Ok-open_book-clause-rows
@@ -77,7 +77,7 @@ returns-clause-serve g c =
     let ports = across g.P.Ports.coming g.P.Ports.closed g.P.Ports.accepted_links g.P.Ports.port_given
     c.args.ports.now c.args.ports.now in
     subst (λ (s : Status). ServeClause c.args.serve keeping of ports s) (sym c.status_unopened.ensures)
-    (unopened_links c.args.serve keeping of ports c.in-Err.error (none_came _ _ _ _) c.open_book.ensures.rows)
+    (unopened_links c.args.serve keeping of ports c.in-Err.error (none_accepted _ _ _ _) c.open_book.ensures.rows)
 
 pub returns-clause-port_fault : goal.returns-clause-port_fault
 returns-clause-port_fault g c = λ is. absurd (no_port_unopened c.in-Err.error (sym c.status_unopened.ensures ∙ is))

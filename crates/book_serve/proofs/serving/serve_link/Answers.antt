@@ -3,7 +3,7 @@ use Rattle.book_lines.specs.RunClause.{at}
 use Rattle.book_serve.specs.Serving.{HasServed}
 use Rattle.book_serve.specs.declared.link_end.LinkEnd.TheVariants.{ReadFault, WriteFault}
 use Rattle.book_serve.proofs.LinkLemmas.{IsServed-behind}
-use Rattle.book_serve.proofs.ServingLemmas.{HasServed-nil, HasServed-step, IsLinkServed-most}
+use Rattle.book_serve.proofs.ServingLemmas.{HasServed-nil, HasServed-step, HasAnsweredLink-most}
 use Rattle.book_serve.proofs.serving.serve_link.Goals as goal
 
 pub requests-init : goal.requests-init
@@ -58,5 +58,5 @@ returns-clause-served g c =
     let full : c.requests.count ≡ 1000000 =
     let done = c.requests-test.false in
     let few = c.requests.invariant.few in omega (arith, done, few) in
-    IsLinkServed-most g.M.Responder.answers c.requests.inbox (g.S.Source.left c.args.input.now)
+    HasAnsweredLink-most g.M.Responder.answers c.requests.inbox (g.S.Source.left c.args.input.now)
     (g.S.Source.left c.requests.input) start now c.requests.count c.requests.invariant.served full
