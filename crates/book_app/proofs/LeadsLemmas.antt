@@ -1,5 +1,5 @@
 -- The requests of a link lead from a state to another by the steps of their answers.
-use Rattle.std.proofs.Common.{◌≡◌, ◌⊎◌, ℕ, List, [], ◌∷◌, ◌++◌, inl, inr, refl, sym, ap, ◌∙◌, subst}
+use Rattle.std.proofs.Common.{◌≡◌, ℕ, List, [], ◌∷◌, ◌++◌, inl, inr, refl, ap, subst}
 use Rattle.book_command.specs.declared.command.Command.{Command}
 use Rattle.book_lines.specs.Marks.{Mark, Answered, Memory, Keeper}
 use Rattle.book_lines.specs.RunClause.{Moment}
@@ -7,7 +7,7 @@ use Rattle.book_engine.specs.Books.{machine_kept}
 use Rattle.book_engine.specs.Kept.{Kept}
 use Rattle.book_engine.specs.Machine.{Broken, Done, Machine, Reply, step}
 use Rattle.book_http.specs.declared.next.Request.{Request}
-use Rattle.book_serve.specs.Exchange.{Exchange, RequestRelation}
+use Rattle.book_serve.specs.Exchange.{Exchange}
 use Rattle.book_serve.specs.Link.{HasAnswered, HasCutResponse, HasDone, LinkClause}
 use Rattle.book_serve.specs.Statuses.{mark_of}
 use Rattle.book_serve.specs.declared.link_end.LinkEnd.{LinkEnd}

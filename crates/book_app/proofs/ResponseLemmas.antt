@@ -22,7 +22,7 @@ use Rattle.book_requests.specs.Requests.{RequestAsks}
 use Rattle.book_serve.specs.Exchange.{IsResponse}
 use Rattle.book_serve.specs.Statuses.{mark_of}
 use Rattle.book_wire.specs.Asked.{Asked, Asks, NotCommand, NotJson, asked_of_fault}
-use Rattle.book_app.specs.Machine.{IsReply, Responds, status_of_asked, status_of_outcome}
+use Rattle.book_app.specs.Machine.{IsReply, status_of_asked, status_of_outcome}
 use Rattle.book_app.specs.Respond.{IsOutcomeResponse, IsResponseOf, kept_answers}
 use Rattle.book_app.proofs.ReplyLemmas.{handed_on}
 

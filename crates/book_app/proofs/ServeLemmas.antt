@@ -1,12 +1,10 @@
 -- From what holds of links that were served to what holds when the program's work has ended.
-use Rattle.std.proofs.Common.{◌≡◌, ◌≢◌, ℕ, List, [], ◌∷◌, Option, Some, None, IsTrue, inl, inr, refl, sym, ap, ◌∙◌}
+use Rattle.std.proofs.Common.{◌≡◌, ℕ, List, [], ◌∷◌, Option, Some, None, inl, inr, refl, ap}
 use Rattle.std.proofs.Common.{subst}
-use Rattle.std.specs.Prelude.{Err, IfSome}
-use Rattle.book_keeper.specs.declared.row.Row.{Row}
+use Rattle.std.specs.Prelude.{IfSome}
 use Rattle.book_lines.specs.RunClause.{at}
 use Rattle.book_engine.specs.Books.{machine_kept}
 use Rattle.book_engine.specs.Kept.{Kept}
-use Rattle.book_engine.specs.Opening.{Opened}
 use Rattle.book_engine.specs.Opens.{Opens}
 use Rattle.book_engine.specs.declared.fault.OpenError.{OpenError}
 use Rattle.book_engine.specs.declared.fault.OpenError.TheVariants as error
@@ -18,7 +16,6 @@ use Rattle.book_app.specs.Respond.{kept_answers}
 use Rattle.book_app.specs.ServeClause.{HasServedBook, NoneAccepted, PortsSeen, ServeClause}
 use Rattle.book_app.specs.StatusClause.{HasLed, HoldsAsBefore, Keeping, NowOpensTo, OpenedTo, ServedRows}
 use Rattle.book_app.specs.Words.{named_number, named_serve}
-use Rattle.book_app.specs.declared.status.Status.{Status}
 use Rattle.book_app.specs.declared.status.Status.TheVariants.{PortFault}
 use Rattle.book_app.specs.declared.words.ServeWords.{ServeWords}
 use Rattle.book_app.proofs.LeadsLemmas.{To, leads-through, link-leads, stays}

@@ -1,5 +1,4 @@
-use Rattle.std.proofs.Common.{◌≡◌, ap, sym, subst, ◌∙◌, inl}
-use Rattle.book_engine.specs.Books.{machine_kept}
+use Rattle.std.proofs.Common.{ap, sym, subst, ◌∙◌, inl}
 use Rattle.book_serve.specs.Served.{link_reports}
 use Rattle.book_app.specs.Numbers.{status_served}
 use Rattle.book_app.specs.ServeClause.{ServeClause, across}
