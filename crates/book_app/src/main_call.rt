@@ -159,11 +159,12 @@ fn run_with_book<K: Keeper, S: Source, O: Sink, P: Ports>(
 /// links that come to PORT, one link after the other; it leaves the input and the output as they were. `sample NUMBER`
 /// writes the last two answers to the lines of the sample of NUMBER, from a new book in memory on; it leaves the keeper
 /// and the input as they were, and ends by Done, Memory or OutputFault. Usage comes exactly where the words are not
-/// these; Memory where it is out of memory before the input is read, or at any time in a sample and in `serve`;
-/// KeeperFault where the keeper failed before that, and its count of faults rose; BadRows and UnsoundBook where the
-/// rows are no rows of a sound book; over such rows `run`, `import` and `serve` end by one of these five alone.
-/// InputFault and OutputFault come exactly where the input or the output failed in this call, and PortFault exactly
-/// where the ports did.
+/// these; Memory where it is out of memory before the input is read or a link comes, at any time in a sample, and where
+/// a link ends by OutOfMemory (what is out of memory while a request is answered is said in its response); KeeperFault
+/// where the keeper failed before that, and its count of faults rose; BadRows and UnsoundBook where the rows are no rows
+/// of a sound book; over such rows `run`, `import` and `serve` end by one of these five alone. InputFault and
+/// OutputFault come exactly where the input or the output failed in this call, and PortFault exactly where the ports
+/// did.
 pub fn book_main<K: Keeper, S: Source, O: Sink, P: Ports>(
     alloc: Global,
     words: &[Text],

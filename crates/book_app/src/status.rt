@@ -15,7 +15,8 @@ pub enum Status {
     Done,
     /// The words are not those of a command of the program.
     Usage,
-    /// It was out of memory before the input was read; for a sample and for `serve`, at any time.
+    /// It was out of memory before the input was read or a link came; for a sample, at any time; for `serve`, also as it
+    /// read a link or wrote to it.
     Memory,
     /// The input failed.
     InputFault,
