@@ -1,3 +1,6 @@
+ghost use Rattle.std.specs.Prelude.{◌≡◌};
+ghost use Rattle.book_verdict.specs.Words.{words_on};
+
 /// What is wrong with a file that is no book, or can't be used.
 #[derive(Clone, Copy, Debug, PartialEq, Eq)]
 pub enum FileFault {
@@ -33,7 +36,10 @@ pub enum FileFault {
 
 impl FileFault {
     /// The words for a person: what the file is, and what to do next. Each line ends by a line feed.
-    pub fn words(self) -> &'static str {
+    #[tactic(auto, unfolding(crate::specs::Words::words_on))]
+    pub fn words(self) -> &'static str
+        ensures { result.now ≡ words_on self }
+    {
         match self {
             FileFault::Missing => {
                 "There is no file at this path.\n\
@@ -68,7 +74,7 @@ impl FileFault {
             FileFault::Journal => {
                 "A rollback journal stands beside the file, its name with `-journal` behind: another program was stopped\n\
                 as it wrote.\n\
-                Open the file once with `sqlite3`, which takes the journal back, and check again.\n"
+                Open the file once with `sqlite3`, which undoes what was half written, and check again.\n"
             }
             FileFault::InUse => {
                 "Another run, or another program such as `sqlite3`, has the file open.\n\
