@@ -28,7 +28,8 @@ const NUMBER_LIMIT: u64 = 1 << 62;
 /// Puts all rows that a keeper has into another by one commit. The rows of the first stay, whatever happens. Where the
 /// other had none, it then has exactly these; at an error it has what it had.
 /// Source: the first keeper failed, and its count of faults rose. Target: the other failed, and its count rose.
-/// NoBookRow: this is the first row with a number that no row of a book has; with Ok there is none. OutOfMemory: the program is out of memory.
+/// NoBookRow: this is the first row with a number that no row of a book has; with Ok there is none. OutOfMemory: the
+/// program is out of memory.
 pub fn copy_rows<K: Keeper, L: Keeper>(
     alloc: Global,
     source: &mut K,

@@ -34,7 +34,8 @@ unfoldable pub unread_line : ℕ → ℕ → List ℕ
 unread_line kind id =
     codes "The row of kind "
     ++ (decimal kind
-    ++ (codes " and id " ++ (decimal id ++ (codes " (" ++ (kind_word kind ++ (codes ") " ++ (why_unread kind ++ codes "\n")))))))
+    ++ (codes " and id "
+    ++ (decimal id ++ (codes " (" ++ (kind_word kind ++ (codes ") " ++ (why_unread kind ++ codes "\n")))))))
 
 -- A row that is missing, can't be read, or is one too many.
 unfoldable pub unread_row_text : ℕ → ℕ → List ℕ
