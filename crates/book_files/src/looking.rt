@@ -146,8 +146,18 @@ fn fault_of_kind(kind: ErrorKind) -> FileFault
 
 /// What is wrong with a file that no keeper could open or read: it is opened a second time, since a keeper doesn't say
 /// why it failed. So what is answered is what the second opening meets: where another run let go of the file between
-/// the two, it is called another database.
-pub fn fault_behind(rt: &HostRuntime, path: &str) -> Result<FileFault, OutOfMemory>
+/// the two, it is called another database. None where the program is out of memory.
+pub fn fault_behind(rt: &HostRuntime, path: &str) -> Option<FileFault>
+    ensures { IfSome result (λ fault. IsTrue (shows_behind fault)) }
+{
+    match fault_opening(rt, path) {
+        Ok(fault) => Some(fault),
+        Err(OutOfMemory) => None,
+    }
+}
+
+/// The fault that opening a file meets.
+fn fault_opening(rt: &HostRuntime, path: &str) -> Result<FileFault, OutOfMemory>
     ensures { IfOk result (λ fault. IsTrue (shows_behind fault)) }
 {
     match Connection::open(rt, path) {
