@@ -192,7 +192,11 @@ fn unopened(rt: &HostRuntime, path: &str) -> Result<FileFault, OutOfMemory>
         return Ok(FileFault::Journal);
     }
     let log = beside(rt, path, "-wal")?;
-    match OpenOptions::new().read(true).write(true).open(rt, log.as_str()) {
+    match OpenOptions::new()
+        .read(true)
+        .write(true)
+        .open(rt, log.as_str())
+    {
         Ok(log_file) => {
             drop(log_file);
             fault_of_folder(rt, folder_of(log.as_str()))

@@ -24,9 +24,7 @@ fn unread_line(alloc: Global, kind: u8, id: u64) -> Result<Text, OutOfMemory>
 {
     let thing = kind_word(kind);
     let why = why_unread(kind);
-    Ok(Text::of(
-        format!(in alloc; "The row of kind {kind} and id {id} ({thing}) {why}\n")?,
-    ))
+    Ok(Text::of(format!(in alloc; "The row of kind {kind} and id {id} ({thing}) {why}\n")?))
 }
 
 /// What is said where the row of a kind and an id is the first that breaks a rule.
