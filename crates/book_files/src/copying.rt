@@ -23,7 +23,7 @@ const EMPTY_LOG: u64 = 41;
 #[derive(Clone, Copy, Debug, PartialEq, Eq)]
 pub enum FileCopyError {
     /// Something is at the path of the copy, or a log beside it.
-    Taken,
+    TargetThere,
     /// Something is at the path of the part that is written first, as where a copy was stopped or is being made.
     PartThere,
     /// The rows were not copied.
@@ -71,7 +71,7 @@ fn unread(error: KeepError) -> CopyError {
 
 /// Makes a whole copy of the book in a file, its log included, at a path where nothing is. It is made at the path with
 /// `.part` behind, and gets its own in the end, so a run that is stopped leaves no part of a copy at the path itself.
-/// Taken: something is there, or a log. PartThere: something is where the part comes. Rows: the book can't be
+/// TargetThere: something is there, or a log. PartThere: something is where the part comes. Rows: the book can't be
 /// opened or read, or the part can't be written. File: the copy could not be closed or get its path. OutOfMemory: the
 /// program is.
 pub fn copy_file(rt: &HostRuntime, from: &str, to: &str) -> Result<(), FileCopyError> {
@@ -83,7 +83,7 @@ pub fn copy_file(rt: &HostRuntime, from: &str, to: &str) -> Result<(), FileCopyE
         return Err(FileCopyError::OutOfMemory);
     };
     if is_there(rt, to) || is_there(rt, log.as_str()) {
-        return Err(FileCopyError::Taken);
+        return Err(FileCopyError::TargetThere);
     }
     if is_there(rt, part_log.as_str()) {
         return Err(FileCopyError::PartThere);
