@@ -10,7 +10,8 @@ use Rattle.book_app.specs.Machine.{IsOutcome, request_answers, status_of_outcome
 
 -- What an engine answers to requests is what the machine of whole books answers on its state.
 abbrev pub kept_answers : Kept → Request → Mark → ℕ → List ℕ → Kept → Type 0
-kept_answers old request mark status body new = request_answers (machine_kept old) request mark status body (machine_kept new)
+kept_answers old request mark status body new =
+    request_answers (machine_kept old) request mark status body (machine_kept new)
 
 -- The response of this status whose body is the text that was made.
 abbrev pub IsResponseOf : {E : Type 0} → ℕ → Result (List ℕ) E → Bool → List ℕ → Type 0

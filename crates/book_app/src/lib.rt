@@ -3,10 +3,10 @@
 //! `run` is the whole promise of a run: what was written is what the machine of whole books answers to the lines that
 //! were read, from the state as which the keeper's rows opened on, and the rows that the keeper then holds open as the
 //! last state. With the words of `import` it is the machine's answer to the import of the whole input; with those of
-//! `sample` the last two answers to the lines of `sample_lines`. With those of `serve` requests of links are answered in
-//! place of lines, and the clause `serve` says of each link what `run` says of an input. `run_over` says the same over any reader and writer of
-//! std. `run_program` does so over a program's standard streams, the words that `words_of` reads, and the keeper that
-//! it is given. `Ended` is what the program's `main` answers.
+//! `sample` the last two answers to the lines of `sample_lines`. With those of `serve` requests of links are answered
+//! in place of lines, and the clause `serve` says of each link what `run` says of an input. `run_over` says the same
+//! over any reader and writer of std. `run_program` does so over a program's standard streams, the words that
+//! `words_of` reads, and the keeper that it is given. `Ended` is what the program's `main` answers.
 #![tactic(auto)]
 
 mod ended;

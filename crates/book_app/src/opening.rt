@@ -1,4 +1,5 @@
 ghost use Rattle.std.specs.Prelude.{◌≡◌, [], List, IfOk, IsTrue};
+ghost use Rattle.book_http.specs.Routing.{all_routes};
 ghost use Rattle.book_keeper.specs.declared.row.Row.{Row};
 ghost use Rattle.book_lines.specs.Room.{seen};
 ghost use Rattle.book_engine.specs.Opening.{HasOpenCause, Opened};
@@ -39,7 +40,9 @@ pub fn room_after(alloc: Global, words: &[Text]) -> Result<LineRoom, OutOfMemory
 }
 
 /// The routes of requests, once `clap` has parted the words, which are of the grammar.
-pub fn routes_after(alloc: Global, words: &[Text]) -> Result<Routes, OutOfMemory> {
+pub fn routes_after(alloc: Global, words: &[Text]) -> Result<Routes, OutOfMemory>
+    ensures { IfOk result (λ routes. routes ≡ all_routes) }
+{
     part(alloc, words)?;
     Routes::new(alloc)
 }

@@ -42,7 +42,8 @@ fn answer_with_balances(
     edit: &Edit,
     answer: Answer,
 ) -> Result<Answer, OutOfMemory>
-    requires { CanSum registers.now.entries (book_of plain.now) edit.now (PutsAnswered (book_of plain.now) edit.now answer) }
+    requires { CanSum registers.now.entries (book_of plain.now) edit.now
+        (PutsAnswered (book_of plain.now) edit.now answer) }
     ensures { IfOk result (λ whole. whole ≡ filled (edited edit.now (book_of plain.now)) answer) }
 {
     match answer {
@@ -77,7 +78,8 @@ fn balances_put(
     edit: &Edit,
     number: u64,
 ) -> Result<Many<i128>, OutOfMemory>
-    requires { CanSum registers.now.entries (book_of plain.now) edit.now (PutsUnder (book_of plain.now) edit.now number) }
+    requires { CanSum registers.now.entries (book_of plain.now) edit.now
+        (PutsUnder (book_of plain.now) edit.now number) }
     ensures { IfOk result (λ balances. balances ≡ balances_of (edited edit.now (book_of plain.now)) number) }
 {
     let Some(transaction) = put(edit, number).or(plain.transactions.find(number)) else {

@@ -134,7 +134,8 @@ pub enum Answer {
     MatchAuto {
         pairs: Many<Matched>,
     },
-    /// The number of the new reconciliation, and the numbers of the splits that it marked, in the order of the register.
+    /// The number of the new reconciliation, and the numbers of the splits that it marked, in the order of the
+    /// register.
     Reconcile {
         reconciliation: u64,
         marked: Many<u64>,

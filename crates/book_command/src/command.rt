@@ -189,8 +189,8 @@ pub enum Update {
     LineReopen {
         line: u64,
     },
-    /// Each open line of the account is matched with the nearest of its splits that has the line's amount and is at most
-    /// so many days away, where one is left.
+    /// Each open line of the account is matched with the nearest of its splits that has the line's amount and is at
+    /// most so many days away, where one is left.
     MatchAuto {
         account: u64,
         window: u64,

@@ -86,8 +86,9 @@ IsExactTurn state turn =
     turn.way ≡ ToNew → IsExact state.book turn.edit × IsExact (edited turn.edit state.book) turn.inverse
 
 -- A plan for a state comes to this reply of the machine. Its edit may be applied to the book, and leads to the book
--- after it. The edit that it keeps leads back to exactly the book before, and has its form. It commits exactly where the
--- machine becomes another. Then with its changes made the rows that stand for the state before stand for the state after.
+-- after it. The edit that it keeps leads back to exactly the book before, and has its form. It commits exactly where
+-- the machine becomes another. Then with its changes made the rows that stand for the state before stand for the state
+-- after.
 pub record IsPlanTo (state : State) (saved : Bool) (reply : Reply) (plan : Planned) : Type 0 where
   pub made : reply ≡ Done (machine_of (after state plan)) plan.answer
   pub whole : IsWhole (after state plan) (saved || commits plan)

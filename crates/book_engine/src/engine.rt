@@ -10,6 +10,7 @@ ghost use Rattle.book_opening.specs.Opening.{OpenAs, WasRead};
 ghost use Rattle.book_opening.specs.State.{State};
 ghost use Rattle.book_report_answers.specs.LotsAsked.{lots_asked};
 ghost use Rattle.book_turns.specs.Whole.{IsWhole, step_state};
+ghost use Rattle.book_undo.specs.Book.{book_of};
 ghost use Rattle.book_engine.specs.Acting.{HasActCause, IsUnchanged};
 ghost use Rattle.book_engine.specs.Changed.{AreChanged, AreKeptUp, AreLeft, AreReckoned, HaveRisen, IsActed};
 ghost use Rattle.book_engine.specs.Changed.{live_changes, live_lots};
@@ -134,7 +135,8 @@ impl Engine {
 
     /// The present book.
     pub fn plain(&self) -> &Plain
-        ensures { result.now ≡ self.now.plain }
+        ensures plain { result.now ≡ self.now.plain }
+        ensures book { book_of result.now ≡ self.now.state.book }
     {
         &self.state.plain
     }

@@ -13,8 +13,8 @@ use book_splits::Recon;
 use std::alloc::Global;
 
 /// How much the closing balance is above the sum of the reconciled splits of the register's account and of those that
-/// are cleared on or before the day, in smallest units of the account's commodity. It takes no memory, and a number of
-/// steps that grows with the logarithm of the rows.
+/// are cleared on or before the day, in smallest units of the account's commodity. It takes no memory. It reads the sums
+/// of the register's chunks, at most a 256th of the rows and one more, and the rows of a few chunks.
 pub fn kept_difference(register: &Register, day: Day, closing: i64) -> i128
     requires { AreWithinLimits register.now.rows }
     ensures { (account : _) (transactions : _) → register.now.rows ≡ register_of account transactions
@@ -26,8 +26,8 @@ pub fn kept_difference(register: &Register, day: Day, closing: i64) -> i128
 
 /// The record of a reconciliation of the account at the day with the closing balance, in smallest units, from the
 /// account's register: its opening balance is the sum of the reconciled splits, and it marks the cleared splits on or
-/// before the day, in the order of the register. `Difference` exactly where the difference isn't 0. It passes over the
-/// rows of the register once, and over no transactions.
+/// before the day, in the order of the register. `Difference` exactly where the difference isn't 0. It reads the sums of
+/// the register's chunks, then each row once, and no transaction.
 pub fn plan_finish_kept(
     alloc: Global,
     register: &Register,

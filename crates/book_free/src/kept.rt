@@ -44,9 +44,9 @@ impl FreeSplits {
     }
 
     /// Makes what is kept of a book what is kept of another, where the moves say what becomes of the splits from the
-    /// one to the other. It can't fail and takes no memory. The index is passed over once for what leaves it and once
-    /// for what comes into it. Its changes rise by the number of splits that leave it or come into it; one that stays
-    /// as it was does neither.
+    /// one to the other. It can't fail and takes no memory. A split that leaves the index or comes into it moves a few
+    /// hundred others, however many there are. The index's changes rise by the number of splits that leave it or come
+    /// into it; one that stays as it was does neither.
     pub fn follow(&mut self, moves: &Moves)
         requires room { HasRoomFor self.old moves.now }
         requires ready { SomeFollow self.old moves.now }

@@ -1,16 +1,17 @@
 -- Splits in the order of the index: where one stands, and what one put in or taken out leaves.
 use Rattle.std.proofs.Common.{◌≡◌, ℕ, zero, suc, ◌-◌, ◌<◌, ◌≤◌, nat_lt, ℤ, Bool, true, false, not, ◌&&◌, ◌||◌}
 use Rattle.std.proofs.Common.{if◌then◌else◌, List, [], ◌∷◌, length, get_or, take, drop, filter, refl, sym, ap}
-use Rattle.std.proofs.Common.{◌∙◌, arith}
+use Rattle.std.proofs.Common.{◌∙◌, arith, ◌+◌, ◌++◌}
+use Rattle.std.proofs.Math.Seq.{take-add}
+use Rattle.std.proofs.lemmas.List.{drop-drop, take-take}
 use Rattle.std.proofs.lemmas.Bool.Decides.{nat_tests, Decides-int_eq}
 use Rattle.std.proofs.lemmas.Int.{ints}
 use Rattle.std.specs.List.{insert, remove}
-use Rattle.std.specs.List.Sorted.{IsPartitionedBy}
 use Rattle.std.specs.Prelude.{int_lt}
+use Rattle.book_seq.specs.Cuts.{IsCut, IsParted, NonePasses}
 use Rattle.book_match.specs.AmountIndex.{PrecedesAll, Rises, is_of_amount, is_same, is_there, of_amount, precedes}
 use Rattle.book_match.specs.AmountIndex.{with_free, without_free}
-use Rattle.book_match.specs.Cut.{IsCut, NonePasses, is_near, is_past_amount, is_past_days, is_under_amount}
-use Rattle.book_match.specs.Cut.{is_under_days}
+use Rattle.book_match.specs.Bounds.{is_near, is_past_amount, is_past_days, is_under_amount, is_under_days}
 use Rattle.book_match.specs.Proposal.{in_turn}
 use Rattle.book_match.specs.declared.free.Free.{Free}
 
@@ -91,66 +92,43 @@ under_days-not_past : (account : ℕ) (amount day : ℤ) (window : ℕ) (e : Fre
 under_days-not_past account amount day window e h = grind (arith, ints, nat_tests)
 
 -- ---- rising splits
-all-at : (free : Free) (es : List Free) (i : ℕ) (d : Free) → PrecedesAll free es → i < length es
-    → precedes free (get_or es i d) ≡ true
-all-at free [] i d all lt = absurd (omega (arith, lt))
-all-at free (e ∷ es) zero d all lt = all.0
-all-at free (e ∷ es) (suc i) d all lt = all-at free es i d all.1 (omega (arith, lt))
-
 -- a test that splits pass which come before one that passes it parts rising splits in two
-partitioned : (test : Free → Bool) → ((a b : Free) → precedes a b ≡ true → test b ≡ true → test a ≡ true)
-    → (es : List Free) → Rises es → (i j : ℕ) (d : Free) → i ≤ j → j < length es → test (get_or es j d) ≡ true
-    → test (get_or es i d) ≡ true
-partitioned test down [] up i j d le lt h = absurd (omega (arith, lt))
-partitioned test down (e ∷ es) up zero zero d le lt h = h
-partitioned test down (e ∷ es) up zero (suc j) d le lt h =
-    down e (get_or es j d) (all-at e es j d up.0 (omega (arith, lt))) h
-partitioned test down (e ∷ es) up (suc i) zero d le lt h = absurd (omega (arith, le))
-partitioned test down (e ∷ es) up (suc i) (suc j) d le lt h =
-    partitioned test down es up.1 i j d (omega (arith, le)) (omega (arith, lt)) h
+none-after : (test : Free → Bool) → ((a b : Free) → precedes a b ≡ true → test b ≡ true → test a ≡ true)
+    → (free : Free) (es : List Free) → PrecedesAll free es → test free ≡ false → NonePasses test es
+none-after test down free [] all fails = tt
+none-after test down free (e ∷ es) all fails = (by_test (test e) refl, none-after test down free es all.1 fails)
+  where
+    by_test : (t : Bool) → test e ≡ t → test e ≡ false
+    by_test true is = absurd (let passes = down free e all.0 is in cc)
+    by_test false is = is
 
-pub parted-before : (free : Free) (es : List Free) → Rises es → IsPartitionedBy (λ entry. precedes entry free) es
-parted-before free es up =
-    partitioned (λ entry. precedes entry free) (λ a b e f. precedes-trans a b free e f) es up
+parted : (test : Free → Bool) → ((a b : Free) → precedes a b ≡ true → test b ≡ true → test a ≡ true)
+    → (es : List Free) → Rises es → IsParted test es
+parted test down [] up = tt
+parted test down (e ∷ es) up = (none-after test down e es up.0, parted test down es up.1)
+
+pub parted-before : (free : Free) (es : List Free) → Rises es → IsParted (λ entry. precedes entry free) es
+parted-before free es up = parted (λ entry. precedes entry free) (λ a b e f. precedes-trans a b free e f) es up
 
 pub parted-under : (account : ℕ) (amount : ℤ) (es : List Free) → Rises es
-    → IsPartitionedBy (is_under_amount account amount) es
-parted-under account amount es up =
-    partitioned (is_under_amount account amount) (under-before account amount) es up
+    → IsParted (is_under_amount account amount) es
+parted-under account amount es up = parted (is_under_amount account amount) (under-before account amount) es up
 
 pub parted-past : (account : ℕ) (amount : ℤ) (es : List Free) → Rises es
-    → IsPartitionedBy (λ entry. not (is_past_amount account amount entry)) es
+    → IsParted (λ entry. not (is_past_amount account amount entry)) es
 parted-past account amount es up =
-    partitioned (λ entry. not (is_past_amount account amount entry)) (past-before account amount) es up
+    parted (λ entry. not (is_past_amount account amount entry)) (past-before account amount) es up
 
 pub parted-under_days : (account : ℕ) (amount day : ℤ) (window : ℕ) (es : List Free) → Rises es
-    → IsPartitionedBy (is_under_days account amount day window) es
+    → IsParted (is_under_days account amount day window) es
 parted-under_days account amount day window es up =
-    partitioned (is_under_days account amount day window) (under_days-before account amount day window) es up
+    parted (is_under_days account amount day window) (under_days-before account amount day window) es up
 
 pub parted-past_days : (account : ℕ) (amount day : ℤ) (window : ℕ) (es : List Free) → Rises es
-    → IsPartitionedBy (λ entry. not (is_past_days account amount day window entry)) es
+    → IsParted (λ entry. not (is_past_days account amount day window entry)) es
 parted-past_days account amount day window es up =
-    partitioned (λ entry. not (is_past_days account amount day window entry))
-    (past_days-before account amount day window) es up
-
--- ---- where the two parts meet
-none-from : (test : Free → Bool) (es : List Free) → ((k : ℕ) (d : Free) → k < length es → test (get_or es k d) ≡ false)
-    → NonePasses test es
-none-from test [] none = tt
-none-from test (e ∷ es) none =
-    (none 0 e (omega arith), none-from test es (λ k d lt. none (suc k) d (omega (arith, lt))))
-
-pub cut-from : (test : Free → Bool) (es : List Free) (i : ℕ) → i ≤ length es
-    → ((k : ℕ) (d : Free) → k < i → test (get_or es k d) ≡ true)
-    → ((k : ℕ) (d : Free) → i ≤ k → k < length es → test (get_or es k d) ≡ false) → IsCut test es i
-cut-from test es zero le before after = none-from test es (λ k d lt. after k d (omega arith) lt)
-cut-from test [] (suc i) le before after = absurd (omega (arith, le))
-cut-from test (e ∷ es) (suc i) le before after = (
-  before 0 e (omega arith),
-  cut-from test es i (omega (arith, le)) (λ k d lt. before (suc k) d (omega (arith, lt)))
-      (λ k d ge lt. after (suc k) d (omega (arith, ge)) (omega (arith, lt))),
-)
+    parted (λ entry. not (is_past_days account amount day window entry)) (past_days-before account amount day window)
+    es up
 
 -- ---- what is put in and taken out there
 pub insert-is : (free : Free) (es : List Free) (i : ℕ) → IsCut (λ entry. precedes entry free) es i
@@ -213,6 +191,32 @@ none-without free (e ∷ es) none = by_test (is_same free e) refl none (none-wit
     by_test false is none more =
         ap (λ (t : Bool). if t then es else e ∷ without_free free es) is
         ∙ ap (λ l. e ∷ l) (more (ap (λ (t : Bool). t || is_there free es) (sym is) ∙ none))
+
+-- ---- one put in behind the others, and a part of them
+pub insert-last : (es : List Free) (i : ℕ) (free : Free) → i ≡ length es → insert es i free ≡ es ++ free ∷ []
+insert-last es i free is =
+    ap (λ n. insert es n free) (is ∙ let same : length es ≡ length es + 0 = omega arith in same)
+    ∙ inserted es
+  where
+    inserted : (xs : List Free) → insert xs (length xs + 0) free ≡ xs ++ free ∷ []
+    inserted [] = ap (λ n. insert [] n free) (let same : 0 + 0 ≡ 0 = omega arith in same)
+    inserted (x ∷ xs) =
+        ap (λ n. insert (x ∷ xs) n free)
+        (let same : suc (length xs) + 0 ≡ suc (length xs + 0) = omega arith in same)
+        ∙ ap (λ l. x ∷ l) (inserted xs)
+
+-- so many more of the splits from a place on, of which a part was read
+pub part-more : (es splits part : List Free) (start place count : ℕ) → start ≤ place
+    → splits ≡ take (place - start) (drop start es) → part ≡ take (length part) (drop place es) → count ≤ length part
+    → splits ++ take count part ≡ take (place + count - start) (drop start es)
+part-more es splits part start place count le so_far here few =
+    let rest : drop (place - start) (drop start es) ≡ drop place es =
+    drop-drop (place - start) start es ∙ ap (λ n. drop n es) (let same : start + (place - start) ≡ place = omega (arith, le) in same) in
+    let taken : take count part ≡ take count (drop (place - start) (drop start es)) =
+    ap (take count) here ∙ take-take count (length part) (drop place es) few ∙ ap (take count) (sym rest) in
+    ap (λ l. l ++ take count part) so_far ∙ ap (λ l. take (place - start) (drop start es) ++ l) taken
+    ∙ sym (take-add (place - start) count (drop start es)) ∙ ap (λ n. take n (drop start es))
+    (let same : (place - start) + count ≡ place + count - start = omega (arith, le) in same)
 
 -- ---- the splits still rise
 all-with : (x free : Free) (es : List Free) → precedes x free ≡ true → PrecedesAll x es

@@ -14,7 +14,7 @@ use Rattle.book_splits.specs.Balance.{splits_of}
 use Rattle.book_splits.specs.TransactionRules.{are_once, is_among, numbers_of}
 use Rattle.book_splits.specs.declared.split.Split.{Split}
 use Rattle.book_splits.specs.declared.transaction.Txn.{Txn}
-use Rattle.book_match.specs.Cut.{is_near}
+use Rattle.book_match.specs.Bounds.{is_near}
 use Rattle.book_match.specs.Kept.{has_split, num_of, view_of, views_on}
 use Rattle.book_match.specs.Proposal.{choice, distance, is_candidate, is_nearer, nearer, nearest}
 use Rattle.book_match.specs.Rank.{first_of, rank_of}

@@ -1,5 +1,5 @@
 pub mod AmountIndex
-pub mod Cut
+pub mod Bounds
 pub mod Kept
 pub mod Proposal
 pub mod Rank

@@ -1,9 +1,10 @@
 ghost use Rattle.std.specs.Prelude.{◌≡◌, ◌+ℤ◌, ◌-ℤ◌, int_lt, pos};
 ghost use Rattle.book_match.specs.AmountIndex.{is_same as is_same_free, precedes as stands_before};
-ghost use Rattle.book_match.specs.Cut.{is_past_amount as is_past, is_past_days as is_past_near};
-ghost use Rattle.book_match.specs.Cut.{is_under_amount as is_under, is_under_days as is_under_near};
+ghost use Rattle.book_match.specs.Bounds.{is_past_amount as is_past, is_past_days as is_past_near};
+ghost use Rattle.book_match.specs.Bounds.{is_under_amount as is_under, is_under_days as is_under_near};
 
 use book_commodity::Day;
+use book_seq::Weigh;
 
 /// A split that may be matched: its account, its quantity in smallest units as `amount`, the day of its transaction,
 /// and its number.
@@ -13,6 +14,17 @@ pub struct Free {
     pub amount: i64,
     pub day: Day,
     pub split: u64,
+}
+
+/// An index adds nothing up: a split has no weight.
+impl Weigh for Free {
+    ghost use Rattle.book_seq.specs.Sums.{no_sums};
+
+    ghost weights = { λ free. no_sums };
+
+    fn weight(&self) -> [i64; 3] {
+        [0, 0, 0]
+    }
 }
 
 /// Whether one split comes before another: by account, amount, day and number.

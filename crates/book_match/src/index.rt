@@ -1,40 +1,40 @@
-ghost use Rattle.std.specs.Prelude.{◌≡◌, ◌+◌, ◌-◌, ◌^◌, ◌<◌, ◌≤◌, [], not, false, filter, length, min, OnOk, OnErr};
-ghost use Rattle.std.specs.Prelude.{IfOk, if◌then◌else◌};
+ghost use Rattle.std.specs.Prelude.{◌≡◌, ◌+◌, ◌-◌, ◌^◌, ◌<◌, ◌≤◌, [], ◌∷◌, ◌++◌, false, filter, length, min, take};
+ghost use Rattle.std.specs.Prelude.{OnOk, OnErr, IfOk, if◌then◌else◌};
 ghost use Rattle.std.specs.List.{slice_range};
+ghost use Rattle.book_seq.specs.Cuts.{IsCut};
 ghost use Rattle.book_match.specs.AmountIndex.{Rises, is_there, of_amount, precedes as stands_before, with_free};
 ghost use Rattle.book_match.specs.AmountIndex.{AreAbsent, AreApart, AreThere, ordered, with_all, without_all};
 ghost use Rattle.book_match.specs.AmountIndex.{without_free};
-ghost use Rattle.book_match.specs.Cut.{IsCut, is_near, is_past_amount as past, is_past_days as past_near};
-ghost use Rattle.book_match.specs.Cut.{is_under_amount as under, is_under_days as under_near};
+ghost use Rattle.book_match.specs.Bounds.{is_near};
 
 use crate::Free;
-use crate::free::{is_past_amount, is_past_days, is_under_amount, is_under_days, precedes};
-use crate::many::{put_in, take_out};
-use book_commodity::{Day, OutOfMemory};
+use crate::bounds::{AmountEnd, AmountStart, Before, DaysEnd, DaysStart};
+use book_commodity::{Day, OutOfMemory, Steps};
+use book_seq::Seq;
 use std::alloc::Global;
 use std::marker::Model;
 
 /// The splits that may be matched, by account, amount, day and number, so that those of one amount stand together.
-/// Contracts see the list of them, for how many more there is room, and how often it was changed.
+/// They are kept in chunks, so that one is put in or taken out by moving a few hundred others. Contracts see the list
+/// of them, for how many more there is room, and how often it was changed.
 #[derive(Drop)]
 pub struct AmountIndex {
-    entries: Vec<Free>,
+    entries: Seq<Free>,
     changes: u64,
 }
 
 impl Model for AmountIndex {
-    ghost use Rattle.std.specs.Prelude.{◌-◌, vec_capacity, vec_len};
     ghost use Rattle.book_match.specs.AmountIndex.{Index, Rises};
 
     ghost Value = { Index };
 
     ghost view = { λ i. record {
-      entries = i.entries.items;
-      spare = vec_capacity i.entries - vec_len i.entries;
+      entries = i.entries.list;
+      spare = i.entries.spare;
       changes = i.changes;
     } };
 
-    ghost invariant = { λ i. Rises i.entries.items };
+    ghost invariant = { λ i. Rises i.entries.list };
 }
 
 impl AmountIndex {
@@ -44,7 +44,7 @@ impl AmountIndex {
         ensures changes { result.changes ≡ 0 }
     {
         AmountIndex {
-            entries: Vec::new(alloc),
+            entries: Seq::new(alloc),
             changes: 0,
         }
     }
@@ -58,7 +58,7 @@ impl AmountIndex {
         let mut entries = entries;
         sort(&mut entries)?;
         Ok(AmountIndex {
-            entries,
+            entries: in_chunks(*entries.allocator(), entries.as_slice())?,
             changes: 0,
         })
     }
@@ -70,14 +70,6 @@ impl AmountIndex {
         self.changes
     }
 
-    /// All splits, by account, amount, day and number.
-    pub fn as_slice(&self) -> &[Free]
-        ensures entries { result.now ≡ self.now.entries }
-        ensures rises { Rises self.now.entries }
-    {
-        self.entries.as_slice()
-    }
-
     /// Makes room for so many more splits. The splits stay, and no room is lost where it is out of memory.
     pub fn reserve(&mut self, extra: usize) -> Result<(), OutOfMemory>
         ensures room { OnOk result (extra ≤ self.new.spare) }
@@ -86,8 +78,7 @@ impl AmountIndex {
         ensures changes { self.new.changes ≡ self.old.changes }
         ensures spare { self.old.spare ≤ self.new.spare }
     {
-        self.entries.reserve(extra)?;
-        Ok(())
+        self.entries.reserve(extra)
     }
 
     /// Puts a split in, which isn't there. It takes no memory.
@@ -98,10 +89,8 @@ impl AmountIndex {
         ensures changes { self.new.changes ≡ min (self.old.changes + 1) (2 ^ 64 - 1) }
         ensures spare { self.old.spare ≤ self.new.spare + 1 }
     {
-        let place = place_of(self.entries.as_slice(), &free);
-        let Ok(()) = self.entries.insert(place, free) else {
-            unreachable!()
-        };
+        let place = place_of(&self.entries, &free);
+        self.entries.insert(place, free, &mut Steps::new());
         self.changes = self.changes.saturating_add(1);
     }
 
@@ -113,20 +102,20 @@ impl AmountIndex {
             ≡ (if result then min (self.old.changes + 1) (2 ^ 64 - 1) else self.old.changes) }
         ensures spare { self.old.spare ≤ self.new.spare }
     {
-        let place = place_of(self.entries.as_slice(), &free);
+        let place = place_of(&self.entries, &free);
         if place == self.entries.len() {
             return false;
         }
-        if !free.is_same(&self.entries[place]) {
+        let mut steps = Steps::new();
+        if !free.is_same(self.entries.get(place, &mut steps)) {
             return false;
         }
-        let _ = self.entries.remove(place);
+        let _ = self.entries.remove(place, &mut steps);
         self.changes = self.changes.saturating_add(1);
         true
     }
 
-    /// Puts splits in of which none is there. They are given in the order of the index. It takes no memory. More than
-    /// two go in by one pass over the splits behind the first of them.
+    /// Puts splits in of which none is there. They are given in the order of the index. It takes no memory.
     pub fn put_all(&mut self, come: &[Free])
         requires room { length come.now ≤ self.old.spare }
         requires rises { Rises come.now }
@@ -135,21 +124,13 @@ impl AmountIndex {
         ensures changes { self.new.changes ≡ min (self.old.changes + length come.now) (2 ^ 64 - 1) }
         ensures spare { self.old.spare ≤ self.new.spare + length come.now }
     {
-        match come {
-            [free] => self.put(*free),
-            [one, other] => {
-                self.put(*one);
-                self.put(*other);
-            }
-            _ => {
-                put_in(&mut self.entries, come);
-                self.changes = self.changes.saturating_add(come.len() as u64);
-            }
+        self.in_order();
+        for free in come {
+            self.put(*free);
         }
     }
 
-    /// Takes splits out that are all there. They are given in the order of the index. It takes no memory. More than
-    /// two go out by one pass over the splits behind the first of them.
+    /// Takes splits out that are all there. They are given in the order of the index. It takes no memory.
     pub fn take_all(&mut self, gone: &[Free])
         requires rises { Rises gone.now }
         requires there { AreThere gone.now self.old.entries }
@@ -157,33 +138,60 @@ impl AmountIndex {
         ensures changes { self.new.changes ≡ min (self.old.changes + length gone.now) (2 ^ 64 - 1) }
         ensures spare { self.old.spare ≤ self.new.spare }
     {
-        match gone {
-            [free] => {
-                let _ = self.take(*free);
-            }
-            [one, other] => {
-                let _ = self.take(*one);
-                let _ = self.take(*other);
-            }
-            _ => {
-                take_out(&mut self.entries, gone);
-                self.changes = self.changes.saturating_add(gone.len() as u64);
-            }
+        self.in_order();
+        for free in gone {
+            let _ = self.take(*free);
         }
     }
 
-    /// The splits of the account with this amount, by day and number.
-    pub fn of(&self, account: u64, amount: i64) -> &[Free]
-        ensures { result.now ≡ of_amount account amount self.now.entries }
+    /// The splits rise, and the count of changes is one of 64 bits.
+    fn in_order(&self)
+        ensures rises { Rises self.now.entries }
+        ensures counted { self.now.changes ≤ 2 ^ 64 - 1 }
     {
-        splits_of(self.entries.as_slice(), account, amount)
+        let _ = self.entries.len();
+        let _ = self.changes();
+    }
+
+    /// The splits of the account with this amount, by day and number.
+    pub fn of(&self, alloc: Global, account: u64, amount: i64) -> Result<Vec<Free>, OutOfMemory>
+        ensures { IfOk result (λ splits. splits.items ≡ of_amount account amount self.now.entries) }
+    {
+        let mut steps = Steps::new();
+        let start = self
+            .entries
+            .cut(&AmountStart { account, amount }, &mut steps);
+        let end = self.entries.cut(&AmountEnd { account, amount }, &mut steps);
+        copied(alloc, &self.entries, start, end)
     }
 
     /// Those of them that are at most so many days away from the day.
-    pub(crate) fn near(&self, account: u64, amount: i64, day: Day, window: u32) -> &[Free]
-        ensures { result.now ≡ filter (is_near account amount day window) self.now.entries }
+    pub(crate) fn near(
+        &self,
+        alloc: Global,
+        account: u64,
+        amount: i64,
+        day: Day,
+        window: u32,
+    ) -> Result<Vec<Free>, OutOfMemory>
+        ensures { IfOk result (λ splits. splits.items ≡ filter (is_near account amount day window) self.now.entries) }
     {
-        splits_near(self.entries.as_slice(), account, amount, day, window)
+        let mut steps = Steps::new();
+        let first = DaysStart {
+            account,
+            amount,
+            day,
+            window,
+        };
+        let start = self.entries.cut(&first, &mut steps);
+        let last = DaysEnd {
+            account,
+            amount,
+            day,
+            window,
+        };
+        let end = self.entries.cut(&last, &mut steps);
+        copied(alloc, &self.entries, start, end)
     }
 }
 
@@ -198,75 +206,52 @@ pub fn sort(entries: &mut Vec<Free>) -> Result<(), OutOfMemory>
 }
 
 /// How many of the splits come before this one.
-pub(crate) fn place_of(entries: &[Free], free: &Free) -> usize
-    requires { Rises entries.now }
-    ensures cut { IsCut (λ entry. stands_before entry free.now) entries.now result }
-    ensures within { result ≤ length entries.now }
+fn place_of(entries: &Seq<Free>, free: &Free) -> usize
+    requires { Rises entries.now.list }
+    ensures cut { IsCut (λ entry. stands_before entry free.now) entries.now.list result }
+    ensures within { result ≤ length entries.now.list }
 {
-    entries.partition_point(|entry| precedes(entry, free))
+    entries.cut(&Before { free: *free }, &mut Steps::new())
 }
 
-/// The splits of the account with this amount.
-fn splits_of(entries: &[Free], account: u64, amount: i64) -> &[Free]
-    requires { Rises entries.now }
-    ensures { result.now ≡ of_amount account amount entries.now }
+/// These splits in chunks.
+fn in_chunks(alloc: Global, entries: &[Free]) -> Result<Seq<Free>, OutOfMemory>
+    ensures { IfOk result (λ seq. seq.list ≡ entries.now) }
 {
-    let end = end_of(entries, account, amount);
-    let start = start_of(entries, account, amount);
-    part(entries, start, end)
+    let mut seq = Seq::new(alloc);
+    for entry in entries {
+        push(&mut seq, *entry)?;
+    }
+    Ok(seq)
+}
+
+/// Puts a split behind the others.
+fn push(entries: &mut Seq<Free>, entry: Free) -> Result<(), OutOfMemory>
+    ensures { OnOk result (entries.new.list ≡ entries.old.list ++ entry ∷ []) }
+{
+    entries.reserve(1)?;
+    entries.insert(entries.len(), entry, &mut Steps::new());
+    Ok(())
 }
 
 /// The splits from one place up to another.
-fn part(entries: &[Free], start: usize, end: usize) -> &[Free]
+fn copied(
+    alloc: Global,
+    entries: &Seq<Free>,
+    start: usize,
+    end: usize,
+) -> Result<Vec<Free>, OutOfMemory>
     requires order { start ≤ end }
-    requires within { end ≤ length entries.now }
-    ensures { result.now ≡ slice_range entries.now start end }
+    requires within { end ≤ length entries.now.list }
+    ensures { IfOk result (λ splits. splits.items ≡ slice_range entries.now.list start end) }
 {
-    &entries[start..end]
-}
-
-/// How many of the splits come before those of the account with this amount.
-fn start_of(entries: &[Free], account: u64, amount: i64) -> usize
-    requires { Rises entries.now }
-    ensures cut { IsCut (under account amount) entries.now result }
-    ensures within { result ≤ length entries.now }
-{
-    entries.partition_point(|entry| is_under_amount(entry, account, amount))
-}
-
-/// How many of the splits don't come behind those of the account with this amount.
-fn end_of(entries: &[Free], account: u64, amount: i64) -> usize
-    requires { Rises entries.now }
-    ensures cut { IsCut (λ entry. not (past account amount entry)) entries.now result }
-    ensures within { result ≤ length entries.now }
-{
-    entries.partition_point(|entry| !is_past_amount(entry, account, amount))
-}
-
-/// The splits of the account with this amount that are at most so many days away from the day.
-fn splits_near(entries: &[Free], account: u64, amount: i64, day: Day, window: u32) -> &[Free]
-    requires { Rises entries.now }
-    ensures { result.now ≡ filter (is_near account amount day window) entries.now }
-{
-    let end = end_near(entries, account, amount, day, window);
-    let start = start_near(entries, account, amount, day, window);
-    part(entries, start, end)
-}
-
-/// How many of the splits come before those of the account with this amount that are so near to the day.
-fn start_near(entries: &[Free], account: u64, amount: i64, day: Day, window: u32) -> usize
-    requires { Rises entries.now }
-    ensures cut { IsCut (under_near account amount day window) entries.now result }
-    ensures within { result ≤ length entries.now }
-{
-    entries.partition_point(|entry| is_under_days(entry, account, amount, day, window))
-}
-
-/// How many of the splits don't come behind those of the account with this amount that are so near to the day.
-fn end_near(entries: &[Free], account: u64, amount: i64, day: Day, window: u32) -> usize
-    requires { Rises entries.now }
-    ensures cut { IsCut (λ entry. not (past_near account amount day window entry)) entries.now result }
-    ensures within { result ≤ length entries.now }
-{
-    entries.partition_point(|entry| !is_past_days(entry, account, amount, day, window))
+    let mut splits = Vec::new(alloc);
+    let mut place = start;
+    while place < end {
+        let part = entries.part(place);
+        let count = part.len().min(end - place);
+        splits.extend_from_slice(&part[..count])?;
+        place += count;
+    }
+    Ok(splits)
 }

@@ -2,7 +2,7 @@ ghost use Rattle.std.specs.Prelude.{◌≡◌, [], IfOk, IfSome, Some, filter, m
 ghost use Rattle.std.specs.Option.{option_copied};
 ghost use Rattle.book_splits.specs.Balance.{splits_of};
 ghost use Rattle.book_splits.specs.TransactionRules.{are_once, is_among, numbers_of};
-ghost use Rattle.book_match.specs.Cut.{is_near};
+ghost use Rattle.book_match.specs.Bounds.{is_near};
 ghost use Rattle.book_match.specs.Kept.{num_of, view_of, views_on};
 ghost use Rattle.book_match.specs.Proposal.{nearest as nearest_of, proposal, same_number};
 ghost use Rattle.book_match.specs.Rank.{rank_of};
@@ -35,8 +35,8 @@ pub fn propose_kept(
     let mut taken = BTreeSet::new(alloc);
     let mut pairs = Many::new(alloc);
     for line in order.as_slice() {
-        let entries = entries_near(line, index, account, window);
-        let Some(split) = split_for(line, entries, txns, &taken) else {
+        let entries = entries_near(alloc, line, index, account, window)?;
+        let Some(split) = split_for(line, entries.as_slice(), txns, &taken) else {
             continue;
         };
         taken.insert(split)?;
@@ -49,15 +49,17 @@ pub fn propose_kept(
 }
 
 /// The splits of the account that have the line's amount and are at most so many days away.
-fn entries_near<'a>(
+fn entries_near(
+    alloc: Global,
     line: &LineView,
-    index: &'a AmountIndex,
+    index: &AmountIndex,
     account: u64,
     window: u32,
-) -> &'a [Free]
-    ensures { result.now ≡ filter (is_near account line.now.amount line.now.day window) index.now.entries }
+) -> Result<Vec<Free>, OutOfMemory>
+    ensures { IfOk result (λ entries. entries.items
+        ≡ filter (is_near account line.now.amount line.now.day window) index.now.entries) }
 {
-    index.near(account, line.amount, line.day, window)
+    index.near(alloc, account, line.amount, line.day, window)
 }
 
 /// The number of the split that the line takes of these; `None` where none of them is left.

@@ -4,10 +4,10 @@
 //! be matched by account and amount, each a `Free`, and `propose_kept` gives the same pairs through it.
 #![tactic(auto)]
 
+mod bounds;
 mod free;
 mod index;
 mod kept;
-mod many;
 mod nearest;
 mod order;
 mod proposal;

@@ -1,14 +1,14 @@
 -- Rows in the order of their keys: where a key is, and what a row put in or taken out leaves.
-use Rattle.std.proofs.Common.{◌≡◌, ℕ, zero, suc, ◌+◌, ◌-◌, ◌*◌, ◌/◌, ◌^◌, ◌<◌, ◌≤◌, nat_lt, Bool, true, false, cond}
+use Rattle.std.proofs.Common.{◌≡◌, ℕ, zero, suc, ◌<◌, ◌≤◌, nat_lt, Bool, true, false, cond}
 use Rattle.std.proofs.Common.{List, [], ◌∷◌}
-use Rattle.std.proofs.Common.{length, get_or, take, Some, None, slice_get, refl, sym, ap, ◌∙◌, subst, arith, filter}
+use Rattle.std.proofs.Common.{length, get_or, take, Some, None, slice_get, refl, sym, ap, ◌∙◌, arith, filter}
 use Rattle.std.specs.List.{insert, remove, position, position_or_len}
 use Rattle.std.proofs.lemmas.Bool.Decides.{nat_tests}
-use Rattle.std.proofs.lemmas.Grind.{pow_more}
 use Rattle.std.proofs.lemmas.List.{get_or_default}
 use Rattle.std.proofs.lemmas.List.Edits.{get_or-insert_at, length-insert}
 use Rattle.std.proofs.lemmas.List.Sums.{fails_before_first, position_or_len_is}
 use Rattle.book_seq.proofs.ListLemmas.{slice_get_read}
+use Rattle.book_seq.specs.Cuts.{IsCut, IsParted, NonePasses}
 use Rattle.book_register.specs.Register.{IsBound, IsSorted, PrecedesAll, has_key, key_of, precedes}
 use Rattle.book_register.specs.declared.entry.Entry.{Entry}
 use Rattle.book_register.specs.declared.key.Key.{Key}
@@ -38,54 +38,48 @@ rows_rise (row ∷ rows) zero (suc j) d e sorted lt below = all-at (key_of row) 
 rows_rise (row ∷ rows) (suc i) (suc j) d e sorted lt below =
     rows_rise rows i j d e sorted.1 (omega (arith, lt)) (omega (arith, below))
 
--- ---- a step of the search
-pub before_more : (rows : List Entry) (key : Key) (m : ℕ) (x : Entry) → IsSorted rows → m < length rows
-    → x ≡ get_or rows m x → precedes (key_of x) key ≡ true → (k : ℕ) (d : Entry) → k < m + 1
-    → precedes (key_of (get_or rows k d)) key ≡ true
-before_more rows key m x sorted below read before k d lt = by_place (nat_lt k m) refl
-  where
-    here : (k ≡ m) → precedes (key_of (get_or rows k d)) key ≡ true
-    here is = subst (λ (n : ℕ). precedes (key_of (get_or rows n d)) key ≡ true) (sym is)
-        (ap (λ (y : Entry). precedes (key_of y) key) (get_or_default rows m d x below ∙ sym read) ∙ before)
+-- ---- the rows before a key
+none-before : (rows : List Entry) (first key : Key) → PrecedesAll first rows → precedes first key ≡ false
+    → NonePasses (λ (e : Entry). precedes (key_of e) key) rows
+none-before [] first key all fails = tt
+none-before (row ∷ rows) first key all fails =
+    (precedes-past first (key_of row) key all.0 fails, none-before rows first key all.1 fails)
 
-    by_place : (t : Bool) → nat_lt k m ≡ t → precedes (key_of (get_or rows k d)) key ≡ true
-    by_place true is =
-        precedes-trans (key_of (get_or rows k d)) (key_of x) key
-        (ap (λ (y : Entry). precedes (key_of (get_or rows k d)) (key_of y)) read
-        ∙ rows_rise rows k m d x sorted (grind (arith, nat_tests, is)) below) before
-    by_place false is = here (let past : m ≤ k = grind (arith, nat_tests, is) in omega (arith, past, lt))
+pub rows_parted : (rows : List Entry) (key : Key) → IsSorted rows
+    → IsParted (λ (e : Entry). precedes (key_of e) key) rows
+rows_parted [] key sorted = tt
+rows_parted (row ∷ rows) key sorted =
+    (none-before rows (key_of row) key sorted.0, rows_parted rows key sorted.1)
 
-pub others_more : (rows : List Entry) (key : Key) (m : ℕ) (x : Entry) → IsSorted rows → m < length rows
-    → x ≡ get_or rows m x → precedes (key_of x) key ≡ false → (k : ℕ) (d : Entry) → m ≤ k → k < length rows
+none-at : (rows : List Entry) (key : Key) (k : ℕ) (d : Entry) → NonePasses (λ (e : Entry). precedes (key_of e) key) rows
+    → k < length rows → precedes (key_of (get_or rows k d)) key ≡ false
+none-at [] key k d none lt = absurd (omega (arith, lt))
+none-at (row ∷ rows) key zero d none lt = none.0
+none-at (row ∷ rows) key (suc k) d none lt = none-at rows key k d none.1 (omega (arith, lt))
+
+before-at : (rows : List Entry) (key : Key) (i k : ℕ) (d : Entry)
+    → IsCut (λ (e : Entry). precedes (key_of e) key) rows i → k < i → precedes (key_of (get_or rows k d)) key ≡ true
+before-at rows key zero k d cut lt = absurd (omega (arith, lt))
+before-at [] key (suc i) k d cut lt = absurd cut
+before-at (row ∷ rows) key (suc i) zero d cut lt = cut.0
+before-at (row ∷ rows) key (suc i) (suc k) d cut lt = before-at rows key i k d cut.1 (omega (arith, lt))
+
+others-at : (rows : List Entry) (key : Key) (i k : ℕ) (d : Entry)
+    → IsCut (λ (e : Entry). precedes (key_of e) key) rows i → i ≤ k → k < length rows
     → precedes (key_of (get_or rows k d)) key ≡ false
-others_more rows key m x sorted below read other k d ge lt = by_place (nat_lt m k) refl
-  where
-    here : (k ≡ m) → precedes (key_of (get_or rows k d)) key ≡ false
-    here is = subst (λ (n : ℕ). precedes (key_of (get_or rows n d)) key ≡ false) (sym is)
-        (ap (λ (y : Entry). precedes (key_of y) key) (get_or_default rows m d x below ∙ sym read) ∙ other)
+others-at rows key zero k d cut ge lt = none-at rows key k d cut lt
+others-at [] key (suc i) k d cut ge lt = absurd cut
+others-at (row ∷ rows) key (suc i) zero d cut ge lt = absurd (omega (arith, ge))
+others-at (row ∷ rows) key (suc i) (suc k) d cut ge lt =
+    others-at rows key i k d cut.1 (omega (arith, ge)) (omega (arith, lt))
 
-    by_place : (t : Bool) → nat_lt m k ≡ t → precedes (key_of (get_or rows k d)) key ≡ false
-    by_place true is =
-        precedes-past (key_of x) (key_of (get_or rows k d)) key
-        (ap (λ (y : Entry). precedes (key_of y) (key_of (get_or rows k d))) read
-        ∙ rows_rise rows m k x d sorted (grind (arith, nat_tests, is)) lt) other
-    by_place false is = here (let past : k ≤ m = grind (arith, nat_tests, is) in omega (arith, past, ge))
-
--- so many rounds are left, and one less
-halved : (r : ℕ) → r < 64 → 2 ^ (64 - r) ≡ 2 ^ (64 - (r + 1)) * 2
-halved r lt = ap (λ n. 2 ^ n) (let e : 64 - r ≡ (64 - (r + 1)) + 1 = omega (arith, lt) in e) ∙ pow_more 2 (64 - (r + 1))
-
-pub narrow_low : (r low high : ℕ) → r < 64 → low < high → high - low < 2 ^ (64 - r)
-    → high - (low + (high - low) / 2 + 1) < 2 ^ (64 - (r + 1))
-narrow_low r low high lt less narrow = omega (arith, halved r lt, narrow, less)
-
-pub narrow_high : (r low high : ℕ) → r < 64 → low < high → high - low < 2 ^ (64 - r)
-    → (low + (high - low) / 2) - low < 2 ^ (64 - (r + 1))
-narrow_high r low high lt less narrow = omega (arith, halved r lt, narrow, less)
-
--- after the last round none is left
-pub narrow_none : (r gap : ℕ) → r ≡ 64 → gap < 2 ^ (64 - r) → gap < 1
-narrow_none r gap last narrow = subst (λ (n : ℕ). gap < 2 ^ (64 - n)) last narrow
+pub bound-of : (rows : List Entry) (key : Key) (i : ℕ) → IsCut (λ (e : Entry). precedes (key_of e) key) rows i
+    → i ≤ length rows → IsBound key rows i
+bound-of rows key i cut within = record {
+  within = within;
+  before = λ k d lt. before-at rows key i k d cut lt;
+  others = λ k d ge lt. others-at rows key i k d cut ge lt;
+}
 
 -- ---- a row put in
 gap_sorted : (rows : List Entry) (i : ℕ) (e : Entry) → IsSorted rows

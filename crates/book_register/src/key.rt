@@ -4,7 +4,7 @@ ghost use Rattle.book_register.specs.Register.{key_of as entry_key, precedes as 
 
 use crate::Entry;
 use book_commodity::{Day, Steps};
-use book_seq::Seq;
+use book_seq::{Seq, Test};
 
 /// Where a row stands: its day as a number, the number of its transaction, and its place there.
 #[derive(Clone, Copy)]
@@ -63,42 +63,27 @@ fn has_key(entry: &Entry, key: Key) -> bool
     entry.day.number() == key.day && entry.txn == key.txn && entry.place == key.place
 }
 
-/// Whether there are rows and all stand before a key, as where a row of the newest day is put in: at most one step.
-fn are_all_before<L>(rows: &Seq<Entry>, key: Key, steps: &mut Steps<L>) -> bool
-    requires { IsSorted rows.now.list }
-    ensures bound { (result ≡ true) → IsBound key rows.now.list (length rows.now.list) }
-    ensures steps { steps.new ≤ steps.old + 1 }
-{
-    let len = rows.len();
-    if len == 0 {
-        return false;
-    }
-    precedes(key_of(rows.get(len - 1, steps)), key)
+/// The rows that stand before a key.
+#[derive(Clone, Copy)]
+struct Before {
+    key: Key,
 }
 
-/// How many rows stand before a key, by binary search: at most 65 steps.
+impl Test<Entry> for Before {
+    ghost is_passed = { λ test entry. comes_before (entry_key entry) test.key };
+
+    fn passes(&self, entry: &Entry) -> bool {
+        precedes(key_of(entry), self.key)
+    }
+}
+
+/// How many rows stand before a key: at most 65 steps.
 pub(crate) fn count_before<L>(rows: &Seq<Entry>, key: Key, steps: &mut Steps<L>) -> usize
     requires { IsSorted rows.now.list }
     ensures bound { IsBound key rows.now.list result }
     ensures steps { steps.new ≤ steps.old + 65 }
 {
-    if are_all_before(rows, key, steps) {
-        return rows.len();
-    }
-    let mut low = 0;
-    let mut high = rows.len();
-    for _round in 0..64usize {
-        if low == high {
-            return low;
-        }
-        let middle = low + (high - low) / 2;
-        if precedes(key_of(rows.get(middle, steps)), key) {
-            low = middle + 1;
-        } else {
-            high = middle;
-        }
-    }
-    low
+    rows.cut(&Before { key }, steps)
 }
 
 /// The place of the row at a key; `None` exactly where no row stands there. At most 66 steps.

@@ -1,5 +1,6 @@
 -- The sums of an account by currency, as a trial balance keeps them while it goes through the currencies.
-use Rattle.std.specs.Prelude.{◌≡◌, ℕ, ◌==◌, ◌^◌, ◌≤◌, ℤ, pos, ◌+ℤ◌, unsigned_abs, if◌then◌else◌, List, Option, IsSome, unwrap_or}
+use Rattle.std.specs.Prelude.{◌≡◌, ℕ, ◌==◌, ◌^◌, ◌≤◌, ℤ, pos, ◌+ℤ◌, unsigned_abs, if◌then◌else◌, List, Option, IsSome}
+use Rattle.std.specs.Prelude.{unwrap_or}
 use Rattle.book_accounts.specs.Path.{path}
 use Rattle.book_commodity.specs.Table.{value_of}
 use Rattle.book_register.specs.declared.entry.Entry.{Entry}

@@ -1,6 +1,7 @@
 -- The trial balance: for each currency the sums of the accounts, debits beside credits, which add up to the same
 -- (GnuCash Manual, reports: trial balance).
-use Rattle.std.specs.Prelude.{◌≡◌, ℕ, ◌==◌, ℤ, pos, neg_ℤ, int_lt, if◌then◌else◌, List, [], ◌∷◌, ◌++◌, length, map, codes}
+use Rattle.std.specs.Prelude.{◌≡◌, ℕ, ◌==◌, ℤ, pos, neg_ℤ, int_lt, if◌then◌else◌, List, [], ◌∷◌, ◌++◌, length, map}
+use Rattle.std.specs.Prelude.{codes}
 use Rattle.std.specs.Prelude.{◌≤◌, ◌^◌, unsigned_abs, All, Option, Some, None}
 use Rattle.std.specs.List.{filter_map, flat_map}
 use Rattle.std.specs.Ordering.{int_eq}

@@ -2,7 +2,8 @@ ghost use Rattle.std.specs.Prelude.{◌≡◌, ◌++◌, ◌≤◌, ◌^◌, IfO
 ghost use Rattle.book_commodity.specs.Amount.{amount_text};
 ghost use Rattle.book_reports.specs.Layout.{amount_line};
 ghost use Rattle.book_reports.specs.Sections.{csv_summary, section_name, sum_of};
-ghost use Rattle.book_reports.specs.Sheet.{IsClosed, csv_figures, csv_parts, heading, parts_of, plain_parts, plain_summary, sheet};
+ghost use Rattle.book_reports.specs.Sheet.{IsClosed, csv_figures, csv_parts, heading, parts_of, plain_parts};
+ghost use Rattle.book_reports.specs.Sheet.{plain_summary, sheet};
 ghost use Rattle.book_reports.specs.Sheet.{parts_left_out, rest_of, unbooked};
 
 use crate::layout::{add_day, add_printed};

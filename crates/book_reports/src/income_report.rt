@@ -1,5 +1,6 @@
 ghost use Rattle.std.specs.Prelude.{◌≡◌, ◌++◌, IfOk, OnOk, string_bytes};
-ghost use Rattle.book_reports.specs.Income.{csv_parts, days, heading, income, net, parts_left_out, parts_of, plain_parts};
+ghost use Rattle.book_reports.specs.Income.{csv_parts, days, heading, income, net, parts_left_out, parts_of};
+ghost use Rattle.book_reports.specs.Income.{plain_parts};
 
 use crate::layout::{add_day, add_printed};
 use crate::lines::{

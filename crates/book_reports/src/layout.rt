@@ -1,4 +1,5 @@
-ghost use Rattle.std.specs.Prelude.{◌≡◌, ◌∷◌, [], ◌++◌, All, IfOk, IsUtf8, OnOk, if◌then◌else◌, map, nat_lt, string_bytes};
+ghost use Rattle.std.specs.Prelude.{◌≡◌, ◌∷◌, [], ◌++◌, All, IfOk, IsUtf8, OnOk, if◌then◌else◌, map, nat_lt};
+ghost use Rattle.std.specs.Prelude.{string_bytes};
 ghost use Rattle.book_commodity.specs.Amount.{amount_text};
 ghost use Rattle.book_commodity.specs.Day.{day_text};
 ghost use Rattle.book_reports.specs.Layout.{amount_line, printed, record_text, right};

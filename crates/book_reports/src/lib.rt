@@ -1,7 +1,7 @@
 //! The reports on a book as texts, for a person or as comma-separated values: the trial balance, the balance sheet, the
-//! report of income and expenses, the register and the lots of an account (GnuCash Manual, reports). Public are `trial`,
-//! `sheet`, `income`, `register_text` and `lots_text`, `gains`, `Form`, and `View`, the book with its registers that
-//! they read.
+//! report of income and expenses, the register and the lots of an account (GnuCash Manual, reports). Public are
+//! `trial`, `sheet`, `income`, `register_text` and `lots_text`, `gains`, `Form`, and `View`, the book with its
+//! registers that they read.
 #![tactic(auto)]
 
 mod balance_sheet;

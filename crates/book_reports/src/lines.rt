@@ -1,9 +1,11 @@
-ghost use Rattle.std.specs.Prelude.{◌≡◌, ◌++◌, ◌≤◌, ◌^◌, IfOk, OnOk, codes, decimal, length, string_bytes, unsigned_abs};
+ghost use Rattle.std.specs.Prelude.{◌≡◌, ◌++◌, ◌≤◌, ◌^◌, IfOk, OnOk, codes, decimal, length, string_bytes};
+ghost use Rattle.std.specs.Prelude.{unsigned_abs};
 ghost use Rattle.std.specs.List.{filter_map};
 ghost use Rattle.book_commodity.specs.Amount.{amount_text};
 ghost use Rattle.book_reports.specs.Layout.{amount_line};
 ghost use Rattle.book_reports.specs.Sections.{amount_in, csv_header, csv_lines, csv_record, csv_section, csv_summary};
-ghost use Rattle.book_reports.specs.Sections.{is_left_out, left_out, left_out_line, line_of, plain_lines, plain_section, sum_of, worth_text};
+ghost use Rattle.book_reports.specs.Sections.{is_left_out, left_out, left_out_line, line_of, plain_lines};
+ghost use Rattle.book_reports.specs.Sections.{plain_section, sum_of, worth_text};
 
 use crate::View;
 use crate::layout::{add_amount_line, add_record};

@@ -2,7 +2,8 @@ ghost use Rattle.std.specs.Prelude.{◌≡◌, ◌++◌, [], IfOk, IsSome, OnOk,
 ghost use Rattle.book_commodity.specs.Table.{value_of};
 ghost use Rattle.book_ledger.specs.Ledger.{register_of};
 ghost use Rattle.book_reports.specs.Measure.{commodity_of, fraction_of, is_in};
-ghost use Rattle.book_reports.specs.RegisterText.{columns, csv_record, csv_row, description_in, header, heading, mark_letter, number_in, plain_row};
+ghost use Rattle.book_reports.specs.RegisterText.{columns, csv_record, csv_row, description_in, header, heading};
+ghost use Rattle.book_reports.specs.RegisterText.{mark_letter, number_in, plain_row};
 ghost use Rattle.book_reports.specs.RegisterText.{register_text, row_in, rows_after, title};
 
 use crate::layout::{add_day, add_printed, add_record, add_right};
@@ -149,7 +150,8 @@ fn add_plain_row(
     quantity: &str,
     after: &str,
 ) -> Result<(), OutOfMemory>
-    ensures { OnOk result (string_bytes out.new ≡ string_bytes out.old ++ plain_row view.now row.now quantity.now after.now) }
+    ensures { OnOk result (string_bytes out.new
+        ≡ string_bytes out.old ++ plain_row view.now row.now quantity.now after.now) }
 {
     add_columns(out, row, quantity, after)?;
     add_printed(out, view.number_of(row.txn))?;
@@ -183,7 +185,8 @@ fn add_csv_row(
     quantity: &str,
     after: &str,
 ) -> Result<(), OutOfMemory>
-    ensures { OnOk result (string_bytes out.new ≡ string_bytes out.old ++ csv_row view.now row.now quantity.now after.now) }
+    ensures { OnOk result (string_bytes out.new
+        ≡ string_bytes out.old ++ csv_row view.now row.now quantity.now after.now) }
 {
     let mut day = String::new(alloc);
     add_day(&mut day, row.day)?;

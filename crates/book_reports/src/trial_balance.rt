@@ -1,10 +1,12 @@
-ghost use Rattle.std.specs.Prelude.{◌≡◌, ◌++◌, ◌≤◌, ◌^◌, All, IfOk, IsSome, OnOk, length, map, string_bytes, unsigned_abs};
+ghost use Rattle.std.specs.Prelude.{◌≡◌, ◌++◌, ◌≤◌, ◌^◌, All, IfOk, IsSome, OnOk, length, map, string_bytes};
+ghost use Rattle.std.specs.Prelude.{unsigned_abs};
 ghost use Rattle.book_accounts.specs.Order.{depth_first};
 ghost use Rattle.book_commodity.specs.Table.{value_of};
 ghost use Rattle.std.specs.List.{filter_map, flat_map};
 ghost use Rattle.book_reports.specs.Sheet.{until};
 ghost use Rattle.book_reports.specs.Sums.{IsSummed, line_by, sum_at};
-ghost use Rattle.book_reports.specs.Trial.{IsBalanced, credits, csv_lines, csv_part, csv_record, debits, heading, line_of, part_of, plain_line};
+ghost use Rattle.book_reports.specs.Trial.{IsBalanced, credits, csv_lines, csv_part, csv_record, debits, heading};
+ghost use Rattle.book_reports.specs.Trial.{line_of, part_of, plain_line};
 ghost use Rattle.book_reports.specs.Trial.{plain_lines, plain_part, positive, side_text, title, trial};
 
 use crate::layout::{add_day, add_printed, add_record, add_right};

@@ -87,7 +87,7 @@ module _ {E : Type 0} where
   set_is items place spot h other p =
       ap (λ l. set l spot.chunk other) p.parts ∙ set_here p.before p.after h other spot.chunk p.chunk
 
-  list_is : (items : List (Piece E)) (place : ℕ) (spot : Spot) (h : Piece E) (p : Placed items place spot h)
+  pub list_is : (items : List (Piece E)) (place : ℕ) (spot : Spot) (h : Piece E) (p : Placed items place spot h)
       → list_of items ≡ list_of p.before ++ (h.entries ++ list_of p.after)
   list_is items place spot h p = ap list_of p.parts ∙ list-parts p.before p.after h
 

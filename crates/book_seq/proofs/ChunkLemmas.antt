@@ -1,6 +1,6 @@
 -- Lists in chunks: what one chunk changed, split, filled or taken away does to the list, to the sizes and to the
 -- memory.
-use Rattle.std.proofs.Common.{◌≡◌, ℕ, ◌+◌, ◌-◌, ◌*◌, ◌/◌, ◌<◌, ◌≤◌, List, [], ◌∷◌, ◌++◌, length, take, drop}
+use Rattle.std.proofs.Common.{◌≡◌, ℕ, zero, suc, ◌+◌, ◌-◌, ◌*◌, ◌/◌, ◌<◌, ◌≤◌, List, [], ◌∷◌, ◌++◌, length, take, drop}
 use Rattle.std.proofs.Common.{get_or, sym, ap, ◌∙◌, arith}
 use Rattle.std.proofs.Math.ListN.{length-append}
 use Rattle.std.proofs.lemmas.List.{append-nil, drop_more, get_or_default, length-take-le, take_all, take_more}
@@ -32,6 +32,13 @@ module _ {E : Type 0} where
   pub packed-tail : (piece : Piece E) (more : List (Piece E)) → ArePacked (piece ∷ more) → ArePacked more
   packed-tail piece [] packed = tt
   packed-tail piece (next ∷ more) packed = packed.1.1
+
+  pub packed-at : (pieces : List (Piece E)) (k : ℕ) (d : Piece E) → ArePacked pieces → k < length pieces
+      → length (get_or pieces k d).entries ≤ 512
+  packed-at [] k d packed lt = absurd (omega (arith, lt))
+  packed-at (piece ∷ more) zero d packed lt = packed-most piece more packed
+  packed-at (piece ∷ more) (suc k) d packed lt =
+      packed-at more k d (packed-tail piece more packed) (omega (arith, lt))
 
   pub packed-front : (before : List (Piece E)) (here : Piece E) (after : List (Piece E))
       → ArePacked (before ++ here ∷ after) → AreFull before
@@ -187,6 +194,15 @@ module _ {E : Type 0} where
   length_more pieces k here lt read =
       ap length (list_more pieces k here lt read) ∙ length-append (list_of (take k pieces)) here.entries
 
+  -- some first chunks have no more entries than all of them
+  pub length_taken : (pieces : List (Piece E)) (k : ℕ) → length (list_of (take k pieces)) ≤ length (list_of pieces)
+  length_taken pieces k = omega (
+    arith,
+    ap (λ l. length (list_of l)) (take-append-drop k pieces),
+    ap length (flat_map-append (λ (piece : Piece E). piece.entries) (take k pieces) (drop k pieces)),
+    length-append (list_of (take k pieces)) (list_of (drop k pieces)),
+  )
+
   last_here : (pieces : List (Piece E)) (place o : ℕ) (d : Piece E) → 1 ≤ length pieces
       → place ≤ length (list_of pieces)
       → place ≡ length (list_of (take (length pieces - 1) pieces)) + o
@@ -207,6 +223,26 @@ module _ {E : Type 0} where
       → IsAt pieces place (record { chunk = length pieces - 1; offset = o })
   spot_last [] place o some within is = absurd (omega (arith, some))
   spot_last (d ∷ more) place o some within is = last_here (d ∷ more) place o d some within is
+
+  -- a place within the last chunk, by how many entries stand behind it
+  end_at : (pieces : List (Piece E)) (here : Piece E) (place len : ℕ) → 1 ≤ length pieces
+      → here ≡ get_or pieces (length pieces - 1) here → len ≡ length (list_of pieces) → place ≤ len
+      → len - place ≤ length here.entries
+      → place ≡ length (list_of (take (length pieces - 1) pieces)) + (length here.entries - (len - place))
+  end_at pieces here place len some read is within behind =
+      let k : ℕ = length pieces - 1 in
+      let all : take (k + 1) pieces ≡ pieces = take_all (k + 1) pieces (omega (arith, some)) in
+      let longer : length (list_of pieces) ≡ length (list_of (take k pieces)) + length here.entries =
+      ap (λ l. length (list_of l)) (sym all) ∙ length_more pieces k here (omega (arith, some)) read in
+      omega (arith, longer, is, within, behind)
+
+  pub spot_end : (pieces : List (Piece E)) (here : Piece E) (place len : ℕ) → 1 ≤ length pieces
+      → here ≡ get_or pieces (length pieces - 1) here → len ≡ length (list_of pieces) → place ≤ len
+      → len - place ≤ length here.entries
+      → IsAt pieces place (record { chunk = length pieces - 1; offset = length here.entries - (len - place) })
+  spot_end pieces here place len some read is within behind =
+      spot_last pieces place (length here.entries - (len - place)) some (omega (arith, is, within))
+      (end_at pieces here place len some read is within behind)
 
   -- ---- what is left from a chunk on
   pub drop_here : (pieces : List (Piece E)) (k : ℕ) (here : Piece E) → k < length pieces → here ≡ get_or pieces k here

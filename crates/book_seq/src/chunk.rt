@@ -1,9 +1,10 @@
 ghost use Rattle.std.specs.Prelude.{◌≡◌, ◌+◌, ◌-◌, ◌<◌, ◌≤◌, [], ◌++◌, IfOk, OnOk, Some, length, slice_get, take, drop};
 ghost use Rattle.std.specs.Prelude.{insert, remove, vec_capacity, vec_len};
+ghost use Rattle.book_seq.specs.Cuts.{IsCut, IsParted, last_passes};
 ghost use Rattle.book_seq.specs.Sums.{AreWithin, sums_of};
 
-use crate::Weigh;
 use crate::sums::Sums;
+use crate::{Test, Weigh};
 use book_commodity::{OutOfMemory, Steps};
 use std::alloc::Global;
 use std::marker::Model;
@@ -62,6 +63,50 @@ impl<E: Weigh> Chunk<E> {
         ensures { result ≡ self.now.room }
     {
         self.entries.capacity()
+    }
+
+    /// The entries from a place on.
+    pub(crate) fn from(&self, place: usize) -> &[E]
+        requires { place ≤ length self.now.entries }
+        ensures { result.now ≡ drop place self.now.entries }
+    {
+        &self.entries[place..]
+    }
+
+    /// Whether there is a last entry and it passes the test: one step.
+    pub(crate) fn is_passed<T: Test<E>, L>(&self, test: &T, steps: &mut Steps<L>) -> bool
+        ensures passed { result ≡ last_passes (T.is_passed test.now) self.now.entries }
+        ensures steps { steps.new ≡ steps.old + 1 }
+    {
+        steps.tick();
+        match self.entries.last() {
+            Some(entry) => test.passes(entry),
+            None => false,
+        }
+    }
+
+    /// How many first entries pass the test, found by halving them.
+    pub(crate) fn cut<T: Test<E>, L>(&self, test: &T, steps: &mut Steps<L>) -> usize
+        requires few { length self.now.entries ≤ 512 }
+        requires parted { IsParted (T.is_passed test.now) self.now.entries }
+        ensures cut { IsCut (T.is_passed test.now) self.now.entries result }
+        ensures within { result ≤ length self.now.entries }
+        ensures steps { steps.new ≤ steps.old + 10 }
+    {
+        let mut low = 0;
+        let mut high = self.entries.len();
+        for _round in 0..10usize {
+            if low == high {
+                return low;
+            }
+            let middle = low + (high - low) / 2;
+            if test.passes(self.entry(middle, steps)) {
+                low = middle + 1;
+            } else {
+                high = middle;
+            }
+        }
+        low
     }
 
     /// Makes room for so many more entries.

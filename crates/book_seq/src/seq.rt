@@ -1,14 +1,16 @@
-ghost use Rattle.std.specs.Prelude.{◌≡◌, ◌+◌, ◌/◌, ◌<◌, ◌≤◌, [], OnOk, OnErr, Some, length, slice_get, take};
+ghost use Rattle.std.specs.Prelude.{◌≡◌, ◌+◌, ◌/◌, ◌<◌, ◌≤◌, [], OnOk, OnErr, Some, drop, length, slice_get, take};
 ghost use Rattle.std.specs.Prelude.{insert, remove};
+ghost use Rattle.book_seq.specs.Cuts.{IsCut, IsParted};
 ghost use Rattle.book_seq.specs.Sums.{listed, sums_of};
 
 mod memory;
 mod moves;
+mod search;
 mod sum_before;
 
-use crate::Weigh;
 use crate::chunk::Chunk;
 use crate::spot::spot_of;
+use crate::{Test, Weigh};
 use book_commodity::{OutOfMemory, Steps};
 use std::alloc::Global;
 use std::marker::Model;
@@ -70,8 +72,35 @@ impl<E: Weigh> Seq<E> {
         ensures entry { slice_get self.now.list place ≡ Some result.now }
         ensures steps { steps.new ≡ steps.old + 1 }
     {
-        let spot = spot_of(self.chunks.as_slice(), place);
+        let spot = spot_of(self.chunks.as_slice(), place, self.len);
         self.chunks[spot.chunk].entry(spot.offset, steps)
+    }
+
+    /// The entries from a place on up to the end of the chunk where the place is: at least one.
+    pub fn part(&self, place: usize) -> &[E]
+        requires { place < length self.now.list }
+        ensures part { result.now ≡ take (length result.now) (drop place self.now.list) }
+        ensures some { 1 ≤ length result.now }
+    {
+        let spot = spot_of(self.chunks.as_slice(), place, self.len);
+        self.chunks[spot.chunk].from(spot.offset)
+    }
+
+    /// How many first entries pass the test, where behind one that doesn't none does. It halves the chunks by their
+    /// last entries and then the entries of one chunk, and passes over the chunks before by their lengths: at most 65
+    /// steps.
+    pub fn cut<T: Test<E>, L>(&self, test: &T, steps: &mut Steps<L>) -> usize
+        requires { IsParted (T.is_passed test.now) self.now.list }
+        ensures cut { IsCut (T.is_passed test.now) self.now.list result }
+        ensures within { result ≤ length self.now.list }
+        ensures steps { steps.new ≤ steps.old + 65 }
+    {
+        let count = search::chunk_of(self.chunks.as_slice(), test, steps);
+        let before = search::len_before(self.chunks.as_slice(), count);
+        if count == self.chunks.len() {
+            return before;
+        }
+        before + self.chunks[count].cut(test, steps)
     }
 
     /// The sums of the weights of so many first entries: the sums of the chunks before the place, and the weights of
@@ -116,7 +145,7 @@ impl<E: Weigh + Drop> Seq<E> {
         ensures spare { self.old.spare ≤ self.new.spare + 1 }
         ensures steps { steps.new ≤ steps.old + (self.old.chunks + 1024) }
     {
-        let spot = spot_of(self.chunks.as_slice(), place);
+        let spot = spot_of(self.chunks.as_slice(), place, self.len);
         self.len += 1;
         if self.chunks[spot.chunk].len() < 512 {
             self.chunks[spot.chunk].insert(spot.offset, entry, steps);
@@ -147,7 +176,7 @@ impl<E: Weigh + Drop> Seq<E> {
         ensures spare { self.old.spare ≤ self.new.spare }
         ensures steps { steps.new ≤ steps.old + (self.old.chunks + 512) }
     {
-        let spot = spot_of(self.chunks.as_slice(), place);
+        let spot = spot_of(self.chunks.as_slice(), place, self.len);
         let entry = self.chunks[spot.chunk].remove(spot.offset, steps);
         self.len -= 1;
         if spot.chunk + 1 < self.chunks.len() && self.chunks[spot.chunk].len() < 256 {

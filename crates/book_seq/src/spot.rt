@@ -1,4 +1,4 @@
-ghost use Rattle.std.specs.Prelude.{◌≤◌, length};
+ghost use Rattle.std.specs.Prelude.{◌≡◌, ◌≤◌, length};
 ghost use Rattle.book_seq.specs.Chunks.{IsAt, list_of};
 
 use crate::Weigh;
@@ -11,13 +11,23 @@ pub(crate) struct Spot {
     pub(crate) offset: usize,
 }
 
-/// Where a place of the list is. It passes over the chunks by their lengths, which is no step.
-pub(crate) fn spot_of<E: Weigh>(chunks: &[Chunk<E>], place: usize) -> Spot
+/// Where a place of a list of so many entries is. One in the last chunk, where most are, is found at once; else it
+/// passes over the chunks by their lengths. Neither is a step.
+pub(crate) fn spot_of<E: Weigh>(chunks: &[Chunk<E>], place: usize, len: usize) -> Spot
     requires some { 1 ≤ length chunks.now }
-    requires place { place ≤ length (list_of chunks.now) }
+    requires len { len ≡ length (list_of chunks.now) }
+    requires place { place ≤ len }
     ensures { IsAt chunks.now place result }
 {
     let last = chunks.len() - 1;
+    let behind = len - place;
+    let last_len = chunks[last].len();
+    if behind <= last_len {
+        return Spot {
+            chunk: last,
+            offset: last_len - behind,
+        };
+    }
     let mut offset = place;
     for chunk in 0..last {
         let len = chunks[chunk].len();

@@ -18,8 +18,9 @@ use book_statement::{Line, LineState};
 use book_undo::{Edit, Thing};
 use std::alloc::Global;
 
-/// The open line of this number is matched with the split, which becomes cleared where it was new. Broken where the book
-/// has no such line or split, where the line isn't open, where a line has the split, and where the split doesn't fit.
+/// The open line of this number is matched with the split, which becomes cleared where it was new. Broken where the
+/// book has no such line or split, where the line isn't open, where a line has the split, and where the split doesn't
+/// fit.
 pub(crate) fn line_match(present: &Present, number: u64, split: u64) -> Result<Step, Refusal>
     ensures { StepsTo present.now (line_match present.now number split) result }
 {

@@ -105,9 +105,11 @@ pub fn step_of(
     requires sound { IsSound (state_of plain.now next version) }
     requires registers { Keeps registers.now.entries (book_of plain.now) }
     requires index { index.now.entries ≡ free_splits (book_of plain.now) }
-    ensures steps { StepsTo (state_of plain.now next version) (outcome (state_of plain.now next version) update) result }
+    ensures steps { StepsTo (state_of plain.now next version)
+        (outcome (state_of plain.now next version) update) result }
     ensures lines { IfOk result (λ step. KeepsLines (book_of plain.now) (edited step.edit (book_of plain.now))) }
-    ensures statements { IfOk result (λ step. KeepsStatements (book_of plain.now) (edited step.edit (book_of plain.now))) }
+    ensures statements { IfOk result (λ step.
+        KeepsStatements (book_of plain.now) (edited step.edit (book_of plain.now))) }
     ensures leaves { (format : FileFormat) (text : List ℕ) (given : Option ℕ) → update ≡ Import format text given
         → HasFile (book_of plain.now) format text given → IfOk result (λ step. is_nothing step.edit ≡ true) }
 {

@@ -36,7 +36,7 @@ loop-line-preserved-in_default c =
     let found : option_map number (choice c.args.window item.now before) ≡ None =
     sym (choice-kept c.args.window c.args.account item.now c.loop-line.taken es ts)
     ∙ ap (λ l. option_map number (nearest item.now (map (view_of ts)
-    (filter (is_left c.loop-line.taken) l)))) (sym c.entries_near-entries.ensures)
+    (filter (is_left c.loop-line.taken) l)))) (sym (c.as_slice.ensures.value ∙ c.in_ok-entries.ensures))
     ∙ sym c.split_for.ensures ∙ c.in_default.is in
     let none = mapped_none number (choice c.args.window item.now before) found in
     ap (λ l. c.loop-line.pairs ++ l)
@@ -59,7 +59,7 @@ loop-line-preserved c =
     let found : option_map number (choice c.args.window item.now before) ≡ Some c.in-Some.split =
     sym (choice-kept c.args.window c.args.account item.now c.loop-line.taken es ts)
     ∙ ap (λ l. option_map number (nearest item.now (map (view_of ts)
-    (filter (is_left c.loop-line.taken) l)))) (sym c.entries_near-entries.ensures)
+    (filter (is_left c.loop-line.taken) l)))) (sym (c.as_slice.ensures.value ∙ c.in_ok-entries.ensures))
     ∙ sym c.split_for.ensures ∙ c.in-Some.is in
     let chosen = mapped_some number (choice c.args.window item.now before) c.in-Some.split found in
     let rest : List SplitView → List Matched =

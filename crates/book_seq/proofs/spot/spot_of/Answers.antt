@@ -24,6 +24,7 @@ pub returns : goal.returns
 returns g c =
     let last : c.loop-chunk.chunk ≡ length c.args.chunks.now - 1 =
     omega (arith, c.loop-chunk-test.false, c.loop-chunk.auto.chunk-end) in
-    spot_last c.args.chunks.now c.args.place c.loop-chunk.offset c.requires.some c.requires.place
+    spot_last c.args.chunks.now c.args.place c.loop-chunk.offset c.requires.some
+    (omega (arith, c.requires.place, c.requires.len))
     (subst (λ (k : ℕ). c.args.place ≡ length (list_of (take k c.args.chunks.now)) + c.loop-chunk.offset) last
     c.loop-chunk.invariant)

@@ -1,21 +1,35 @@
-use Rattle.std.proofs.Common.{◌≡◌, List, ap, sym, ◌∙◌, subst}
-use Rattle.book_match.specs.AmountIndex.{AreAbsent, Index, Rises, is_there}
+use Rattle.std.proofs.Common.{◌+◌, refl, List, drop, length, ap, sym, ◌∙◌, subst, arith}
+use Rattle.book_match.specs.AmountIndex.{AreAbsent, Rises, with_all}
 use Rattle.book_match.specs.declared.free.Free.{Free}
-use Rattle.book_match.proofs.ManyLemmas.{rises-with_all, second-absent, two-are}
+use Rattle.book_match.proofs.ManyLemmas.{absent-with, drop-here}
 use Rattle.book_match.proofs.index.AmountIndex.put_all.Goals as goal
 
-pub invariant_of-self : goal.invariant_of-self
-invariant_of-self c =
-    let es : List Free = c.self.inside.entries.items in
-    let seen : es ≡ c.args.self.now.entries = ap (λ (i : Index). i.entries) c.self.view_is in
-    subst Rises (sym c.put_in.ensures.items)
-    (rises-with_all c.args.come.now es c.requires.rises c.self.invariant
-    (subst (AreAbsent c.args.come.now) (sym seen) c.requires.absent))
+pub loop-free-init : goal.loop-free-init
+loop-free-init c = record {
+  entries = refl;
+  absent = c.requires.absent;
+  rises = c.requires.rises;
+  changes = omega (arith, c.in_order.ensures.counted);
+  room = c.requires.room;
+  spare = omega arith;
+}
 
-pub put-requires-in-len2-2-clause-absent : goal.put-requires-in-len2-2-clause-absent
-put-requires-in-len2-2-clause-absent c =
-    ap (is_there c.other-item.result) c.put-in-len2.ensures.entries
-    ∙ second-absent c.one-item.result c.other-item.result c.args.come.now c.args.self.now.entries
-    (two-are c.one-item.result c.other-item.result c.args.come.now c.in-len2.len_at_least c.in-len2.len_below
-    c.one-item.is c.other-item.is)
-    c.requires.rises c.requires.absent
+pub loop-free-preserved : goal.loop-free-preserved
+loop-free-preserved c =
+    let free : Free = c.free-item.result in
+    let i = c.loop-free.free-index in
+    let here = drop-here c.args.come.now i free c.loop-free-test.true c.free-item.is in
+    let rest : List Free = drop (i + 1) c.args.come.now in
+    let absent = subst (λ (l : List Free). AreAbsent l c.loop-free.self.entries) here c.loop-free.invariant.absent in
+    let rises = subst Rises here c.loop-free.invariant.rises in
+    record {
+      entries = ap (with_all rest) c.put.ensures.entries
+          ∙ ap (λ (l : List Free). with_all l c.loop-free.self.entries) (sym here)
+          ∙ c.loop-free.invariant.entries;
+      absent = subst (AreAbsent rest) (sym c.put.ensures.entries)
+          (absent-with free rest c.loop-free.self.entries rises.0 absent.1);
+      rises = rises.1;
+      changes = omega (arith, c.put.ensures.changes, c.loop-free.invariant.changes);
+      room = omega (arith, c.loop-free.invariant.room, c.put.ensures.spare, ap length here);
+      spare = omega (arith, c.loop-free.invariant.spare, c.put.ensures.spare);
+    }

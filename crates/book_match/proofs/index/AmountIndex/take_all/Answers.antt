@@ -1,25 +1,36 @@
-use Rattle.std.proofs.Common.{◌≡◌, ◌∷◌, [], List, ap, length, subst, sym, ◌∙◌}
-use Rattle.book_match.specs.AmountIndex.{Rises, is_there}
+use Rattle.std.proofs.Common.{◌+◌, ◌-◌, ◌^◌, refl, List, drop, min, ap, sym, ◌∙◌, subst, arith, if◌then◌else◌, Bool}
+use Rattle.book_match.specs.AmountIndex.{AreThere, Rises, without_all}
 use Rattle.book_match.specs.declared.free.Free.{Free}
-use Rattle.book_match.proofs.ManyLemmas.{counted-twice, one-there, rises-without_all, second-there, two-are}
+use Rattle.book_match.proofs.ManyLemmas.{drop-here, there-behind}
 use Rattle.book_match.proofs.index.AmountIndex.take_all.Goals as goal
 
-pub invariant_of-self : goal.invariant_of-self
-invariant_of-self c =
-    subst Rises (sym c.take_out.ensures.items)
-    (rises-without_all c.args.gone.now c.self.inside.entries.items c.self.invariant)
+pub loop-free-init : goal.loop-free-init
+loop-free-init c = record {
+  entries = refl;
+  there = c.requires.there;
+  rises = c.requires.rises;
+  changes = omega (arith, c.in_order.ensures.counted);
+  spare = omega arith;
+}
 
-pub returns-in-len2-clause-changes : goal.returns-in-len2-clause-changes
-returns-in-len2-clause-changes c =
-    let one : Free = c.one-item.result in
-    let other : Free = c.other-item.result in
-    let gone : List Free = c.args.gone.now in
-    let es : List Free = c.args.self.now.entries in
-    let are : gone ≡ one ∷ other ∷ [] =
-    two-are one other gone c.in-len2.len_at_least c.in-len2.len_below c.one-item.is c.other-item.is in
-    counted-twice c.args.self.now.changes c.take-in-len2.new.self.changes c.take-in-len2-2.new.self.changes _
-    (length gone) c.take-in-len2.result c.take-in-len2-2.result
-    (c.take-in-len2.ensures.taken ∙ one-there one other gone es are c.requires.there)
-    (c.take-in-len2-2.ensures.taken ∙ ap (is_there other) c.take-in-len2.ensures.entries
-    ∙ second-there one other gone es are c.requires.rises c.requires.there)
-    c.take-in-len2.ensures.changes c.take-in-len2-2.ensures.changes (ap length are)
+pub loop-free-preserved : goal.loop-free-preserved
+loop-free-preserved c =
+    let free : Free = c.free-item.result in
+    let i = c.loop-free.free-index in
+    let here = drop-here c.args.gone.now i free c.loop-free-test.true c.free-item.is in
+    let rest : List Free = drop (i + 1) c.args.gone.now in
+    let there = subst (λ (l : List Free). AreThere l c.loop-free.self.entries) here c.loop-free.invariant.there in
+    let rises = subst Rises here c.loop-free.invariant.rises in
+    let taken = c.take.ensures.taken ∙ there.0 in
+    let changes = c.take.ensures.changes
+    ∙ ap (λ (t : Bool). if t then min (c.loop-free.self.changes + 1) (2 ^ 64 - 1) else c.loop-free.self.changes) taken in
+    record {
+      entries = ap (without_all rest) c.take.ensures.entries
+          ∙ ap (λ (l : List Free). without_all l c.loop-free.self.entries) (sym here)
+          ∙ c.loop-free.invariant.entries;
+      there = subst (AreThere rest) (sym c.take.ensures.entries)
+          (there-behind free rest c.loop-free.self.entries rises.0 there.1);
+      rises = rises.1;
+      changes = omega (arith, changes, c.loop-free.invariant.changes);
+      spare = omega (arith, c.loop-free.invariant.spare, c.take.ensures.spare);
+    }
