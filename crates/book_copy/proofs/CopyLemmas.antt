@@ -9,6 +9,7 @@ use Rattle.book_keeper.specs.declared.row.Row.{Row}
 use Rattle.book_keeper.specs.declared.row.RowKey.{RowKey}
 use Rattle.book_keeper.specs.Rows.{AllAbove, AreRisingFrom, Rises, after_changes, changed_key, first_above, first_after}
 use Rattle.book_keeper.specs.Rows.{rank, with_row}
+use Rattle.book_copy.specs.BookNumbers.{first_past_limit}
 
 -- ---- the rows that are left
 -- the rows from the first one on whose key is above a rank
@@ -30,6 +31,9 @@ past row rows above = let all = from_all (rank row.key) rows above in grind (ari
 
 not_below : (m n : ℕ) → n ≤ m → nat_lt m n ≡ false
 not_below m n low = grind (arith, nat_tests, low)
+
+below : (m n : ℕ) → m < n → nat_lt m n ≡ true
+below m n low = grind (arith, nat_tests, low)
 
 -- the row behind a key is the first of those behind it
 next_by :
@@ -106,6 +110,36 @@ pub read_all :
     → changes ++ map Put (behind key rows) ≡ map Put rows → changes ≡ map Put rows
 read_all changes key rows e held =
     sym (append-nil changes) ∙ ap (λ (l : List Row). changes ++ map Put l) (sym (none_behind key rows e)) ∙ held
+
+-- ---- the first row whose number is none of a book
+-- it is not the next row, where that has a number of a book
+pub past_next :
+    (key : Option RowKey) (rows : List Row) (row : Row) → Rises rows → first_after key rows ≡ Some row
+    → row.key.id < 2 ^ 62 → first_past_limit (behind key rows) ≡ first_past_limit (behind (Some row.key) rows)
+past_next key rows row rise e small =
+    ap first_past_limit (next_behind key rows row rise e)
+    ∙ ap (λ (t : Bool). if t then first_past_limit (behind (Some row.key) rows) else Some row.key)
+    (below row.key.id (2 ^ 62) small)
+
+-- and is it, where that has none
+pub past_here :
+    (key : Option RowKey) (rows : List Row) (row : Row) → Rises rows → first_after key rows ≡ Some row
+    → 2 ^ 62 ≤ row.key.id → first_past_limit (behind key rows) ≡ Some row.key
+past_here key rows row rise e large =
+    ap first_past_limit (next_behind key rows row rise e)
+    ∙ ap (λ (t : Bool). if t then first_past_limit (behind (Some row.key) rows) else Some row.key)
+    (not_below row.key.id (2 ^ 62) large)
+
+-- none is left, and so there is none
+pub past_none :
+    (key : Option RowKey) (rows : List Row) → first_after key rows ≡ None → first_past_limit (behind key rows) ≡ None
+past_none key rows e = ap first_past_limit (none_behind key rows e)
+
+-- a key that has a kind and an id
+pub key_is : (key : RowKey) (kind id : ℕ) → key.kind ≡ kind → key.id ≡ id → key ≡ record { kind = kind; id = id }
+key_is key kind id of_kind of_id =
+    ap (λ (k : ℕ). let made : RowKey = record { kind = k; id = key.id } in made) of_kind
+    ∙ ap (λ (i : ℕ). let made : RowKey = record { kind = kind; id = i } in made) of_id
 
 -- ---- the changes name rising keys
 -- above this rank the next key stands

@@ -1,7 +1,9 @@
-ghost use Rattle.std.specs.Prelude.{◌≡◌, ◌≤◌, Err, IfOk, IsTrue, List, OnErr, OnOk, [], map};
+ghost use Rattle.std.specs.Prelude.{◌≡◌, ◌≤◌, Err, IfOk, IsTrue, List, None, OnErr, OnOk, Some, [], map, ℕ};
+ghost use Rattle.book_copy.specs.BookNumbers.{first_past_limit};
 ghost use Rattle.book_keeper.specs.Faults.{Rose};
 ghost use Rattle.book_keeper.specs.Rows.{AreRising};
 ghost use Rattle.book_keeper.specs.declared.row.Row.{Row};
+ghost use Rattle.book_keeper.specs.declared.row.RowKey.{RowKey};
 ghost use Rattle.book_keeper.specs.declared.row.Change.{Change};
 
 use book_keeper::{Change, KeepError, Keeper, RowKey};
@@ -26,7 +28,8 @@ const NUMBER_LIMIT: u64 = 1 << 62;
 /// Puts all rows that a keeper has into another by one commit. The rows of the first stay, whatever happens. Where the
 /// other had none, it then has exactly these; at an error it has what it had.
 /// Source: the first keeper failed, and its count of faults rose. Target: the other failed, and its count rose.
-/// NoBookRow: a row has a number that no row of a book has. OutOfMemory: the program is out of memory.
+/// NoBookRow: this is the first row with a number that no row of a book has; with Ok there is none. OutOfMemory: the
+/// program is out of memory.
 pub fn copy_rows<K: Keeper, L: Keeper>(
     alloc: Global,
     source: &mut K,
@@ -41,6 +44,11 @@ pub fn copy_rows<K: Keeper, L: Keeper>(
         → K.holds source.old rows → L.holds target.old [] → L.holds target.new rows) }
     ensures not_copied { OnErr result (IsTrue (L.sure target.new) → (rows : List Row) → L.holds target.old rows
         → L.holds target.new rows) }
+    ensures no_book_row { (kind : ℕ) → (id : ℕ) → result ≡ Err (CopyError.NoBookRow kind id)
+        → IsTrue (K.sure source.new) → (rows : List Row) → K.holds source.old rows
+        → first_past_limit rows ≡ Some (record { kind = kind; id = id }) }
+    ensures book_rows { OnOk result (IsTrue (K.sure source.new) → (rows : List Row) → K.holds source.old rows
+        → first_past_limit rows ≡ None) }
     ensures source_fault { result ≡ Err CopyError.Source → Rose (K.faults source.old) (K.faults source.new) }
     ensures target_fault { result ≡ Err CopyError.Target → Rose (L.faults target.old) (L.faults target.new) }
 {
@@ -60,6 +68,11 @@ fn read_changes<K: Keeper>(alloc: Global, source: &mut K) -> Result<Vec<Change>,
     ensures rising { IfOk result (λ changes. AreRising changes.items) }
     ensures read { IfOk result (λ changes. IsTrue (K.sure source.new) → (rows : List Row) → K.holds source.old rows
         → changes.items ≡ map Change.Put rows) }
+    ensures no_book_row { (kind : ℕ) → (id : ℕ) → result ≡ Err (CopyError.NoBookRow kind id)
+        → IsTrue (K.sure source.new) → (rows : List Row) → K.holds source.old rows
+        → first_past_limit rows ≡ Some (record { kind = kind; id = id }) }
+    ensures book_rows { OnOk result (IsTrue (K.sure source.new) → (rows : List Row) → K.holds source.old rows
+        → first_past_limit rows ≡ None) }
     ensures fault { result ≡ Err CopyError.Source → Rose (K.faults source.old) (K.faults source.new) }
     ensures not_target { result ≡ Err CopyError.Target → ⊥ }
 {

@@ -6,6 +6,7 @@ ghost use Rattle.book_sqlite.specs.KeeperInSqlite.{HoldsRows, is_sure};
 ghost use Rattle.book_sqlite.specs.NewFiles.{HoldNothing};
 ghost use Rattle.book_files.specs.FileRows.{BeginsWith};
 
+use crate::beside::folder_of;
 use book_copy::{CopyError, copy_rows};
 use book_keeper::{KeepError, Keeper};
 use book_sqlite::FileKeeper;
@@ -22,7 +23,7 @@ const EMPTY_LOG: u64 = 41;
 #[derive(Clone, Copy, Debug, PartialEq, Eq)]
 pub enum FileCopyError {
     /// Something is at the path of the copy, or a log beside it.
-    Taken,
+    TargetThere,
     /// Something is at the path of the part that is written first, as where a copy was stopped or is being made.
     PartThere,
     /// The rows were not copied.
@@ -70,8 +71,9 @@ fn unread(error: KeepError) -> CopyError {
 
 /// Makes a whole copy of the book in a file, its log included, at a path where nothing is. It is made at the path with
 /// `.part` behind, and gets its own in the end, so a run that is stopped leaves no part of a copy at the path itself.
-/// Taken: something is there, or a log. PartThere: something is where the part comes. Rows: the book can't be opened or
-/// read, or the part can't be written. File: the copy could not be closed or get its path. OutOfMemory: the program is.
+/// TargetThere: something is there, or a log. PartThere: something is where the part comes. Rows: the book can't be
+/// opened or read, or the part can't be written. File: the copy could not be closed or get its path. OutOfMemory: the
+/// program is.
 pub fn copy_file(rt: &HostRuntime, from: &str, to: &str) -> Result<(), FileCopyError> {
     let (Ok(log), Ok(part), Ok(part_log)) = (
         format!(in rt.alloc(); "{to}-wal"),
@@ -81,7 +83,7 @@ pub fn copy_file(rt: &HostRuntime, from: &str, to: &str) -> Result<(), FileCopyE
         return Err(FileCopyError::OutOfMemory);
     };
     if is_there(rt, to) || is_there(rt, log.as_str()) {
-        return Err(FileCopyError::Taken);
+        return Err(FileCopyError::TargetThere);
     }
     if is_there(rt, part_log.as_str()) {
         return Err(FileCopyError::PartThere);
@@ -166,13 +168,4 @@ fn remove_log(rt: &HostRuntime, log: &str) -> io::Result<()> {
         return Err(io::Error::other("the log holds rows"));
     }
     fs::remove_file(rt, log)
-}
-
-/// The folder of a path.
-fn folder_of(path: &str) -> &str {
-    match path.rsplit_once('/') {
-        None => ".",
-        Some(("", _)) => "/",
-        Some((folder, _)) => folder,
-    }
 }

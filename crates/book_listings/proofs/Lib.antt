@@ -1,5 +1,6 @@
 pub mod CommandLemmas
 pub mod FindLemmas
+pub mod LineLemmas
 pub mod OrderLemmas
 pub mod RegisterLemmas
 pub mod RowLemmas

@@ -1,6 +1,7 @@
--- The register of an account with the numbers by which commands name its transactions and splits (GnuCash Concepts Guide,
--- account registers).
-use Rattle.std.specs.Prelude.{ℕ, ◌==◌, ◌++◌, ℤ, not, if◌then◌else◌, List, [], ◌∷◌, filter, map, codes, Option, Some, None}
+-- The register of an account with the numbers by which commands name its transactions and splits (GnuCash Concepts
+-- Guide, account registers).
+use Rattle.std.specs.Prelude.{ℕ, ◌==◌, ◌++◌, ℤ, not, if◌then◌else◌, List, [], ◌∷◌, filter, map, codes, Option, Some}
+use Rattle.std.specs.Prelude.{None}
 use Rattle.std.specs.Prelude.{option_map, slice_get}
 use Rattle.std.specs.Fmt.{decimal}
 use Rattle.std.specs.List.{flat_map}
@@ -64,14 +65,13 @@ matched_of account lines = flat_map (matched_in account) lines
 
 -- The number of the line with which a split is matched.
 abbrev pub line_of : ℕ → List (ℕ × ℕ) → Option ℕ
-line_of split [] = None
-line_of split (matched ∷ more) = if matched.0 == split then Some matched.1 else line_of split more
+line_of split matched = value_of split matched
 
 -- A row of the register in a commodity with this fraction, and the balance after it: its day, the numbers of its
--- transaction and its split, its mark, its quantity, the balance, the other side, the number of the bank's line with which
--- the split is matched, the num, the description and the memo. `lines` has what is matched.
-abbrev pub register_row : Book → List (ℕ × ℕ) → ℕ → Entry → ℤ → List (List ℕ)
-register_row book lines fraction row after =
+-- transaction and its split, its mark, its quantity, the balance, the other side, the number of the bank's line with
+-- which the split is matched, the num, the description and the memo.
+abbrev pub register_row : Book → Option ℕ → ℕ → Entry → ℤ → List (List ℕ)
+register_row book line fraction row after =
     day_text row.day
     ∷ decimal row.txn
     ∷ decimal row.split
@@ -79,17 +79,18 @@ register_row book lines fraction row after =
     ∷ amount_text row.quantity fraction
     ∷ amount_text after fraction
     ∷ other_side_in book row
-    ∷ option_map_or decimal (line_of row.split lines) []
+    ∷ option_map_or decimal line []
     ∷ number_in book.transactions row.txn
     ∷ description_in book.transactions row.txn
     ∷ memo_in book row
     ∷ []
 
--- The rows that stand behind others; the balance after a row is the sum of the quantities of all rows up to it.
+-- The rows that stand behind others; the balance after a row is the sum of the quantities of all rows up to it. `lines`
+-- has what is matched.
 abbrev pub rows_after : Book → List (ℕ × ℕ) → ℕ → List Entry → List Entry → List (List (List ℕ))
 rows_after book lines fraction before [] = []
 rows_after book lines fraction before (row ∷ more) =
-    register_row book lines fraction row (balance (before ++ row ∷ []))
+    register_row book (line_of row.split lines) fraction row (balance (before ++ row ∷ []))
     ∷ rows_after book lines fraction (before ++ row ∷ []) more
 
 -- The rows of the register of an account.

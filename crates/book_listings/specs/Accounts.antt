@@ -48,8 +48,8 @@ account_name book number account =
 abbrev pub name_in : Book → ℕ → List ℕ
 name_in book number = option_map_or (account_name book number) (value_of number book.accounts) []
 
--- The row of an account: its number, its balance over all days in its commodity, the commodity, its kind, its marks, and
--- what it is called.
+-- The row of an account: its number, its balance over all days in its commodity, the commodity, its kind, its marks,
+-- and what it is called.
 abbrev pub account_row : Book → ℕ → Account → List (List ℕ)
 account_row book number account =
     decimal number

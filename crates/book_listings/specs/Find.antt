@@ -1,6 +1,7 @@
--- The transactions in which a text stands, whatever the case of its letters (The Unicode Standard, section 3.13, default
--- case folding).
-use Rattle.std.specs.Prelude.{ℕ, ◌==◌, ◌&&◌, ◌||◌, ◌≡◌, ℤ, Bool, true, false, List, [], ◌∷◌, filter, map, chars, encode_utf8_all}
+-- The transactions in which a text stands, whatever the case of its letters (The Unicode Standard, section 3.13,
+-- default case folding).
+use Rattle.std.specs.Prelude.{ℕ, ◌==◌, ◌&&◌, ◌||◌, ◌≡◌, ℤ, Bool, true, false, List, [], ◌∷◌, filter, map, chars}
+use Rattle.std.specs.Prelude.{encode_utf8_all}
 use Rattle.std.specs.List.{list_any}
 use Rattle.caseless.specs.Caseless.{default_case_fold}
 use Rattle.book_reports.specs.declared.form.Form.{Form}

@@ -1,6 +1,7 @@
 -- The journal of a book: its transactions by day, each with its number and its splits with theirs, by which commands
 -- name them (GnuCash Concepts Guide, transactions).
-use Rattle.std.specs.Prelude.{ℕ, ◌==◌, ◌&&◌, ◌≡◌, ℤ, int_lt, int_le, Bool, true, if◌then◌else◌, List, [], ◌∷◌, ◌++◌, filter}
+use Rattle.std.specs.Prelude.{ℕ, ◌==◌, ◌&&◌, ◌≡◌, ℤ, int_lt, int_le, Bool, true, if◌then◌else◌, List, [], ◌∷◌, ◌++◌}
+use Rattle.std.specs.Prelude.{filter}
 use Rattle.std.specs.Prelude.{map, codes, Option, Some, None}
 use Rattle.std.specs.Fmt.{decimal}
 use Rattle.std.specs.List.{flat_map}
@@ -39,8 +40,8 @@ dated days transactions = map (λ e. (e.1.day, e.0)) (filter (λ e. is_within da
 abbrev pub on_day : ℤ → List (ℤ × ℕ) → List (ℤ × ℕ)
 on_day day all = filter (λ e. int_eq e.0 day) all
 
--- Transactions stand by day: no day is before the one in front of it, and on each day they are all those of that day, as
--- they stood before. There is one such order.
+-- Transactions stand by day: no day is before the one in front of it, and on each day they are all those of that day,
+-- as they stood before. There is one such order.
 pub record AreByDay (all order : List (ℤ × ℕ)) : Type 0 where
   pub rise : IsSortedBy (λ one other. int_lt one.0 other.0) order
   pub each : (day : ℤ) → on_day day order ≡ on_day day all
@@ -79,8 +80,8 @@ head_row book number transaction =
     ∷ []
     ∷ []
 
--- The row of a split below it: its number, its mark, its value, its quantity, its action, the number of its account, the
--- account and its memo.
+-- The row of a split below it: its number, its mark, its value, its quantity, its action, the number of its account,
+-- the account and its memo.
 abbrev pub split_row : Book → Txn → Split → List (List ℕ)
 split_row book transaction split =
     []

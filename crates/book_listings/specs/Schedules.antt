@@ -25,8 +25,8 @@ use Rattle.book_listings.specs.Journal.{amount_in, other_quantity}
 abbrev pub AreTimed : List (ℕ × Schedule) → Type 0
 AreTimed schedules = All (λ entry. All (λ r. IsInRange 1 10000 r.every) entry.1.timing.recurrences) schedules
 
--- The end of a schedule: its last day; or how many occurrences were made, and how many there will have been; empty, where
--- it has none.
+-- The end of a schedule: its last day; or how many occurrences were made, and how many there will have been; empty,
+-- where it has none.
 abbrev pub end_text : End → ℕ → List ℕ
 end_text Never made = []
 end_text (Until last) made = day_text last

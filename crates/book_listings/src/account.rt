@@ -1,16 +1,16 @@
-ghost use Rattle.std.specs.Prelude.{◌≡◌, ◌∷◌, ◌++◌, [], IfOk, IsSome, OnOk, decimal};
-ghost use Rattle.std.specs.Option.{option_map_or};
+ghost use Rattle.std.specs.Prelude.{◌≡◌, ◌∷◌, ◌++◌, [], IfOk, IsSome, OnOk, decimal, ℕ};
+ghost use Rattle.std.specs.Option.{option_map_or, option_or};
 ghost use Rattle.book_commodity.specs.Table.{value_of};
 ghost use Rattle.book_ledger.specs.Ledger.{register_of};
 ghost use Rattle.book_reports.specs.Measure.{commodity_of, fraction_of};
 ghost use Rattle.book_reports.specs.RegisterText.{description_in, mark_letter, number_in};
-ghost use Rattle.book_listings.specs.Account.{account_text, line_of, matched_in, matched_of, memo_at, memo_in, other_side};
-ghost use Rattle.book_listings.specs.Account.{other_side_in, others_than, register_columns};
+ghost use Rattle.book_listings.specs.Account.{account_text, line_of, matched_in, matched_of, memo_at, memo_in};
+ghost use Rattle.book_listings.specs.Account.{other_side, other_side_in, others_than, register_columns};
 ghost use Rattle.book_listings.specs.Account.{register_row, register_rows, register_text, rows_after, side_of};
 
 use crate::PresentBook;
 use crate::accounts::name_in;
-use book_commodity::{Many, OutOfMemory, Steps, Text};
+use book_commodity::{Many, OutOfMemory, Steps, Table, Text};
 use book_register::{Entry, Mark2};
 use book_reports::Form;
 use book_splits::{Split, Txn};
@@ -109,13 +109,15 @@ fn add_rows(
 {
     let register = book.register(account);
     let lines = matched_of(alloc, account, book.plain().lines.as_slice())?;
+    let by_split = by_split(alloc, lines.as_slice())?;
     let fraction = book.fraction(book.commodity_of(account));
     let mut steps = Steps::new();
     let mut balance = 0i128;
     for place in 0..register.len() {
         let row = register.row(place, &mut steps);
         balance += i128::from(row.quantity);
-        rows.push(register_row(alloc, book, lines.as_slice(), fraction, &row, balance)?)?;
+        let line = line_of(row.split, &by_split);
+        rows.push(register_row(alloc, book, line, fraction, &row, balance)?)?;
     }
     Ok(())
 }
@@ -124,12 +126,12 @@ fn add_rows(
 fn register_row(
     alloc: Global,
     book: &PresentBook,
-    lines: &[(u64, u64)],
+    line: Option<u64>,
     fraction: u64,
     row: &Entry,
     after: i128,
 ) -> Result<Many<Text>, OutOfMemory>
-    ensures { IfOk result (λ cells. cells ≡ register_row book.now lines.now fraction row.now after) }
+    ensures { IfOk result (λ cells. cells ≡ register_row book.now line fraction row.now after) }
 {
     let other = other_side_in(alloc, book, row)?;
     let mut cells = Cells::new(alloc);
@@ -140,7 +142,7 @@ fn register_row(
     cells.amount(i128::from(row.quantity), fraction)?;
     cells.amount(after, fraction)?;
     cells.text(other.as_str())?;
-    add_line(&mut cells, line_of(row.split, lines))?;
+    add_line(&mut cells, line)?;
     cells.text(number_in(book, row.txn))?;
     cells.text(description_in(book, row.txn))?;
     cells.text(memo_in(book, row))?;
@@ -158,15 +160,40 @@ fn add_line(cells: &mut Cells, line: Option<u64>) -> Result<(), OutOfMemory>
 }
 
 /// The number of the line with which a split is matched.
-fn line_of(split: u64, lines: &[(u64, u64)]) -> Option<u64>
-    ensures { result ≡ line_of split lines.now }
+fn line_of(split: u64, lines: &Table<u64>) -> Option<u64>
+    ensures { result ≡ line_of split lines.now.entries }
 {
-    for (matched, number) in lines {
-        if *matched == split {
-            return Some(*number);
+    match lines.find(split) {
+        Some(number) => Some(*number),
+        None => None,
+    }
+}
+
+/// The numbers of the lines by those of the splits, so that each is found by a binary search.
+fn by_split(alloc: Global, lines: &[(u64, u64)]) -> Result<Table<u64>, OutOfMemory>
+    ensures { IfOk result (λ table. (split : ℕ) → line_of split table.entries ≡ line_of split lines.now) }
+{
+    let mut table = Table::new(alloc);
+    for entry in lines {
+        let (split, number) = *entry;
+        add_first(&mut table, split, number)?;
+    }
+    Ok(table)
+}
+
+/// Puts the number of a line under that of its split, unless one stands there.
+fn add_first(table: &mut Table<u64>, split: u64, number: u64) -> Result<(), OutOfMemory>
+    ensures { OnOk result ((sought : ℕ) → line_of sought table.new.entries
+        ≡ option_or (line_of sought table.old.entries) (line_of sought ((split, number) ∷ []))) }
+{
+    match line_of(split, table) {
+        Some(_) => Ok(()),
+        None => {
+            table.reserve(1)?;
+            let _ = table.put(split, number);
+            Ok(())
         }
     }
-    None
 }
 
 /// The lines of an account that are matched: the number of the split of each, and its own.

@@ -1,5 +1,6 @@
 ghost use Rattle.std.specs.Prelude.{◌≡◌, ◌∷◌, ◌++◌, IfOk, OnOk};
-ghost use Rattle.book_listings.specs.Check.{bank_rows, check_text, count_columns, count_row, count_rows, counts_text, entered_rows};
+ghost use Rattle.book_listings.specs.Check.{bank_rows, check_text, count_columns, count_row, count_rows, counts_text};
+ghost use Rattle.book_listings.specs.Check.{entered_rows};
 
 use crate::PresentBook;
 use book_commodity::{Many, OutOfMemory, Text};

@@ -1,5 +1,6 @@
 ghost use Rattle.std.specs.Prelude.{◌≡◌, [], ◌∷◌, ◌++◌, ◌==◌, IfOk, OnOk, codes, if◌then◌else◌, map};
-ghost use Rattle.book_listings.specs.Commodities.{commodities_text, commodity_row, price_columns, price_row, prices_text};
+ghost use Rattle.book_listings.specs.Commodities.{commodities_text, commodity_row, price_columns, price_row};
+ghost use Rattle.book_listings.specs.Commodities.{prices_text};
 
 use crate::PresentBook;
 use book_commodity::{Commodity, Many, OutOfMemory, Text};

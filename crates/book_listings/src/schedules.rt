@@ -1,6 +1,7 @@
 ghost use Rattle.std.specs.Prelude.{◌≡◌, ◌++◌, All, IfOk, List, OnOk, Option, map, ℕ, ℤ};
 ghost use Rattle.std.specs.Int.{IsInRange};
-ghost use Rattle.book_listings.specs.Schedules.{AreRows, AreSchedules, AreTimed, columns, end_text, head_row, next_text};
+ghost use Rattle.book_listings.specs.Schedules.{AreRows, AreSchedules, AreTimed, columns, end_text, head_row};
+ghost use Rattle.book_listings.specs.Schedules.{next_text};
 ghost use Rattle.book_listings.specs.Schedules.{plain_rows, record_row, rows_of, split_row};
 ghost use Rattle.book_next_day.specs.Ahead.{IsNextDay};
 

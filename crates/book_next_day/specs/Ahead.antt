@@ -19,15 +19,16 @@ abbrev pub IsNextDay : Timing → Option ℤ → Type 0
 IsNextDay timing None = (day : ℤ) → WillPost timing day → ⊥
 IsNextDay timing (Some next) = WillPost timing next × ((day : ℤ) → WillPost timing day → next ≤ℤ day)
 
--- ---- how it is found: the one day that is due where an end after one more occurrence stands in place of the schedule's
+-- ---- how it is found, which is the code's own: the one day that is due where an end after one more occurrence stands
+-- in place of the schedule's
 
--- An end allows one more occurrence.
+-- An end allows one more occurrence: the code's own test.
 abbrev pub HasMore : End → ℕ → Type 0
 HasMore Never made = ⊤
 HasMore (Until last) made = ⊤
 HasMore (After count) made = made < count
 
--- The timing that allows one more occurrence and no other, and makes none in advance.
+-- The timing that allows one more occurrence and no other, and makes none in advance: the code's own.
 abbrev pub with_one : Timing → Timing
 with_one timing = record {
   recurrences = timing.recurrences;
@@ -37,13 +38,13 @@ with_one timing = record {
   made = 0;
 }
 
--- The last day that is asked for: that of an end by date, or the last day of a book.
+-- The last day that is asked for: that of an end by date, or the last day of a book. It is the code's own.
 abbrev pub last_asked : End → ℤ
 last_asked Never = pos 84005
 last_asked (Until last) = last
 last_asked (After count) = pos 84005
 
--- The first of the days; none, where there is none.
+-- The first of the days; none, where there is none. It is the code's own.
 abbrev pub first_of : List ℤ → Option ℤ
 first_of [] = None
 first_of (day ∷ days) = Some day

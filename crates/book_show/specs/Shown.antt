@@ -16,7 +16,8 @@ use Rattle.book_show.specs.Opening.{AreRefused, HaveBook}
 use Rattle.book_listings.specs.Schedules.{AreSchedules}
 use Rattle.book_show.specs.declared.opening.Opened.{Opened}
 use Rattle.book_show.specs.declared.question.Question.{Question}
-use Rattle.book_show.specs.declared.question.Question.TheVariants.{Account, Accounts, Check, Command, Commodities, Export, Find, Journal, Prices}
+use Rattle.book_show.specs.declared.question.Question.TheVariants.{Account, Accounts, Check, Command, Commodities}
+use Rattle.book_show.specs.declared.question.Question.TheVariants.{Export, Find, Journal, Prices}
 use Rattle.book_show.specs.declared.question.Question.TheVariants.{Schedules}
 use Rattle.book_show.specs.declared.showing.ShowError.{ShowError}
 use Rattle.book_show.specs.declared.showing.ShowError.TheVariants as error

@@ -11,7 +11,8 @@ use Rattle.book_reports.specs.declared.form.Form.{Form}
 use Rattle.book_reports.specs.declared.form.Form.TheVariants.{Csv, Plain}
 use Rattle.book_listings.specs.declared.days.Days.{Days}
 use Rattle.book_show.specs.declared.question.Question.{Question}
-use Rattle.book_show.specs.declared.question.Question.TheVariants.{Account, Accounts, Check, Command, Commodities, Export, Find, Journal, Prices}
+use Rattle.book_show.specs.declared.question.Question.TheVariants.{Account, Accounts, Check, Command, Commodities}
+use Rattle.book_show.specs.declared.question.Question.TheVariants.{Export, Find, Journal, Prices}
 use Rattle.book_show.specs.declared.question.Question.TheVariants.{Schedules}
 
 -- A word names a book where it is not empty and does not begin with a hyphen.
@@ -82,7 +83,8 @@ pub record Asking : Type 0 where
 -- The form that the last word asks for.
 abbrev pub form_of : List (List ℕ) → Form
 form_of words =
-    option_map_or (λ last. if bytes_eq last (codes "--csv") then Csv else Plain) (slice_get words (length words - 1)) Plain
+    option_map_or (λ last. if bytes_eq last (codes "--csv") then Csv else Plain)
+    (slice_get words (length words - 1)) Plain
 
 -- The words but for the one that asks for a form.
 abbrev pub without_form : Form → List (List ℕ) → List (List ℕ)

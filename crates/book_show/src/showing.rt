@@ -33,8 +33,8 @@ pub enum ShowError {
 /// Writes the answer to a question on the book that the keeper has at a path. The keeper commits nothing: its rows are
 /// as before, whatever is answered. An answer is written whole, the exported book one piece after another.
 /// Open: the book can't be opened, and nothing was written; where the keeper failed, its count of faults rose.
-/// Unknown: the book has nothing of the number that is asked for, and nothing was written. OutOfMemory: what was written
-/// is the front of the answer, perhaps nothing. Output: the output failed; a part was written, and not all.
+/// Unknown: the book has nothing of the number that is asked for, and nothing was written. OutOfMemory: what was
+/// written is the front of the answer, perhaps nothing. Output: the output failed; a part was written, and not all.
 pub fn show<K: Keeper, O: Sink>(
     alloc: Global,
     keeper: &mut K,

@@ -2,7 +2,8 @@ ghost use Rattle.std.specs.Prelude.{◌≡◌, ◌^◌, nat_lt, if◌then◌else
 ghost use Rattle.std.specs.Char.{is_ascii_digit};
 ghost use Rattle.std.specs.List.{list_all};
 ghost use Rattle.book_json.specs.Forms.{day_named};
-ghost use Rattle.book_show.specs.Words.{alone, asked_of, asks, form_of, has_digits, in_form, is_book, number_of, question_of, with_one, with_two, without_form};
+ghost use Rattle.book_show.specs.Words.{alone, asked_of, asks, form_of, has_digits, in_form, is_book, number_of};
+ghost use Rattle.book_show.specs.Words.{question_of, with_one, with_two, without_form};
 ghost use Rattle.book_show.specs.Asked.{seen};
 
 use crate::Question;
@@ -78,7 +79,8 @@ fn question_in(form: Form, words: &[Text]) -> Result<Option<Question>, OutOfMemo
     }
 }
 
-/// The question, where it is answered in a form: a command line, the exported book and what a check finds are no tables.
+/// The question, where it is answered in a form: a command line, the exported book and what a check finds are no
+/// tables.
 fn in_form(form: Form, question: Question) -> Option<Question>
     ensures { result ≡ in_form form question }
 {

@@ -1,12 +1,13 @@
--- What the first 100 bytes of a file say of it (SQLite, Database File Format, "The Database Header").
-use Rattle.std.specs.Prelude.{ℕ, ◌+◌, ◌*◌, ◌==◌, ◌&&◌, nat_lt, Bool, not, if◌then◌else◌, List, [], ◌∷◌, ◌++◌, length, codes}
-use Rattle.std.specs.Prelude.{Option, Some, None, slice_get, take}
+-- What the first 108 bytes of a file say of it (SQLite, Database File Format, "The Database Header" and "B-tree
+-- Pages").
+use Rattle.std.specs.Prelude.{ℕ, ◌+◌, ◌*◌, ◌==◌, ◌&&◌, nat_lt, Bool, not, if◌then◌else◌, List, [], ◌∷◌, ◌++◌, length}
+use Rattle.std.specs.Prelude.{codes, Option, Some, None, slice_get, take}
 use Rattle.std.specs.Option.{option_map_or}
 use Rattle.std.specs.Str.{bytes_eq}
 use Rattle.book_verdict.specs.declared.fault.FileFault.{FileFault}
-use Rattle.book_verdict.specs.declared.fault.FileFault.TheVariants.{CutShort, NoDatabase}
+use Rattle.book_verdict.specs.declared.fault.FileFault.TheVariants.{CutShort, NoDatabase, NoTable}
 
--- The byte at a place; 0, where there is none.
+-- The byte at a place; 0, where there is none. That a head which is too short reads as zeros is the code's own.
 abbrev pub byte_at : ℕ → List ℕ → ℕ
 byte_at place head = option_map_or (λ byte. byte) (slice_get head place) 0
 
@@ -26,9 +27,16 @@ page_count head = pair_at 28 head * 65536 + pair_at 30 head
 abbrev pub is_database : List ℕ → Bool
 is_database head = not (nat_lt (length head) 100) && bytes_eq (take 16 head) (codes "SQLite format 3" ++ 0 ∷ [])
 
--- A file that is no database, or one that has fewer bytes than its pages have.
+-- A database has no table where its first page, whose head stands behind that of the database, is a leaf (13) without a
+-- cell: the page lists all tables, indexes, views and triggers.
+abbrev pub has_no_table : List ℕ → Bool
+has_no_table head = (byte_at 100 head == 13) && (pair_at 103 head == 0)
+
+-- A file that is no database, or one that has fewer bytes than its pages have, or one without a table. The order of the
+-- three is the code's own.
 abbrev pub fault_of_head : List ℕ → ℕ → Option FileFault
 fault_of_head head size =
     if is_database head
-    then (if nat_lt size (page_bytes head * page_count head) then Some CutShort else None)
+    then (if nat_lt size (page_bytes head * page_count head) then Some CutShort
+    else if has_no_table head then Some NoTable else None)
     else Some NoDatabase

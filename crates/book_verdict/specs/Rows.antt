@@ -1,5 +1,5 @@
 -- What is said of the row at which a book is damaged. The kinds of rows are those of docs/FORMATS.md.
-use Rattle.std.specs.Prelude.{ℕ, ◌==◌, if◌then◌else◌, List, ◌++◌, codes}
+use Rattle.std.specs.Prelude.{ℕ, ◌==◌, ◌&&◌, ◌||◌, nat_lt, not, if◌then◌else◌, List, ◌++◌, codes}
 use Rattle.std.specs.Fmt.{decimal}
 
 -- What the rows of a kind are.
@@ -19,17 +19,31 @@ kind_word kind =
     else if kind == 12 then codes "a step forth"
     else codes "no kind of a book"
 
--- A row that is missing, or can't be read.
-unfoldable pub unread_row_text : ℕ → ℕ → List ℕ
-unread_row_text kind id =
+-- What is wrong with a row of a kind that can't be opened. The head may be missing, a step too, and a step may be one
+-- that the head doesn't count; of other things no row is needed.
+unfoldable pub why_unread : ℕ → List ℕ
+why_unread kind =
+    if kind == 1 then codes "is missing, or can't be read."
+    else if (kind == 11) || (kind == 12)
+    then codes "is missing, can't be read, or is one too many: the head counts the steps, back and forth."
+    else if not (nat_lt kind 2) && not (nat_lt 10 kind) then codes "can't be read."
+    else codes "is one too many: a book has no rows of this kind."
+
+-- The line that says it of the row of a kind and an id.
+unfoldable pub unread_line : ℕ → ℕ → List ℕ
+unread_line kind id =
     codes "The row of kind "
     ++ (decimal kind
     ++ (codes " and id "
-    ++ (decimal id
-    ++ (codes " ("
-    ++ (kind_word kind
-    ++ (codes ") is missing, or can't be read.\nRows were changed by other means than `book`. Use your last copy. To see the row:\n  sqlite3 BOOK 'SELECT hex(body) FROM bk_rows WHERE kind = "
-    ++ (decimal kind ++ (codes " AND id = " ++ (decimal id ++ codes "'\n")))))))))
+    ++ (decimal id ++ (codes " (" ++ (kind_word kind ++ (codes ") " ++ (why_unread kind ++ codes "\n")))))))
+
+-- A row that is missing, can't be read, or is one too many.
+unfoldable pub unread_row_text : ℕ → ℕ → List ℕ
+unread_row_text kind id =
+    unread_line kind id
+    ++ (codes "Rows were changed by other means than `book`. Use your last copy. To see the row:\n"
+    ++ (codes "  sqlite3 BOOK 'SELECT hex(body) FROM bk_rows WHERE kind = "
+    ++ (decimal kind ++ (codes " AND id = " ++ (decimal id ++ codes "'\n")))))
 
 -- The first row that breaks a rule of its kind.
 unfoldable pub unsound_row_text : ℕ → ℕ → List ℕ
@@ -40,5 +54,8 @@ unsound_row_text kind id =
     ++ (decimal id
     ++ (codes " ("
     ++ (kind_word kind
-    ++ (codes ") is the first that breaks a rule of its kind.\nRows were changed by other means than `book`. Use your last copy. `docs/FORMATS.md` lists these rules.\nTo see the row:\n  sqlite3 BOOK 'SELECT hex(body) FROM bk_rows WHERE kind = "
-    ++ (decimal kind ++ (codes " AND id = " ++ (decimal id ++ codes "'\n")))))))))
+    ++ (codes ") is the first that breaks a rule of its kind.\n"
+    ++ (codes "Rows were changed by other means than `book`. Use your last copy."
+    ++ (codes " `docs/FORMATS.md` lists these rules.\nTo see the row:\n"
+    ++ (codes "  sqlite3 BOOK 'SELECT hex(body) FROM bk_rows WHERE kind = "
+    ++ (decimal kind ++ (codes " AND id = " ++ (decimal id ++ codes "'\n"))))))))))))

@@ -1,3 +1,6 @@
+ghost use Rattle.std.specs.Prelude.{◌≡◌};
+ghost use Rattle.book_verdict.specs.Words.{words_on};
+
 /// What is wrong with a file that is no book, or can't be used.
 #[derive(Clone, Copy, Debug, PartialEq, Eq)]
 pub enum FileFault {
@@ -7,12 +10,16 @@ pub enum FileFault {
     LogAlone,
     /// The file has no bytes.
     Empty,
+    /// It is a SQLite database without a table.
+    NoTable,
     /// It is a folder.
     Folder,
     /// It is a device, a pipe or a socket.
     NoFile,
     /// It may not be read and written.
     NoRight,
+    /// It is on a disk that can only be read.
+    ReadOnlyDisk,
     /// It has another name too.
     SecondName,
     /// A rollback journal stands beside it.
@@ -25,15 +32,18 @@ pub enum FileFault {
     CutShort,
     /// It is a SQLite database whose pages don't fit together.
     Damaged,
-    /// It is a SQLite database, and no book.
-    NoBook,
+    /// It is a SQLite database with other things in it than a book.
+    OtherDatabase,
     /// The disk or the system failed.
     Failed,
 }
 
 impl FileFault {
     /// The words for a person: what the file is, and what to do next. Each line ends by a line feed.
-    pub fn words(self) -> &'static str {
+    #[tactic(auto, unfolding(crate::specs::Words::words_on))]
+    pub fn words(self) -> &'static str
+        ensures { result.now ≡ words_on self }
+    {
         match self {
             FileFault::Missing => {
                 "There is no file at this path.\n\
@@ -49,6 +59,10 @@ impl FileFault {
                 "The file is empty: no book was kept in it.\n\
                 Look for the book under another name; a run of `book` over this file begins a new one.\n"
             }
+            FileFault::NoTable => {
+                "The file is a SQLite database without a table: no book was kept in it.\n\
+                Look for the book under another name; a run of `book` over this file begins a new one.\n"
+            }
             FileFault::Folder => {
                 "This is a folder.\n\
                 Name the file of the book that is in it.\n"
@@ -61,18 +75,23 @@ impl FileFault {
                 "You are not allowed to read and write the file, its log or its folder.\n\
                 Ask whoever owns them, or change their rights; a copy that belongs to you can be opened too.\n"
             }
+            FileFault::ReadOnlyDisk => {
+                "The file is on a disk that can only be read, and a book is opened for writing, also where nothing is\n\
+                written.\n\
+                Copy the file, and its log if there is one, to another disk, and use the copy.\n"
+            }
             FileFault::SecondName => {
                 "The file has a second name, a hard link, and a book has one name.\n\
                 Remove the other name, or use a copy of the file.\n"
             }
             FileFault::Journal => {
-                "A rollback journal stands beside the file, its name with `-journal` behind: another program was stopped\n\
-                as it wrote.\n\
-                Open the file once with `sqlite3`, which takes the journal back, and check again.\n"
+                "A rollback journal stands beside the file, its name with `-journal` behind: another program was\n\
+                stopped as it wrote.\n\
+                Open the file once with `sqlite3`, which undoes what was half written, and try again.\n"
             }
             FileFault::InUse => {
                 "Another run, or another program such as `sqlite3`, has the file open.\n\
-                End it, and check again.\n"
+                End it, and try again.\n"
             }
             FileFault::NoDatabase => {
                 "The file is no SQLite database, so it is no book.\n\
@@ -86,7 +105,7 @@ impl FileFault {
                 "The file is a SQLite database, but a damaged one: its pages don't fit together.\n\
                 Use your last copy. `sqlite3 BOOK 'PRAGMA integrity_check'` says more.\n"
             }
-            FileFault::NoBook => {
+            FileFault::OtherDatabase => {
                 "The file is a SQLite database, but no book: it has other tables, an index, a trigger, or a row that\n\
                 is none of a book.\n\
                 It belongs to another program, or someone added these. `sqlite3 BOOK .schema` shows what it has.\n"

@@ -1,15 +1,20 @@
 ghost use Rattle.std.specs.Prelude.{◌≡◌, ◌<◌};
-ghost use Rattle.book_verdict.specs.Head.{byte_at, fault_of_head, is_database, page_bytes, page_count, pair_at};
+ghost use Rattle.book_verdict.specs.Head.{byte_at, fault_of_head, has_no_table, is_database, page_bytes, page_count};
+ghost use Rattle.book_verdict.specs.Head.{pair_at};
 
 use crate::FileFault;
 
-/// How many bytes the head of a SQLite database has.
-pub const HEAD: usize = 100;
+/// How many bytes the head of a SQLite database has, with the head of its first page behind it.
+pub const HEAD: usize = 108;
+
+/// How many of them are the head of the database.
+const DATABASE_HEAD: usize = 100;
 
 /// How the head of a SQLite database begins.
 const MAGIC: &[u8] = b"SQLite format 3\0";
 
-/// What the first bytes of a file and its length say of it: that it is no SQLite database, or one that is cut short.
+/// What the first bytes of a file and its length say of it: that it is no SQLite database, or one that is cut short, or
+/// one without a table.
 pub fn fault_of_head(head: &[u8], length: u64) -> Option<FileFault>
     ensures { result ≡ fault_of_head head.now length }
 {
@@ -19,6 +24,9 @@ pub fn fault_of_head(head: &[u8], length: u64) -> Option<FileFault>
     if length < page_bytes(head) * page_count(head) {
         return Some(FileFault::CutShort);
     }
+    if has_no_table(head) {
+        return Some(FileFault::NoTable);
+    }
     None
 }
 
@@ -26,7 +34,14 @@ pub fn fault_of_head(head: &[u8], length: u64) -> Option<FileFault>
 fn is_database(head: &[u8]) -> bool
     ensures { result ≡ is_database head.now }
 {
-    head.len() >= HEAD && &head[..MAGIC.len()] == MAGIC
+    head.len() >= DATABASE_HEAD && &head[..MAGIC.len()] == MAGIC
+}
+
+/// Whether the first page of a SQLite database lists nothing: it is a leaf without a cell.
+fn has_no_table(head: &[u8]) -> bool
+    ensures { result ≡ has_no_table head.now }
+{
+    byte_at(head, DATABASE_HEAD) == 13 && pair_at(head, DATABASE_HEAD + 3) == 0
 }
 
 /// How many bytes a page has.

@@ -1,20 +1,30 @@
 ghost use Rattle.std.specs.Prelude.{◌≡◌, IfOk};
-ghost use Rattle.book_verdict.specs.Rows.{kind_word, unread_row_text, unsound_row_text};
+ghost use Rattle.book_verdict.specs.Rows.{kind_word, unread_line, unread_row_text, unsound_row_text, why_unread};
 
 use book_commodity::{OutOfMemory, Text};
 use std::alloc::Global;
 
-/// What is said where the row of a kind and an id is missing or can't be read.
+/// What is said where the row of a kind and an id is missing, can't be read, or is one too many.
 #[tactic(auto, unfolding(crate::specs::Rows::unread_row_text))]
 pub fn unread_row_text(alloc: Global, kind: u8, id: u64) -> Result<Text, OutOfMemory>
     ensures { IfOk result (λ text. text ≡ unread_row_text kind id) }
 {
-    let thing = kind_word(kind);
+    let line = unread_line(alloc, kind, id)?;
     Ok(Text::of(format!(in alloc;
-        "The row of kind {kind} and id {id} ({thing}) is missing, or can't be read.\n\
-        Rows were changed by other means than `book`. Use your last copy. To see the row:\n  \
-        sqlite3 BOOK 'SELECT hex(body) FROM bk_rows WHERE kind = {kind} AND id = {id}'\n"
+        "{}Rows were changed by other means than `book`. Use your last copy. To see the row:\n  \
+        sqlite3 BOOK 'SELECT hex(body) FROM bk_rows WHERE kind = {kind} AND id = {id}'\n",
+        line.as_str()
     )?))
+}
+
+/// The line that says what is wrong with it.
+#[tactic(auto, unfolding(crate::specs::Rows::unread_line))]
+fn unread_line(alloc: Global, kind: u8, id: u64) -> Result<Text, OutOfMemory>
+    ensures { IfOk result (λ text. text ≡ unread_line kind id) }
+{
+    let thing = kind_word(kind);
+    let why = why_unread(kind);
+    Ok(Text::of(format!(in alloc; "The row of kind {kind} and id {id} ({thing}) {why}\n")?))
 }
 
 /// What is said where the row of a kind and an id is the first that breaks a rule.
@@ -29,6 +39,21 @@ pub fn unsound_row_text(alloc: Global, kind: u8, id: u64) -> Result<Text, OutOfM
         To see the row:\n  \
         sqlite3 BOOK 'SELECT hex(body) FROM bk_rows WHERE kind = {kind} AND id = {id}'\n"
     )?))
+}
+
+/// What is wrong with a row of a kind that can't be opened.
+#[tactic(auto, unfolding(crate::specs::Rows::why_unread))]
+fn why_unread(kind: u8) -> &'static str
+    ensures { result.now ≡ why_unread kind }
+{
+    match kind {
+        1 => "is missing, or can't be read.",
+        11 | 12 => {
+            "is missing, can't be read, or is one too many: the head counts the steps, back and forth."
+        }
+        2..=10 => "can't be read.",
+        _ => "is one too many: a book has no rows of this kind.",
+    }
 }
 
 /// What the rows of a kind are.

@@ -1,5 +1,5 @@
--- The number with which the program ends: those of `book`; 1 where the book has nothing of the number asked for; and 8
--- where a copy was not made.
+-- The number with which the program ends: those of `book`, and two that `book` doesn't have: 1 where the book has
+-- nothing of the number asked for, and 10 where a copy was not made. The numbers are the code's own.
 use Rattle.std.specs.Prelude.{ℕ}
 use Rattle.book_copy.specs.declared.copying.CopyError.{CopyError}
 use Rattle.book_copy.specs.declared.copying.CopyError.TheVariants as rows
@@ -11,8 +11,8 @@ use Rattle.book_show.specs.declared.showing.ShowError.{ShowError}
 use Rattle.book_show.specs.declared.showing.ShowError.TheVariants as error
 use Rattle.bookshow.specs.declared.ended.Ended.{Ended}
 use Rattle.bookshow.specs.declared.ended.Ended.TheVariants.{Done, NotThere, Usage, Memory, Closed, OutputFault}
-use Rattle.bookshow.specs.declared.ended.Ended.TheVariants.{NoBook, KeeperFault, BadRows, UnsoundBook, Refused}
-use Rattle.bookshow.specs.declared.ended.Ended.TheVariants.{Damaged, Taken, PartThere, CopyFailed}
+use Rattle.bookshow.specs.declared.ended.Ended.TheVariants.{NotOpened, KeeperFault, BadRows, UnsoundBook, Refused}
+use Rattle.bookshow.specs.declared.ended.Ended.TheVariants.{Damaged, TargetThere, PartThere, CopyFailed}
 
 abbrev pub number_of : Ended → ℕ
 number_of Done = 0
@@ -21,15 +21,15 @@ number_of Usage = 2
 number_of Memory = 3
 number_of Closed = 5
 number_of OutputFault = 5
-number_of NoBook = 6
+number_of (NotOpened fault) = 6
 number_of KeeperFault = 6
 number_of (BadRows kind id) = 7
 number_of (UnsoundBook kind id) = 7
 number_of Refused = 6
 number_of Damaged = 7
-number_of Taken = 8
-number_of PartThere = 8
-number_of CopyFailed = 8
+number_of TargetThere = 10
+number_of PartThere = 10
+number_of CopyFailed = 10
 
 -- The end where rows are refused.
 abbrev pub end_of_opening : OpenError → Ended
@@ -54,7 +54,7 @@ end_of_rows rows.OutOfMemory = Memory
 
 -- The end where no copy was made.
 abbrev pub end_of_copying : FileCopyError → Ended
-end_of_copying copying.Taken = Taken
+end_of_copying copying.TargetThere = TargetThere
 end_of_copying copying.PartThere = PartThere
 end_of_copying (copying.Rows cause) = end_of_rows cause
 end_of_copying copying.File = CopyFailed

@@ -6,6 +6,7 @@ use book_copy::CopyError;
 use book_engine::OpenError;
 use book_files::FileCopyError;
 use book_show::ShowError;
+use book_verdict::FileFault;
 use std::io;
 use std::io::ErrorKind;
 use std::process::{ExitCode, Termination};
@@ -30,9 +31,9 @@ pub(crate) enum Ended {
     Closed,
     /// The output failed.
     OutputFault,
-    /// There is no book at the path.
-    NoBook,
-    /// The book's file can't be opened or read.
+    /// The file is no book, or can't be opened or read, for this reason.
+    NotOpened(FileFault),
+    /// The book's file failed, and it is not known why.
     KeeperFault,
     /// The row of this key can't be read, or is missing.
     BadRows { kind: u8, id: u64 },
@@ -43,7 +44,7 @@ pub(crate) enum Ended {
     /// A check said at which row the book is damaged.
     Damaged,
     /// Something is at the path that a copy was to get, or its log is.
-    Taken,
+    TargetThere,
     /// Another copy to this path was stopped, and left a part.
     PartThere,
     /// A copy could not be written.
@@ -70,7 +71,7 @@ impl Ended {
         ensures { result ≡ end_of_copying error }
     {
         match error {
-            FileCopyError::Taken => Ended::Taken,
+            FileCopyError::TargetThere => Ended::TargetThere,
             FileCopyError::PartThere => Ended::PartThere,
             FileCopyError::Rows(CopyError::Source) => Ended::KeeperFault,
             FileCopyError::Rows(CopyError::NoBookRow { kind, id }) => Ended::BadRows { kind, id },
@@ -98,7 +99,7 @@ impl Ended {
         }
     }
 
-    /// The number with which the program ends: those of `book`, but for 8, where no copy was made.
+    /// The number with which the program ends: those of `book`, and two that `book` doesn't have, 1 and 10.
     pub(crate) fn number(self) -> u8
         ensures { result ≡ number_of self }
     {
@@ -108,9 +109,9 @@ impl Ended {
             Ended::Usage => 2,
             Ended::Memory => 3,
             Ended::Closed | Ended::OutputFault => 5,
-            Ended::NoBook | Ended::KeeperFault | Ended::Refused => 6,
+            Ended::NotOpened(_) | Ended::KeeperFault | Ended::Refused => 6,
             Ended::BadRows { .. } | Ended::UnsoundBook { .. } | Ended::Damaged => 7,
-            Ended::Taken | Ended::PartThere | Ended::CopyFailed => 8,
+            Ended::TargetThere | Ended::PartThere | Ended::CopyFailed => 10,
         }
     }
 
@@ -122,10 +123,12 @@ impl Ended {
             Ended::Usage => USAGE,
             Ended::Memory => "bookshow: out of memory",
             Ended::OutputFault => "bookshow: the output failed",
-            Ended::NoBook => "bookshow: there is no book at this path",
+            Ended::NotOpened(fault) => message_of(fault),
             Ended::KeeperFault => "bookshow: the book file failed",
-            Ended::BadRows { .. } | Ended::UnsoundBook { .. } => "bookshow: the book is damaged",
-            Ended::Taken => "bookshow: there is something at the path of the copy",
+            Ended::BadRows { .. } | Ended::UnsoundBook { .. } => {
+                "bookshow: the book is damaged; `bookshow BOOK check` says at which row"
+            }
+            Ended::TargetThere => "bookshow: there is something at the path of the copy",
             Ended::PartThere =>
                 "bookshow: something is at the .part of the copy: one that was stopped, or is made now",
             Ended::CopyFailed => "bookshow: the copy could not be written",
@@ -133,14 +136,28 @@ impl Ended {
     }
 }
 
+/// The line on a file that is no book, or can't be opened or read.
+fn message_of(fault: FileFault) -> &'static str {
+    match fault {
+        FileFault::Missing | FileFault::Empty | FileFault::NoTable => {
+            "bookshow: there is no book at this path"
+        }
+        _ => "bookshow: the book file failed",
+    }
+}
+
 impl Termination for Ended {
-    /// Prints the message on standard error where there is one, and ends with the number.
+    /// Prints the message on standard error where there is one, behind it the words on a file that was not opened, and
+    /// ends with the number.
     fn report<R: Eprint>(self, rt: &R) -> ExitCode
         ensures number { exit_status result ≡ number_of self }
     {
         let message = self.message();
         if !message.is_empty() {
             let _ = rt.eprintln(message);
+        }
+        if let Ended::NotOpened(fault) = self {
+            let _ = rt.eprint(fault.words());
         }
         ExitCode::from(self.number())
     }

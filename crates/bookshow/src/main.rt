@@ -1,7 +1,8 @@
-//! The program `bookshow`: `bookshow BOOK WORD ..` shows what the book in a file has, with the numbers by which commands
-//! name things. It reads the file through the keeper that `book` writes it by, and commits nothing: the rows of the file
-//! stay as they are, whatever the words. A log may be left beside the file, as by each run over it. `bookshow BOOK check`
-//! also says what is wrong with a file that is no sound book, and `bookshow BOOK copy TO` makes a copy of a book.
+//! The program `bookshow`: `bookshow BOOK WORD ..` shows what the book in a file has, with the numbers by which
+//! commands name things. It reads the file through the keeper that `book` writes it by, and commits nothing: the rows
+//! of the file stay as they are, whatever the words. A log may be left beside the file, as by each run over it.
+//! `bookshow BOOK check` also says what is wrong with a file that is no sound book, and `bookshow BOOK copy TO` makes a
+//! copy of a book.
 #![tactic(auto)]
 
 mod copying;
@@ -21,15 +22,16 @@ use crate::copying::copy_of;
 use crate::ended::Ended;
 use crate::watched::Watched;
 use book_commodity::{OutOfMemory, Text};
+use book_copy::CopyError;
 use book_engine::OpenError;
-use book_files::{copy_file, fault_before, fault_behind};
+use book_files::{FileCopyError, copy_file, fault_before, fault_behind};
 use book_keeper::{Sink, StreamSink};
 use book_show::{Asked, Question, ShowError, asked_of, show};
 use book_sqlite::FileKeeper;
 use book_verdict::{unread_row_text, unsound_row_text};
 use sqlite::{Start, Unknown};
 use std::alloc::Global;
-use std::io::{ErrorKind, Write};
+use std::io::Write;
 use std::{env, fs, io};
 
 /// What `--help` shows.
@@ -94,24 +96,22 @@ fn show_in<T: Start, O: Sink>(
     (answer, keeper)
 }
 
-/// Why the file at the path is not opened, if it is not. A keeper would make one where there is none, so one that is
-/// missing or empty has no book; a log beside it may have one, which only `book` may take over.
+/// Why the file at the path is not opened, if it is not. A keeper would make one where there is none, and a table in a
+/// database that has none: so those are no books. A log beside a missing one may hold a book, which only `book` may
+/// take over.
 fn refused(rt: &HostRuntime, path: &str) -> Option<Ended> {
-    match fs::metadata(rt, path) {
-        Ok(found) if found.len() > 0 => None,
-        Err(error) if error.kind() != ErrorKind::NotFound => Some(Ended::KeeperFault),
-        _ => Some(without_file(rt, path)),
+    match fault_before(rt, path) {
+        Ok(None) => None,
+        Ok(Some(fault)) => Some(Ended::NotOpened(fault)),
+        Err(OutOfMemory) => Some(Ended::Memory),
     }
 }
 
-/// The end where the file is missing or empty.
-fn without_file(rt: &HostRuntime, path: &str) -> Ended {
-    match format!(in rt.alloc(); "{path}-wal") {
-        Ok(log) => match fs::exists(rt, log.as_str()) {
-            Ok(false) => Ended::NoBook,
-            Ok(true) | Err(_) => Ended::KeeperFault,
-        },
-        Err(_) => Ended::Memory,
+/// The end where no keeper could open or read the file.
+fn unopened(rt: &HostRuntime, path: &str) -> Ended {
+    match fault_behind(rt, path) {
+        Some(fault) => Ended::NotOpened(fault),
+        None => Ended::Memory,
     }
 }
 
@@ -126,6 +126,7 @@ fn show_file(rt: &HostRuntime, asked: &Asked) -> Ended {
     drop(keeper);
     match answer {
         Ok(()) => Ended::Done,
+        Err(ShowError::Open(OpenError::Keeper)) => unopened(rt, asked.book),
         Err(ShowError::Output) if writer.is_closed() => Ended::Closed,
         Err(error) => Ended::of_error(error),
     }
@@ -133,46 +134,30 @@ fn show_file(rt: &HostRuntime, asked: &Asked) -> Ended {
 
 /// Says what is wrong with the file of a book, and what a person does next, or how much a sound book has.
 fn check_file(rt: &HostRuntime, asked: &Asked) -> Ended {
-    match fault_before(rt, asked.book) {
-        Ok(None) => {}
-        Ok(Some(fault)) => return print(rt, fault.words(), Ended::Refused),
-        Err(_) => return Ended::Memory,
-    }
-    let mut writer = Watched::new(io::writer(rt));
-    let (answer, keeper) = show_in(rt, asked, Unknown, &mut StreamSink::new(&mut writer));
-    drop(keeper);
-    match answer {
-        Ok(()) => print_size(rt, asked.book),
-        Err(ShowError::Open(error)) => print_opening(rt, asked.book, error),
-        Err(ShowError::Output) if writer.is_closed() => Ended::Closed,
-        Err(error) => Ended::of_error(error),
+    match show_file(rt, asked) {
+        Ended::Done => print_size(rt, asked.book),
+        Ended::NotOpened(fault) => print(rt, fault.words(), Ended::Refused),
+        ended => print_row(rt, ended),
     }
 }
 
-/// Says why a book was not opened.
-fn print_opening(rt: &HostRuntime, path: &str, error: OpenError) -> Ended {
-    match row_text(rt.alloc(), error) {
-        Ok(Some(text)) => return print(rt, text.as_str(), Ended::Damaged),
-        Ok(None) => {}
-        Err(OutOfMemory) => return Ended::Memory,
-    }
-    match error {
-        OpenError::Keeper => match fault_behind(rt, path) {
-            Some(fault) => print(rt, fault.words(), Ended::Refused),
-            None => Ended::Memory,
-        },
-        _ => Ended::Memory,
+/// Says at which row the book is damaged, where the program ended so.
+fn print_row(rt: &HostRuntime, ended: Ended) -> Ended {
+    match row_text(rt.alloc(), ended) {
+        Ok(Some(text)) => print(rt, text.as_str(), Ended::Damaged),
+        Ok(None) => ended,
+        Err(OutOfMemory) => Ended::Memory,
     }
 }
 
-/// The text on the row at which a book is damaged; None where no row is.
-fn row_text(alloc: Global, error: OpenError) -> Result<Option<Text>, OutOfMemory>
-    ensures { IfOk result (λ text. text ≡ row_text error) }
+/// The text on the row at which a book is damaged; None where the program ended otherwise.
+fn row_text(alloc: Global, ended: Ended) -> Result<Option<Text>, OutOfMemory>
+    ensures { IfOk result (λ text. text ≡ row_text ended) }
 {
-    match error {
-        OpenError::BadRows { kind, id } => Ok(Some(unread_row_text(alloc, kind, id)?)),
-        OpenError::UnsoundBook { kind, id } => Ok(Some(unsound_row_text(alloc, kind, id)?)),
-        OpenError::Keeper | OpenError::OutOfMemory => Ok(None),
+    match ended {
+        Ended::BadRows { kind, id } => Ok(Some(unread_row_text(alloc, kind, id)?)),
+        Ended::UnsoundBook { kind, id } => Ok(Some(unsound_row_text(alloc, kind, id)?)),
+        _ => Ok(None),
     }
 }
 
@@ -214,6 +199,7 @@ fn copy_book(rt: &HostRuntime, book: &str, to: &str) -> Ended {
     }
     match copy_file(rt, book, to) {
         Ok(()) => Ended::Done,
+        Err(FileCopyError::Rows(CopyError::Source)) => unopened(rt, book),
         Err(error) => Ended::of_copying(error),
     }
 }

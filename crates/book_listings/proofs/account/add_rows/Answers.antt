@@ -7,7 +7,7 @@ use Rattle.book_reports.proofs.LineLemmas.{within}
 use Rattle.book_reports.proofs.RowLemmas.{balance_next, balance_small, first_can_be_summed}
 use Rattle.book_statement.specs.declared.line.Line.{Line}
 use Rattle.book_undo.specs.Book.{Book}
-use Rattle.book_listings.specs.Account.{matched_of, rows_after}
+use Rattle.book_listings.specs.Account.{line_of, matched_of, rows_after}
 use Rattle.book_listings.proofs.RegisterLemmas.{rows_end, rows_next}
 use Rattle.book_listings.proofs.account.add_rows.Goals as goal
 
@@ -32,9 +32,11 @@ loop-place-preserved c =
     let before = within (10 ^ 18) (balance (take i rows)) (balance_small (take i rows) (first_can_be_summed rows i can)) in
     let after = within (10 ^ 18) (balance (take (i + 1) rows))
     (balance_small (take (i + 1) rows) (first_can_be_summed rows (i + 1) can)) in (
-      rows_next c.args.book.now c.as_slice-in-loop-place.result.now c.in_ok-lines.lines.items c.fraction-fraction.result rows i
-          c.row-row.result _ _ _ _ _ c.as_slice-in-loop-place.ensures.value c.row-row.ensures.row c.in_ok-register_row.ensures
-          c.in_ok-push.ensures.added c.loop-place.invariant.0
+      rows_next c.args.book.now c.line_of-line.result c.in_ok-lines.lines.items c.fraction-fraction.result rows i
+          c.row-row.result _ _ _ _ _
+          (c.line_of-line.ensures ∙ c.in_ok-by_split.ensures c.row-row.result.split
+          ∙ ap (line_of c.row-row.result.split) c.as_slice-2.ensures.value)
+          c.row-row.ensures.row c.in_ok-register_row.ensures c.in_ok-push.ensures.added c.loop-place.invariant.0
           (omega (arith, ints, fits, next, before.0, before.1, after.0, after.1, c.loop-place.invariant.1, c.from.ensures)),
       omega (arith, ints, fits, next, before.0, before.1, after.0, after.1, c.loop-place.invariant.1, c.from.ensures),
     )
