@@ -85,14 +85,14 @@ fn act(alloc: Global, engine: &mut Engine, keeper: &mut MemKeeper, line: &str) -
 }
 
 /// Compares the work of a register, of lots or of the index of free splits with what a line says:
-/// `register ACCOUNT CHANGES ROWS`, `lots ACCOUNT RECKONED ROWS`, or `free CHANGES SPLITS`.
+/// `register ACCOUNT CHANGES ROWS`, `lots ACCOUNT RECKONED ROWS`, or `free ACCOUNT AMOUNT CHANGES SPLITS`.
 fn compare_work(
     report: &mut Report<'_>,
     case: Case<'_>,
     engine: &Engine,
     line: Line<'_>,
 ) -> io::Result<()> {
-    let (work, wanted) = asked_for(engine, line.text)?;
+    let (work, wanted) = asked_for(report.alloc(), engine, line.text)?;
     let Some((work, rows)) = work else {
         return report.fail(case.at(line.number), wanted, "none");
     };
@@ -104,18 +104,34 @@ fn compare_work(
 }
 
 /// The work that a line asks for, if there is such a thing, and what the line wants of it.
-fn asked_for<'a>(engine: &Engine, text: &'a str) -> io::Result<(Option<(u64, usize)>, &'a str)> {
+fn asked_for<'a>(
+    alloc: Global,
+    engine: &Engine,
+    text: &'a str,
+) -> io::Result<(Option<(u64, usize)>, &'a str)> {
     let (mark, rest) = text.split_once(' ').unwrap_or((text, ""));
-    if mark == "free" {
-        let free = engine.free();
-        return Ok((Some((free.changes(), free.as_slice().len())), rest));
-    }
     let (account, wanted) = rest.split_once(' ').unwrap_or((rest, ""));
     let account = number(account)?;
     match mark {
+        "free" => {
+            let (amount, wanted) = wanted.split_once(' ').unwrap_or((wanted, ""));
+            Ok((free_work(alloc, engine, account, amount), wanted))
+        }
         "lots" => Ok((lots_work(engine, account), wanted)),
         "register" => Ok((register_work(engine, account), wanted)),
         _ => Err(unread()),
+    }
+}
+
+/// How often the index of free splits was changed, and how many it has of an account with an amount.
+fn free_work(alloc: Global, engine: &Engine, account: u64, amount: &str) -> Option<(u64, usize)> {
+    let Ok(amount) = amount.parse::<i64>() else {
+        return None;
+    };
+    let free = engine.free();
+    match free.of(alloc, account, amount) {
+        Ok(splits) => Some((free.changes(), splits.len())),
+        Err(_) => None,
     }
 }
 
