@@ -13,8 +13,7 @@ use std::process::{ExitCode, Termination};
 
 /// What the program prints where the words ask nothing.
 const USAGE: &str =
-    "usage: bookshow BOOK accounts|commodities|prices|schedules|journal [FROM TO]|account NUMBER|find TEXT|\
-    command NUMBER|export|check|copy TO [--csv], or bookshow --help";
+    "bookshow: these words ask for nothing; `bookshow --help` lists those that do, and --csv comes last";
 
 /// How the program ended.
 #[derive(Clone, Copy, Debug, PartialEq, Eq)]
@@ -128,10 +127,12 @@ impl Ended {
             Ended::BadRows { .. } | Ended::UnsoundBook { .. } => {
                 "bookshow: the book is damaged; `bookshow BOOK check` says at which row"
             }
-            Ended::TargetThere => "bookshow: there is something at the path of the copy",
+            Ended::TargetThere =>
+                "bookshow: a file, a folder or a log is at the path of the copy; name a new file",
             Ended::PartThere =>
-                "bookshow: something is at the .part of the copy: one that was stopped, or is made now",
-            Ended::CopyFailed => "bookshow: the copy could not be written",
+                "bookshow: TO.part is there: another copy is being made, or one was stopped; then remove it",
+            Ended::CopyFailed =>
+                "bookshow: the copy could not be written; look at its folder, its room and your rights",
         }
     }
 }

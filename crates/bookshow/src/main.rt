@@ -52,8 +52,9 @@ Shows what the book in the file BOOK has, and changes nothing in it. WORD .. is 
   check               what is wrong with the file, or how much a sound book has
   copy TO             makes a copy of the book at the path TO
 
---csv asks for comma-separated values in place of columns, but for `command`,
-`export`, `check` and `copy`.
+--csv, the last word, asks for comma-separated values in place of columns, but
+for `command`, `export`, `check` and `copy`. The book is open, and no other run
+can open it, until the last line has been read.
 ";
 
 /// What `--version` shows.
