@@ -8,7 +8,6 @@ abbrev pub shows_before : FileFault → Bool
 shows_before fault.Journal = false
 shows_before fault.InUse = false
 shows_before fault.Damaged = false
-shows_before fault.OtherDatabase = false
 shows_before found = true
 
 -- Those that are found by opening it: by the error of SQLite, and by what stands beside the file.

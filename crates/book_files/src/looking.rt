@@ -107,7 +107,7 @@ fn shown_by_head(head: &[u8], length: u64) -> Option<FileFault>
 }
 
 /// The fault of a file whose log holds a commit, where the two are a database without a table. What else is wrong with
-/// them is left to the keeper.
+/// them is left to the keeper, also where the file alone lists other things than a book.
 fn fault_with_log(rt: &HostRuntime, path: &str) -> Option<FileFault>
     ensures { IfSome result (λ fault. IsTrue (shows_before fault)) }
 {

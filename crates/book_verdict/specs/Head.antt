@@ -1,11 +1,11 @@
 -- What the first 108 bytes of a file say of it (SQLite, Database File Format, "The Database Header" and "B-tree
 -- Pages").
-use Rattle.std.specs.Prelude.{ℕ, ◌+◌, ◌*◌, ◌==◌, ◌&&◌, nat_lt, Bool, not, if◌then◌else◌, List, [], ◌∷◌, ◌++◌, length}
-use Rattle.std.specs.Prelude.{codes, Option, Some, None, slice_get, take}
+use Rattle.std.specs.Prelude.{ℕ, ◌+◌, ◌*◌, ◌==◌, ◌&&◌, ◌||◌, nat_lt, Bool, not, if◌then◌else◌, List, [], ◌∷◌, ◌++◌}
+use Rattle.std.specs.Prelude.{codes, length, Option, Some, None, slice_get, take}
 use Rattle.std.specs.Option.{option_map_or}
 use Rattle.std.specs.Str.{bytes_eq}
 use Rattle.book_verdict.specs.declared.fault.FileFault.{FileFault}
-use Rattle.book_verdict.specs.declared.fault.FileFault.TheVariants.{CutShort, NoDatabase, NoTable}
+use Rattle.book_verdict.specs.declared.fault.FileFault.TheVariants.{CutShort, NoDatabase, NoTable, OtherDatabase}
 
 -- The byte at a place; 0, where there is none. That a head which is too short reads as zeros is the code's own.
 abbrev pub byte_at : ℕ → List ℕ → ℕ
@@ -32,11 +32,17 @@ is_database head = not (nat_lt (length head) 100) && bytes_eq (take 16 head) (co
 abbrev pub has_no_table : List ℕ → Bool
 has_no_table head = (byte_at 100 head == 13) && (pair_at 103 head == 0)
 
--- A file that is no database, or one that has fewer bytes than its pages have, or one without a table. The order of the
--- three is the code's own.
+-- A database lists another number of things than a book, which has a table and the index of its keys, where its first
+-- page is a leaf with other than two cells, or stands above other pages (5).
+abbrev pub has_other_things : List ℕ → Bool
+has_other_things head = (byte_at 100 head == 5) || ((byte_at 100 head == 13) && not (pair_at 103 head == 2))
+
+-- A file that is no database, or one that has fewer bytes than its pages have, or one without a table, or one that lists
+-- another number of things than a book. The order of the four is the code's own.
 abbrev pub fault_of_head : List ℕ → ℕ → Option FileFault
 fault_of_head head size =
     if is_database head
     then (if nat_lt size (page_bytes head * page_count head) then Some CutShort
-    else if has_no_table head then Some NoTable else None)
+    else if has_no_table head then Some NoTable
+    else if has_other_things head then Some OtherDatabase else None)
     else Some NoDatabase

@@ -1,6 +1,6 @@
 ghost use Rattle.std.specs.Prelude.{◌≡◌, ◌<◌};
-ghost use Rattle.book_verdict.specs.Head.{byte_at, fault_of_head, has_no_table, is_database, page_bytes, page_count};
-ghost use Rattle.book_verdict.specs.Head.{pair_at};
+ghost use Rattle.book_verdict.specs.Head.{byte_at, fault_of_head, has_no_table, has_other_things, is_database};
+ghost use Rattle.book_verdict.specs.Head.{page_bytes, page_count, pair_at};
 
 use crate::FileFault;
 
@@ -14,7 +14,7 @@ const DATABASE_HEAD: usize = 100;
 const MAGIC: &[u8] = b"SQLite format 3\0";
 
 /// What the first bytes of a file and its length say of it: that it is no SQLite database, or one that is cut short, or
-/// one without a table.
+/// one without a table, or one that lists more or less than a book does.
 pub fn fault_of_head(head: &[u8], length: u64) -> Option<FileFault>
     ensures { result ≡ fault_of_head head.now length }
 {
@@ -26,6 +26,9 @@ pub fn fault_of_head(head: &[u8], length: u64) -> Option<FileFault>
     }
     if has_no_table(head) {
         return Some(FileFault::NoTable);
+    }
+    if has_other_things(head) {
+        return Some(FileFault::OtherDatabase);
     }
     None
 }
@@ -42,6 +45,18 @@ fn has_no_table(head: &[u8]) -> bool
     ensures { result ≡ has_no_table head.now }
 {
     byte_at(head, DATABASE_HEAD) == 13 && pair_at(head, DATABASE_HEAD + 3) == 0
+}
+
+/// Whether the first page of a SQLite database lists another number of things than a book, which has a table and the
+/// index of its keys: it is a leaf with other than two cells, or no leaf.
+fn has_other_things(head: &[u8]) -> bool
+    ensures { result ≡ has_other_things head.now }
+{
+    match byte_at(head, DATABASE_HEAD) {
+        5 => true,
+        13 => pair_at(head, DATABASE_HEAD + 3) != 2,
+        _ => false,
+    }
 }
 
 /// How many bytes a page has.
