@@ -16,10 +16,10 @@ use Rattle.book_splits.specs.declared.transaction.Txn.{Txn}
 use Rattle.book_undo.specs.Book.{Book, empty_book}
 use Rattle.book_export.specs.Entries.{head_line, posting_end, posting_line, posting_start, transaction_lines}
 use Rattle.book_export.specs.Export.{accounts_text, commodities_text, prices_text}
-use Rattle.book_export.specs.Names.{journal_name, written}
+use Rattle.book_export.specs.Names.{journal_name, written_from}
 use Rattle.book_export.specs.Prices.{power_for, price_line}
 use Rattle.book_export.specs.Symbols.{amount_in, commodity_lines, exponent_of}
-use Rattle.book_export.specs.Texts.{shown}
+use Rattle.book_export.specs.Texts.{code, shown}
 
 abbrev commodity : List ℕ → List ℕ → ℕ → Commodity
 commodity space name fraction = record { space = space; name = name; full_name = []; fraction = fraction }
@@ -78,7 +78,7 @@ salary :
     (split 5 [] New (pos 250000) (pos 250000) ∷ split 6 [] New (negsuc 249999) (negsuc 249999) ∷ []))
     ≡ (codes "\n" ++ day_text (pos 40) ++ codes " (7) Salary\n") ++ codes "    Bank  2500.00 EUR\n    Pay  -2500.00 EUR\n"
 unfolding amount_in amount_text day_text decimals_of digits exponent_of head_line nearest_parents posting_end
-    posting_line posting_start shown transaction_lines written
+    posting_line posting_start shown transaction_lines written_from
 salary = refl
 
 -- ten shares for 100.00: the value is the cost of the quantity
@@ -89,7 +89,7 @@ purchase :
     ≡ (codes "\n" ++ day_text (pos 41) ++ codes " Buy\n") ++ codes "    Bank:Broker  10 \"NYSE:ACME\" @@ 100.00 EUR\n"
     ++ codes "    Bank  -100.00 EUR\n"
 unfolding amount_in amount_text day_text decimals_of digits exponent_of head_line nearest_parents posting_end
-    posting_line posting_start shown transaction_lines written
+    posting_line posting_start shown transaction_lines written_from
 purchase = refl
 
 -- a correction of the cost alone: one share has it, and one is taken back for nothing
@@ -101,7 +101,7 @@ correction :
     ++ codes "    Bank:Broker  1 \"NYSE:ACME\" @@ 1.50 EUR\n    Bank:Broker  -1 \"NYSE:ACME\" @@ 0.00 EUR\n"
     ++ codes "    Bank  -1.50 EUR\n"
 unfolding amount_in amount_text day_text decimals_of digits exponent_of head_line nearest_parents posting_end
-    posting_line posting_start shown transaction_lines written
+    posting_line posting_start shown transaction_lines written_from
 correction = refl
 
 -- splits that are marked, a name with a semicolon, a memo with a colon, and a description that begins as a mark
@@ -112,20 +112,20 @@ marked :
     ≡ (codes "\n" ++ day_text (pos 43) ++ codes " () *Market%3B stall 3\n")
     ++ codes "    ! Food%3B drink  0.05 EUR\n    * Bank  -0.05 EUR  ; ref : 9\n"
 unfolding amount_in amount_text day_text decimals_of digits exponent_of head_line nearest_parents posting_end
-    posting_line posting_start shown transaction_lines written
+    posting_line posting_start shown transaction_lines written_from
 marked = refl
 
 -- every account has its directive, the hidden one too, and the root has none
 directives :
     accounts_text book ≡ codes "account Bank\naccount Pay\naccount Bank:Broker\naccount Food%3B drink\n"
-unfolding nearest_parents written
+unfolding nearest_parents written_from
 directives = refl
 
 -- two decimals; none; and eighths, which are counted
 commodities :
     commodities_text book
     ≡ codes "commodity EUR\n  format 1000.00 EUR\ncommodity \"NYSE:ACME\"\ncommodity \"US:NOTE:1/8\"\n"
-unfolding amount_text commodity_lines decimals_of digits exponent_of written
+unfolding amount_text commodity_lines decimals_of digits exponent_of written_from
 commodities = refl
 
 -- an exact price, and one that no decimal number is
@@ -133,31 +133,49 @@ prices :
     prices_text book
     ≡ (codes "P " ++ day_text (pos 40) ++ codes " \"NYSE:ACME\" 150.25 EUR\n")
     ++ (codes "; P " ++ day_text (pos 40) ++ codes " \"NYSE:ACME\" 1/3 EUR\n") ++ []
-unfolding amount_text day_text decimals_of digits exponent_of power_for price_line written
+unfolding amount_text day_text decimals_of digits exponent_of power_for price_line written_from
 prices = refl
 
 -- names that are common stay as they are, and those that would be read as more don't
 common : journal_name (codes "Checking, 2nd account (old)") ≡ codes "Checking, 2nd account (old)"
-unfolding written
+unfolding written_from
 common = refl
 
 spaced : journal_name (codes " A  B ") ≡ codes "%20A %20B%20"
-unfolding written
+unfolding written_from
 spaced = refl
 
 bracketed : journal_name (codes "(old)") ≡ codes "%28old)"
-unfolding written
+unfolding written_from
 bracketed = refl
 
 command : journal_name (codes "check it") ≡ codes "%63heck it"
-unfolding written
+unfolding written_from
 command = refl
 
 no_command : journal_name (codes "checking") ≡ codes "checking"
-unfolding written
+unfolding written_from
 no_command = refl
 
 -- a colon within a name is none between names, and a percent sign begins nothing
 joined : journal_name (codes "A:B 5%") ≡ codes "A%3AB 5%25"
-unfolding written
+unfolding written_from
 joined = refl
+
+-- each byte of a Unicode blank is encoded, wherever it stands, and other bytes from 128 on aren't: of "Konto", U+00A0
+-- and "Ä", and of "a", U+2003, a blank, U+3000, U+200B and "b"
+no_break :
+    journal_name (codes "Konto" ++ 194 ∷ 160 ∷ 195 ∷ 132 ∷ []) ≡ codes "Konto%C2%A0" ++ 195 ∷ 132 ∷ []
+unfolding written_from
+no_break = refl
+
+wide :
+    journal_name (97 ∷ 226 ∷ 128 ∷ 131 ∷ 32 ∷ 227 ∷ 128 ∷ 128 ∷ 226 ∷ 128 ∷ 139 ∷ 98 ∷ [])
+    ≡ codes "a%E2%80%83 %E3%80%80" ++ 226 ∷ 128 ∷ 139 ∷ 98 ∷ []
+unfolding written_from
+wide = refl
+
+-- a description that begins with U+00A0 and a star: a num stands before it, since hledger passes over the blank
+blank_and_star : code [] (194 ∷ 160 ∷ codes "*") ≡ codes "() "
+unfolding shown
+blank_and_star = refl

@@ -1,7 +1,8 @@
 -- Names as the journal has them: those of accounts and of commodities. A name stands there as it is, except that some
 -- of its bytes are percent-encoded, so that both readers find its end and different names stay different (rule of this
 -- project).
-use Rattle.std.specs.Prelude.{ℕ, ◌+◌, ◌/◌, ◌%◌, ◌==◌, nat_eq, nat_lt, Bool, true, false, ◌&&◌, ◌||◌, if◌then◌else◌}
+use Rattle.std.specs.Prelude.{ℕ, ◌+◌, ◌-◌, ◌/◌, ◌%◌, ◌==◌, nat_eq, nat_le, nat_lt, max}
+use Rattle.std.specs.Prelude.{Bool, true, false, ◌&&◌, ◌||◌, if◌then◌else◌}
 use Rattle.std.specs.Prelude.{List, [], ◌∷◌, ◌++◌, length, map, drop, codes}
 use Rattle.std.specs.List.{join_with_byte, starts_with}
 use Rattle.book_accounts.specs.Path.{name_at, way_down}
@@ -29,20 +30,55 @@ is_reserved byte = is_control byte || (byte == 34) || (byte == 37) || (byte == 5
 abbrev pub is_encoded : Bool → ℕ → Bool
 is_encoded edge byte = is_reserved byte || ((byte == 32) && edge)
 
--- A byte as it stands in the journal.
+-- A byte as it stands in the journal: encoded, or as it is.
 abbrev pub written_byte : Bool → ℕ → List ℕ
-written_byte edge byte = if is_encoded edge byte then encoded byte else byte ∷ []
+written_byte encode byte = if encode then encoded byte else byte ∷ []
+
+-- Whether two bytes are a blank in UTF-8: U+0085 or U+00A0 (RFC 3629, 3; Unicode, PropList, White_Space).
+abbrev pub is_blank_of_two : ℕ → ℕ → Bool
+is_blank_of_two first second = (first == 194) && ((second == 133) || (second == 160))
+
+-- Whether a byte is the third one of a blank from U+2000 on: U+2000 to U+200A, U+2028, U+2029 or U+202F.
+abbrev pub is_third_of_blank : ℕ → Bool
+is_third_of_blank third = (nat_le 128 third && nat_le third 138) || (third == 168) || (third == 169) || (third == 175)
+
+-- Whether three bytes are a blank in UTF-8: U+1680, one from U+2000 on, U+205F or U+3000 (the same sources).
+abbrev pub is_blank_of_three : ℕ → ℕ → ℕ → Bool
+is_blank_of_three first second third =
+    ((first == 225) && (second == 154) && (third == 128))
+    || ((first == 226) && (second == 128) && is_third_of_blank third)
+    || ((first == 226) && (second == 129) && (third == 159))
+    || ((first == 227) && (second == 128) && (third == 128))
+
+-- How many bytes at the front of a text are a Unicode blank that is none of ASCII; 0 where there is none.
+abbrev pub blank_bytes : List ℕ → ℕ
+blank_bytes [] = 0
+blank_bytes (_ ∷ []) = 0
+blank_bytes (first ∷ second ∷ []) = if is_blank_of_two first second then 2 else 0
+blank_bytes (first ∷ second ∷ third ∷ _) =
+    if is_blank_of_two first second then 2 else (if is_blank_of_three first second third then 3 else 0)
+
+-- The same where so many bytes at the front are the rest of such a blank.
+abbrev pub blank_bytes_left : ℕ → List ℕ → ℕ
+blank_bytes_left left text = max left (blank_bytes text)
 
 -- Whether there is no byte.
 abbrev pub is_nothing : List ℕ → Bool
 is_nothing [] = true
 is_nothing (_ ∷ _) = false
 
--- What a name becomes from some place on. A blank is at an edge as the first byte, as the last one, and behind another
--- blank, since two blanks end the name of an account.
-unfoldable pub written : Bool → List ℕ → List ℕ
-written edge [] = []
-written edge (byte ∷ rest) = written_byte (edge || is_nothing rest) byte ++ written (byte == 32) rest
+-- What a name becomes from some place on, where so many bytes are the rest of a Unicode blank. A blank (32) is at an
+-- edge as the first byte, as the last one, and behind another blank, since two blanks end the name of an account. Each
+-- byte of a Unicode blank is encoded, since hledger reads most of them as the blank 32.
+unfoldable pub written_from : ℕ → Bool → List ℕ → List ℕ
+written_from left edge [] = []
+written_from left edge (byte ∷ rest) =
+    written_byte (nat_lt 0 (blank_bytes_left left (byte ∷ rest)) || is_encoded (edge || is_nothing rest) byte) byte
+    ++ written_from (blank_bytes_left left (byte ∷ rest) - 1) (byte == 32) rest
+
+-- A name as it stands in the journal; whether it begins at an edge.
+abbrev pub written : Bool → List ℕ → List ℕ
+written edge name = written_from 0 edge name
 
 -- Whether a byte at the front of an account would be read as more than a name: a mark, `*` (42) or `!` (33), or the
 -- bracket of a virtual posting, `(` (40), `[` (91) or `<` (60).

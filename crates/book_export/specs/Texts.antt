@@ -1,8 +1,8 @@
 -- Texts as the journal has them, each on one line: the num and the description of a transaction, and the memo of a
 -- split (rule of this project). They are no keys: a program shows them and compares none.
-use Rattle.std.specs.Prelude.{ℕ, ◌==◌, Bool, false, ◌&&◌, ◌||◌, not, if◌then◌else◌, List, [], ◌∷◌, ◌++◌, codes}
+use Rattle.std.specs.Prelude.{ℕ, ◌==◌, nat_lt, Bool, false, ◌&&◌, ◌||◌, not, if◌then◌else◌, List, [], ◌∷◌, ◌++◌, codes}
 use Rattle.std.specs.List.{flat_map}
-use Rattle.book_export.specs.Names.{is_control, is_nothing}
+use Rattle.book_export.specs.Names.{blank_bytes, is_control, is_nothing}
 use Rattle.book_export.specs.declared.texts.Place.{Place}
 use Rattle.book_export.specs.declared.texts.Place.TheVariants.{Code, Description, Memo}
 
@@ -22,10 +22,12 @@ unfoldable pub shown : Place → List ℕ → List ℕ
 shown place text = flat_map (shown_byte place) text
 
 -- Whether a description needs a num before it, even an empty one, since its first byte would be read as a mark, `*`
--- (42) or `!` (33), or as the bracket (40) of a num, or is a blank before such a byte.
+-- (42) or `!` (33), or as the bracket (40) of a num, or is a blank before such a byte, also a Unicode blank.
 abbrev pub begins_as_more : List ℕ → Bool
 begins_as_more [] = false
-begins_as_more (byte ∷ _) = is_control byte || (byte == 32) || (byte == 33) || (byte == 40) || (byte == 42)
+begins_as_more (byte ∷ rest) =
+    is_control byte || (byte == 32) || (byte == 33) || (byte == 40) || (byte == 42)
+    || nat_lt 0 (blank_bytes (byte ∷ rest))
 
 -- The num of a transaction in brackets, with a blank behind it; nothing where there is none and none is needed.
 abbrev pub code : List ℕ → List ℕ → List ℕ

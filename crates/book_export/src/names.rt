@@ -1,7 +1,8 @@
 ghost use Rattle.std.specs.Prelude.{◌≡◌, ◌++◌, ◌<◌, OnOk};
-ghost use Rattle.book_export.specs.Names.{begins_as_more, begins_with_mark, begins_with_word, encoded, hex_digit};
-ghost use Rattle.book_export.specs.Names.{is_control, is_encoded, is_end_of_word, is_reserved, journal_name, masked};
-ghost use Rattle.book_export.specs.Names.{written, written_byte};
+ghost use Rattle.book_export.specs.Names.{begins_as_more, begins_with_mark, begins_with_word, blank_bytes};
+ghost use Rattle.book_export.specs.Names.{blank_bytes_left, encoded, hex_digit, is_blank_of_three, is_blank_of_two};
+ghost use Rattle.book_export.specs.Names.{is_control, is_encoded, is_end_of_word, is_reserved, is_third_of_blank};
+ghost use Rattle.book_export.specs.Names.{journal_name, masked, written, written_byte};
 
 use book_commodity::OutOfMemory;
 
@@ -28,30 +29,87 @@ fn push_masked(out: &mut Vec<u8>, name: &[u8]) -> Result<(), OutOfMemory>
 }
 
 /// Adds a name; whether it begins at an edge.
-#[tactic(auto, unfolding(crate::specs::Names::written))]
+#[tactic(auto, unfolding(crate::specs::Names::written_from))]
 pub(crate) fn push_written(out: &mut Vec<u8>, edge: bool, name: &[u8]) -> Result<(), OutOfMemory>
     ensures { OnOk result (out.new.items ≡ out.old.items ++ written edge name.now) }
 {
     let mut at_edge = edge;
+    let mut of_blank = 0;
     let mut left = name;
     while let Some((byte, rest)) = left.split_first() {
-        push_byte(out, at_edge || rest.is_empty(), *byte)?;
+        let blank = blank_bytes_left(of_blank, left);
+        push_byte(
+            out,
+            blank > 0 || is_encoded(at_edge || rest.is_empty(), *byte),
+            *byte,
+        )?;
         at_edge = *byte == b' ';
+        of_blank = blank.saturating_sub(1);
         left = rest;
     }
     Ok(())
 }
 
-/// Adds a byte of a name.
-fn push_byte(out: &mut Vec<u8>, edge: bool, byte: u8) -> Result<(), OutOfMemory>
-    ensures { OnOk result (out.new.items ≡ out.old.items ++ written_byte edge byte) }
+/// Adds a byte of a name: encoded, or as it is.
+fn push_byte(out: &mut Vec<u8>, encode: bool, byte: u8) -> Result<(), OutOfMemory>
+    ensures { OnOk result (out.new.items ≡ out.old.items ++ written_byte encode byte) }
 {
-    if is_encoded(edge, byte) {
+    if encode {
         push_encoded(out, byte)
     } else {
         out.push(byte)?;
         Ok(())
     }
+}
+
+/// How many bytes at the front are of a Unicode blank, where so many are the rest of one.
+fn blank_bytes_left(left: usize, text: &[u8]) -> usize
+    ensures { result ≡ blank_bytes_left left text.now }
+{
+    left.max(blank_bytes(text))
+}
+
+/// How many bytes at the front are a Unicode blank that is none of ASCII; 0 where there is none.
+pub(crate) fn blank_bytes(text: &[u8]) -> usize
+    ensures { result ≡ blank_bytes text.now }
+{
+    let Some((first, rest)) = text.split_first() else {
+        return 0;
+    };
+    let Some((second, rest)) = rest.split_first() else {
+        return 0;
+    };
+    if is_blank_of_two(*first, *second) {
+        return 2;
+    }
+    match rest.split_first() {
+        Some((third, _)) if is_blank_of_three(*first, *second, *third) => 3,
+        _ => 0,
+    }
+}
+
+/// Whether two bytes are a blank in UTF-8.
+fn is_blank_of_two(first: u8, second: u8) -> bool
+    ensures { result ≡ is_blank_of_two first second }
+{
+    first == 0xC2 && (second == 0x85 || second == 0xA0)
+}
+
+/// Whether three bytes are a blank in UTF-8.
+fn is_blank_of_three(first: u8, second: u8, third: u8) -> bool
+    ensures { result ≡ is_blank_of_three first second third }
+{
+    first == 0xE1 && second == 0x9A && third == 0x80
+        || first == 0xE2 && second == 0x80 && is_third_of_blank(third)
+        || first == 0xE2 && second == 0x81 && third == 0x9F
+        || first == 0xE3 && second == 0x80 && third == 0x80
+}
+
+/// Whether a byte is the third one of a blank from U+2000 on.
+fn is_third_of_blank(third: u8) -> bool
+    ensures { result ≡ is_third_of_blank third }
+{
+    0x80 <= third && third <= 0x8A || third == 0xA8 || third == 0xA9 || third == 0xAF
 }
 
 /// Adds a byte percent-encoded.

@@ -1,7 +1,7 @@
 ghost use Rattle.std.specs.Prelude.{◌≡◌, ◌∷◌, [], ◌++◌, OnOk};
 ghost use Rattle.book_export.specs.Texts.{begins_as_more, code, line_byte, note, shown, shown_byte};
 
-use crate::names::is_control;
+use crate::names::{blank_bytes, is_control};
 use book_commodity::OutOfMemory;
 
 /// Where a text stands in the journal: as the num or the description of a transaction, or as the memo of a posting.
@@ -50,7 +50,9 @@ fn begins_as_more(description: &[u8]) -> bool
 {
     match description.split_first() {
         Some((byte, _)) => {
-            is_control(*byte) || *byte == b' ' || *byte == b'!' || *byte == b'(' || *byte == b'*'
+            is_control(*byte)
+                || matches!(*byte, b' ' | b'!' | b'(' | b'*')
+                || blank_bytes(description) > 0
         }
         None => false,
     }
