@@ -1,4 +1,5 @@
-ghost use Rattle.std.specs.Prelude.{◌≡◌, ◌⊎◌, IfOk, IfSome, IsTrue};
+ghost use Rattle.std.specs.Prelude.{◌≡◌, ◌≢◌, ◌⊎◌, Ok, IfErr, IfOk, IfSome, IsTrue};
+ghost use Rattle.book_verdict.specs.Head.{fault_of_head};
 ghost use Rattle.book_files.specs.Faults.{shows_before, shows_behind};
 
 use crate::beside::{beside, folder_of};
@@ -101,7 +102,8 @@ fn fault_of_bytes(
 
 /// The fault that the first bytes of a file and its length show.
 fn shown_by_head(head: &[u8], length: u64) -> Option<FileFault>
-    ensures { IfSome result (λ fault. IsTrue (shows_before fault)) }
+    ensures fault { result ≡ fault_of_head head.now length }
+    ensures before { IfSome result (λ fault. IsTrue (shows_before fault)) }
 {
     fault_of_head(head, length)
 }
@@ -133,6 +135,8 @@ fn fault_of_kind(kind: ErrorKind) -> FileFault
     ensures missing { (kind ≡ ErrorKind.NotFound) ⊎ (kind ≡ ErrorKind.NotADirectory) → result ≡ FileFault.Missing }
     ensures no_right { kind ≡ ErrorKind.PermissionDenied → result ≡ FileFault.NoRight }
     ensures read_only { kind ≡ ErrorKind.ReadOnlyFilesystem → result ≡ FileFault.ReadOnlyDisk }
+    ensures other { kind ≢ ErrorKind.NotFound → kind ≢ ErrorKind.NotADirectory → kind ≢ ErrorKind.PermissionDenied
+        → kind ≢ ErrorKind.ReadOnlyFilesystem → result ≡ FileFault.Failed }
     ensures before { IsTrue (shows_before result) }
     ensures behind { IsTrue (shows_behind result) }
 {
@@ -172,7 +176,11 @@ fn fault_opening(rt: &HostRuntime, path: &str) -> Result<FileFault, OutOfMemory>
 
 /// The fault that an error of SQLite shows.
 fn fault_of_error(error: Error) -> Result<FileFault, OutOfMemory>
-    ensures { IfOk result (λ fault. IsTrue (shows_behind fault)) }
+    ensures busy { error ≡ Error.SqliteFailure ErrorCode.DatabaseBusy → result ≡ Ok FileFault.InUse }
+    ensures other { error ≡ Error.SqliteFailure ErrorCode.NotADatabase → result ≡ Ok FileFault.OtherDatabase }
+    ensures damaged { error ≡ Error.SqliteFailure ErrorCode.DatabaseCorrupt → result ≡ Ok FileFault.Damaged }
+    ensures memory { IfErr result (λ _. error ≡ Error.SqliteFailure ErrorCode.OutOfMemory) }
+    ensures behind { IfOk result (λ fault. IsTrue (shows_behind fault)) }
 {
     match error {
         Error::SqliteFailure(ErrorCode::OutOfMemory) => Err(OutOfMemory),
