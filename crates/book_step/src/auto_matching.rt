@@ -31,7 +31,7 @@ pub(crate) fn match_auto(
     if pairs.is_empty() {
         return Ok(Step::leaving(present, Answer::MatchAuto { pairs }));
     }
-    let edit = pairing_edit(present.alloc, present.plain, pairs.as_slice())?;
+    let edit = pairing_edit(present, pairs.as_slice())?;
     Step::changing(present, 0, edit, Answer::MatchAuto { pairs })
 }
 

@@ -30,8 +30,7 @@ changing-requires-clause-changes c =
     let are : c.in_ok-pairs.pairs ≡ pairs =
     c.in_ok-pairs.ensures ∙ ap (matches state.book c.args.account) c.in_ok-days.ensures.days in
     let made : c.in_ok-edit.edit ≡ pairing_edit pairs state.book =
-    c.in_ok-edit.ensures ∙ ap (λ (s : State). pairing_edit c.as_slice.result.now s.book) c.present.view_is
-    ∙ ap (λ (ps : List Matched). pairing_edit ps state.book) (c.as_slice.ensures ∙ are) in
+    c.in_ok-edit.ensures ∙ ap (λ (ps : List Matched). pairing_edit ps state.book) (c.as_slice.ensures ∙ are) in
     ap is_nothing made
     ∙ matching-something state.book c.args.account c.args.window sound.book
     (λ none. absurd (let empty = c.is_empty.ensures.1 (are ∙ none) in let some = c.if-is_empty.false in cc))
@@ -43,8 +42,7 @@ changing-requires-clause-exact c sound =
     let are : c.in_ok-pairs.pairs ≡ pairs =
     c.in_ok-pairs.ensures ∙ ap (matches state.book c.args.account) c.in_ok-days.ensures.days in
     let made : c.in_ok-edit.edit ≡ pairing_edit pairs state.book =
-    c.in_ok-edit.ensures ∙ ap (λ (s : State). pairing_edit c.as_slice.result.now s.book) c.present.view_is
-    ∙ ap (λ (ps : List Matched). pairing_edit ps state.book) (c.as_slice.ensures ∙ are) in
+    c.in_ok-edit.ensures ∙ ap (λ (ps : List Matched). pairing_edit ps state.book) (c.as_slice.ensures ∙ are) in
     subst (λ (e : Edit). IsExact state.book e) (sym made)
     (matching-exact state.book c.args.account c.args.window sound.book)
 
@@ -56,8 +54,7 @@ returns c =
     let are : c.in_ok-pairs.pairs ≡ pairs =
     c.in_ok-pairs.ensures ∙ ap (matches state.book c.args.account) c.in_ok-days.ensures.days in
     let made : c.in_ok-edit.edit ≡ pairing_edit pairs state.book =
-    c.in_ok-edit.ensures ∙ ap (λ (s : State). pairing_edit c.as_slice.result.now s.book) c.present.view_is
-    ∙ ap (λ (ps : List Matched). pairing_edit ps state.book) (c.as_slice.ensures ∙ are) in
+    c.in_ok-edit.ensures ∙ ap (λ (ps : List Matched). pairing_edit ps state.book) (c.as_slice.ensures ∙ are) in
     match-changed state (match_rules state.book c.args.account c.args.window) pairs c.in_ok-edit.edit c.changing.result
     c.in_ok-days.ensures.rules
     (λ none. absurd (let empty = c.is_empty.ensures.1 (are ∙ none) in let some = c.if-is_empty.false in cc))
