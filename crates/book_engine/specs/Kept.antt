@@ -1,7 +1,8 @@
 -- What an engine keeps, seen as the state whose rows a keeper holds.
-use Rattle.std.specs.Prelude.{ℕ, Bool, List}
+use Rattle.std.specs.Prelude.{◌≡◌, ℕ, Bool, List}
 use Rattle.book_free.specs.Kept as free
 use Rattle.book_ledger.specs.Ledger.{Keeps}
+use Rattle.book_ledger.specs.Opening.{AreNew}
 use Rattle.book_ledger.specs.Page.{Page}
 use Rattle.book_undo.specs.Book.{book_of}
 use Rattle.book_undo.specs.declared.plain.Plain.{Plain}
@@ -39,3 +40,9 @@ pub record IsKept (engine : Inside) : Type 0 where
   pub whole : IsWhole (state_of engine.state) engine.saved
   pub registers : Keeps engine.registers.entries (book_of engine.state.plain)
   pub free : free.Keeps engine.free (book_of engine.state.plain)
+
+-- What an engine keeps beside its book was just made from it: each register was changed once for each of its rows, no
+-- row was reckoned into lots, and no free split was put in or taken out since.
+pub record IsNew (kept : Kept) : Type 0 where
+  pub registers : AreNew kept.registers
+  pub free : kept.free.index.changes ≡ 0

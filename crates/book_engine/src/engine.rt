@@ -15,6 +15,7 @@ ghost use Rattle.book_engine.specs.Acting.{HasActCause, IsUnchanged};
 ghost use Rattle.book_engine.specs.Changed.{AreChanged, AreKeptUp, AreLeft, AreReckoned, HaveRisen, IsActed};
 ghost use Rattle.book_engine.specs.Changed.{live_changes, live_lots};
 ghost use Rattle.book_engine.specs.Books.{machine_of};
+ghost use Rattle.book_engine.specs.Kept.{IsNew};
 ghost use Rattle.book_engine.specs.Machine.{Done, step as step_from};
 ghost use Rattle.book_engine.specs.Opening.{HasOpenCause, IsOpenedAs, Opened};
 ghost use Rattle.book_engine.specs.Planned.{after, commits, HasMoves, HasRoomFor, IsPlanFor, IsPlanned, IsPlanOf};
@@ -68,7 +69,8 @@ impl Model for Engine {
 
 impl Engine {
     /// The engine with the state as which the rows of the keeper open. Without rows it is the fresh state, whose rows
-    /// the first change writes. The keeper's rows stay, and stand for the engine's state.
+    /// the first change writes. The keeper's rows stay, and stand for the engine's state. What is kept beside the book
+    /// is made from it: the changes of a register are the number of its rows, and no lot is reckoned.
     /// Keeper: the keeper failed, and its count of faults rose in this call.
     /// BadRows: the least key whose body is no spelling, that is needed and missing, or that is of a step which the
     /// head doesn't count.
@@ -80,6 +82,7 @@ impl Engine {
         ensures again { IsTrue (K.sure keeper.new) → (rows : List HeldRow) → K.holds keeper.old rows
             → (state : State) → OpenAs rows state → IsOpenedAs state result }
         ensures sound { IfOk result (λ engine. IsSound (step_state engine.state)) }
+        ensures new { IfOk result IsNew }
         ensures cause { HasOpenCause (K.faults keeper.old) (K.faults keeper.new) result }
     {
         match read_rows(alloc, keeper) {

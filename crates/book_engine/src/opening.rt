@@ -1,6 +1,7 @@
 ghost use Rattle.std.specs.Prelude.{◌≡◌, IfOk, IfErr, true};
 ghost use Rattle.book_free.specs.Kept.{Keeps as KeepsFree};
 ghost use Rattle.book_ledger.specs.Ledger.{Keeps};
+ghost use Rattle.book_ledger.specs.Opening.{AreNew};
 ghost use Rattle.book_opening.specs.Reading.{IsReadable};
 ghost use Rattle.book_opening.specs.State.{state_of};
 ghost use Rattle.book_sound.specs.Soundness.{IsSoundBook};
@@ -8,6 +9,7 @@ ghost use Rattle.book_state_check.specs.SoundState.{IsSoundState};
 ghost use Rattle.book_step.specs.Soundness.{IsSound};
 ghost use Rattle.book_turns.specs.Whole.{step_state};
 ghost use Rattle.book_undo.specs.Book.{book_of};
+ghost use Rattle.book_engine.specs.Kept.{IsNew};
 ghost use Rattle.book_engine.specs.Opening.{IsBegun, IsChecked, open_error};
 
 use crate::{Engine, OpenError};
@@ -23,6 +25,7 @@ use std::alloc::Global;
 /// The engine of the fresh state, before a keeper was given rows.
 pub(crate) fn begin(alloc: Global) -> Result<Engine, OpenError>
     ensures begun { IsBegun result }
+    ensures new { IfOk result IsNew }
     ensures sound { IfOk result (λ engine. IsSound (step_state engine.state)) }
 {
     let plain = match fresh_book(alloc) {
@@ -55,6 +58,7 @@ pub(crate) fn begin(alloc: Global) -> Result<Engine, OpenError>
 pub(crate) fn checked(alloc: Global, state: Saved) -> Result<Engine, OpenError>
     requires { IsReadable (state_of state) }
     ensures checked { IsChecked (state_of state) result }
+    ensures new { IfOk result IsNew }
     ensures sound { IfOk result (λ engine. IsSound (step_state engine.state)) }
 {
     let mut state = state;
@@ -72,6 +76,7 @@ pub(crate) fn checked(alloc: Global, state: Saved) -> Result<Engine, OpenError>
 fn kept(alloc: Global, state: Saved) -> Result<Engine, OpenError>
     requires { IsSoundState (state_of state) }
     ensures kept { IfOk result (λ engine. (engine.state ≡ state_of state) × (engine.saved ≡ true)) }
+    ensures new { IfOk result IsNew }
     ensures memory { IfErr result (λ error. error ≡ OpenError.OutOfMemory) }
 {
     match kept_of(alloc, &state.plain) {
@@ -91,6 +96,8 @@ fn kept_of(alloc: Global, plain: &Plain) -> Result<(Registers, FreeSplits), OutO
     requires { IsSoundBook (book_of plain.now) }
     ensures registers { IfOk result (λ kept. Keeps kept.0.entries (book_of plain.now)) }
     ensures free { IfOk result (λ kept. KeepsFree kept.1 (book_of plain.now)) }
+    ensures new { IfOk result (λ kept. AreNew kept.0.entries) }
+    ensures unchanged { IfOk result (λ kept. kept.1.index.changes ≡ 0) }
 {
     let registers = Registers::of(alloc, plain)?;
     match FreeSplits::of(alloc, plain) {

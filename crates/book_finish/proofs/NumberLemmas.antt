@@ -21,11 +21,11 @@ use Rattle.book_finish.proofs.SumLemmas.{cleared-ties}
 
 -- ---- whether a number is in a list
 
-abbrev has : ℕ → List ℕ → Bool
+abbrev pub has : ℕ → List ℕ → Bool
 has n [] = false
 has n (m ∷ more) = (n == m) || has n more
 
-has-there : (n : ℕ) (ms : List ℕ) → Contains ms n → has n ms ≡ true
+pub has-there : (n : ℕ) (ms : List ℕ) → Contains ms n → has n ms ≡ true
 has-there n [] there = absurd (omega (arith, there.1))
 has-there n (m ∷ ms) (zero, lt, is) = ap (λ (b : Bool). b || has n ms) (eq-eqb n m (sym is))
 has-there n (m ∷ ms) (suc k, lt, is) =
@@ -35,7 +35,7 @@ has-there n (m ∷ ms) (suc k, lt, is) =
     last true = refl
     last false = refl
 
-there-has : (n : ℕ) (ms : List ℕ) → has n ms ≡ true → Contains ms n
+pub there-has : (n : ℕ) (ms : List ℕ) → has n ms ≡ true → Contains ms n
 there-has n [] some = absurd cc
 there-has n (m ∷ ms) some = here (n == m) refl some (there-has n ms)
   where
@@ -43,14 +43,14 @@ there-has n (m ∷ ms) some = here (n == m) refl some (there-has n ms)
     here true is any later = (0, omega arith, sym (eqb-true n m is))
     here false is any later = let rest = later any in (suc rest.0, omega (arith, rest.1), rest.2)
 
-both-ways : (a b : Bool) → (a ≡ true → b ≡ true) → (b ≡ true → a ≡ true) → a ≡ b
+pub both-ways : (a b : Bool) → (a ≡ true → b ≡ true) → (b ≡ true → a ≡ true) → a ≡ b
 both-ways true b to from = sym (to refl)
 both-ways false true to from = from refl
 both-ways false false to from = refl
 
 -- ---- rising numbers that are the same
 
-abbrev entries : List ℕ → List (ℕ × ⊤)
+abbrev pub entries : List ℕ → List (ℕ × ⊤)
 entries ns = map (λ n. (n, tt)) ns
 
 value-is : (n : ℕ) (ms : List ℕ) → value_of n (entries ms) ≡ (if has n ms then Some tt else None)
@@ -62,7 +62,7 @@ value-is n (m ∷ ms) = here (n == m) (value-is n ms)
     here true rest = refl
     here false rest = rest
 
-rising : (ms : List ℕ) → IsStrictlyIncreasing ms → Rises (entries ms)
+pub rising : (ms : List ℕ) → IsStrictlyIncreasing ms → Rises (entries ms)
 rising [] up = tt
 rising (m ∷ []) up = (tt, tt)
 rising (m ∷ n ∷ more) up =
@@ -77,7 +77,7 @@ numbers-of : (ms : List ℕ) → map (λ (e : ℕ × ⊤). e.0) (entries ms) ≡
 numbers-of [] = refl
 numbers-of (m ∷ ms) = ap (λ (l : List ℕ). m ∷ l) (numbers-of ms)
 
-same-numbers : (ms ns : List ℕ) → Rises (entries ms) → Rises (entries ns)
+pub same-numbers : (ms ns : List ℕ) → Rises (entries ms) → Rises (entries ns)
     → ((n : ℕ) → has n ms ≡ has n ns) → ms ≡ ns
 same-numbers ms ns one two same =
     sym (numbers-of ms)

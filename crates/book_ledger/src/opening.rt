@@ -1,8 +1,9 @@
-ghost use Rattle.std.specs.Prelude.{◌≡◌, ℕ, ◌≤◌, ◌^◌, length, Some, None, OnOk, IfOk, true};
+ghost use Rattle.std.specs.Prelude.{◌≡◌, ℕ, ◌≤◌, ◌^◌, [], length, Some, None, OnOk, IfOk, true};
 ghost use Rattle.book_commodity.specs.Table.{value_of};
 ghost use Rattle.book_ledger.specs.Change.{AllPut, is_there};
+ghost use Rattle.book_ledger.specs.Counts.{AreFree, CountsFrom};
 ghost use Rattle.book_ledger.specs.Ledger.{HasPlaces, Keeps};
-ghost use Rattle.book_ledger.specs.Opening.{AreAdded, HasAll, NamesAll};
+ghost use Rattle.book_ledger.specs.Opening.{AreAdded, AreNew, AreOnce, HasAll, HaveNoRows, NamesAll};
 ghost use Rattle.book_ledger.specs.Room.{Extends, HasRoomForRow};
 ghost use Rattle.book_undo.specs.Book.{book_of};
 
@@ -16,10 +17,12 @@ use book_undo::Plain;
 use std::alloc::Global;
 
 impl Registers {
-    /// The registers of a book. The transactions are sorted once, so that each row is put behind those before it.
+    /// The registers of a book, each changed once for each of its rows, and with no lot reckoned. The transactions are
+    /// sorted once, so that each row is put behind those before it.
     pub fn of(alloc: Global, plain: &Plain) -> Result<Registers, OutOfMemory>
         requires { HasPlaces plain.now.transactions.entries }
-        ensures { IfOk result (λ registers. Keeps registers.entries (book_of plain.now)) }
+        ensures kept { IfOk result (λ registers. Keeps registers.entries (book_of plain.now)) }
+        ensures new { IfOk result (λ registers. AreNew registers.entries) }
     {
         let _ = plain.transactions.len();
         let mut registers = Registers::new(alloc);
@@ -45,6 +48,8 @@ impl Registers {
     fn add_all(&mut self, transactions: &Txns, order: &[(i32, u64)]) -> Result<(), OutOfMemory>
         requires { HasPlaces transactions.now.entries }
         ensures rows { OnOk result (AreAdded transactions.now.entries order.now self.old.entries self.new.entries) }
+        ensures counts { OnOk result (AreOnce order.now → HaveNoRows self.old.entries
+            → CountsFrom [] self.old.entries → CountsFrom [] self.new.entries) }
         ensures kept { (account : ℕ)
             → is_there account self.old.entries ≡ true → is_there account self.new.entries ≡ true }
     {
@@ -59,6 +64,9 @@ impl Registers {
         requires { HasPlaces transactions.now.entries }
         ensures rows { OnOk result
             (AllPut number (value_of number transactions.now.entries) None self.old.entries self.new.entries) }
+        ensures counts { OnOk result
+            (AreFree number (value_of number transactions.now.entries) None self.old.entries
+            → CountsFrom [] self.old.entries → CountsFrom [] self.new.entries) }
         ensures kept { (account : ℕ)
             → is_there account self.old.entries ≡ true → is_there account self.new.entries ≡ true }
     {
@@ -73,6 +81,8 @@ impl Registers {
         requires { length transaction.now.splits ≤ 2 ^ 32 }
         ensures rows { OnOk result
             (AllPut number (Some transaction.now) None self.old.entries self.new.entries) }
+        ensures counts { OnOk result (AreFree number (Some transaction.now) None self.old.entries
+            → CountsFrom [] self.old.entries → CountsFrom [] self.new.entries) }
         ensures kept { (account : ℕ)
             → is_there account self.old.entries ≡ true → is_there account self.new.entries ≡ true }
     {

@@ -130,10 +130,12 @@ rows_at form book number = option_map_or (rows_of form book number) (value_of nu
 
 -- ---- the text
 
+-- The names of the columns. For a person the row of a transaction has its num and description where those of its splits
+-- have an action and the path of an account.
 abbrev pub columns : Form → List (List ℕ)
 columns Plain =
-    codes "day" ∷ codes "number" ∷ codes "mark" ∷ codes "value" ∷ codes "quantity" ∷ codes "num" ∷ codes "account"
-    ∷ codes "description" ∷ codes "memo" ∷ []
+    codes "day" ∷ codes "number" ∷ codes "mark" ∷ codes "value" ∷ codes "quantity" ∷ codes "num, action"
+    ∷ codes "account" ∷ codes "description, path" ∷ codes "memo" ∷ []
 columns Csv =
     codes "transaction" ∷ codes "day" ∷ codes "num" ∷ codes "description" ∷ codes "currency" ∷ codes "split"
     ∷ codes "mark" ∷ codes "account" ∷ codes "path" ∷ codes "value" ∷ codes "quantity" ∷ codes "commodity"

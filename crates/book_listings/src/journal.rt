@@ -12,16 +12,17 @@ use book_splits::{Mark, Split, Txn};
 use book_table::{Cells, Side, row_of, table_text};
 use std::alloc::Global;
 
-/// The names of the columns for a person.
+/// The names of the columns for a person: the row of a transaction has its num and description where those of its
+/// splits have an action and the path of an account.
 const PLAIN: [&str; 9] = [
     "day",
     "number",
     "mark",
     "value",
     "quantity",
-    "num",
+    "num, action",
     "account",
-    "description",
+    "description, path",
     "memo",
 ];
 

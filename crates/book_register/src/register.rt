@@ -1,5 +1,5 @@
 ghost use Rattle.std.specs.Prelude.{◌≡◌, ◌+◌, ◌-◌, ◌/◌, ◌^◌, ◌<◌, ◌≤◌, [], None, OnOk, OnErr, Some, min, is_some};
-ghost use Rattle.std.specs.Prelude.{length};
+ghost use Rattle.std.specs.Prelude.{drop, length};
 ghost use Rattle.std.specs.Prelude.{if◌then◌else◌, insert, position, slice_get, take};
 ghost use Rattle.book_register.specs.Register.{IsSorted, balance, balances, has_key as is_at, key_of as entry_key};
 ghost use Rattle.book_register.specs.Register.{key_at as spelled_key, rows_until, rows_without};
@@ -75,6 +75,15 @@ impl Register {
         ensures steps { steps.new ≡ steps.old + 1 }
     {
         *self.rows.get(place, steps)
+    }
+
+    /// The rows from a place on up to the end of the chunk where the place is: at least one. It takes no step.
+    pub fn part(&self, place: usize) -> &[Entry]
+        requires { place < length self.now.rows }
+        ensures part { result.now ≡ take (length result.now) (drop place self.now.rows) }
+        ensures some { 1 ≤ length result.now }
+    {
+        self.rows.part(place)
     }
 
     /// The balance after the row at a place: the sum of the quantities of the rows up to it.

@@ -1,5 +1,5 @@
 -- How the rows of a table are written: in columns for a person, or as comma-separated values.
-use Rattle.std.specs.Prelude.{ℕ, ◌+◌, ◌-◌, ◌==◌, ◌&&◌, false, if◌then◌else◌, List, [], ◌∷◌, ◌++◌, map, max, replicate}
+use Rattle.std.specs.Prelude.{ℕ, ◌+◌, ◌-◌, ◌==◌, ◌&&◌, false, if◌then◌else◌, List, [], ◌∷◌, ◌++◌, map, max, min, replicate}
 use Rattle.std.specs.Prelude.{chars, length, slice_get, take}
 use Rattle.std.specs.List.{flat_map}
 use Rattle.std.specs.Option.{option_map_or}
@@ -24,11 +24,12 @@ abbrev pub widest : ℕ → List (List (List ℕ)) → ℕ
 widest place [] = 0
 widest place (row ∷ rows) = max (width_at place row) (widest place rows)
 
--- The columns from a place on, each as wide as its widest text.
+-- The columns from a place on, each as wide as its widest text, but with at most 80 places of a terminal (a choice of
+-- this project). A wider text stands there whole and moves what is behind it in its row.
 abbrev pub columns_from : ℕ → List Side → List (List (List ℕ)) → List Column
 columns_from place [] rows = []
 columns_from place (side ∷ sides) rows =
-    record { side = side; places = widest place rows } ∷ columns_from (place + 1) sides rows
+    record { side = side; places = min (widest place rows) 80 } ∷ columns_from (place + 1) sides rows
 
 -- A text at the left or at the right end of so many places, or by itself.
 abbrev pub at_side : Side → ℕ → List ℕ → List ℕ

@@ -11,6 +11,10 @@ use book_reports::Form;
 use std::alloc::{AllocError, Global};
 use unicode_width::UnicodeWidthStr;
 
+/// How many places of a terminal a column has at most. A wider text stands there whole, and moves what is behind it in
+/// its own row alone; so one long text doesn't widen every row.
+const MOST_PLACES: usize = 80;
+
 /// Where the texts of a column stand: at its left end, at its right end, or by themselves, as in a last column.
 #[derive(Clone, Copy, Debug, PartialEq, Eq)]
 pub enum Side {
@@ -124,7 +128,7 @@ fn widest(rows: &[Many<Text>], place: usize) -> usize
     most
 }
 
-/// The columns, each as wide as its widest text.
+/// The columns, each as wide as its widest text, but not wider than the most places that a column has.
 fn columns_of(
     alloc: Global,
     sides: &[Side],
@@ -136,7 +140,7 @@ fn columns_of(
     for (place, side) in sides.iter().enumerate() {
         columns.push(Column {
             side: *side,
-            places: widest(rows, place),
+            places: widest(rows, place).min(MOST_PLACES),
         })?;
     }
     Ok(columns)

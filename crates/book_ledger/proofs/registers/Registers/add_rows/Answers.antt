@@ -1,12 +1,14 @@
-use Rattle.std.proofs.Common.{◌≡◌, ℕ, Some, None, length, ◌∙◌, subst, arith}
+use Rattle.std.proofs.Common.{◌≡◌, ℕ, [], Some, None, length, ◌∙◌, subst, arith}
 use Rattle.book_ledger.specs.Change.{ArePut}
 use Rattle.book_ledger.proofs.ChangeLemmas.{all_put, put_more, put_none}
-use Rattle.book_ledger.proofs.OpeningLemmas.{put_extended}
+use Rattle.book_ledger.proofs.CountsLemmas.{free_left_before, lacks_left}
+use Rattle.book_ledger.proofs.OpeningLemmas.{counts_extended, none_held, put_extended}
 use Rattle.book_ledger.proofs.registers.Registers.add_rows.Goals as goal
 
 pub loop-place-init : goal.loop-place-init
 loop-place-init c = record {
   rows = put_none c.args.number (Some c.args.transaction.now) None c.args.self.now.entries;
+  counts = λ free counts. counts;
   kept = λ account there. there;
 }
 
@@ -16,11 +18,19 @@ loop-place-preserved c =
     let t = c.args.transaction.now in
     let old = c.args.self.now.entries in
     let mid = c.make_room_for.new.self.entries in
+    let number = c.args.number in
+    let place = c.loop-place.place in
+    let put = put_extended number place (Some t) None old c.loop-place.self.entries mid inv.rows
+    c.make_room_for.ensures.extends in
     record {
-      rows = put_more c.args.number c.loop-place.place (Some t) None c.left-row.result old mid
-          c.put.new.self.entries
-          (put_extended c.args.number c.loop-place.place (Some t) None old c.loop-place.self.entries mid inv.rows
-          c.make_room_for.ensures.extends) c.left-row.ensures c.put.ensures.rows;
+      rows = put_more number place (Some t) None c.left-row.result old mid c.put.new.self.entries put
+          c.left-row.ensures c.put.ensures.rows;
+      counts = λ free counts.
+          c.put.ensures.changes []
+          (lacks_left number place (Some t) None c.left-row.result [] c.left-row.ensures (none_held number))
+          (free_left_before number place (Some t) None c.left-row.result old mid c.left-row.ensures free put)
+          (counts_extended [] c.loop-place.self.entries mid c.make_room_for.ensures.extends
+          (inv.counts free counts));
       kept = λ account there.
           c.put.ensures.there account
           ∙ c.make_room_for.ensures.extends.kept account (inv.kept account there);
