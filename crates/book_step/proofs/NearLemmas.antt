@@ -102,6 +102,7 @@ cleared_one taken day (s ∷ splits) any = by_test (clears taken day s) refl any
     later : (b : Bool) → (b || true) ≡ true
     later true = refl
     later false = refl
+
     by_test : (b : Bool) → clears taken day s ≡ b → (b || list_any (clears taken day) splits) ≡ true
         → (list_any (clears taken day) splits ≡ true → HasCleared taken splits) → HasCleared taken (s ∷ splits)
     by_test true here some more = record {
@@ -135,7 +136,8 @@ all_touched book pairs found numbers sound have keeps n t there touched =
         (keeps near.held.number (there-has near.held.number found near.there))
     by_test false one near other =
         let x = near.held.transaction in
-        let apart : n ≢ near.held.number = λ is. absurd (let both = sym (eq-eqb near.held.number n (sym is)) ∙ other in cc) in
+        let apart : n ≢ near.held.number =
+        λ is. absurd (let both = sym (eq-eqb near.held.number n (sym is)) ∙ other in cc) in
         let among = found_among one.number x.splits near.held.split near.is.1 in
         let lacks = other_lacks book near.held.number n one.number x t sound near.is.0 there apart among in
         absurd (let both = sym one.among ∙ lacks in cc)

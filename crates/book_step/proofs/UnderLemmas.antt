@@ -1,7 +1,6 @@
 -- What is made of the things under rising numbers is what is made of all things, where nothing is made of the others.
-use Rattle.std.proofs.Common.{◌≡◌, ℕ, ◌<◌, ◌==◌, ◌||◌, nat_lt, Bool, true, false, List, [], ◌∷◌, ◌++◌}
-use Rattle.std.proofs.Common.{flat_map, map, Option, Some, refl, sym, ap, subst, ◌∙◌, arith}
-use Rattle.std.specs.Prelude.{⊤}
+use Rattle.std.proofs.Common.{◌≡◌, ℕ, ◌<◌, ◌==◌, nat_lt, Bool, true, false, List, [], ◌∷◌, ◌++◌}
+use Rattle.std.proofs.Common.{flat_map, Option, Some, refl, sym, ap, subst, ◌∙◌, arith}
 use Rattle.std.proofs.lemmas.Bool.Decides.{nat_tests}
 use Rattle.book_commodity.specs.Table.{AllAbove, Rises, value_of}
 use Rattle.book_commodity.proofs.TableLemmas.{above_less, above_value}
@@ -68,6 +67,7 @@ under-more {T} {E} make e es rest above (n ∷ more) up none =
         let past = above_there n k x (e ∷ es) all found in
         let still : has k (n ∷ more) ≡ false = grind (arith, nat_tests, past, lacks) in
         none k x found still)
+
     here : n ≡ e.0 → made_under make (e ∷ es) (n ∷ more) ≡ make e ++ flat_map make es
     here same =
         let found : value_of n (e ∷ es) ≡ Some e.1 = grind (arith, nat_tests, same) in
@@ -81,6 +81,7 @@ under-more {T} {E} make e es rest above (n ∷ more) up none =
         let past = above_there e.0 k x es above there in
         let still : has k (n ∷ more) ≡ false = grind (arith, nat_tests, past, same, lacks) in
         none k x (found_later e es k x above there) still))
+
     past : e.0 < n → made_under make (e ∷ es) (n ∷ more) ≡ make e ++ flat_map make es
     past less =
         let rows : AllAbove e.0 (entries (n ∷ more)) =
@@ -89,6 +90,7 @@ under-more {T} {E} make e es rest above (n ∷ more) up none =
         ∙ rest (n ∷ more) up (λ k x found lacks. none k x (found_later e es k x above found) lacks)
         ∙ ap (λ (l : List E). l ++ flat_map make es)
         (sym (none e.0 e.1 (first_found e es) (lacks_below e.0 (n ∷ more) rows)))
+
     by_tests : (s t : Bool) → nat_lt n e.0 ≡ s → (n == e.0) ≡ t
         → (MakesNoMore make (e ∷ es) more → made_under make (e ∷ es) more ≡ make e ++ flat_map make es)
         → made_under make (e ∷ es) (n ∷ more) ≡ make e ++ flat_map make es

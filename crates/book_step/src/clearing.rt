@@ -20,7 +20,10 @@ use std::collections::BTreeSet;
 
 /// The edits that clear the new splits of the pairs: one for each transaction that has such a split. All transactions
 /// are gone through where one of the splits isn't found nearby.
-pub(crate) fn clearing_paired(present: &Present, pairs: &[Matched]) -> Result<Vec<Edit>, OutOfMemory>
+pub(crate) fn clearing_paired(
+    present: &Present,
+    pairs: &[Matched],
+) -> Result<Vec<Edit>, OutOfMemory>
     ensures { IfOk result (λ edits. edits.items ≡ remarking (clears (has_pair pairs.now))
         (clearing (has_pair pairs.now)) present.now.book.transactions) }
 {
@@ -95,7 +98,8 @@ fn add_clearing_of(
     }
 }
 
-/// The edits that clear the new splits among those that are taken: one for each transaction that has such a split.
+/// The edits that clear the new splits among those that are taken: one for each transaction that has such a split. It
+/// goes through all transactions.
 fn clearing_all(
     alloc: Global,
     transactions: &[(u64, Txn)],

@@ -1,4 +1,4 @@
-ghost use Rattle.std.specs.Prelude.{◌≡◌, ℕ, ◌++◌, IfOk};
+ghost use Rattle.std.specs.Prelude.{◌≡◌, ℕ, ◌++◌, IfOk, map};
 ghost use Rattle.std.specs.BTreeMap.{get};
 ghost use Rattle.std.specs.List.Sorted.{IsStrictlyIncreasing};
 ghost use Rattle.std.specs.Option.{option_copied};
@@ -24,8 +24,8 @@ use book_undo::{Edit, Thing};
 use std::alloc::Global;
 use std::collections::BTreeMap;
 
-/// The edit that matches the line of each pair with its split, and clears the split where it is new. The work grows with
-/// the pairs, and not with the book, unless one of the splits was added to its transaction later.
+/// The edit that matches the line of each pair with its split, and clears the split where it is new. The work grows
+/// with the pairs, and not with the book, unless one of the splits was added to its transaction later.
 pub(crate) fn pairing_edit(present: &Present, pairs: &[Matched]) -> Result<Edit, OutOfMemory>
     ensures { IfOk result (λ edit. edit ≡ edit_of pairs.now present.now.book) }
 {
@@ -65,8 +65,16 @@ fn paired_lines(alloc: Global, pairs: &[Matched]) -> Result<Vec<u64>, OutOfMemor
     ensures rises { IfOk result (λ numbers. IsStrictlyIncreasing numbers.items) }
     ensures has { IfOk result (λ numbers. HasTaking (split_of pairs.now) numbers.items) }
 {
-    let mut numbers = pairs.iter().map(|pair| pair.line).collect(alloc)?;
+    let mut numbers = lines_of(alloc, pairs)?;
     sort_once(&mut numbers);
+    Ok(numbers)
+}
+
+/// The numbers of the lines of the pairs, in their order.
+fn lines_of(alloc: Global, pairs: &[Matched]) -> Result<Vec<u64>, OutOfMemory>
+    ensures { IfOk result (λ numbers. numbers.items ≡ map (λ pair. pair.line) pairs.now) }
+{
+    let numbers = pairs.iter().map(|pair| pair.line).collect(alloc)?;
     Ok(numbers)
 }
 
