@@ -27,10 +27,10 @@ widest_end place (suc i) (row ∷ rows) le = widest_end place i rows (omega (ari
 pub columns_next :
     (sides : List Side) (rows : List (List (List ℕ))) (i : ℕ) (d : Side) → i < length sides
     → columns_from i (drop i sides) rows
-    ≡ record { side = get_or sides i d; places = widest i rows } ∷ columns_from (i + 1) (drop (i + 1) sides) rows
+    ≡ record { side = get_or sides i d; places = min (widest i rows) 80 } ∷ columns_from (i + 1) (drop (i + 1) sides) rows
 columns_next sides rows i d lt =
     ap (λ (s : List Side). columns_from i s rows) (drop-cons sides i d lt)
-    ∙ ap (λ (n : ℕ). record { side = get_or sides i d; places = widest i rows } ∷ columns_from (i + 1) (drop n sides) rows)
+    ∙ ap (λ (n : ℕ). record { side = get_or sides i d; places = min (widest i rows) 80 } ∷ columns_from (i + 1) (drop n sides) rows)
     (sym (add-one i))
 
 pub columns_end :

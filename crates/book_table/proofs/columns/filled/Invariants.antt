@@ -1,4 +1,4 @@
-use Rattle.std.proofs.Common.{◌≡◌, ◌≤◌, take}
+use Rattle.std.proofs.Common.{◌≡◌, take}
 use Rattle.book_table.specs.Columns.{filled}
 use Rattle.book_table.proofs.columns.filled.Given as goal
 
