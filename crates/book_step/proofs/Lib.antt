@@ -28,6 +28,7 @@ pub mod MatchStepLemmas
 pub mod MatchWalkLemmas
 pub mod MatchableLemmas
 pub mod Mt940Amounts
+pub mod NearLemmas
 pub mod OutcomeLemmas
 pub mod PairLemmas
 pub mod PairedEdits
@@ -62,6 +63,7 @@ pub mod SoundStep
 pub mod SplitSearchLemmas
 pub mod TableWalkLemmas
 pub mod ThereLemmas
+pub mod UnderLemmas
 pub mod Worked
 pub mod WorkedImport
 pub mod WorkedMarks

@@ -170,7 +170,7 @@ value_marked k number mark (e ∷ ts) =
     elim (k == e.0) as Here [ true ↦ refl | false ↦ rest ]
 
 -- no other transaction has a split with the number
-other_lacks :
+pub other_lacks :
     (book : Book) (n k number : ℕ) (t x : Txn) → IsSoundBook book → value_of n book.transactions ≡ Some t
     → value_of k book.transactions ≡ Some x → k ≢ n → is_among (numbers_of t.splits) number ≡ true
     → is_among (numbers_of x.splits) number ≡ false

@@ -1,12 +1,13 @@
 -- The command that matches the open lines of an account with the account's splits.
-use Rattle.std.specs.Prelude.{ℕ, ℤ, ◌==◌, nat_lt, Bool, ◌&&◌, if◌then◌else◌, List, [], ◌∷◌, ◌++◌, find, flat_map}
-use Rattle.std.specs.Prelude.{length, map, Option, Some, None, option_map}
+use Rattle.std.specs.Prelude.{◌≡◌, ℕ, ℤ, ◌==◌, nat_lt, Bool, ◌&&◌, if◌then◌else◌, List, [], ◌∷◌, ◌++◌, find, flat_map}
+use Rattle.std.specs.Prelude.{length, map, Option, Some, None, option_map, Contains}
 use Rattle.std.specs.List.{list_any}
 use Rattle.book_commodity.specs.Rules.{broken_where}
 use Rattle.book_commodity.specs.declared.counted.Counted.TheVariants.{Window}
 use Rattle.book_splits.specs.TransactionRules.{is_new}
 use Rattle.book_splits.specs.declared.split.Mark.TheVariants.{Cleared}
 use Rattle.book_splits.specs.declared.split.Split.{Split}
+use Rattle.book_splits.specs.declared.transaction.Txn.{Txn}
 use Rattle.book_statement.specs.declared.line.Line.{Line}
 use Rattle.book_match.specs.Kept.{views_on}
 use Rattle.book_match.specs.Proposal.{proposal}
@@ -110,6 +111,18 @@ newly_paired entry (Some split) = (entry.0, matched_with split entry.1) ∷ []
 -- The lines that take a split, matched with it, without the others.
 abbrev pub lines_newly_paired : (ℕ → Option ℕ) → List (ℕ × Line) → List (ℕ × Line)
 lines_newly_paired takes lines = flat_map (λ entry. newly_paired entry (takes entry.0)) lines
+
+-- The edit that clears the splits of one transaction that become so; none, where it has none.
+abbrev pub clearing_one : (ℕ → Bool) → ℕ × Txn → List Edit
+clearing_one taken entry = remarking (clears taken) (clearing taken) (entry ∷ [])
+
+-- The edit that matches one line with the split that it takes; none, where it takes none.
+abbrev pub pairing_one : (ℕ → Option ℕ) → ℕ × Line → List Edit
+pairing_one takes entry = line_edits (lines_newly_paired takes (entry ∷ []))
+
+-- A list has the numbers of all lines that take a split.
+abbrev pub HasTaking : (ℕ → Option ℕ) → List ℕ → Type 0
+HasTaking takes numbers = (line split : ℕ) → takes line ≡ Some split → Contains numbers line
 
 -- The edits that match the lines with the splits that they take, and clear those of these that are new: those of the
 -- transactions, and behind them those of the lines, by rising keys.

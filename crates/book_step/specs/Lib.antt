@@ -24,3 +24,4 @@ pub mod Schedules
 pub mod Soundness
 pub mod State
 pub mod Step
+pub mod UnderNumbers

@@ -1,8 +1,9 @@
 -- The splits of a book's transactions, marked otherwise: in the place of each split stands what a rule makes of it and
 -- of the day of its transaction.
 use Rattle.std.specs.Prelude.{◌≡◌, ◌≢◌, ℕ, ℤ, Bool, true, false, if◌then◌else◌, List, [], ◌∷◌, map, Option}
-use Rattle.std.specs.Prelude.{Some, None}
+use Rattle.std.specs.Prelude.{Some, None, Contains}
 use Rattle.std.specs.List.{list_any}
+use Rattle.book_commodity.specs.Table.{value_of}
 use Rattle.book_splits.specs.declared.split.Split.{Split}
 use Rattle.book_splits.specs.declared.transaction.Txn.{Txn}
 use Rattle.book_undo.specs.declared.edit.Edit.{Edit, Put}
@@ -30,6 +31,12 @@ pub record ChangesWhere (touches : ℤ → Split → Bool) (rule : ℤ → Split
 -- Whether one of a transaction's splits passes a test of the day and of the split.
 abbrev pub has_touched : (ℤ → Split → Bool) → Txn → Bool
 has_touched touches transaction = list_any (touches transaction.day) transaction.splits
+
+-- A list has the numbers of all transactions with a split that passes the test.
+abbrev pub HasTouched : (ℤ → Split → Bool) → List (ℕ × Txn) → List ℕ → Type 0
+HasTouched touches transactions numbers =
+    (number : ℕ) (transaction : Txn) → value_of number transactions ≡ Some transaction
+    → has_touched touches transaction ≡ true → Contains numbers number
 
 -- The transactions that pass a test, with their splits as the rule makes them, without the others.
 abbrev pub remarked_where : (Txn → Bool) → (ℤ → Split → Split) → List (ℕ × Txn) → List (ℕ × Txn)

@@ -1,6 +1,7 @@
 ghost use Rattle.std.specs.Prelude.{◌≡◌, [], ◌∷◌, IfOk};
 ghost use Rattle.book_commodity.specs.Rules.{ReportsFirst};
 ghost use Rattle.book_free.specs.FreeSplits.{free_splits};
+ghost use Rattle.book_sound.specs.Soundness.{IsSoundBook};
 ghost use Rattle.book_step.specs.AutoMatching.{match_auto, match_rules, matches, wide_window};
 ghost use Rattle.book_step.specs.Outcome.{StepsTo};
 
@@ -31,7 +32,7 @@ pub(crate) fn match_auto(
     if pairs.is_empty() {
         return Ok(Step::leaving(present, Answer::MatchAuto { pairs }));
     }
-    let edit = pairing_edit(present.alloc, present.plain, pairs.as_slice())?;
+    let edit = pairing_edit(present, pairs.as_slice())?;
     Step::changing(present, 0, edit, Answer::MatchAuto { pairs })
 }
 
@@ -58,7 +59,7 @@ fn check_window(window: u64) -> Result<u32, Rule>
     Ok(window as u32)
 }
 
-/// The pairs that are proposed for the account.
+/// The pairs that are proposed for the account. The book is sound, as it is in each state.
 fn matches(
     present: &Present,
     index: &AmountIndex,
@@ -66,7 +67,8 @@ fn matches(
     window: u32,
 ) -> Result<Many<Matched>, OutOfMemory>
     requires { index.now.entries ≡ free_splits present.now.book }
-    ensures { IfOk result (λ pairs. pairs ≡ matches present.now.book account window) }
+    ensures pairs { IfOk result (λ pairs. pairs ≡ matches present.now.book account window) }
+    ensures sound { IsSoundBook present.now.book }
 {
     let plain = present.plain;
     let lines = open_lines(present.alloc, plain.lines.as_slice(), account)?;

@@ -14,6 +14,7 @@ mod bank_lines;
 mod bank_questions;
 mod bindings;
 mod bound_statements;
+mod clearing;
 mod commodities;
 mod dismissing;
 mod due_schedules;

@@ -1,50 +1,51 @@
-ghost use Rattle.std.specs.Prelude.{◌≡◌, ℕ, ◌++◌, ◌∷◌, [], IfOk, map};
+ghost use Rattle.std.specs.Prelude.{◌≡◌, ℕ, ◌++◌, IfOk, map};
 ghost use Rattle.std.specs.BTreeMap.{get};
-ghost use Rattle.std.specs.BTreeSet.{contains};
+ghost use Rattle.std.specs.List.Sorted.{IsStrictlyIncreasing};
+ghost use Rattle.std.specs.Option.{option_copied};
 ghost use Rattle.std.specs.Ordering.{nat_cmp};
-ghost use Rattle.book_undo.specs.Book.{book_of};
+ghost use Rattle.book_commodity.specs.Table.{value_of};
 ghost use Rattle.book_undo.specs.declared.edit.Edit.{Put};
 ghost use Rattle.book_undo.specs.declared.thing.Thing.TheVariants as thing;
 ghost use Rattle.book_import.specs.Edits.{line_edits};
-ghost use Rattle.book_step.specs.AutoMatching.{becomes_cleared, clearing, clears, has_pair, lines_newly_paired};
-ghost use Rattle.book_step.specs.AutoMatching.{pairing_edit as edit_of, split_of, split_paired};
+ghost use Rattle.book_step.specs.AutoMatching.{HasTaking, lines_newly_paired, pairing_edit as edit_of, pairing_one};
+ghost use Rattle.book_step.specs.AutoMatching.{split_of};
 ghost use Rattle.book_step.specs.LineAdding.{matched_with};
-ghost use Rattle.book_step.specs.Remarking.{has_touched, remarked, remarking};
+ghost use Rattle.book_step.specs.UnderNumbers.{made_of, made_under};
 
+use crate::clearing::clearing_paired;
 use crate::importing::whole_edit;
 use crate::line_adding::matched_with;
+use crate::present::Present;
 use book_commodity::{Many, OutOfMemory};
+use book_finish::sort_once;
 use book_match::Matched;
-use book_splits::{Mark, Split, Txn};
 use book_statement::Line;
-use book_undo::{Edit, Plain, Thing};
+use book_undo::{Edit, Thing};
 use std::alloc::Global;
-use std::collections::{BTreeMap, BTreeSet};
+use std::collections::BTreeMap;
 
-/// The edit that matches the line of each pair with its split, and clears the split where it is new.
-pub(crate) fn pairing_edit(
-    alloc: Global,
-    plain: &Plain,
-    pairs: &[Matched],
-) -> Result<Edit, OutOfMemory>
-    ensures { IfOk result (λ edit. edit ≡ edit_of pairs.now (book_of plain.now)) }
+/// The edit that matches the line of each pair with its split, and clears the split where it is new. The work grows
+/// with the pairs, and not with the book, unless one of the splits was added to its transaction later.
+pub(crate) fn pairing_edit(present: &Present, pairs: &[Matched]) -> Result<Edit, OutOfMemory>
+    ensures { IfOk result (λ edit. edit ≡ edit_of pairs.now present.now.book) }
 {
-    let taken = paired_splits(alloc, pairs)?;
-    let mut edits = clearing(alloc, plain.transactions.as_slice(), &taken)?;
-    let takes = splits_by_line(alloc, pairs)?;
-    add_matching(&mut edits, plain.lines.as_slice(), &takes)?;
+    let mut edits = clearing_paired(present, pairs)?;
+    add_matching(&mut edits, present, pairs)?;
     Ok(whole_edit(Many::of(edits)))
 }
 
-/// The numbers of the splits of the pairs.
-fn paired_splits(alloc: Global, pairs: &[Matched]) -> Result<BTreeSet<u64>, OutOfMemory>
-    ensures { IfOk result (λ taken. (number : ℕ) → contains nat_cmp taken number ≡ has_pair pairs.now number) }
+/// Adds the edits that match the lines of the pairs, each with its split, by number.
+fn add_matching(
+    edits: &mut Vec<Edit>,
+    present: &Present,
+    pairs: &[Matched],
+) -> Result<(), OutOfMemory>
+    ensures { IfOk result (λ _. edits.new.items ≡ edits.old.items
+        ++ line_edits (lines_newly_paired (split_of pairs.now) present.now.book.lines)) }
 {
-    let mut taken = BTreeSet::new(alloc);
-    for pair in pairs {
-        taken.insert(pair.split)?;
-    }
-    Ok(taken)
+    let takes = splits_by_line(present.alloc, pairs)?;
+    let numbers = paired_lines(present.alloc, pairs)?;
+    add_lines(edits, present, numbers.as_slice(), &takes)
 }
 
 /// The number of the split that each line takes.
@@ -59,130 +60,61 @@ fn splits_by_line(alloc: Global, pairs: &[Matched]) -> Result<BTreeMap<u64, u64>
     Ok(takes)
 }
 
-/// The edits that clear the new splits among those that are taken: one for each transaction that has such a split.
-fn clearing(
-    alloc: Global,
-    transactions: &[(u64, Txn)],
-    taken: &BTreeSet<u64>,
-) -> Result<Vec<Edit>, OutOfMemory>
-    ensures { IfOk result (λ edits. edits.items ≡ remarking (clears (contains nat_cmp taken.now))
-        (clearing (contains nat_cmp taken.now)) transactions.now) }
+/// The numbers of the lines of the pairs, rising, each once.
+fn paired_lines(alloc: Global, pairs: &[Matched]) -> Result<Vec<u64>, OutOfMemory>
+    ensures rises { IfOk result (λ numbers. IsStrictlyIncreasing numbers.items) }
+    ensures has { IfOk result (λ numbers. HasTaking (split_of pairs.now) numbers.items) }
 {
-    let mut edits = Vec::new(alloc);
-    for (number, transaction) in transactions {
-        add_clearing(&mut edits, alloc, *number, transaction, taken)?;
-    }
-    Ok(edits)
+    let mut numbers = lines_of(alloc, pairs)?;
+    sort_once(&mut numbers);
+    Ok(numbers)
 }
 
-/// Adds the edit that clears the transaction's new splits among those that are taken, where it has one.
-fn add_clearing(
+/// The numbers of the lines of the pairs, in their order.
+fn lines_of(alloc: Global, pairs: &[Matched]) -> Result<Vec<u64>, OutOfMemory>
+    ensures { IfOk result (λ numbers. numbers.items ≡ map (λ pair. pair.line) pairs.now) }
+{
+    let numbers = pairs.iter().map(|pair| pair.line).collect(alloc)?;
+    Ok(numbers)
+}
+
+/// Adds the edits that match the lines under these numbers, each with the split that it takes.
+fn add_lines(
     edits: &mut Vec<Edit>,
-    alloc: Global,
-    number: u64,
-    transaction: &Txn,
-    taken: &BTreeSet<u64>,
-) -> Result<(), OutOfMemory>
-    ensures { IfOk result (λ _. edits.new.items ≡ edits.old.items ++ remarking
-        (clears (contains nat_cmp taken.now)) (clearing (contains nat_cmp taken.now))
-        ((number, transaction.now) ∷ [])) }
-{
-    if has_cleared(transaction, taken) {
-        let transaction = cleared(alloc, transaction, taken)?;
-        edits.push(Edit::Put(number, Thing::Txn(transaction)))?;
-    }
-    Ok(())
-}
-
-/// Whether one of the transaction's splits is new and taken.
-fn has_cleared(transaction: &Txn, taken: &BTreeSet<u64>) -> bool
-    ensures { result ≡ has_touched (clears (contains nat_cmp taken.now)) transaction.now }
-{
-    for split in transaction.splits.as_slice() {
-        if becomes_cleared(split, taken) {
-            return true;
-        }
-    }
-    false
-}
-
-/// Whether the split is new and taken.
-fn becomes_cleared(split: &Split, taken: &BTreeSet<u64>) -> bool
-    ensures { result ≡ becomes_cleared (contains nat_cmp taken.now) split.now }
-{
-    match split.mark {
-        Mark::New => taken.contains(&split.id),
-        Mark::Cleared | Mark::Reconciled => false,
-    }
-}
-
-/// The transaction, of whose splits those that are new and taken are cleared.
-fn cleared(alloc: Global, transaction: &Txn, taken: &BTreeSet<u64>) -> Result<Txn, OutOfMemory>
-    ensures { IfOk result (λ new. new ≡ remarked (clearing (contains nat_cmp taken.now)) transaction.now) }
-{
-    Ok(Txn {
-        currency: transaction.currency,
-        day: transaction.day,
-        num: transaction.num.copy()?,
-        description: transaction.description.copy()?,
-        splits: splits_paired(alloc, transaction.splits.as_slice(), taken)?,
-    })
-}
-
-/// The splits, of which those that are new and taken are cleared.
-fn splits_paired(
-    alloc: Global,
-    splits: &[Split],
-    taken: &BTreeSet<u64>,
-) -> Result<Many<Split>, OutOfMemory>
-    ensures { IfOk result (λ new. new ≡ map (split_paired (contains nat_cmp taken.now)) splits.now) }
-{
-    let mut paired = Many::new(alloc);
-    for split in splits {
-        paired.push(split_paired(split, taken)?)?;
-    }
-    Ok(paired)
-}
-
-/// The split, cleared where it is new and taken.
-fn split_paired(split: &Split, taken: &BTreeSet<u64>) -> Result<Split, OutOfMemory>
-    ensures { IfOk result (λ new. new ≡ split_paired (contains nat_cmp taken.now) split.now) }
-{
-    let copy = split.copy()?;
-    if becomes_cleared(split, taken) {
-        return Ok(Split {
-            mark: Mark::Cleared,
-            ..copy
-        });
-    }
-    Ok(copy)
-}
-
-/// Adds the edits that match the lines which take a split, each with it.
-fn add_matching(
-    edits: &mut Vec<Edit>,
-    lines: &[(u64, Line)],
-    takes: &BTreeMap<u64, u64>,
-) -> Result<(), OutOfMemory>
-    ensures { IfOk result (λ _. edits.new.items
-        ≡ edits.old.items ++ line_edits (lines_newly_paired (get nat_cmp takes.now) lines.now)) }
-{
-    for (number, line) in lines {
-        add_line(edits, *number, line, takes)?;
-    }
-    Ok(())
-}
-
-/// Adds the edit that matches the line with the split that it takes, if it takes one.
-fn add_line(
-    edits: &mut Vec<Edit>,
-    number: u64,
-    line: &Line,
+    present: &Present,
+    numbers: &[u64],
     takes: &BTreeMap<u64, u64>,
 ) -> Result<(), OutOfMemory>
     ensures { IfOk result (λ _. edits.new.items ≡ edits.old.items
-        ++ line_edits (lines_newly_paired (get nat_cmp takes.now) ((number, line.now) ∷ []))) }
+        ++ made_under (pairing_one (get nat_cmp takes.now)) present.now.book.lines numbers.now) }
 {
+    for number in numbers {
+        let found = line_of(present, *number);
+        add_line(edits, *number, found, takes)?;
+    }
+    Ok(())
+}
+
+/// The line of this number, if there is one.
+fn line_of<'a>(present: &Present<'a>, number: u64) -> Option<&'a Line>
+    ensures { option_copied result ≡ value_of number present.now.book.lines }
+{
+    present.plain.lines.find(number)
+}
+
+/// Adds the edit that matches the line with the split that it takes, if there is a line and it takes one.
+fn add_line(
+    edits: &mut Vec<Edit>,
+    number: u64,
+    line: Option<&Line>,
+    takes: &BTreeMap<u64, u64>,
+) -> Result<(), OutOfMemory>
+    ensures { IfOk result (λ _. edits.new.items ≡ edits.old.items
+        ++ made_of (pairing_one (get nat_cmp takes.now)) number (option_copied line.entry)) }
+{
+    let Some(line) = line else {
+        return Ok(());
+    };
     if let Some(split) = takes.get(&number) {
         edits.push(matching(number, line, *split)?)?;
     }

@@ -235,7 +235,7 @@ fn transactions_to_mark(
 }
 
 /// The transaction of this number, if there is one.
-fn transaction_of<'a>(present: &Present<'a>, number: u64) -> Option<&'a Txn>
+pub(crate) fn transaction_of<'a>(present: &Present<'a>, number: u64) -> Option<&'a Txn>
     ensures { option_copied result ≡ value_of number present.now.book.transactions }
 {
     present.plain.transactions.find(number)

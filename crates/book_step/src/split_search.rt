@@ -59,7 +59,7 @@ fn find_held<'a>(present: &Present<'a>, number: u64) -> Option<Held<'a>>
 
 /// The split of this number, where the last transaction with a smaller number has it, as it does unless the split was
 /// added to a transaction later: a transaction's number is drawn before those of its splits.
-fn held_nearby<'a>(present: &Present<'a>, number: u64) -> Option<Held<'a>>
+pub(crate) fn held_nearby<'a>(present: &Present<'a>, number: u64) -> Option<Held<'a>>
     ensures there { IfSome result (IsHeld present.now.book.transactions number) }
     ensures split { IfSome result (λ held. split_at number present.now.book.transactions ≡ Some held.split) }
 {

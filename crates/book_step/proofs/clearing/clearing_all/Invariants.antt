@@ -3,7 +3,7 @@ use Rattle.std.specs.BTreeSet.{contains}
 use Rattle.std.specs.Ordering.{nat_cmp}
 use Rattle.book_step.specs.AutoMatching.{clearing, clears}
 use Rattle.book_step.specs.Remarking.{remarking}
-use Rattle.book_step.proofs.pairing.clearing.Given as goal
+use Rattle.book_step.proofs.clearing.clearing_all.Given as goal
 
 abbrev pub invariant-loop-number : goal.invariant-loop-number
 invariant-loop-number l =

@@ -1,7 +1,7 @@
 -- The split of one pair more is put.
 use Rattle.std.proofs.Common.{arith}
 use Rattle.book_step.proofs.MatchWalkLemmas.{paired-more}
-use Rattle.book_step.proofs.pairing.paired_splits.Goals as goal
+use Rattle.book_step.proofs.clearing.paired_splits.Goals as goal
 
 pub loop-pair-preserved : goal.loop-pair-preserved
 loop-pair-preserved c =

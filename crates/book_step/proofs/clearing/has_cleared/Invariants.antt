@@ -4,7 +4,7 @@ use Rattle.std.specs.List.{list_any}
 use Rattle.std.specs.Ordering.{nat_cmp}
 use Rattle.book_step.specs.AutoMatching.{becomes_cleared, clears}
 use Rattle.book_step.specs.Remarking.{has_touched}
-use Rattle.book_step.proofs.pairing.has_cleared.Given as goal
+use Rattle.book_step.proofs.clearing.has_cleared.Given as goal
 
 abbrev pub invariant-loop-split : goal.invariant-loop-split
 invariant-loop-split l =

@@ -2,7 +2,7 @@ use Rattle.std.proofs.Common.{◌≡◌, ℕ, ◌||◌, drop}
 use Rattle.std.specs.BTreeSet.{contains}
 use Rattle.std.specs.Ordering.{nat_cmp}
 use Rattle.book_step.specs.AutoMatching.{has_pair}
-use Rattle.book_step.proofs.pairing.paired_splits.Given as goal
+use Rattle.book_step.proofs.clearing.paired_splits.Given as goal
 
 abbrev pub invariant-loop-pair : goal.invariant-loop-pair
 invariant-loop-pair l =
