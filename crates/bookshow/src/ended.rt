@@ -12,8 +12,10 @@ use std::io::ErrorKind;
 use std::process::{ExitCode, Termination};
 
 /// What the program prints where the words ask nothing.
-const USAGE: &str =
-    "bookshow: these words ask for nothing; `bookshow --help` lists those that do, and --csv comes last";
+const USAGE: &str = "bookshow: these words ask for nothing; these do:
+bookshow BOOK accounts | commodities | prices | schedules | journal [FROM TO] | account NUMBER | find TEXT [--csv]
+bookshow BOOK command NUMBER | export | check | copy TO
+bookshow --help";
 
 /// How the program ended.
 #[derive(Clone, Copy, Debug, PartialEq, Eq)]
