@@ -14,8 +14,9 @@ use std::{fs, io};
 /// How many bytes a log has at least that holds a commit.
 const LEAST_LOG: u64 = 568;
 
-/// What is wrong with the file at a path, as far as it shows before a keeper opens it; None where nothing does. Nothing
-/// is written. A database whose tables a log alone drops, and that no run has open, is not told from one with tables.
+/// What is wrong with the file at a path, as far as it shows before a keeper opens it; None where nothing does. No row
+/// is written: where the log holds a commit SQLite opens the file to see its tables, and commits nothing. A database
+/// whose tables a log alone drops, and that no run has open, is not told from one with tables.
 pub fn fault_before(rt: &HostRuntime, path: &str) -> Result<Option<FileFault>, OutOfMemory>
     ensures { IfOk result (λ found. IfSome found (λ fault. IsTrue (shows_before fault))) }
 {
