@@ -1,5 +1,6 @@
 -- Which rule is broken at a key at which a state is unsound.
-use Rattle.std.specs.Prelude.{ℕ, ◌==◌, nat_lt, not, Bool, if◌then◌else◌, List, [], ◌∷◌, Option, Some, None, option_map}
+use Rattle.std.specs.Prelude.{◌≡◌, ℕ, ◌==◌, nat_lt, not, Bool, if◌then◌else◌, List, [], ◌∷◌, Option, Some, None}
+use Rattle.std.specs.Prelude.{option_map}
 use Rattle.book_keeper.specs.declared.row.RowKey.{RowKey}
 use Rattle.book_commodity.specs.CommodityRules.{commodity_rules}
 use Rattle.book_commodity.specs.Table.{value_of}
@@ -17,6 +18,7 @@ use Rattle.book_sound.specs.StatementRules.{statement_rules}
 use Rattle.book_check.specs.FirstUnsound.{head_rules}
 use Rattle.book_broken.specs.Names.{account_names, binding_names, commodity_names, head_names, line_names, price_names}
 use Rattle.book_broken.specs.Names.{reconciliation_names, schedule_names, statement_names, transaction_names}
+use Rattle.book_broken.specs.declared.first.Broken.{Broken}
 use Rattle.book_broken.specs.declared.rule.BrokenRule.{BrokenRule}
 use Rattle.book_broken.specs.declared.rule.BrokenRule.TheVariants.{StepBack, StepForth, TooMany}
 
@@ -76,3 +78,11 @@ broken_at state key =
     else if key.kind == 11 then option_map (λ _. StepBack) (value_of key.id state.back)
     else if key.kind == 12 then option_map (λ _. StepForth) (value_of key.id state.forth)
     else broken_thing state.book key
+
+-- The key of what was found, if anything was.
+abbrev pub broken_key : Option Broken → Option RowKey
+broken_key found = option_map (λ broken. broken.key) found
+
+-- The rule is the one that a state breaks at the key.
+abbrev pub HasRule : State → Broken → Type 0
+HasRule state broken = broken_at state broken.key ≡ Some broken.rule

@@ -35,7 +35,7 @@ pub(crate) fn in_head(state: &Saved) -> BrokenRule
 }
 
 /// Whether the head counts no more steps back than its position, and at most 256 steps in all.
-fn counts_fit(state: &Saved) -> bool
+pub(crate) fn counts_fit(state: &Saved) -> bool
     ensures { result ≡ counts_fit (head_of (state_of state.now)) }
 {
     state.past <= state.position

@@ -8,6 +8,7 @@ mod accounts;
 mod bindings;
 mod broken;
 mod commodities;
+mod first;
 mod head;
 mod lines;
 mod prices;
@@ -18,4 +19,5 @@ mod statements;
 mod transactions;
 
 pub use broken::broken_rule;
+pub use first::{Broken, first_broken_rule};
 pub use rule::BrokenRule;
