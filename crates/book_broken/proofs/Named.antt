@@ -1,6 +1,6 @@
 -- At the first key at which a state is unsound, a rule is named.
-use Rattle.std.proofs.Common.{◌≡◌, ℕ, ◌+◌, ◌==◌, nat_lt, not, Bool, true, false, ◌&&◌, ◌||◌, List, [], ◌∷◌, drop, Option}
-use Rattle.std.proofs.Common.{Some, None, if◌then◌else◌, is_some, option_map, refl, reverse, subst, sym, ap, ◌∙◌}
+use Rattle.std.proofs.Common.{◌≡◌, ℕ, ◌+◌, ◌==◌, nat_lt, not, Bool, true, false, ◌&&◌, ◌||◌, List, [], ◌∷◌, drop}
+use Rattle.std.proofs.Common.{Option, Some, None, if◌then◌else◌, is_some, option_map, refl, reverse, subst, sym, ap, ◌∙◌}
 use Rattle.std.proofs.Common.{arith}
 use Rattle.std.specs.List.{list_any}
 use Rattle.std.proofs.lemmas.List.{reverse-append}

@@ -112,7 +112,8 @@ price_of_the_same_day : broken (record book { prices = (8, price) ∷ (9, price)
 unfolding broken_at broken_thing
 price_of_the_same_day = refl
 
-price_in_a_share : broken (record book { prices = (8, record price { currency = 7 }) ∷ [] }) 5 8 ≡ Some rule.CurrencyIsNone
+price_in_a_share :
+    broken (record book { prices = (8, record price { currency = 7 }) ∷ [] }) 5 8 ≡ Some rule.CurrencyIsNone
 unfolding broken_at broken_thing
 price_in_a_share = refl
 

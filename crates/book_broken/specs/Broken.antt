@@ -48,8 +48,8 @@ broken_thing book key =
     else if key.kind == 5
     then broken_in (price_rules book.commodities book.prices) (λ _. price_names) key.id book.prices
     else if key.kind == 6
-    then broken_in (schedule_rules book.commodities book.accounts) (schedule_names book.commodities book.accounts) key.id
-    book.schedules
+    then broken_in (schedule_rules book.commodities book.accounts) (schedule_names book.commodities book.accounts)
+    key.id book.schedules
     else if key.kind == 7
     then broken_in (statement_rules book.accounts book.statements) (λ _. statement_names) key.id book.statements
     else if key.kind == 8

@@ -80,7 +80,7 @@ words_on rule.SplitTwice =
 words_on rule.SplitElsewhere =
     codes "a split of another transaction has the number of one of its splits.\n"
 words_on rule.Mark =
-    codes "one of its splits is reconciled, and no reconciliation of its account has marked it with its quantity;\n"
+    codes "one of its splits is reconciled, and no reconciliation of its account has marked it so;\n"
     ++ (codes "or it is not reconciled, and names a reconciliation.\n")
 words_on rule.Ratio =
     codes "its num or its denom is not from 1 to 1,000,000,000.\n"

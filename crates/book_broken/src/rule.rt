@@ -139,7 +139,7 @@ impl BrokenRule {
                 "a split of another transaction has the number of one of its splits.\n"
             }
             BrokenRule::Mark => {
-                "one of its splits is reconciled, and no reconciliation of its account has marked it with its quantity;\n\
+                "one of its splits is reconciled, and no reconciliation of its account has marked it so;\n\
                 or it is not reconciled, and names a reconciliation.\n"
             }
             BrokenRule::Ratio => { "its num or its denom is not from 1 to 1,000,000,000.\n" }
