@@ -1,0 +1,3 @@
+pub mod Broken
+pub mod Names
+pub mod Words
