@@ -1,6 +1,6 @@
 -- Runs of the program that meet no fault are complete: what follows from the clauses of `book_main`.
-use Rattle.std.proofs.Common.{◌≡◌, ◌⊎◌, ℕ, ◌^◌, ◌+◌, ◌<◌, ◌≤◌, All, List, [], ◌∷◌, ◌++◌, Option, Some, inl, inr, refl, subst, ◌∙◌}
-use Rattle.std.proofs.Common.{arith, length, length-append}
+use Rattle.std.proofs.Common.{◌≡◌, ◌⊎◌, ℕ, ◌^◌, ◌+◌, ◌<◌, ◌≤◌, All, List, [], ◌∷◌, ◌++◌, length, Option, Some}
+use Rattle.std.proofs.Common.{inl, inr, refl, subst, ◌∙◌, arith, length-append}
 use Rattle.std.specs.Prelude.{IfSome}
 use Rattle.std.proofs.lemmas.List.Elements.{All-cons, All-head, All-nil}
 use Rattle.book_keeper.specs.Stream.{Are}
@@ -20,8 +20,8 @@ use Rattle.book_sample.specs.Shown.{AreLastAnswers}
 use Rattle.book_app.specs.Machine.{answers}
 use Rattle.book_app.specs.Respond.{kept_answers}
 use Rattle.book_app.specs.ServeClause.{HasServedBook, PortsSeen, ServeClause}
-use Rattle.book_app.specs.StatusClause.{ImportClause, IsBookRun, Keeping, OpenedTo, SampleClause, ServedRows, StatusClause}
-use Rattle.book_app.specs.StatusClause.{HasLed, HoldsAsBefore, IsLeft, WorkClause}
+use Rattle.book_app.specs.StatusClause.{HasLed, HoldsAsBefore, ImportClause, IsBookRun, IsLeft, Keeping, OpenedTo}
+use Rattle.book_app.specs.StatusClause.{SampleClause, ServedRows, StatusClause, WorkClause}
 use Rattle.book_app.specs.Words.{Import, Lines, Sample, Serve, Work}
 use Rattle.book_app.specs.declared.status.Status.{Status}
 use Rattle.book_app.specs.declared.status.Status.TheVariants as status
@@ -54,75 +54,74 @@ few-not_many bytes all (inr many) = let count = all.count in omega (arith, count
 
 -- ---- by the work
 
-lines-status :
-    (words : List (List ℕ)) (keeping : Keeping) (faults : Faults) (before after : List ℕ → Type 0)
-    (bytes read left text : List ℕ) (ended : Status) → AreWords words → BookOpens keeping → AreQuiet keeping faults
-    → AreAll bytes → HasCauses words keeping faults ended
-    → StatusClause keeping before after bytes read left text ended
-    → DoneOrMemory ended (DoneClause Lines keeping before after bytes read left text)
-    (MemoryClause Lines keeping read text)
-lines-status words keeping faults before after bytes read left text status.Done are book quiet all causes clause =
-    inl (
-      refl,
-      record {
-        session = clause;
-        told = quiet-told keeping.faults_before keeping.faults_after (marks text) quiet.keeper clause.run.2.kept;
-      },
-    )
-lines-status words keeping faults before after bytes read left text status.Memory are book quiet all causes clause =
-    inr (refl, clause)
-lines-status words keeping faults before after bytes read left text status.Usage are book quiet all causes clause =
-    absurd (are (causes.usage.0 refl))
-lines-status words keeping faults before after bytes read left text status.InputLimit are book quiet all causes clause =
-    absurd (few-not_many bytes all clause.run.0)
-lines-status words keeping faults before after bytes read left text status.InputFault are book quiet all causes clause =
-    absurd (quiet-not_rose faults.input_before faults.input_after quiet.input (causes.input_fault refl))
-lines-status words keeping faults before after bytes read left text status.OutputFault are book quiet all causes clause =
-    absurd (quiet-not_rose faults.output_before faults.output_after quiet.output (causes.output_fault refl))
-lines-status words keeping faults before after bytes read left text status.KeeperFault are book quiet all causes clause =
-    absurd (quiet-not_rose keeping.faults_before keeping.faults_after quiet.keeper (causes.keeper_fault refl))
-lines-status words keeping faults before after bytes read left text (status.BadRows kind id) are book quiet all causes clause =
-    absurd (not-bad keeping kind id book clause.1)
-lines-status words keeping faults before after bytes read left text (status.UnsoundBook kind id) are book quiet all causes clause =
-    absurd (not-unsound keeping kind id book clause.1)
-lines-status words keeping faults before after bytes read left text status.PortFault are book quiet all causes clause =
-    absurd clause
+module _ (words : List (List ℕ)) (keeping : Keeping) (faults : Faults) (before after : List ℕ → Type 0)
+    (bytes read left text : List ℕ) (are : AreWords words) (book : BookOpens keeping) (quiet : AreQuiet keeping faults)
+  where
+    lines-status :
+        (ended : Status) → AreAll bytes → HasCauses words keeping faults ended
+        → StatusClause keeping before after bytes read left text ended
+        → DoneOrMemory ended (DoneClause Lines keeping before after bytes read left text)
+        (MemoryClause Lines keeping read text)
+    lines-status status.Done all causes clause =
+        inl (
+          refl,
+          record {
+            session = clause;
+            told = quiet-told keeping.faults_before keeping.faults_after (marks text) quiet.keeper clause.run.2.kept;
+          },
+        )
+    lines-status status.Memory all causes clause =
+        inr (refl, clause)
+    lines-status status.Usage all causes clause =
+        absurd (are (causes.usage.0 refl))
+    lines-status status.InputLimit all causes clause =
+        absurd (few-not_many bytes all clause.run.0)
+    lines-status status.InputFault all causes clause =
+        absurd (quiet-not_rose faults.input_before faults.input_after quiet.input (causes.input_fault refl))
+    lines-status status.OutputFault all causes clause =
+        absurd (quiet-not_rose faults.output_before faults.output_after quiet.output (causes.output_fault refl))
+    lines-status status.KeeperFault all causes clause =
+        absurd (quiet-not_rose keeping.faults_before keeping.faults_after quiet.keeper (causes.keeper_fault refl))
+    lines-status (status.BadRows kind id) all causes clause =
+        absurd (not-bad keeping kind id book clause.1)
+    lines-status (status.UnsoundBook kind id) all causes clause =
+        absurd (not-unsound keeping kind id book clause.1)
+    lines-status status.PortFault all causes clause =
+        absurd clause
 
-import-status :
-    (words : List (List ℕ)) (import : ImportWords) (keeping : Keeping) (faults : Faults)
-    (before after : List ℕ → Type 0) (bytes read left text : List ℕ) (ended : Status) → AreWords words
-    → BookOpens keeping → AreQuiet keeping faults → length read ≤ 2 ^ 23 → HasCauses words keeping faults ended
-    → ImportClause import keeping before after read left text ended
-    → DoneOrMemory ended (DoneClause (Import import) keeping before after bytes read left text)
-    (MemoryClause (Import import) keeping read text)
-import-status words import keeping faults before after bytes read left text status.Done are book quiet few causes clause =
-    inl (
-      refl,
-      record {
-        imported = clause;
-        told = All-head IsToldOrMemory (mark_of clause.asked.2.answer) []
-            (quiet-told keeping.faults_before keeping.faults_after (mark_of clause.asked.2.answer ∷ []) quiet.keeper
-            clause.asked.2.gave.kept);
-      },
-    )
-import-status words import keeping faults before after bytes read left text status.Memory are book quiet few causes clause =
-    inr (refl, clause)
-import-status words import keeping faults before after bytes read left text status.Usage are book quiet few causes clause =
-    absurd (are (causes.usage.0 refl))
-import-status words import keeping faults before after bytes read left text status.InputLimit are book quiet few causes clause =
-    let many = clause.0.asked.0 in absurd (omega (arith, few, many))
-import-status words import keeping faults before after bytes read left text status.InputFault are book quiet few causes clause =
-    absurd (quiet-not_rose faults.input_before faults.input_after quiet.input (causes.input_fault refl))
-import-status words import keeping faults before after bytes read left text status.OutputFault are book quiet few causes clause =
-    absurd (quiet-not_rose faults.output_before faults.output_after quiet.output (causes.output_fault refl))
-import-status words import keeping faults before after bytes read left text status.KeeperFault are book quiet few causes clause =
-    absurd (quiet-not_rose keeping.faults_before keeping.faults_after quiet.keeper (causes.keeper_fault refl))
-import-status words import keeping faults before after bytes read left text (status.BadRows kind id) are book quiet few causes clause =
-    absurd (not-bad keeping kind id book clause.1)
-import-status words import keeping faults before after bytes read left text (status.UnsoundBook kind id) are book quiet few causes clause =
-    absurd (not-unsound keeping kind id book clause.1)
-import-status words import keeping faults before after bytes read left text status.PortFault are book quiet few causes clause =
-    absurd clause
+    import-status :
+        (import : ImportWords) (ended : Status) → length read ≤ 2 ^ 23 → HasCauses words keeping faults ended
+        → ImportClause import keeping before after read left text ended
+        → DoneOrMemory ended (DoneClause (Import import) keeping before after bytes read left text)
+        (MemoryClause (Import import) keeping read text)
+    import-status import status.Done few causes clause =
+        inl (
+          refl,
+          record {
+            imported = clause;
+            told = All-head IsToldOrMemory (mark_of clause.asked.2.answer) []
+                (quiet-told keeping.faults_before keeping.faults_after (mark_of clause.asked.2.answer ∷ []) quiet.keeper
+                clause.asked.2.gave.kept);
+          },
+        )
+    import-status import status.Memory few causes clause =
+        inr (refl, clause)
+    import-status import status.Usage few causes clause =
+        absurd (are (causes.usage.0 refl))
+    import-status import status.InputLimit few causes clause =
+        let many = clause.0.asked.0 in absurd (omega (arith, few, many))
+    import-status import status.InputFault few causes clause =
+        absurd (quiet-not_rose faults.input_before faults.input_after quiet.input (causes.input_fault refl))
+    import-status import status.OutputFault few causes clause =
+        absurd (quiet-not_rose faults.output_before faults.output_after quiet.output (causes.output_fault refl))
+    import-status import status.KeeperFault few causes clause =
+        absurd (quiet-not_rose keeping.faults_before keeping.faults_after quiet.keeper (causes.keeper_fault refl))
+    import-status import (status.BadRows kind id) few causes clause =
+        absurd (not-bad keeping kind id book clause.1)
+    import-status import (status.UnsoundBook kind id) few causes clause =
+        absurd (not-unsound keeping kind id book clause.1)
+    import-status import status.PortFault few causes clause =
+        absurd clause
 
 serve-status :
     (words : List (List ℕ)) (keeping : Keeping) (faults : Faults) (ended : Status) → AreWords words
@@ -193,16 +192,17 @@ work-status :
     (before after : List ℕ → Type 0) (bytes read left text : List ℕ) (ended : Status) → AreWords words
     → IsReady work keeping faults input → Are input bytes → bytes ≡ read ++ left
     → HasCauses words keeping faults ended → WorkClause work keeping before after bytes read left text ended
-    → DoneOrMemory ended (DoneClause work keeping before after bytes read left text) (MemoryClause work keeping read text)
+    → DoneOrMemory ended (DoneClause work keeping before after bytes read left text)
+    (MemoryClause work keeping read text)
 work-status words Lines keeping faults input before after bytes read left text ended are ready is parts causes clause =
     let same = known-are ready.2.bytes bytes input ready.2.known is in
-    lines-status words keeping faults before after bytes read left text ended are ready.0 ready.1
+    lines-status words keeping faults before after bytes read left text are ready.0 ready.1 ended
     (subst AreAll same ready.2.few) causes clause
 work-status words (Import import) keeping faults input before after bytes read left text ended are ready is parts causes
     clause =
     let same = known-are ready.2.bytes bytes input ready.2.known is in
     let few = ready.2.few in
-    import-status words import keeping faults before after bytes read left text ended are ready.0 ready.1
+    import-status words keeping faults before after bytes read left text are ready.0 ready.1 import ended
     (read-few ready.2.bytes read left (same ∙ parts) few) causes clause
   where
     read-few : (all read left : List ℕ) → all ≡ read ++ left → length all ≤ 2 ^ 23 → length read ≤ 2 ^ 23
@@ -210,7 +210,8 @@ work-status words (Import import) keeping faults input before after bytes read l
         let short : length (read ++ left) ≤ 2 ^ 23 = subst (λ (l : List ℕ). length l ≤ 2 ^ 23) parts few in
         let both : length (read ++ left) ≡ length read + length left = length-append read left in
         omega (arith, short, both)
-work-status words (Serve serve) keeping faults input before after bytes read left text ended are ready is parts causes clause =
+work-status words (Serve serve) keeping faults input before after bytes read left text ended are ready is parts causes
+    clause =
     with-both ended (read ≡ []) (text ≡ []) clause.0 clause.1
     (serve-status words keeping faults ended are ready.0 ready.1 ready.2 causes clause.2)
 work-status words (Sample number) keeping faults input before after bytes read left text ended are ready is parts causes

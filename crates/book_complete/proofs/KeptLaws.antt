@@ -1,5 +1,6 @@
 -- What a sink keeps that has room for so many bytes: the first of all that it was given.
-use Rattle.std.proofs.Common.{◌≡◌, ℕ, ◌-◌, List, [], ◌∷◌, ◌++◌, length, min, take, zero, suc, refl, sym, ap, ◌∙◌, subst, arith}
+use Rattle.std.proofs.Common.{◌≡◌, ℕ, ◌-◌, List, [], ◌∷◌, ◌++◌, length, min, take, zero, suc, refl, sym, ap}
+use Rattle.std.proofs.Common.{◌∙◌, subst, arith}
 use Rattle.std.proofs.lemmas.List.{take_all}
 use Rattle.book_keeper.specs.Stream.{Wrote}
 use Rattle.book_complete.specs.NoFail.{may_be_given}

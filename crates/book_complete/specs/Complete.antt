@@ -92,8 +92,8 @@ abbrev pub EndsWell : {L : Type 0} → LinkReports L → ServedLink L → Type 0
 EndsWell of link = of.read_faults link.closed ≡ 0 → of.write_faults link.closed ≡ 0 → EndedWell link.end
 
 -- Links were served up to this end, and each of which no read and no write failed ended well.
-pub record HasServedWell {L : Type 0} (serve : ServeWords) (keeping : Keeping) (of : LinkReports L) (ports : PortsSeen L)
-    (ended : ServeEnd) : Type 0 where
+pub record HasServedWell {L : Type 0} (serve : ServeWords) (keeping : Keeping) (of : LinkReports L)
+    (ports : PortsSeen L) (ended : ServeEnd) : Type 0 where
   pub book : HasServedBook serve keeping of ports ended
   pub well : All (EndsWell of) book.served.links
 
