@@ -7,6 +7,8 @@
 mod no_fail_keeper;
 mod no_fail_sink;
 mod no_fail_source;
+#[cfg(test)]
+mod row_one;
 mod sure;
 
 pub use no_fail_keeper::NoFailKeeper;
