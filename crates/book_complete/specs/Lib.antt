@@ -1,0 +1,5 @@
+pub mod Quiet
+pub mod Ready
+pub mod Complete
+pub mod NoFail
+pub mod SureRun
