@@ -9,7 +9,7 @@ mod showing;
 mod words;
 mod writing;
 
-pub use opening::{Opened, open_book};
+pub use opening::{BookError, Opened, open_book};
 pub use question::Question;
 pub use showing::{ShowError, show};
 pub use words::{Asked, asked_of, names_book};

@@ -1,14 +1,12 @@
 ghost use Rattle.std.specs.Prelude.{◌≡◌, List, IsTrue, OnOk, Err};
 ghost use Rattle.book_keeper.specs.Faults.{Rose};
 ghost use Rattle.book_keeper.specs.declared.row.Row.{Row};
-ghost use Rattle.book_engine.specs.Opening.{HasOpenCause};
-ghost use Rattle.book_show.specs.Opening.{OpenedAs};
+ghost use Rattle.book_show.specs.Opening.{HasBookCause, OpenedAs};
 ghost use Rattle.book_show.specs.Shown.{Answers, HasAnswered, HasFault, HasShown};
 
 use crate::Question;
-use crate::opening::{Opened, open_book};
+use crate::opening::{BookError, Opened, open_book};
 use crate::writing::{write_found, write_journal, write_text};
-use book_engine::OpenError;
 use book_keeper::{KeepError, Keeper, Sink};
 use book_listings::{
     account_text, accounts_text, check_text, command_text, commodities_text, found_text,
@@ -23,7 +21,7 @@ pub enum ShowError {
     /// The book has nothing of the number that is asked for.
     Unknown,
     /// The book can't be opened.
-    Open(OpenError),
+    Open(BookError),
     /// The program is out of memory.
     OutOfMemory,
     /// The output failed.
@@ -48,7 +46,7 @@ pub fn show<K: Keeper, O: Sink>(
     ensures shown { IsTrue (K.sure keeper.new) → (rows : List Row) → K.holds keeper.old rows
         → HasShown (O.written output.old) (O.written output.new) rows question.now form result }
     ensures path { OnOk result (K.path_given keeper.new ≡ path.now) }
-    ensures fault { result ≡ Err (ShowError.Open OpenError.Keeper)
+    ensures fault { result ≡ Err (ShowError.Open BookError.Keeper)
         → Rose (K.faults keeper.old) (K.faults keeper.new) }
     ensures output_faults { HasFault (O.faults output.old) (O.faults output.new) result }
 {
@@ -59,17 +57,17 @@ pub fn show<K: Keeper, O: Sink>(
 }
 
 /// The present book that the keeper has at a path, with its version.
-fn open_at<K: Keeper>(alloc: Global, keeper: &mut K, path: &str) -> Result<Opened, OpenError>
+fn open_at<K: Keeper>(alloc: Global, keeper: &mut K, path: &str) -> Result<Opened, BookError>
     ensures sure { IsTrue (K.sure keeper.new) → IsTrue (K.sure keeper.old) }
     ensures rows { IsTrue (K.sure keeper.new) → (rows : List Row) → K.holds keeper.old rows → K.holds keeper.new rows }
     ensures opened { IsTrue (K.sure keeper.new) → (rows : List Row) → K.holds keeper.old rows → OpenedAs rows result }
     ensures path { OnOk result (K.path_given keeper.new ≡ path.now) }
-    ensures cause { HasOpenCause (K.faults keeper.old) (K.faults keeper.new) result }
+    ensures cause { HasBookCause (K.faults keeper.old) (K.faults keeper.new) result }
 {
     match keeper.open(path) {
         Ok(()) => open_book(alloc, keeper),
-        Err(KeepError::Failed) => Err(OpenError::Keeper),
-        Err(KeepError::OutOfMemory) => Err(OpenError::OutOfMemory),
+        Err(KeepError::Failed) => Err(BookError::Keeper),
+        Err(KeepError::OutOfMemory) => Err(BookError::OutOfMemory),
     }
 }
 

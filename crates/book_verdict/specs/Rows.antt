@@ -45,17 +45,20 @@ unread_row_text kind id =
     ++ (codes "  sqlite3 BOOK 'SELECT hex(body) FROM bk_rows WHERE kind = "
     ++ (decimal kind ++ (codes " AND id = " ++ (decimal id ++ codes "'\n")))))
 
--- The first row that breaks a rule of its kind.
-unfoldable pub unsound_row_text : ℕ → ℕ → List ℕ
-unsound_row_text kind id =
+-- The line that says which rule the row of a kind and an id breaks: the words on it end by a line feed.
+unfoldable pub unsound_line : ℕ → ℕ → List ℕ → List ℕ
+unsound_line kind id rule =
     codes "The row of kind "
     ++ (decimal kind
     ++ (codes " and id "
     ++ (decimal id
-    ++ (codes " ("
-    ++ (kind_word kind
-    ++ (codes ") is the first that breaks a rule of its kind.\n"
+    ++ (codes " (" ++ (kind_word kind ++ (codes ") is the first that breaks a rule of its kind: " ++ rule))))))
+
+-- The first row that breaks a rule of its kind, with the words on this rule.
+unfoldable pub unsound_row_text : ℕ → ℕ → List ℕ → List ℕ
+unsound_row_text kind id rule =
+    unsound_line kind id rule
     ++ (codes "Rows were changed by other means than `book`. Use your last copy."
     ++ (codes " `docs/FORMATS.md` lists these rules.\nTo see the row:\n"
     ++ (codes "  sqlite3 BOOK 'SELECT hex(body) FROM bk_rows WHERE kind = "
-    ++ (decimal kind ++ (codes " AND id = " ++ (decimal id ++ codes "'\n"))))))))))))
+    ++ (decimal kind ++ (codes " AND id = " ++ (decimal id ++ codes "'\n"))))))

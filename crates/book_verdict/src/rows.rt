@@ -1,5 +1,5 @@
 ghost use Rattle.std.specs.Prelude.{◌≡◌, IfOk};
-ghost use Rattle.book_verdict.specs.Rows.{kind_word, unread_line, unread_row_text, unsound_row_text, why_unread};
+ghost use Rattle.book_verdict.specs.Rows.{kind_word, unread_line, unread_row_text, unsound_line, unsound_row_text, why_unread};
 
 use book_commodity::{OutOfMemory, Text};
 use std::alloc::Global;
@@ -27,17 +27,29 @@ fn unread_line(alloc: Global, kind: u8, id: u64) -> Result<Text, OutOfMemory>
     Ok(Text::of(format!(in alloc; "The row of kind {kind} and id {id} ({thing}) {why}\n")?))
 }
 
-/// What is said where the row of a kind and an id is the first that breaks a rule.
+/// What is said where the row of a kind and an id is the first that breaks a rule, with the words on this rule, which
+/// end by a line feed.
 #[tactic(auto, unfolding(crate::specs::Rows::unsound_row_text))]
-pub fn unsound_row_text(alloc: Global, kind: u8, id: u64) -> Result<Text, OutOfMemory>
-    ensures { IfOk result (λ text. text ≡ unsound_row_text kind id) }
+pub fn unsound_row_text(alloc: Global, kind: u8, id: u64, rule: &str) -> Result<Text, OutOfMemory>
+    ensures { IfOk result (λ text. text ≡ unsound_row_text kind id rule.now) }
+{
+    let line = unsound_line(alloc, kind, id, rule)?;
+    Ok(Text::of(format!(in alloc;
+        "{}Rows were changed by other means than `book`. Use your last copy. `docs/FORMATS.md` lists these rules.\n\
+        To see the row:\n  \
+        sqlite3 BOOK 'SELECT hex(body) FROM bk_rows WHERE kind = {kind} AND id = {id}'\n",
+        line.as_str()
+    )?))
+}
+
+/// The line that says which rule it breaks.
+#[tactic(auto, unfolding(crate::specs::Rows::unsound_line))]
+fn unsound_line(alloc: Global, kind: u8, id: u64, rule: &str) -> Result<Text, OutOfMemory>
+    ensures { IfOk result (λ text. text ≡ unsound_line kind id rule.now) }
 {
     let thing = kind_word(kind);
     Ok(Text::of(format!(in alloc;
-        "The row of kind {kind} and id {id} ({thing}) is the first that breaks a rule of its kind.\n\
-        Rows were changed by other means than `book`. Use your last copy. `docs/FORMATS.md` lists these rules.\n\
-        To see the row:\n  \
-        sqlite3 BOOK 'SELECT hex(body) FROM bk_rows WHERE kind = {kind} AND id = {id}'\n"
+        "The row of kind {kind} and id {id} ({thing}) is the first that breaks a rule of its kind: {rule}"
     )?))
 }
 

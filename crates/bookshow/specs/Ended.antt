@@ -3,10 +3,10 @@
 use Rattle.std.specs.Prelude.{ℕ}
 use Rattle.book_copy.specs.declared.copying.CopyError.{CopyError}
 use Rattle.book_copy.specs.declared.copying.CopyError.TheVariants as rows
-use Rattle.book_engine.specs.declared.fault.OpenError.{OpenError}
-use Rattle.book_engine.specs.declared.fault.OpenError.TheVariants as fault
 use Rattle.book_files.specs.declared.copying.FileCopyError.{FileCopyError}
 use Rattle.book_files.specs.declared.copying.FileCopyError.TheVariants as copying
+use Rattle.book_show.specs.declared.opening.BookError.{BookError}
+use Rattle.book_show.specs.declared.opening.BookError.TheVariants as fault
 use Rattle.book_show.specs.declared.showing.ShowError.{ShowError}
 use Rattle.book_show.specs.declared.showing.ShowError.TheVariants as error
 use Rattle.bookshow.specs.declared.ended.Ended.{Ended}
@@ -24,7 +24,7 @@ number_of OutputFault = 5
 number_of (NotOpened fault) = 6
 number_of KeeperFault = 6
 number_of (BadRows kind id) = 7
-number_of (UnsoundBook kind id) = 7
+number_of (UnsoundBook broken) = 7
 number_of Refused = 6
 number_of Damaged = 7
 number_of TargetThere = 10
@@ -32,11 +32,11 @@ number_of PartThere = 10
 number_of CopyFailed = 10
 
 -- The end where rows are refused.
-abbrev pub end_of_opening : OpenError → Ended
+abbrev pub end_of_opening : BookError → Ended
 end_of_opening fault.Keeper = KeeperFault
 end_of_opening fault.OutOfMemory = Memory
 end_of_opening (fault.BadRows kind id) = BadRows kind id
-end_of_opening (fault.UnsoundBook kind id) = UnsoundBook kind id
+end_of_opening (fault.UnsoundBook broken) = UnsoundBook broken
 
 -- The end where nothing is shown, or not all.
 abbrev pub end_of : ShowError → Ended

@@ -2,10 +2,10 @@ ghost use Rattle.std.specs.Prelude.{◌≡◌};
 ghost use Rattle.std.specs.Process.{exit_status};
 ghost use Rattle.bookshow.specs.Ended.{end_of, end_of_copying, number_of};
 
+use book_broken::Broken;
 use book_copy::CopyError;
-use book_engine::OpenError;
 use book_files::FileCopyError;
-use book_show::ShowError;
+use book_show::{BookError, ShowError};
 use book_verdict::FileFault;
 use std::io;
 use std::io::ErrorKind;
@@ -38,8 +38,8 @@ pub(crate) enum Ended {
     KeeperFault,
     /// The row of this key can't be read, or is missing.
     BadRows { kind: u8, id: u64 },
-    /// This key is the first at which the book breaks a rule.
-    UnsoundBook { kind: u8, id: u64 },
+    /// This is the first key at which the book is not sound, and the rule that is broken there.
+    UnsoundBook(Broken),
     /// A check said that the file is no book, or can't be used.
     Refused,
     /// A check said at which row the book is damaged.
@@ -60,10 +60,10 @@ impl Ended {
         match error {
             ShowError::Unknown => Ended::NotThere,
             ShowError::Output => Ended::OutputFault,
-            ShowError::OutOfMemory | ShowError::Open(OpenError::OutOfMemory) => Ended::Memory,
-            ShowError::Open(OpenError::Keeper) => Ended::KeeperFault,
-            ShowError::Open(OpenError::BadRows { kind, id }) => Ended::BadRows { kind, id },
-            ShowError::Open(OpenError::UnsoundBook { kind, id }) => Ended::UnsoundBook { kind, id },
+            ShowError::OutOfMemory | ShowError::Open(BookError::OutOfMemory) => Ended::Memory,
+            ShowError::Open(BookError::Keeper) => Ended::KeeperFault,
+            ShowError::Open(BookError::BadRows { kind, id }) => Ended::BadRows { kind, id },
+            ShowError::Open(BookError::UnsoundBook(broken)) => Ended::UnsoundBook(broken),
         }
     }
 
@@ -111,7 +111,7 @@ impl Ended {
             Ended::Memory => 3,
             Ended::Closed | Ended::OutputFault => 5,
             Ended::NotOpened(_) | Ended::KeeperFault | Ended::Refused => 6,
-            Ended::BadRows { .. } | Ended::UnsoundBook { .. } | Ended::Damaged => 7,
+            Ended::BadRows { .. } | Ended::UnsoundBook(_) | Ended::Damaged => 7,
             Ended::TargetThere | Ended::PartThere | Ended::CopyFailed => 10,
         }
     }
@@ -126,7 +126,7 @@ impl Ended {
             Ended::OutputFault => "bookshow: the output failed",
             Ended::NotOpened(fault) => message_of(fault),
             Ended::KeeperFault => "bookshow: the book file failed",
-            Ended::BadRows { .. } | Ended::UnsoundBook { .. } => {
+            Ended::BadRows { .. } | Ended::UnsoundBook(_) => {
                 "bookshow: the book is damaged; `bookshow BOOK check` says at which row"
             }
             Ended::TargetThere =>

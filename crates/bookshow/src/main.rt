@@ -21,12 +21,12 @@ ghost use Rattle.book_files.specs.FileRows.{BeginsWith};
 use crate::copying::copy_of;
 use crate::ended::Ended;
 use crate::watched::Watched;
+use book_broken::Broken;
 use book_commodity::{OutOfMemory, Text};
 use book_copy::CopyError;
-use book_engine::OpenError;
 use book_files::{FileCopyError, copy_file, fault_before, fault_behind};
 use book_keeper::{Sink, StreamSink};
-use book_show::{Asked, Question, ShowError, asked_of, show};
+use book_show::{Asked, BookError, Question, ShowError, asked_of, show};
 use book_sqlite::FileKeeper;
 use book_verdict::{unread_row_text, unsound_row_text};
 use sqlite::{Start, Unknown};
@@ -127,7 +127,7 @@ fn show_file(rt: &HostRuntime, asked: &Asked) -> Ended {
     drop(keeper);
     match answer {
         Ok(()) => Ended::Done,
-        Err(ShowError::Open(OpenError::Keeper)) => unopened(rt, asked.book),
+        Err(ShowError::Open(BookError::Keeper)) => unopened(rt, asked.book),
         Err(ShowError::Output) if writer.is_closed() => Ended::Closed,
         Err(error) => Ended::of_error(error),
     }
@@ -157,7 +157,10 @@ fn row_text(alloc: Global, ended: Ended) -> Result<Option<Text>, OutOfMemory>
 {
     match ended {
         Ended::BadRows { kind, id } => Ok(Some(unread_row_text(alloc, kind, id)?)),
-        Ended::UnsoundBook { kind, id } => Ok(Some(unsound_row_text(alloc, kind, id)?)),
+        Ended::UnsoundBook(broken) => {
+            let Broken { key, rule } = broken;
+            Ok(Some(unsound_row_text(alloc, key.kind, key.id, rule.words())?))
+        }
         _ => Ok(None),
     }
 }
