@@ -50,12 +50,15 @@ words_on fault.CutShort =
     codes "The file is cut short: it has fewer bytes than its first page says.\n"
     ++ (codes "Use your last copy.\n")
 words_on fault.Damaged =
-    codes "The file is a SQLite database, but a damaged one: its pages don't fit together.\n"
-    ++ (codes "Use your last copy. `sqlite3 BOOK 'PRAGMA integrity_check'` says more.\n")
+    codes "The file is a SQLite database, but a damaged one: its pages don't fit together, or not with the log\n"
+    ++ (codes "beside it, the file of the same name with `-wal` behind.\n"
+    ++ (codes "Save both elsewhere before any program opens them. If the log may be that of another book, move it\n"
+    ++ (codes "away and check again; else use your last copy, where no log is beside it.\n")))
 words_on fault.OtherDatabase =
     codes "The file is a SQLite database, but no book: it has other tables, an index, a trigger, or a row that\n"
     ++ (codes "is none of a book.\n"
-    ++ (codes "It belongs to another program, or someone added these. `sqlite3 BOOK .schema` shows what it has.\n"))
+    ++ (codes "It belongs to another program, or someone added these: then drop them. On a saved copy of the file\n"
+    ++ (codes "`sqlite3 COPY .schema` shows what it has.\n")))
 words_on fault.Failed =
     codes "The file could not be read: the disk or the system failed.\n"
     ++ (codes "Try again; if it fails again, copy the file to another disk, or use your last copy.\n")

@@ -102,13 +102,16 @@ impl FileFault {
                 Use your last copy.\n"
             }
             FileFault::Damaged => {
-                "The file is a SQLite database, but a damaged one: its pages don't fit together.\n\
-                Use your last copy. `sqlite3 BOOK 'PRAGMA integrity_check'` says more.\n"
+                "The file is a SQLite database, but a damaged one: its pages don't fit together, or not with the log\n\
+                beside it, the file of the same name with `-wal` behind.\n\
+                Save both elsewhere before any program opens them. If the log may be that of another book, move it\n\
+                away and check again; else use your last copy, where no log is beside it.\n"
             }
             FileFault::OtherDatabase => {
                 "The file is a SQLite database, but no book: it has other tables, an index, a trigger, or a row that\n\
                 is none of a book.\n\
-                It belongs to another program, or someone added these. `sqlite3 BOOK .schema` shows what it has.\n"
+                It belongs to another program, or someone added these: then drop them. On a saved copy of the file\n\
+                `sqlite3 COPY .schema` shows what it has.\n"
             }
             FileFault::Failed => {
                 "The file could not be read: the disk or the system failed.\n\

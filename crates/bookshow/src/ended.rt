@@ -120,7 +120,8 @@ impl Ended {
     fn message(self) -> &'static str {
         match self {
             Ended::Done | Ended::Closed | Ended::Refused | Ended::Damaged => "",
-            Ended::NotThere => "bookshow: the book has nothing with this number",
+            Ended::NotThere =>
+                "bookshow: the book has no thing of the kind that was asked for under this number",
             Ended::Usage => USAGE,
             Ended::Memory => "bookshow: out of memory",
             Ended::OutputFault => "bookshow: the output failed",
