@@ -6,8 +6,6 @@ use Rattle.book_json.specs.Forms.{whole, flag_form, text_form, filled}
 use Rattle.book_command.specs.declared.command.Update.{Update}
 use Rattle.book_command.specs.declared.command.Update.TheVariants as update
 use Rattle.book_wire.specs.Kinds.{kind_form}
-use Rattle.book_wire.specs.declared.accounts.AccountCommand.{AccountCommand}
-use Rattle.book_wire.specs.declared.accounts.AccountCommand.TheVariants.{AccountAdd, AccountEdit, AccountDrop}
 
 -- A new account; its parent must be given.
 unfoldable pub account : Reader Account
@@ -33,12 +31,15 @@ account = do
     basis = basis;
   })
 
--- The account that is added; an account with what it is to have from now on; the account that is deleted.
-abbrev pub account_members : AccountCommand → Reader Update
-account_members AccountAdd = do
+-- The account that is added.
+abbrev pub account_add : Reader Update
+account_add = do
   given ← account
   gives (update.AccountAdd given)
-account_members AccountEdit = do
+
+-- An account with what it is to have from now on.
+abbrev pub account_edit : Reader Update
+account_edit = do
   account ← needed whole (codes "account")
   name ← optional filled (codes "name")
   parent ← optional whole (codes "parent")
@@ -55,6 +56,9 @@ account_members AccountEdit = do
         hidden = hidden;
         placeholder = placeholder;
       }))
-account_members AccountDrop = do
+
+-- The account that is deleted.
+abbrev pub account_drop : Reader Update
+account_drop = do
   account ← needed whole (codes "account")
   gives (update.AccountDrop account)

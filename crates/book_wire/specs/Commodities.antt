@@ -4,15 +4,16 @@ use Rattle.book_json.specs.Members.{Reader, needed, text, gives, ◌>>=◌}
 use Rattle.book_json.specs.Forms.{whole, filled}
 use Rattle.book_command.specs.declared.command.Update.{Update}
 use Rattle.book_command.specs.declared.command.Update.TheVariants as update
-use Rattle.book_wire.specs.declared.commodities.CommodityCommand.{CommodityCommand}
-use Rattle.book_wire.specs.declared.commodities.CommodityCommand.TheVariants.{BookCurrency, CommodityAdd}
 
--- The commodity that becomes the book's currency; a new commodity.
-abbrev pub commodity_members : CommodityCommand → Reader Update
-commodity_members BookCurrency = do
+-- The commodity that becomes the book's currency.
+abbrev pub book_currency : Reader Update
+book_currency = do
   commodity ← needed whole (codes "commodity")
   gives (update.BookCurrency commodity)
-commodity_members CommodityAdd = do
+
+-- A new commodity.
+abbrev pub commodity_add : Reader Update
+commodity_add = do
   space ← needed filled (codes "space")
   name ← needed filled (codes "name")
   full_name ← text (codes "full_name")

@@ -3,7 +3,6 @@ pub mod Asked
 pub mod Commands
 pub mod Commodities
 pub mod Formats
-pub mod History
 pub mod Kinds
 pub mod Posting
 pub mod Prices

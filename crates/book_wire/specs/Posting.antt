@@ -7,9 +7,6 @@ use Rattle.book_command.specs.declared.command.GivenSplit.{GivenSplit}
 use Rattle.book_command.specs.declared.command.GivenTxn.{GivenTxn}
 use Rattle.book_command.specs.declared.command.Update.{Update}
 use Rattle.book_command.specs.declared.command.Update.TheVariants as update
-use Rattle.book_wire.specs.declared.posting.PostingCommand.{PostingCommand}
-use Rattle.book_wire.specs.declared.posting.PostingCommand.TheVariants.{Post, Edit, Drop}
-use Rattle.book_wire.specs.declared.posting.PostingCommand.TheVariants.{Mark}
 
 -- A split without a number; where it gives no quantity, its quantity is its value.
 unfoldable pub split : Reader GivenSplit
@@ -53,24 +50,33 @@ marks = (codes "n", false) ∷ (codes "c", true) ∷ []
 unfoldable pub mark_form : Form Bool
 mark_form = among marks
 
--- A new transaction on a day; a transaction with what it is to be from now on, on a day; the transaction that is
--- deleted; the split that is marked. Only an edit gives numbers of splits. An absent `force` is false.
-abbrev pub posting_members : PostingCommand → Reader Update
-posting_members Post = do
+-- A new transaction on a day.
+abbrev pub post : Reader Update
+post = do
   day ← needed day_form (codes "day")
   given ← transaction split
   gives (update.Post day given)
-posting_members Edit = do
+
+-- A transaction with what it is to be from now on, on a day. Only an edit gives numbers of splits. An absent `force`
+-- is false.
+abbrev pub edit : Reader Update
+edit = do
   number ← needed whole (codes "transaction")
   force ← flag (codes "force")
   day ← needed day_form (codes "day")
   given ← transaction kept_split
   gives (update.Edit number force day given)
-posting_members Drop = do
+
+-- The transaction that is deleted. An absent `force` is false.
+abbrev pub drop_transaction : Reader Update
+drop_transaction = do
   number ← needed whole (codes "transaction")
   force ← flag (codes "force")
   gives (update.Drop number force)
-posting_members Mark = do
+
+-- The split that is marked. An absent `force` is false.
+abbrev pub mark : Reader Update
+mark = do
   number ← needed whole (codes "split")
   cleared ← needed mark_form (codes "state")
   force ← flag (codes "force")

@@ -9,8 +9,6 @@ use Rattle.book_command.specs.declared.command.What.{What}
 use Rattle.book_command.specs.declared.command.What.TheVariants as what
 use Rattle.book_wire.specs.Posting.{split, transaction}
 use Rattle.book_wire.specs.Recurrences.{end, in_32_bits, recurrence}
-use Rattle.book_wire.specs.declared.schedules.ScheduleCommand.{ScheduleCommand}
-use Rattle.book_wire.specs.declared.schedules.ScheduleCommand.TheVariants.{ScheduleAdd, ScheduleDrop, ScheduleRun, Due}
 
 -- A schedule. It never ends where no end is given, and its transactions are made on their days where no days in advance
 -- are given.
@@ -29,19 +27,27 @@ schedule = do
     template = template;
   })
 
--- A new schedule; the schedule that is deleted; the day up to which the transactions are made, of one schedule or of
--- all; the day up to which the days that are due are asked for.
-abbrev pub schedule_members : ScheduleCommand → Reader What
-schedule_members ScheduleAdd = do
+-- A new schedule.
+abbrev pub schedule_add : Reader What
+schedule_add = do
   given ← schedule
   gives (what.Update (update.ScheduleAdd given))
-schedule_members ScheduleDrop = do
+
+-- The schedule that is deleted.
+abbrev pub schedule_drop : Reader What
+schedule_drop = do
   number ← needed whole (codes "schedule")
   gives (what.Update (update.ScheduleDrop number))
-schedule_members ScheduleRun = do
+
+-- The day up to which the transactions are made, of one schedule or of all.
+abbrev pub schedule_run : Reader What
+schedule_run = do
   upto ← needed day_form (codes "upto")
   number ← optional whole (codes "schedule")
   gives (what.Update (update.ScheduleRun upto number))
-schedule_members Due = do
+
+-- The day up to which the days that are due are asked for.
+abbrev pub due : Reader What
+due = do
   upto ← needed day_form (codes "upto")
   gives (what.Due upto)

@@ -7,10 +7,6 @@ use Rattle.book_command.specs.declared.command.Update.TheVariants as update
 use Rattle.book_command.specs.declared.command.What.{What}
 use Rattle.book_command.specs.declared.command.What.TheVariants as what
 use Rattle.book_wire.specs.Formats.{format, format_form}
-use Rattle.book_wire.specs.declared.statements.StatementCommand.{StatementCommand}
-use Rattle.book_wire.specs.declared.statements.StatementCommand.TheVariants.{Bind, Import, LineAdd, LineDismiss}
-use Rattle.book_wire.specs.declared.statements.StatementCommand.TheVariants.{LineReopen, Lines, Statements}
-use Rattle.book_wire.specs.declared.statements.StatementCommand.TheVariants.{LineMatch, MatchAuto}
 
 -- What stands against a line in the transaction that is posted for it.
 unfoldable pub other : Reader GivenOther
@@ -20,44 +16,64 @@ other = do
   memo ← text (codes "memo")
   gives (record { account = account; value = value; memo = memo })
 
--- An account text with the account that it stands for; a statement file, whose currency is read after its other
--- members; the line that is matched with the split; the line for which a transaction is posted, where an absent
--- description is none and an empty one stays empty; the line that is dismissed; the line that is open again; the
--- account whose open lines are matched, and how many days a split may be away; the account whose lines or statements
--- are asked for.
-abbrev pub statement_members : StatementCommand → Reader What
-statement_members Bind = do
+-- An account text with the account that it stands for.
+abbrev pub bind : Reader What
+bind = do
   words ← needed text_form (codes "text")
   account ← needed whole (codes "account")
   gives (what.Update (update.Bind (record { text = words; account = account })))
-statement_members Import = do
+
+-- A statement file, whose currency is read after its other members.
+abbrev pub import : Reader What
+import = do
   word ← needed format_form (codes "format")
   file ← needed text_form (codes "text")
   account ← optional whole (codes "account")
   named ← format word
   gives (what.Update (update.Import named file account))
-statement_members LineMatch = do
+
+-- The line that is matched with the split.
+abbrev pub line_match : Reader What
+line_match = do
   line ← needed whole (codes "line")
   split ← needed whole (codes "split")
   gives (what.Update (update.LineMatch line split))
-statement_members LineAdd = do
+
+-- The line for which a transaction is posted, where an absent description is none and an empty one stays empty.
+abbrev pub line_add : Reader What
+line_add = do
   line ← needed whole (codes "line")
   others ← needed (list (inner other)) (codes "others")
   description ← optional text_form (codes "description")
   gives (what.Update (update.LineAdd line others description))
-statement_members LineDismiss = do
+
+-- The line that is dismissed.
+abbrev pub line_dismiss : Reader What
+line_dismiss = do
   line ← needed whole (codes "line")
   gives (what.Update (update.LineDismiss line))
-statement_members LineReopen = do
+
+-- The line that is open again.
+abbrev pub line_reopen : Reader What
+line_reopen = do
   line ← needed whole (codes "line")
   gives (what.Update (update.LineReopen line))
-statement_members MatchAuto = do
+
+-- The account whose open lines are matched, and how many days a split may be away.
+abbrev pub match_auto : Reader What
+match_auto = do
   account ← needed whole (codes "account")
   window ← needed whole (codes "window")
   gives (what.Update (update.MatchAuto account window))
-statement_members Lines = do
+
+-- The account whose lines are asked for.
+abbrev pub lines : Reader What
+lines = do
   account ← needed whole (codes "account")
   gives (what.Lines account)
-statement_members Statements = do
+
+-- The account whose statements are asked for.
+abbrev pub listed_statements : Reader What
+listed_statements = do
   account ← needed whole (codes "account")
   gives (what.Statements account)

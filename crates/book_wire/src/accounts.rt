@@ -1,6 +1,6 @@
 ghost use Rattle.std.specs.Prelude.{◌≡◌};
 ghost use Rattle.book_json.specs.Reads.{rest, Gives};
-ghost use Rattle.book_wire.specs.Accounts.{account, account_members};
+ghost use Rattle.book_wire.specs.Accounts.{account, account_add, account_drop, account_edit};
 
 use crate::kinds::kind;
 use book_accounts::Account;
@@ -8,29 +8,8 @@ use book_command::{GivenAccount, Update};
 use book_commodity::Text;
 use book_json::{Fault, Filled, Reading};
 
-/// The commands on accounts.
-#[derive(Clone, Copy)]
-pub(crate) enum AccountCommand {
-    AccountAdd,
-    AccountEdit,
-    AccountDrop,
-}
-
-impl AccountCommand {
-    /// The change that the command asks for, of its members.
-    pub(crate) fn read(self, members: &mut Reading) -> Result<Update, Fault>
-        ensures { Gives (account_members self (rest members.old)) result (rest members.new) }
-    {
-        match self {
-            AccountCommand::AccountAdd => account_add(members),
-            AccountCommand::AccountEdit => account_edit(members),
-            AccountCommand::AccountDrop => account_drop(members),
-        }
-    }
-}
-
-fn account_add(members: &mut Reading) -> Result<Update, Fault>
-    ensures { Gives (account_members AccountCommand.AccountAdd (rest members.old)) result (rest members.new) }
+pub(crate) fn account_add(members: &mut Reading) -> Result<Update, Fault>
+    ensures { Gives (account_add (rest members.old)) result (rest members.new) }
 {
     let account = account(members)?;
     Ok(Update::AccountAdd { account })
@@ -63,8 +42,8 @@ fn account(members: &mut Reading) -> Result<Account, Fault>
     })
 }
 
-fn account_edit(members: &mut Reading) -> Result<Update, Fault>
-    ensures { Gives (account_members AccountCommand.AccountEdit (rest members.old)) result (rest members.new) }
+pub(crate) fn account_edit(members: &mut Reading) -> Result<Update, Fault>
+    ensures { Gives (account_edit (rest members.old)) result (rest members.new) }
 {
     let account = members.needed("account")?;
     let name = members.optional("name")?;
@@ -91,8 +70,8 @@ fn text_of(filled: Option<Filled>) -> Option<Text>
     filled.map(|filled| filled.into_text())
 }
 
-fn account_drop(members: &mut Reading) -> Result<Update, Fault>
-    ensures { Gives (account_members AccountCommand.AccountDrop (rest members.old)) result (rest members.new) }
+pub(crate) fn account_drop(members: &mut Reading) -> Result<Update, Fault>
+    ensures { Gives (account_drop (rest members.old)) result (rest members.new) }
 {
     let account = members.needed("account")?;
     Ok(Update::AccountDrop { account })

@@ -1,38 +1,22 @@
-ghost use Rattle.std.specs.Prelude.{◌≡◌, codes};
+ghost use Rattle.std.specs.Prelude.{codes};
 ghost use Rattle.book_json.specs.Members.{needed};
 ghost use Rattle.book_json.specs.Reads.{rest, Gives};
-ghost use Rattle.book_wire.specs.Commands.{command, family_of, what_of, word_form};
+ghost use Rattle.book_wire.specs.Commands.{command, what_of, word_form};
 
-use crate::accounts::AccountCommand::{self, AccountAdd, AccountDrop, AccountEdit};
-use crate::commodities::CommodityCommand::{self, BookCurrency, CommodityAdd};
-use crate::history::HistoryCommand::{self, Redo, Status, Undo};
-use crate::posting::PostingCommand::{self, Drop, Edit, Mark, Post};
-use crate::prices::PriceCommand::{self, Price, PriceDrop, PriceSet};
-use crate::reconciliations::ReconcileCommand::{self, Reconcile, ReconcileStatement, Recons};
-use crate::reports::ReportCommand::{self, Gains, Income, Lots, Register, Sheet, Trial};
-use crate::schedules::ScheduleCommand::{self, Due, ScheduleAdd, ScheduleDrop, ScheduleRun};
-use crate::statements::StatementCommand::{
-    self, Bind, Import, LineAdd, LineDismiss, LineMatch, LineReopen, Lines, MatchAuto, Statements,
-};
-use Family::{
-    Accounts, BankStatements, Commodities, History, Posting, Prices, Reconciliations, Reports,
-    Schedules,
+use crate::{
+    accounts, commodities, posting, prices, reconciliations, reports, schedules, statements,
 };
 use book_command::{Command, What, Word, words};
 use book_json::{Fault, Reading};
 
-/// A command, by its family.
-#[derive(Clone, Copy)]
-pub(crate) enum Family {
-    Commodities(CommodityCommand),
-    Accounts(AccountCommand),
-    Posting(PostingCommand),
-    Prices(PriceCommand),
-    Reports(ReportCommand),
-    Schedules(ScheduleCommand),
-    BankStatements(StatementCommand),
-    Reconciliations(ReconcileCommand),
-    History(HistoryCommand),
+/// The command of a line, of its members, which are read to the end.
+pub(crate) fn command(members: &mut Reading) -> Result<Command, Fault>
+    ensures { Gives (command (rest members.old)) result (rest members.new) }
+{
+    let word = word(members)?;
+    let at = members.optional("at")?;
+    let what = what_of(word, members)?;
+    members.end(Command { at, what })
 }
 
 /// The word of a line.
@@ -43,75 +27,47 @@ fn word(members: &mut Reading) -> Result<Word, Fault>
     members.word("do", words())
 }
 
-/// The command of a word, in its family.
-fn family_of(word: Word) -> Family
-    ensures { result ≡ family_of word }
+/// What the command of a word asks, of its members.
+fn what_of(word: Word, members: &mut Reading) -> Result<What, Fault>
+    ensures { Gives (what_of word (rest members.old)) result (rest members.new) }
 {
     match word {
-        Word::BookCurrency => Commodities(BookCurrency),
-        Word::CommodityAdd => Commodities(CommodityAdd),
-        Word::AccountAdd => Accounts(AccountAdd),
-        Word::AccountEdit => Accounts(AccountEdit),
-        Word::AccountDrop => Accounts(AccountDrop),
-        Word::Post => Posting(Post),
-        Word::Edit => Posting(Edit),
-        Word::Drop => Posting(Drop),
-        Word::Mark => Posting(Mark),
-        Word::PriceSet => Prices(PriceSet),
-        Word::PriceDrop => Prices(PriceDrop),
-        Word::Price => Prices(Price),
-        Word::Register => Reports(Register),
-        Word::Trial => Reports(Trial),
-        Word::Sheet => Reports(Sheet),
-        Word::Income => Reports(Income),
-        Word::Lots => Reports(Lots),
-        Word::Gains => Reports(Gains),
-        Word::ScheduleAdd => Schedules(ScheduleAdd),
-        Word::ScheduleDrop => Schedules(ScheduleDrop),
-        Word::ScheduleRun => Schedules(ScheduleRun),
-        Word::Due => Schedules(Due),
-        Word::Bind => BankStatements(Bind),
-        Word::Import => BankStatements(Import),
-        Word::LineMatch => BankStatements(LineMatch),
-        Word::LineAdd => BankStatements(LineAdd),
-        Word::LineDismiss => BankStatements(LineDismiss),
-        Word::LineReopen => BankStatements(LineReopen),
-        Word::MatchAuto => BankStatements(MatchAuto),
-        Word::Lines => BankStatements(Lines),
-        Word::Statements => BankStatements(Statements),
-        Word::Reconcile => Reconciliations(Reconcile),
-        Word::ReconcileStatement => Reconciliations(ReconcileStatement),
-        Word::Recons => Reconciliations(Recons),
-        Word::Undo => History(Undo),
-        Word::Redo => History(Redo),
-        Word::Status => History(Status),
+        Word::BookCurrency => Ok(What::Update(commodities::book_currency(members)?)),
+        Word::CommodityAdd => Ok(What::Update(commodities::commodity_add(members)?)),
+        Word::AccountAdd => Ok(What::Update(accounts::account_add(members)?)),
+        Word::AccountEdit => Ok(What::Update(accounts::account_edit(members)?)),
+        Word::AccountDrop => Ok(What::Update(accounts::account_drop(members)?)),
+        Word::Post => Ok(What::Update(posting::post(members)?)),
+        Word::Edit => Ok(What::Update(posting::edit(members)?)),
+        Word::Drop => Ok(What::Update(posting::drop_transaction(members)?)),
+        Word::Mark => Ok(What::Update(posting::mark(members)?)),
+        Word::PriceSet => prices::price_set(members),
+        Word::PriceDrop => prices::price_drop(members),
+        Word::Price => prices::price(members),
+        Word::Register => Ok(What::Report(reports::register(members)?)),
+        Word::Trial => Ok(What::Report(reports::trial(members)?)),
+        Word::Sheet => Ok(What::Report(reports::sheet(members)?)),
+        Word::Income => Ok(What::Report(reports::income(members)?)),
+        Word::Lots => Ok(What::Report(reports::lots(members)?)),
+        Word::Gains => Ok(What::Report(reports::gains(members)?)),
+        Word::ScheduleAdd => schedules::schedule_add(members),
+        Word::ScheduleDrop => schedules::schedule_drop(members),
+        Word::ScheduleRun => schedules::schedule_run(members),
+        Word::Due => schedules::due(members),
+        Word::Bind => statements::bind(members),
+        Word::Import => statements::import(members),
+        Word::LineMatch => statements::line_match(members),
+        Word::LineAdd => statements::line_add(members),
+        Word::LineDismiss => statements::line_dismiss(members),
+        Word::LineReopen => statements::line_reopen(members),
+        Word::MatchAuto => statements::match_auto(members),
+        Word::Lines => statements::lines(members),
+        Word::Statements => statements::listed_statements(members),
+        Word::Reconcile => reconciliations::reconcile(members),
+        Word::ReconcileStatement => reconciliations::reconcile_statement(members),
+        Word::Recons => reconciliations::recons(members),
+        Word::Undo => Ok(What::Undo),
+        Word::Redo => Ok(What::Redo),
+        Word::Status => Ok(What::Status),
     }
-}
-
-/// The command of a line, of its members, which are read to the end.
-pub(crate) fn command(members: &mut Reading) -> Result<Command, Fault>
-    ensures { Gives (command (rest members.old)) result (rest members.new) }
-{
-    let word = word(members)?;
-    let at = members.optional("at")?;
-    let what = what_of(family_of(word), members)?;
-    members.end(Command { at, what })
-}
-
-/// What the command asks.
-fn what_of(family: Family, members: &mut Reading) -> Result<What, Fault>
-    ensures { Gives (what_of family (rest members.old)) result (rest members.new) }
-{
-    let update = match family {
-        Commodities(command) => command.read(members)?,
-        Accounts(command) => command.read(members)?,
-        Posting(command) => command.read(members)?,
-        Prices(command) => return command.read(members),
-        Reports(command) => return Ok(What::Report(command.read(members)?)),
-        Schedules(command) => return command.read(members),
-        BankStatements(command) => return command.read(members),
-        Reconciliations(command) => return command.read(members),
-        History(command) => return Ok(command.what()),
-    };
-    Ok(What::Update(update))
 }

@@ -1,38 +1,19 @@
 ghost use Rattle.book_json.specs.Reads.{rest, Gives};
-ghost use Rattle.book_wire.specs.Commodities.{commodity_members};
+ghost use Rattle.book_wire.specs.Commodities.{book_currency, commodity_add};
 
 use book_command::Update;
 use book_commodity::Commodity;
 use book_json::{Fault, Filled, Reading};
 
-/// The commands on commodities.
-#[derive(Clone, Copy)]
-pub(crate) enum CommodityCommand {
-    BookCurrency,
-    CommodityAdd,
-}
-
-impl CommodityCommand {
-    /// The change that the command asks for, of its members.
-    pub(crate) fn read(self, members: &mut Reading) -> Result<Update, Fault>
-        ensures { Gives (commodity_members self (rest members.old)) result (rest members.new) }
-    {
-        match self {
-            CommodityCommand::BookCurrency => book_currency(members),
-            CommodityCommand::CommodityAdd => commodity_add(members),
-        }
-    }
-}
-
-fn book_currency(members: &mut Reading) -> Result<Update, Fault>
-    ensures { Gives (commodity_members CommodityCommand.BookCurrency (rest members.old)) result (rest members.new) }
+pub(crate) fn book_currency(members: &mut Reading) -> Result<Update, Fault>
+    ensures { Gives (book_currency (rest members.old)) result (rest members.new) }
 {
     let commodity = members.needed("commodity")?;
     Ok(Update::BookCurrency { commodity })
 }
 
-fn commodity_add(members: &mut Reading) -> Result<Update, Fault>
-    ensures { Gives (commodity_members CommodityCommand.CommodityAdd (rest members.old)) result (rest members.new) }
+pub(crate) fn commodity_add(members: &mut Reading) -> Result<Update, Fault>
+    ensures { Gives (commodity_add (rest members.old)) result (rest members.new) }
 {
     let space = members.needed::<Filled>("space")?;
     let name = members.needed::<Filled>("name")?;

@@ -7,7 +7,6 @@ mod accounts;
 mod commands;
 mod commodities;
 mod formats;
-mod history;
 mod kinds;
 mod line;
 mod posting;

@@ -1,7 +1,7 @@
 ghost use Rattle.std.specs.Prelude.{codes};
 ghost use Rattle.book_json.specs.Members.{flag, needed};
 ghost use Rattle.book_json.specs.Reads.{rest, Gives};
-ghost use Rattle.book_wire.specs.Posting.{kept_split, posting_members, split, transaction};
+ghost use Rattle.book_wire.specs.Posting.{drop_transaction, edit, kept_split, mark, post, split, transaction};
 ghost use Rattle.book_wire.specs.Posting.{mark_form};
 
 use book_command::{GivenSplit, GivenTxn, Update};
@@ -10,39 +10,16 @@ use book_json::{Fault, Object, Reading};
 /// The words for the marks that are set by hand, and whether the split is cleared.
 const MARKS: [(&str, bool); 2] = [("n", false), ("c", true)];
 
-/// The commands on transactions and their splits.
-#[derive(Clone, Copy)]
-pub(crate) enum PostingCommand {
-    Post,
-    Edit,
-    Drop,
-    Mark,
-}
-
-impl PostingCommand {
-    /// The change that the command asks for, of its members.
-    pub(crate) fn read(self, members: &mut Reading) -> Result<Update, Fault>
-        ensures { Gives (posting_members self (rest members.old)) result (rest members.new) }
-    {
-        match self {
-            PostingCommand::Post => post(members),
-            PostingCommand::Edit => edit(members),
-            PostingCommand::Drop => drop_transaction(members),
-            PostingCommand::Mark => mark(members),
-        }
-    }
-}
-
-fn post(members: &mut Reading) -> Result<Update, Fault>
-    ensures { Gives (posting_members PostingCommand.Post (rest members.old)) result (rest members.new) }
+pub(crate) fn post(members: &mut Reading) -> Result<Update, Fault>
+    ensures { Gives (post (rest members.old)) result (rest members.new) }
 {
     let day = members.needed("day")?;
     let given = transaction_of::<NewSplit>(members)?;
     Ok(Update::Post { day, given })
 }
 
-fn edit(members: &mut Reading) -> Result<Update, Fault>
-    ensures { Gives (posting_members PostingCommand.Edit (rest members.old)) result (rest members.new) }
+pub(crate) fn edit(members: &mut Reading) -> Result<Update, Fault>
+    ensures { Gives (edit (rest members.old)) result (rest members.new) }
 {
     let transaction = members.needed("transaction")?;
     let force = forced(members)?;
@@ -56,16 +33,16 @@ fn edit(members: &mut Reading) -> Result<Update, Fault>
     })
 }
 
-fn drop_transaction(members: &mut Reading) -> Result<Update, Fault>
-    ensures { Gives (posting_members PostingCommand.Drop (rest members.old)) result (rest members.new) }
+pub(crate) fn drop_transaction(members: &mut Reading) -> Result<Update, Fault>
+    ensures { Gives (drop_transaction (rest members.old)) result (rest members.new) }
 {
     let transaction = members.needed("transaction")?;
     let force = forced(members)?;
     Ok(Update::Drop { transaction, force })
 }
 
-fn mark(members: &mut Reading) -> Result<Update, Fault>
-    ensures { Gives (posting_members PostingCommand.Mark (rest members.old)) result (rest members.new) }
+pub(crate) fn mark(members: &mut Reading) -> Result<Update, Fault>
+    ensures { Gives (mark (rest members.old)) result (rest members.new) }
 {
     let split = members.needed("split")?;
     let cleared = cleared(members)?;

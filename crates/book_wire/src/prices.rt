@@ -1,33 +1,12 @@
 ghost use Rattle.book_json.specs.Reads.{rest, Gives};
-ghost use Rattle.book_wire.specs.Prices.{price_members};
+ghost use Rattle.book_wire.specs.Prices.{price, price_drop, price_set};
 
 use book_command::{Update, What};
 use book_json::{Fault, Reading};
 use book_prices::Price;
 
-/// The commands on prices.
-#[derive(Clone, Copy)]
-pub(crate) enum PriceCommand {
-    PriceSet,
-    PriceDrop,
-    Price,
-}
-
-impl PriceCommand {
-    /// What the command asks, of its members.
-    pub(crate) fn read(self, members: &mut Reading) -> Result<What, Fault>
-        ensures { Gives (price_members self (rest members.old)) result (rest members.new) }
-    {
-        match self {
-            PriceCommand::PriceSet => price_set(members),
-            PriceCommand::PriceDrop => price_drop(members),
-            PriceCommand::Price => price(members),
-        }
-    }
-}
-
-fn price_set(members: &mut Reading) -> Result<What, Fault>
-    ensures { Gives (price_members PriceCommand.PriceSet (rest members.old)) result (rest members.new) }
+pub(crate) fn price_set(members: &mut Reading) -> Result<What, Fault>
+    ensures { Gives (price_set (rest members.old)) result (rest members.new) }
 {
     let commodity = members.needed("commodity")?;
     let currency = members.needed("currency")?;
@@ -44,15 +23,15 @@ fn price_set(members: &mut Reading) -> Result<What, Fault>
     Ok(What::Update(Update::PriceSet { price }))
 }
 
-fn price_drop(members: &mut Reading) -> Result<What, Fault>
-    ensures { Gives (price_members PriceCommand.PriceDrop (rest members.old)) result (rest members.new) }
+pub(crate) fn price_drop(members: &mut Reading) -> Result<What, Fault>
+    ensures { Gives (price_drop (rest members.old)) result (rest members.new) }
 {
     let price = members.needed("price")?;
     Ok(What::Update(Update::PriceDrop { price }))
 }
 
-fn price(members: &mut Reading) -> Result<What, Fault>
-    ensures { Gives (price_members PriceCommand.Price (rest members.old)) result (rest members.new) }
+pub(crate) fn price(members: &mut Reading) -> Result<What, Fault>
+    ensures { Gives (price (rest members.old)) result (rest members.new) }
 {
     let commodity = members.needed("commodity")?;
     let currency = members.needed("currency")?;

@@ -1,38 +1,11 @@
 ghost use Rattle.book_json.specs.Reads.{rest, Gives};
-ghost use Rattle.book_wire.specs.Reports.{report_members};
+ghost use Rattle.book_wire.specs.Reports.{gains, income, lots, register, sheet, trial};
 
 use book_command::Report;
 use book_json::{Fault, Reading};
 
-/// The commands that ask for a report.
-#[derive(Clone, Copy)]
-pub(crate) enum ReportCommand {
-    Register,
-    Trial,
-    Sheet,
-    Income,
-    Lots,
-    Gains,
-}
-
-impl ReportCommand {
-    /// The report that the command asks for, of its members.
-    pub(crate) fn read(self, members: &mut Reading) -> Result<Report, Fault>
-        ensures { Gives (report_members self (rest members.old)) result (rest members.new) }
-    {
-        match self {
-            ReportCommand::Register => register(members),
-            ReportCommand::Trial => trial(members),
-            ReportCommand::Sheet => sheet(members),
-            ReportCommand::Income => income(members),
-            ReportCommand::Lots => lots(members),
-            ReportCommand::Gains => gains(members),
-        }
-    }
-}
-
-fn register(members: &mut Reading) -> Result<Report, Fault>
-    ensures { Gives (report_members ReportCommand.Register (rest members.old)) result (rest members.new) }
+pub(crate) fn register(members: &mut Reading) -> Result<Report, Fault>
+    ensures { Gives (register (rest members.old)) result (rest members.new) }
 {
     let account = members.needed("account")?;
     let from = members.optional("from")?;
@@ -46,24 +19,24 @@ fn register(members: &mut Reading) -> Result<Report, Fault>
     })
 }
 
-fn trial(members: &mut Reading) -> Result<Report, Fault>
-    ensures { Gives (report_members ReportCommand.Trial (rest members.old)) result (rest members.new) }
+pub(crate) fn trial(members: &mut Reading) -> Result<Report, Fault>
+    ensures { Gives (trial (rest members.old)) result (rest members.new) }
 {
     let day = members.needed("day")?;
     let csv = members.flag("csv")?;
     Ok(Report::Trial { day, csv })
 }
 
-fn sheet(members: &mut Reading) -> Result<Report, Fault>
-    ensures { Gives (report_members ReportCommand.Sheet (rest members.old)) result (rest members.new) }
+pub(crate) fn sheet(members: &mut Reading) -> Result<Report, Fault>
+    ensures { Gives (sheet (rest members.old)) result (rest members.new) }
 {
     let day = members.needed("day")?;
     let csv = members.flag("csv")?;
     Ok(Report::Sheet { day, csv })
 }
 
-fn income(members: &mut Reading) -> Result<Report, Fault>
-    ensures { Gives (report_members ReportCommand.Income (rest members.old)) result (rest members.new) }
+pub(crate) fn income(members: &mut Reading) -> Result<Report, Fault>
+    ensures { Gives (income (rest members.old)) result (rest members.new) }
 {
     let from = members.needed("from")?;
     let to = members.needed("to")?;
@@ -71,16 +44,16 @@ fn income(members: &mut Reading) -> Result<Report, Fault>
     Ok(Report::Income { from, to, csv })
 }
 
-fn lots(members: &mut Reading) -> Result<Report, Fault>
-    ensures { Gives (report_members ReportCommand.Lots (rest members.old)) result (rest members.new) }
+pub(crate) fn lots(members: &mut Reading) -> Result<Report, Fault>
+    ensures { Gives (lots (rest members.old)) result (rest members.new) }
 {
     let account = members.needed("account")?;
     let csv = members.flag("csv")?;
     Ok(Report::Lots { account, csv })
 }
 
-fn gains(members: &mut Reading) -> Result<Report, Fault>
-    ensures { Gives (report_members ReportCommand.Gains (rest members.old)) result (rest members.new) }
+pub(crate) fn gains(members: &mut Reading) -> Result<Report, Fault>
+    ensures { Gives (gains (rest members.old)) result (rest members.new) }
 {
     let account = members.needed("account")?;
     let from = members.needed("from")?;

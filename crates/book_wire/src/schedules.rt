@@ -1,5 +1,5 @@
 ghost use Rattle.book_json.specs.Reads.{rest, Gives};
-ghost use Rattle.book_wire.specs.Schedules.{schedule, schedule_members};
+ghost use Rattle.book_wire.specs.Schedules.{due, schedule, schedule_add, schedule_drop, schedule_run};
 
 use crate::posting::{NewSplit, transaction_of};
 use crate::recurrences::{GivenEnd, GivenRecurrence, in_32_bits};
@@ -7,31 +7,8 @@ use book_command::{GivenSchedule, Update, What};
 use book_json::{Fault, Filled, Reading};
 use book_schedule::End;
 
-/// The commands on schedules.
-#[derive(Clone, Copy)]
-pub(crate) enum ScheduleCommand {
-    ScheduleAdd,
-    ScheduleDrop,
-    ScheduleRun,
-    Due,
-}
-
-impl ScheduleCommand {
-    /// What the command asks, of its members.
-    pub(crate) fn read(self, members: &mut Reading) -> Result<What, Fault>
-        ensures { Gives (schedule_members self (rest members.old)) result (rest members.new) }
-    {
-        match self {
-            ScheduleCommand::ScheduleAdd => schedule_add(members),
-            ScheduleCommand::ScheduleDrop => schedule_drop(members),
-            ScheduleCommand::ScheduleRun => schedule_run(members),
-            ScheduleCommand::Due => due(members),
-        }
-    }
-}
-
-fn schedule_add(members: &mut Reading) -> Result<What, Fault>
-    ensures { Gives (schedule_members ScheduleCommand.ScheduleAdd (rest members.old)) result (rest members.new) }
+pub(crate) fn schedule_add(members: &mut Reading) -> Result<What, Fault>
+    ensures { Gives (schedule_add (rest members.old)) result (rest members.new) }
 {
     let given = schedule(members)?;
     Ok(What::Update(Update::ScheduleAdd { given }))
@@ -56,23 +33,23 @@ fn schedule(members: &mut Reading) -> Result<GivenSchedule, Fault>
     })
 }
 
-fn schedule_drop(members: &mut Reading) -> Result<What, Fault>
-    ensures { Gives (schedule_members ScheduleCommand.ScheduleDrop (rest members.old)) result (rest members.new) }
+pub(crate) fn schedule_drop(members: &mut Reading) -> Result<What, Fault>
+    ensures { Gives (schedule_drop (rest members.old)) result (rest members.new) }
 {
     let schedule = members.needed("schedule")?;
     Ok(What::Update(Update::ScheduleDrop { schedule }))
 }
 
-fn schedule_run(members: &mut Reading) -> Result<What, Fault>
-    ensures { Gives (schedule_members ScheduleCommand.ScheduleRun (rest members.old)) result (rest members.new) }
+pub(crate) fn schedule_run(members: &mut Reading) -> Result<What, Fault>
+    ensures { Gives (schedule_run (rest members.old)) result (rest members.new) }
 {
     let upto = members.needed("upto")?;
     let schedule = members.optional("schedule")?;
     Ok(What::Update(Update::ScheduleRun { upto, schedule }))
 }
 
-fn due(members: &mut Reading) -> Result<What, Fault>
-    ensures { Gives (schedule_members ScheduleCommand.Due (rest members.old)) result (rest members.new) }
+pub(crate) fn due(members: &mut Reading) -> Result<What, Fault>
+    ensures { Gives (due (rest members.old)) result (rest members.new) }
 {
     let upto = members.needed("upto")?;
     Ok(What::Due { upto })
