@@ -1,4 +1,4 @@
-ghost use Rattle.std.specs.Prelude.{◌≡◌, ◌+◌, ◌↔◌, [], codes, false, length, true, IfOk, IsTrue, None, Ok, OnOk};
+ghost use Rattle.std.specs.Prelude.{◌≡◌, ◌+◌, ◌++◌, ◌↔◌, [], ℕ, List, codes, false, length, true, IfOk, IsTrue, None, Ok, OnOk};
 ghost use Rattle.std.specs.String.{string_bytes};
 
 use crate::counters::{count, counted, expanded};
@@ -21,6 +21,8 @@ impl Answer {
     /// Whether a line is this answer.
     pub fn is(&self, line: &str) -> bool
         ensures whole { self.now.is_whole ≡ true → (IsTrue result ↔ (line.now ≡ string_bytes self.now.begins)) }
+        ensures part { self.now.is_whole ≡ false → IsTrue result → (between : List ℕ)
+            × (line.now ≡ string_bytes self.now.begins ++ (between ++ string_bytes self.now.ends)) }
     {
         if self.is_whole {
             return line == self.begins.as_str();

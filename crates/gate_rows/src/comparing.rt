@@ -1,9 +1,13 @@
-ghost use Rattle.std.specs.Prelude.{◌≡◌, [], IfSome, None, OnOk};
-ghost use Rattle.gate_rows.specs.Comparing.{CountsUnless};
+ghost use Rattle.std.specs.Prelude.{◌≡◌, ◌<◌, ◌≤◌, ◌∷◌, [], IfNone, IfSome, IsTrue, None, OnOk};
+ghost use Rattle.std.specs.List.{list_all};
+ghost use Rattle.std.specs.String.{string_bytes};
+ghost use Rattle.book_keeper.specs.Faults.{next_count};
+ghost use Rattle.gate_rows.specs.Comparing.{AreHeld, CountsUnless, body_at, count_wrong, is_held};
 
+use crate::answers::WantedRow;
 use crate::report::{Place, Report};
 use crate::run::Run;
-use book_keeper::{MemSink, Row};
+use book_keeper::{MemSink, Row, RowKey};
 use std::alloc::Global;
 use std::{io, str};
 
@@ -42,23 +46,40 @@ pub fn compare(
     run: &Run,
     outcome: &Outcome,
     rows: Option<&[Row]>,
-) -> io::Result<()> {
+) -> io::Result<()>
+    ensures later { report.old.failed ≤ report.new.failed }
+    ensures status { OnOk result (report.new.failed < next_count report.old.failed
+        → string_bytes outcome.now.status ≡ string_bytes run.now.wanted.status) }
+    ensures unread { OnOk result (report.new.failed < next_count report.old.failed
+        → IfSome run.now.wanted.unread (λ count. count ≡ outcome.now.unread)) }
+    ensures held { OnOk result (report.new.failed < next_count report.old.failed
+        → IfSome rows.entry (λ held. AreHeld held.now run.now.wanted)) }
+    ensures none { OnOk result (report.new.failed < next_count report.old.failed
+        → IfNone rows.entry ((run.now.wanted.count ≡ None) × (run.now.wanted.rows.items ≡ []))) }
+{
     let came = outcome.status.as_str();
     compare_status(report, case.at(run.line), came, run.wanted.status.as_str())?;
     compare_unread(report, case, run, outcome)?;
     compare_lines(report, case, run, outcome.output.written())?;
     match rows {
-        Some(rows) => {
-            compare_count(report, case, run, rows.len())?;
-            compare_rows(report, case, run, rows)
-        }
+        Some(rows) => compare_held(report, case, run, rows),
         None => compare_unread_rows(report, case, run),
     }
 }
 
+/// Compares how many rows are held, and those that are named.
+fn compare_held(report: &mut Report<'_>, case: Case<'_>, run: &Run, rows: &[Row]) -> io::Result<()>
+    ensures later { report.old.failed ≤ report.new.failed }
+    ensures held { OnOk result (report.new.failed < next_count report.old.failed → AreHeld rows.now run.now.wanted) }
+{
+    compare_count(report, case, run, rows.len())?;
+    compare_rows(report, case, run, rows)
+}
+
 /// Where the rows can't be read, none may be wanted.
 fn compare_unread_rows(report: &mut Report<'_>, case: Case<'_>, run: &Run) -> io::Result<()>
-    ensures { CountsUnless ((run.now.wanted.count ≡ None) × (run.now.wanted.rows.items ≡ []))
+    ensures later { report.old.failed ≤ report.new.failed }
+    ensures counted { CountsUnless ((run.now.wanted.count ≡ None) × (run.now.wanted.rows.items ≡ []))
         report.old.failed report.new.failed }
 {
     if run.wanted.count.is_none() && run.wanted.rows.is_empty() {
@@ -74,7 +95,8 @@ pub fn compare_status(
     came: &str,
     wanted: &str,
 ) -> io::Result<()>
-    ensures { CountsUnless (came.now ≡ wanted.now) report.old.failed report.new.failed }
+    ensures later { report.old.failed ≤ report.new.failed }
+    ensures counted { CountsUnless (came.now ≡ wanted.now) report.old.failed report.new.failed }
 {
     if came == wanted {
         return Ok(());
@@ -89,7 +111,8 @@ fn compare_unread(
     run: &Run,
     outcome: &Outcome,
 ) -> io::Result<()>
-    ensures { OnOk result (CountsUnless (IfSome run.now.wanted.unread (λ count. count ≡ outcome.now.unread))
+    ensures later { report.old.failed ≤ report.new.failed }
+    ensures counted { OnOk result (CountsUnless (IfSome run.now.wanted.unread (λ count. count ≡ outcome.now.unread))
         report.old.failed report.new.failed) }
 {
     match run.wanted.unread {
@@ -108,7 +131,10 @@ pub fn compare_lines(
     case: Case<'_>,
     run: &Run,
     written: &[u8],
-) -> io::Result<()> {
+) -> io::Result<()>
+    ensures later { report.old.failed ≤ report.new.failed }
+    ensures once { report.new.failed ≤ next_count report.old.failed }
+{
     let Ok(text) = str::from_utf8(written) else {
         return report.fail(case.at(run.line), "lines in UTF-8", "other bytes");
     };
@@ -134,7 +160,8 @@ pub fn compare_lines(
 
 /// Compares how many rows are held.
 fn compare_count(report: &mut Report<'_>, case: Case<'_>, run: &Run, held: usize) -> io::Result<()>
-    ensures { OnOk result (CountsUnless (IfSome run.now.wanted.count (λ count. count ≡ held))
+    ensures later { report.old.failed ≤ report.new.failed }
+    ensures counted { OnOk result (CountsUnless (IfSome run.now.wanted.count (λ count. count ≡ held))
         report.old.failed report.new.failed) }
 {
     match run.wanted.count {
@@ -148,22 +175,51 @@ fn compare_count(report: &mut Report<'_>, case: Case<'_>, run: &Run, held: usize
 }
 
 /// Compares the rows that are named with those that are held.
-fn compare_rows(
-    report: &mut Report<'_>,
-    case: Case<'_>,
-    run: &Run,
-    rows: &[Row],
-) -> io::Result<()> {
+#[tactic(auto, using(crate::proofs::ComparingLemmas::count_from))]
+fn compare_rows(report: &mut Report<'_>, case: Case<'_>, run: &Run, rows: &[Row]) -> io::Result<()>
+    ensures later { report.old.failed ≤ report.new.failed }
+    ensures counted { OnOk result (report.new.failed
+        ≡ count_wrong (is_held rows.now) run.now.wanted.rows.items report.old.failed) }
+    ensures right { OnOk result (report.new.failed < next_count report.old.failed
+        → IsTrue (list_all (is_held rows.now) run.now.wanted.rows.items)) }
+{
     for wanted in run.wanted.rows.as_slice() {
-        let held = rows.iter().find(|row| row.key == wanted.key);
-        let body = held.map_or(&[][..], |row| row.body.as_slice());
-        if body != wanted.body.as_slice() {
-            let came = hex_of(report.alloc(), body)?;
-            let wanted_body = hex_of(report.alloc(), wanted.body.as_slice())?;
-            report.fail(case.at(wanted.line), wanted_body.as_str(), came.as_str())?;
-        }
+        compare_row(report, case, wanted, rows)?;
     }
     Ok(())
+}
+
+/// Compares a row with the one that is held under its key; one that is not held has no bytes.
+fn compare_row(
+    report: &mut Report<'_>,
+    case: Case<'_>,
+    wanted: &WantedRow,
+    rows: &[Row],
+) -> io::Result<()>
+    ensures later { report.old.failed ≤ report.new.failed }
+    ensures counted { OnOk result (report.new.failed
+        ≡ count_wrong (is_held rows.now) (wanted.now ∷ []) report.old.failed) }
+{
+    let body = body_at(rows, wanted.key);
+    if body == wanted.body.as_slice() {
+        return Ok(());
+    }
+    let came = hex_of(report.alloc(), body)?;
+    let wanted_body = hex_of(report.alloc(), wanted.body.as_slice())?;
+    report.fail(case.at(wanted.line), wanted_body.as_str(), came.as_str())
+}
+
+/// The body of the first row with a key; no bytes where there is no such row.
+#[tactic(auto, using(crate::proofs::ComparingLemmas::body_from))]
+fn body_at(rows: &[Row], key: RowKey) -> &[u8]
+    ensures { result.now ≡ body_at key rows.now }
+{
+    for row in rows {
+        if row.key == key {
+            return row.body.as_slice();
+        }
+    }
+    &[]
 }
 
 /// Bytes as hexadecimal digits.

@@ -1,3 +1,5 @@
+ghost use Rattle.std.specs.Prelude.{◌≤◌};
+
 use crate::comparing::{Case, compare_lines};
 use crate::counters::{memory, number, unread};
 use crate::report::Report;
@@ -112,7 +114,9 @@ impl<'a> StatementFile<'a> {
 
 /// Reads the statement files of a file, compares the rows of each with those that are wanted, and says how many there
 /// are.
-pub fn check_files(report: &mut Report<'_>, file: &str) -> io::Result<()> {
+pub fn check_files(report: &mut Report<'_>, file: &str) -> io::Result<()>
+    ensures later { report.old.failed ≤ report.new.failed }
+{
     let text = report.read(file)?;
     let sections = sections_of(report.alloc(), text.as_str())?;
     let mut files: u64 = 0;
@@ -126,7 +130,9 @@ pub fn check_files(report: &mut Report<'_>, file: &str) -> io::Result<()> {
 }
 
 /// Reads the statement file of a case, and compares its rows. A line that can't be read fails the case.
-fn check_case(report: &mut Report<'_>, file: &str, section: &Section<'_>) -> io::Result<()> {
+fn check_case(report: &mut Report<'_>, file: &str, section: &Section<'_>) -> io::Result<()>
+    ensures later { report.old.failed ≤ report.new.failed }
+{
     let name = section.name;
     let case = Case { file, name };
     let mut statement_file = StatementFile::new(report.alloc(), section.number)?;
@@ -146,7 +152,9 @@ fn compare_rows(
     case: Case<'_>,
     number: usize,
     statement_file: &StatementFile<'_>,
-) -> io::Result<()> {
+) -> io::Result<()>
+    ensures later { report.old.failed ≤ report.new.failed }
+{
     match statement_file.rows(report.alloc()) {
         Ok(rows) => compare_lines(report, case, &statement_file.run, rows.as_slice()),
         Err(_) => report.fail(

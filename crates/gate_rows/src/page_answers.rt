@@ -1,4 +1,4 @@
-ghost use Rattle.std.specs.Prelude.{◌≡◌};
+ghost use Rattle.std.specs.Prelude.{◌≡◌, ◌≤◌};
 ghost use Rattle.gate_rows.specs.Comparing.{CountsUnless};
 
 use crate::comparing::Case;
@@ -23,7 +23,9 @@ pub fn check_pairs(
     page: &Page<'_>,
     commands: &str,
     answers: &str,
-) -> io::Result<()> {
+) -> io::Result<()>
+    ensures later { report.old.failed ≤ report.new.failed }
+{
     let case = Case {
         file,
         name: "commands",
@@ -50,7 +52,9 @@ pub fn check_tables(
     file: &str,
     page: &Page<'_>,
     answers: &str,
-) -> io::Result<()> {
+) -> io::Result<()>
+    ensures later { report.old.failed ≤ report.new.failed }
+{
     let case = Case {
         file,
         name: "tables",
@@ -74,7 +78,8 @@ pub fn check_line(
     shown: Line<'_>,
     wanted: &str,
 ) -> io::Result<()>
-    ensures { CountsUnless (shown.entry.text.now ≡ wanted.now) report.old.failed report.new.failed }
+    ensures later { report.old.failed ≤ report.new.failed }
+    ensures counted { CountsUnless (shown.entry.text.now ≡ wanted.now) report.old.failed report.new.failed }
 {
     if shown.text == wanted {
         return Ok(());

@@ -1,4 +1,4 @@
-ghost use Rattle.std.specs.Prelude.{◌≡◌, ◌==◌};
+ghost use Rattle.std.specs.Prelude.{◌≡◌, ◌≤◌, ◌==◌};
 ghost use Rattle.book_keeper.specs.Faults.{next_count};
 
 use std::alloc::{AllocError, Global};
@@ -91,7 +91,8 @@ impl<'a> Report<'a> {
 
     /// Says that a row failed, on standard output and on standard error.
     pub fn fail(&mut self, place: Place<'_>, wanted: &str, came: &str) -> io::Result<()>
-        ensures { self.new.failed ≡ next_count self.old.failed }
+        ensures counted { self.new.failed ≡ next_count self.old.failed }
+        ensures later { self.old.failed ≤ self.new.failed }
     {
         self.failed = self.failed.saturating_add(1);
         if self.is_silent {

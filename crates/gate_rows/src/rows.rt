@@ -1,4 +1,6 @@
-ghost use Rattle.std.specs.Prelude.{◌≡◌, []};
+ghost use Rattle.std.specs.Prelude.{◌≡◌, [], IfOk, OnErr, OnOk};
+ghost use Rattle.book_keeper.specs.Rows.{after_change, with_row, without_row};
+ghost use Rattle.book_keeper.specs.declared.row.RowKey.{RowKey};
 
 use crate::counters::{memory, number, unread};
 use book_commodity::{Bytes, Many, OutOfMemory};
@@ -67,7 +69,10 @@ pub fn no_rows(alloc: Global) -> MemKeeper
 }
 
 /// A keeper in memory with equal rows.
-pub fn copy_of(alloc: Global, keeper: &MemKeeper) -> io::Result<MemKeeper> {
+#[tactic(auto, using(crate::proofs::KeptLemmas::put_next))]
+pub fn copy_of(alloc: Global, keeper: &MemKeeper) -> io::Result<MemKeeper>
+    ensures { IfOk result (λ copy. copy.rows ≡ keeper.now.rows) }
+{
     let mut copy = no_rows(alloc);
     for row in keeper.rows() {
         match row.copy() {
@@ -97,7 +102,10 @@ pub fn put_all(alloc: Global, keeper: &mut MemKeeper, text: &str) -> io::Result<
 }
 
 /// Puts a row.
-fn put(alloc: Global, keeper: &mut MemKeeper, row: Row) -> io::Result<()> {
+fn put(alloc: Global, keeper: &mut MemKeeper, row: Row) -> io::Result<()>
+    ensures put { OnOk result (keeper.new.rows ≡ with_row row keeper.old.rows) }
+    ensures kept { OnErr result (keeper.new.rows ≡ keeper.old.rows) }
+{
     if row.key.id < NUMBERS {
         return change(alloc, keeper, Change::Put(row));
     }
@@ -109,13 +117,19 @@ fn put(alloc: Global, keeper: &mut MemKeeper, row: Row) -> io::Result<()> {
 }
 
 /// Takes out the row whose key a line spells.
-pub fn take_out(alloc: Global, keeper: &mut MemKeeper, text: &str) -> io::Result<()> {
+pub fn take_out(alloc: Global, keeper: &mut MemKeeper, text: &str) -> io::Result<()>
+    ensures taken { OnOk result ((key : RowKey) × (keeper.new.rows ≡ without_row key keeper.old.rows)) }
+    ensures kept { OnErr result (keeper.new.rows ≡ keeper.old.rows) }
+{
     let (key, _) = row_of(alloc, text)?;
     change(alloc, keeper, Change::Gone(key))
 }
 
 /// Makes a change of a row, whose number is not too great to be given to a keeper.
-fn change(alloc: Global, keeper: &mut MemKeeper, change: Change) -> io::Result<()> {
+fn change(alloc: Global, keeper: &mut MemKeeper, change: Change) -> io::Result<()>
+    ensures made { OnOk result (keeper.new.rows ≡ after_change change keeper.old.rows) }
+    ensures kept { OnErr result (keeper.new.rows ≡ keeper.old.rows) }
+{
     let id = match &change {
         Change::Put(row) => row.key.id,
         Change::Gone(key) => key.id,
