@@ -20,13 +20,23 @@ pub record HasRows (image : Image) (rows : List Row) : Type 0 where
 abbrev pub BeginsWith : Image → List Row → Type 0
 BeginsWith image rows = HasRows image rows ⊎ (HoldNothing image × (rows ≡ []))
 
--- What is seen of a file and of the keeper over it: the rows with which the run begins, those that the keeper holds
--- now, and the faults that it has counted.
-abbrev pub over_file : {K : Type 0} → Image → (K → Bool) → (K → List Row → Type 0) → (K → ℕ) → K → Keeping
-over_file image sure holds faults keeper = record {
+-- The rows with which a run over the file begins are these alone.
+abbrev pub AreBegun : Image → List Row → Type 0
+AreBegun image rows = (begun : List Row) → BeginsWith image begun → rows ≡ begun
+
+-- What is seen of a file and of the keeper over it: whether the file was opened and its disk was honest; the rows with which the run begins,
+-- which alone a crash could leave then; those that the keeper holds now, and those that the next run may find; and the
+-- faults that it has counted.
+abbrev pub over_file :
+    {K : Type 0} → Image → (K → Bool) → (K → Bool) → (K → List Row → Type 0) → (K → List Row → Type 0) → (K → ℕ) → K
+    → Keeping
+over_file image honest sure holds may_leave faults keeper = record {
+  honest = honest keeper;
   sure = sure keeper;
   held = BeginsWith image;
   holds = holds keeper;
+  might_leave = AreBegun image;
+  may_leave = may_leave keeper;
   faults_before = 0;
   faults_after = faults keeper;
 }

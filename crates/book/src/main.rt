@@ -14,7 +14,7 @@ ghost use Rattle.book_serve.specs.Served.{link_reports};
 ghost use Rattle.book_app.specs.ServeClause.{ServeClause, across};
 ghost use Rattle.book_app.specs.StatusClause.{HasBookPath, IsStreamRun};
 ghost use Rattle.book_app.specs.Words.{AreNoWords, given_serve, given_work};
-ghost use Rattle.book_sqlite.specs.KeeperInSqlite.{HoldsRows, is_sure};
+ghost use Rattle.book_sqlite.specs.KeeperInSqlite.{HoldsRows, MayLeave, has_clean_store, is_sure};
 ghost use Rattle.book.specs.FileRun.{over_file};
 
 use book_app::{Ended, Status, named_book, run_program, words_of};
@@ -42,7 +42,8 @@ fn run_in<T: Start>(
     ports: &mut TcpPorts<&HostRuntime>,
 ) -> (Ended, FileKeeper<T>)
     ensures run { IsStreamRun (given_work (λ given. given.items) words)
-        (over_file (image_at T.Start) (is_sure over_files) (HoldsRows over_files) (λ keeper. keeper.faults) result.1)
+        (over_file (image_at T.Start) (has_clean_store over_files) (is_sure over_files) (HoldsRows over_files)
+        (MayLeave over_files) (λ keeper. keeper.faults) result.1)
         result.0.status }
     ensures usage { (result.0.status ≡ Status.Usage) ↔ MatchResult words
         (λ given. AreNoWords given.items) (λ error. error_kind error ≡ ErrorKind.InvalidData) }
@@ -50,7 +51,8 @@ fn run_in<T: Start>(
     ensures memory { OnErr words (result.0.status ≢ Status.Usage → result.0.status ≡ Status.Memory) }
     ensures keeper_fault { result.0.status ≡ Status.KeeperFault → Rose 0 result.1.faults }
     ensures serve { IfSome (given_serve (λ given. given.items) words) (λ serve. ServeClause serve
-        (over_file (image_at T.Start) (is_sure over_files) (HoldsRows over_files) (λ keeper. keeper.faults) result.1)
+        (over_file (image_at T.Start) (has_clean_store over_files) (is_sure over_files) (HoldsRows over_files)
+        (MayLeave over_files) (λ keeper. keeper.faults) result.1)
         (link_reports left_of written_to read_faults_of write_faults_of)
         (across links_of links_of accepted_by port_of ports.old ports.new) result.0.status) }
     ensures other_words { given_serve (λ given. given.items) words ≡ None → ports.new ≡ ports.old }

@@ -14,7 +14,8 @@ use Rattle.book_serve.specs.declared.serve_end.ServeEnd.TheVariants as end
 use Rattle.book_app.specs.Numbers.{status_served, status_unopened}
 use Rattle.book_app.specs.Respond.{kept_answers}
 use Rattle.book_app.specs.ServeClause.{HasServedBook, NoneAccepted, PortsSeen, ServeClause}
-use Rattle.book_app.specs.StatusClause.{HasLed, HoldsAsBefore, Keeping, NowOpensTo, OpenedTo, ServedRows}
+use Rattle.book_app.specs.StatusClause.{HasLed, HoldsAsBefore, Keeping, MayOpenTo, NowOpensTo, OpenedTo}
+use Rattle.book_app.specs.StatusClause.{ServedRows}
 use Rattle.book_app.specs.Words.{named_number, named_serve}
 use Rattle.book_app.specs.declared.status.Status.TheVariants.{PortFault}
 use Rattle.book_app.specs.declared.words.ServeWords.{ServeWords}
@@ -47,6 +48,7 @@ module _ {L : Type 0} (serve : ServeWords) (keeping : Keeping) (of : LinkReports
     led = served-leads of h.first keeping.faults_before h.served.links h.last keeping.faults_after
         h.served.served.in_turn;
     kept = h.kept;
+    leaves = h.leaves;
   }
 
   -- what became of the keeper's rows where links were served
@@ -77,12 +79,13 @@ module _ {L : Type 0} (serve : ServeWords) (keeping : Keeping) (of : LinkReports
   pub has_served :
       (first last : Kept) (faults : ℕ) (ended : ServeEnd) → faults ≡ keeping.faults_before
       → OpenedTo keeping (Opens (machine_kept first)) → NowOpensTo keeping (machine_kept last)
+      → MayOpenTo keeping (machine_kept last)
       → IsServing kept_answers of serve.links serve.port
       (server_state first faults ports.coming_before ports.closed_before ports.accepted_before ports.port_before)
       (server_state last keeping.faults_after ports.coming_after ports.closed_after ports.accepted_after
       ports.port_after) ended
       → HasServedBook serve keeping of ports ended
-  has_served first last faults ended same opened kept served = record {
+  has_served first last faults ended same opened kept leaves served = record {
     first = first;
     last = last;
     opened = opened;
@@ -93,6 +96,7 @@ module _ {L : Type 0} (serve : ServeWords) (keeping : Keeping) (of : LinkReports
         ports.port_after) ended)
         same served;
     kept = kept;
+    leaves = leaves;
   }
 
 -- ports that were not asked

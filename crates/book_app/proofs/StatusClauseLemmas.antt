@@ -2,15 +2,16 @@
 use Rattle.std.proofs.Common.{◌≡◌, ◌≢◌, ℕ, Bool, List, [], Option, Some, None, IsTrue, inl, inr}
 use Rattle.std.proofs.Common.{Result, Ok, Err, IfOk, IfSome, refl, sym, subst, ◌∙◌, arith}
 use Rattle.book_keeper.proofs.StreamLemmas.{Are-some, Wrote-nil}
+use Rattle.book_keeper.specs.declared.keeper.Keeper.{Ghosts}
 use Rattle.book_keeper.specs.declared.row.Row.{Row}
 use Rattle.book_lines.specs.RunClause.{at, RunClause}
 use Rattle.book_lines.specs.declared.running.RunEnd.{RunEnd}
 use Rattle.book_lines.specs.declared.running.RunEnd.TheVariants as end
-use Rattle.book_opening.specs.Opening.{WasRead}
+use Rattle.book_opening.specs.Opening.{StaysSure, WasRead}
 use Rattle.book_engine.specs.Books.{machine_kept}
 use Rattle.book_engine.specs.Kept.{Kept}
 use Rattle.book_engine.specs.Machine.{Machine}
-use Rattle.book_engine.specs.Opening.{Opened}
+use Rattle.book_engine.specs.Opening.{Opened, WhereOpened}
 use Rattle.book_engine.specs.Opening.{row_key}
 use Rattle.book_engine.specs.Opens.{Bad, Opening, Opens, Unsound}
 use Rattle.book_engine.specs.Standing.{Stands}
@@ -22,7 +23,8 @@ use Rattle.book_app.specs.Numbers.{status_of, status_shown, status_unopened}
 use Rattle.book_serve.specs.Served.{LinkReports}
 use Rattle.book_serve.specs.declared.serve_end.ServeEnd.{ServeEnd}
 use Rattle.book_app.specs.ServeClause.{HasServedBook, PortsSeen, ServeClause}
-use Rattle.book_app.specs.StatusClause.{IsBookRun, IsLineRun, IsSession, IsUntouched, Keeping, NowOpensTo, OpenedTo}
+use Rattle.book_app.specs.StatusClause.{IsBookRun, IsLineRun, IsSession, IsUntouched, Keeping, MayOpenTo, NowOpensTo}
+use Rattle.book_app.specs.StatusClause.{OpenedTo}
 use Rattle.book_app.specs.StatusClause.{HasBookPath, HoldsAsBefore, ImportClause, IsImported, IsImportRun, IsShownAs}
 use Rattle.book_app.specs.StatusClause.{HasLed, IsStreamRun, SampleClause, ServedRows, StatusClause, WorkClause, over}
 use Rattle.book_app.specs.Words.{Work, Lines, Import, Serve, Sample, named_number, work_named}
@@ -51,11 +53,12 @@ session_clause keeping before after bytes read left text end.OutputFault h = h
 pub run_of_lines :
     (keeping : Keeping) (first last : Machine) (faults : ℕ) (input_before input_after : Option (List ℕ))
     (output_before output_after : List ℕ → Type 0) (status : Status) → faults ≡ keeping.faults_before
-    → OpenedTo keeping (Opens first) → NowOpensTo keeping last
+    → OpenedTo keeping (Opens first) → NowOpensTo keeping last → MayOpenTo keeping last
     → IsLineRun (at first output_before faults) input_before input_after (at last output_after keeping.faults_after)
     status
     → IsBookRun Lines keeping input_before input_after output_before output_after status
-run_of_lines keeping first last faults input_before input_after output_before output_after status same opened kept run =
+run_of_lines keeping first last faults input_before input_after output_before output_after status same opened kept
+    leaves run =
     let session : IsSession keeping output_before output_after run.bytes run.read run.left run.text run.ended =
     record {
       first = first;
@@ -65,6 +68,7 @@ run_of_lines keeping first last faults input_before input_after output_before ou
           (λ (n : ℕ). RunClause answers (at first output_before n) run.bytes run.read run.left run.text
           (at last output_after keeping.faults_after) run.ended) same run.clause;
       kept = kept;
+      leaves = leaves;
     } in
     record {
       bytes = run.bytes;
@@ -84,11 +88,9 @@ run_of_lines keeping first last faults input_before input_after output_before ou
 
 -- a keeper that was not asked after its book was opened holds the rows that it held before
 pub same_rows :
-    {K : Type 0} (sure : K → Bool) (holds : K → List Row → Type 0) (faults : K → ℕ) (old mid new : K) → new ≡ mid
-    → (IsTrue (sure mid) → (rows : List Row) → holds old rows → holds mid rows)
-    → HoldsAsBefore (over sure holds faults old new)
-same_rows sure holds faults old mid new same rows =
-    subst (λ k. IsTrue (sure k) → (rows : List Row) → holds old rows → holds k rows) (sym same) rows
+    {K : Type 0} (of : Ghosts K) (old mid new : K) → new ≡ mid → HoldsAsBefore (over of old mid)
+    → HoldsAsBefore (over of old new)
+same_rows of old mid new same before = subst (λ k. HoldsAsBefore (over of old k)) (sym same) before
 
 import_clause :
     (words : ImportWords) (keeping : Keeping) (before after : List ℕ → Type 0) (read left text : List ℕ)
@@ -106,12 +108,13 @@ pub run_of_import :
     (words : ImportWords) (keeping : Keeping) (first last : Machine) (faults : ℕ)
     (input_before input_after : Option (List ℕ)) (output_before output_after : List ℕ → Type 0) (status : Status)
     → faults ≡ keeping.faults_before → OpenedTo keeping (Opens first) → NowOpensTo keeping last
+    → MayOpenTo keeping last
     → (status ≡ InputLimit → HoldsAsBefore keeping) → (status ≡ InputFault → HoldsAsBefore keeping)
     → IsImportRun words (at first output_before faults) input_before input_after
     (at last output_after keeping.faults_after) status
     → IsBookRun (Import words) keeping input_before input_after output_before output_after status
 run_of_import words keeping first last faults input_before input_after output_before output_after status same opened
-    kept limit fault run =
+    kept leaves limit fault run =
     let whole = run.whole in
     let imported : IsImported words keeping output_before output_after whole.read whole.left whole.text run.ended =
     record {
@@ -122,6 +125,7 @@ run_of_import words keeping first last faults input_before input_after output_be
           (λ (n : ℕ). WholeClause (import_answers words) (at first output_before n) whole.read whole.left whole.text
           (at last output_after keeping.faults_after) run.ended) same whole.clause;
       kept = kept;
+      leaves = leaves;
     } in
     record {
       bytes = whole.bytes;
@@ -159,16 +163,18 @@ run_of_nothing work keeping input output status holds = let bytes = Are-some inp
   clause = holds bytes.0;
 }
 
-pub untouched :
-    (keeping : Keeping) → (IsTrue keeping.sure → (rows : List Row) → keeping.held rows → keeping.holds rows)
-    → IsUntouched keeping [] []
+pub untouched : (keeping : Keeping) → HoldsAsBefore keeping → IsUntouched keeping [] []
 untouched keeping rows = record { input = refl; output = refl; rows = rows }
+
+-- a keeper that was not asked is as it was
+pub not_asked : {K : Type 0} (of : Ghosts K) (keeper : K) → HoldsAsBefore (over of keeper keeper)
+not_asked of keeper = record { rows = λ still rows held. held; left = λ honest rows left. left }
 
 -- where no book was opened
 pub unopened_clause :
     (keeping : Keeping) (output : List ℕ → Type 0) (bytes : List ℕ) (why : OpenError)
-    → (IsTrue keeping.sure → (rows : List Row) → keeping.held rows → keeping.holds rows)
-    → (IsTrue keeping.sure → (rows : List Row) → keeping.held rows → Opened rows (Err why))
+    → HoldsAsBefore keeping
+    → (IsTrue keeping.honest → (rows : List Row) → keeping.held rows → Opened rows (Err why))
     → StatusClause keeping output output bytes [] bytes [] (status_unopened why)
 unopened_clause keeping output bytes error.Keeper rows opened = untouched keeping rows
 unopened_clause keeping output bytes (error.BadRows kind id) rows opened = (untouched keeping rows, opened)
@@ -178,8 +184,8 @@ unopened_clause keeping output bytes error.OutOfMemory rows opened = untouched k
 -- where no book was opened for an import
 pub unopened_import :
     (words : ImportWords) (keeping : Keeping) (output : List ℕ → Type 0) (bytes : List ℕ) (why : OpenError)
-    → (IsTrue keeping.sure → (rows : List Row) → keeping.held rows → keeping.holds rows)
-    → (IsTrue keeping.sure → (rows : List Row) → keeping.held rows → Opened rows (Err why))
+    → HoldsAsBefore keeping
+    → (IsTrue keeping.honest → (rows : List Row) → keeping.held rows → Opened rows (Err why))
     → ImportClause words keeping output output [] bytes [] (status_unopened why)
 unopened_import words keeping output bytes error.Keeper rows opened = untouched keeping rows
 unopened_import words keeping output bytes (error.BadRows kind id) rows opened = (untouched keeping rows, opened)
@@ -189,7 +195,7 @@ unopened_import words keeping output bytes error.OutOfMemory rows opened = untou
 -- where the words could not be read
 pub run_without_words :
     (keeping : Keeping) (input : Option (List ℕ)) (output : List ℕ → Type 0) (status : Status)
-    → (IsTrue keeping.sure → (rows : List Row) → keeping.held rows → keeping.holds rows)
+    → HoldsAsBefore keeping
     → (status ≢ Usage → status ≡ Memory) → IsBookRun Lines keeping input input output output status
 run_without_words keeping input output Usage rows is =
     run_of_nothing Lines keeping input output Usage (λ bytes. untouched keeping rows)
@@ -244,7 +250,7 @@ path_of_sample words path number (UnsoundBook kind id) is =
 -- a sample leaves the input and the keeper as they are
 pub run_of_sample :
     (work : Work) (number : ℕ) (keeping : Keeping) (input : Option (List ℕ)) (before after : List ℕ → Type 0)
-    (status : Status) → (IsTrue keeping.sure → (rows : List Row) → keeping.held rows → keeping.holds rows)
+    (status : Status) → HoldsAsBefore keeping
     → Sample number ≡ work → IsShownAs number before after status
     → IsBookRun work keeping input input before after status
 run_of_sample work number keeping input before after status rows is run =
@@ -277,7 +283,7 @@ no_port_fault (Some words) keeping input_before input_after before after status 
 -- where no link was served
 pub unopened_rows :
     (keeping : Keeping) (why : OpenError) → HoldsAsBefore keeping
-    → (IsTrue keeping.sure → (rows : List Row) → keeping.held rows → Opened rows (Err why))
+    → (IsTrue keeping.honest → (rows : List Row) → keeping.held rows → Opened rows (Err why))
     → ServedRows keeping (status_unopened why)
 unopened_rows keeping error.Keeper rows opened = rows
 unopened_rows keeping (error.BadRows kind id) rows opened = (rows, opened)
@@ -310,56 +316,84 @@ pub no_serving : (keeping : Keeping) (status other : Status) → ServedRows keep
     → (ServedRows keeping other → ⊥) → status ≡ other → ⊥
 no_serving keeping status other rows never is = never (subst (λ (s : Status). ServedRows keeping s) is rows)
 
--- The rows that the keeper held as an engine was opened from it stand for that engine.
-pub stands_opened :
-    {K : Type 0} (sure : K → Bool) (holds : K → List Row → Type 0) (path : K → List ℕ) (old new : K)
-    (result : Result Kept OpenError) → (IsTrue (sure old) → (rows : List Row) × holds old rows)
-    → WasRead path sure holds old new
-    → (IsTrue (sure new) → (rows : List Row) → holds old rows → Opened rows result)
-    → IfOk result (λ engine. Stands sure holds new engine)
-stands_opened sure holds path old new (Ok engine) told read opened = λ still.
-    let held = told (read.still_sure still) in
-    (held.0, read.same_rows still held.0 held.1, opened still held.0 held.1)
-stands_opened sure holds path old new (Err why) told read opened = tt
+-- What is answered of the rows that an honest keeper held before it was opened, and of what it may leave.
+module _ {K : Type 0} (of : Ghosts K) (old mid new : K) (known : IsTrue (of.honest mid) → IsTrue (of.sure mid))
+    (read : WasRead of mid new) where
+  pub opened_honest :
+      (result : Result Kept OpenError) → (IsTrue (of.sure mid) → (rows : List Row) → of.holds old rows → of.holds mid rows)
+      → WhereOpened result (StaysSure of mid new)
+      → (IsTrue (of.sure new) → (rows : List Row) → of.holds mid rows → Opened rows result)
+      → IsTrue (of.honest new) → (rows : List Row) → of.holds old rows → Opened rows result
+  opened_honest (Ok engine) kept still opened = λ honest rows held.
+      let before = known (read.still_honest honest) in
+      opened (still honest before) rows (kept before rows held)
+  opened_honest (Err (error.BadRows kind id)) kept still opened = λ honest rows held.
+      let before = known (read.still_honest honest) in
+      opened (still honest before) rows (kept before rows held)
+  opened_honest (Err (error.UnsoundBook kind id)) kept still opened = λ honest rows held.
+      let before = known (read.still_honest honest) in
+      opened (still honest before) rows (kept before rows held)
+  opened_honest (Err error.Keeper) kept still opened = λ honest rows held. tt
+  opened_honest (Err error.OutOfMemory) kept still opened = λ honest rows held. tt
+
+  -- The rows that the keeper held as an engine was opened from it stand for that engine.
+  pub stands_opened :
+      (result : Result Kept OpenError) → (IsTrue (of.sure mid) → (rows : List Row) × of.holds mid rows)
+      → (IsTrue (of.sure mid) → (rows : List Row) → of.may_leave mid rows → of.holds mid rows)
+      → WhereOpened result (StaysSure of mid new)
+      → (IsTrue (of.sure new) → (rows : List Row) → of.holds mid rows → Opened rows result)
+      → IfOk result (Stands of new)
+  stands_opened (Ok engine) told settled still opened = record {
+    rows = λ sure.
+        let held = told (read.still_sure sure) in
+        (held.0, read.same_rows sure held.0 held.1, opened sure held.0 held.1);
+    left = λ honest rows left.
+        let before = known (read.still_honest honest) in
+        inl (opened (still honest before) rows (settled before rows (read.leaves honest rows left))).0;
+  }
+  stands_opened (Err why) told settled still opened = tt
 
 -- a run, seen with other rows that the keeper held before, if it held these
-abbrev pub with_held : Keeping → (List Row → Type 0) → Keeping
-with_held keeping held = record {
-  sure = keeping.sure;
-  held = held;
-  holds = keeping.holds;
-  faults_before = keeping.faults_before;
-  faults_after = keeping.faults_after;
-}
+abbrev pub with_held : Keeping → (List Row → Type 0) → (List Row → Type 0) → Keeping
+with_held keeping held might = record keeping { held = held; might_leave = might }
 
-module _ (keeping : Keeping) (held : List Row → Type 0)
-    (holds : IsTrue keeping.sure → (rows : List Row) → held rows → keeping.held rows) where
-  opened_held : (opening : Opening) → OpenedTo keeping opening → OpenedTo (with_held keeping held) opening
+module _ (keeping : Keeping) (held might : List Row → Type 0)
+    (holds : IsTrue keeping.honest → (rows : List Row) → held rows → keeping.held rows)
+    (leaves : IsTrue keeping.honest → (rows : List Row) → keeping.might_leave rows → might rows)
+    (trusted : IsTrue keeping.sure → IsTrue keeping.honest) where
+  opened_held : (opening : Opening) → OpenedTo keeping opening → OpenedTo (with_held keeping held might) opening
   opened_held opening opened still rows h = opened still rows (holds still rows h)
 
-  untouched_held : (read text : List ℕ) → IsUntouched keeping read text → IsUntouched (with_held keeping held) read text
+  rows_held : HoldsAsBefore keeping → HoldsAsBefore (with_held keeping held might)
+  rows_held same = record {
+    rows = λ still rows h. same.rows still rows (holds (trusted still) rows h);
+    left = λ honest rows left. leaves honest rows (same.left honest rows left);
+  }
+
+  untouched_held : (read text : List ℕ) → IsUntouched keeping read text → IsUntouched (with_held keeping held might) read text
   untouched_held read text it = record {
     input = it.input;
     output = it.output;
-    rows = λ still rows h. it.rows still rows (holds still rows h);
+    rows = rows_held it.rows;
   }
 
   session_held :
       (before after : List ℕ → Type 0) (bytes read left text : List ℕ) (ended : RunEnd)
       → IsSession keeping before after bytes read left text ended
-      → IsSession (with_held keeping held) before after bytes read left text ended
+      → IsSession (with_held keeping held might) before after bytes read left text ended
   session_held before after bytes read left text ended it = record {
     first = it.first;
     last = it.last;
     opened = opened_held (Opens it.first) it.opened;
     run = it.run;
     kept = it.kept;
+    leaves = it.leaves;
   }
 
   status_held :
       (before after : List ℕ → Type 0) (bytes read left text : List ℕ) (status : Status)
       → StatusClause keeping before after bytes read left text status
-      → StatusClause (with_held keeping held) before after bytes read left text status
+      → StatusClause (with_held keeping held might) before after bytes read left text status
   status_held before after bytes read left text Done h = session_held before after bytes read left text end.Done h
   status_held before after bytes read left text InputLimit h =
       session_held before after bytes read left text end.InputLimit h
@@ -379,22 +413,20 @@ module _ (keeping : Keeping) (held : List Row → Type 0)
   imported_held :
       (words : ImportWords) (before after : List ℕ → Type 0) (read left text : List ℕ) (ended : RunEnd)
       → IsImported words keeping before after read left text ended
-      → IsImported words (with_held keeping held) before after read left text ended
+      → IsImported words (with_held keeping held might) before after read left text ended
   imported_held words before after read left text ended it = record {
     first = it.first;
     last = it.last;
     opened = opened_held (Opens it.first) it.opened;
     asked = it.asked;
     kept = it.kept;
+    leaves = it.leaves;
   }
-
-  rows_held : HoldsAsBefore keeping → HoldsAsBefore (with_held keeping held)
-  rows_held same still rows h = same still rows (holds still rows h)
 
   import_held :
       (words : ImportWords) (before after : List ℕ → Type 0) (read left text : List ℕ) (status : Status)
       → ImportClause words keeping before after read left text status
-      → ImportClause words (with_held keeping held) before after read left text status
+      → ImportClause words (with_held keeping held might) before after read left text status
   import_held words before after read left text Done h = imported_held words before after read left text end.Done h
   import_held words before after read left text OutputFault h =
       imported_held words before after read left text end.OutputFault h
@@ -411,16 +443,17 @@ module _ (keeping : Keeping) (held : List Row → Type 0)
       (untouched_held read text h.0, opened_held (Unsound (row_key kind id)) h.1)
   import_held words before after read left text PortFault h = absurd h
 
-  led_held : HasLed keeping → HasLed (with_held keeping held)
+  led_held : HasLed keeping → HasLed (with_held keeping held might)
   led_held it = record {
     first = it.first;
     last = it.last;
     opened = opened_held (Opens it.first) it.opened;
     led = it.led;
     kept = it.kept;
+    leaves = it.leaves;
   }
 
-  served_held : (status : Status) → ServedRows keeping status → ServedRows (with_held keeping held) status
+  served_held : (status : Status) → ServedRows keeping status → ServedRows (with_held keeping held might) status
   served_held Done h = led_held h
   served_held PortFault h = led_held h
   served_held Memory (inl h) = inl (rows_held h)
@@ -436,20 +469,20 @@ module _ (keeping : Keeping) (held : List Row → Type 0)
   work_held :
       (work : Work) (before after : List ℕ → Type 0) (bytes read left text : List ℕ) (status : Status)
       → WorkClause work keeping before after bytes read left text status
-      → WorkClause work (with_held keeping held) before after bytes read left text status
+      → WorkClause work (with_held keeping held might) before after bytes read left text status
   work_held Lines before after bytes read left text status h = status_held before after bytes read left text status h
   work_held (Import words) before after bytes read left text status h =
       import_held words before after read left text status h
   work_held (Serve serve) before after bytes read left text status h = (h.0, h.1, served_held status h.2)
   work_held (Sample number) before after bytes read left text status h = (
-    record { input = h.0.input; rows = λ still rows it. h.0.rows still rows (holds still rows it) },
+    record { input = h.0.input; rows = rows_held h.0.rows },
     h.1,
   )
 
   book_run_held :
       (work : Work) (input_before input_after : Option (List ℕ)) (before after : List ℕ → Type 0) (status : Status)
       → IsBookRun work keeping input_before input_after before after status
-      → IsBookRun work (with_held keeping held) input_before input_after before after status
+      → IsBookRun work (with_held keeping held might) input_before input_after before after status
   book_run_held work input_before input_after before after status it = record {
     bytes = it.bytes;
     read = it.read;
@@ -465,7 +498,7 @@ module _ (keeping : Keeping) (held : List Row → Type 0)
 
   pub stream_run_held :
       (work : Work) (status : Status) → IsStreamRun work keeping status
-      → IsStreamRun work (with_held keeping held) status
+      → IsStreamRun work (with_held keeping held might) status
   stream_run_held work status it = record {
     input_before = it.input_before;
     input_after = it.input_after;
@@ -477,17 +510,18 @@ module _ (keeping : Keeping) (held : List Row → Type 0)
 
   -- and what holds of the links
   book_held : {L : Type 0} (serve : ServeWords) (of : LinkReports L) (ports : PortsSeen L) (ended : ServeEnd)
-      → HasServedBook serve keeping of ports ended → HasServedBook serve (with_held keeping held) of ports ended
+      → HasServedBook serve keeping of ports ended → HasServedBook serve (with_held keeping held might) of ports ended
   book_held serve of ports ended it = record {
     first = it.first;
     last = it.last;
     opened = opened_held (Opens (machine_kept it.first)) it.opened;
     served = it.served;
     kept = it.kept;
+    leaves = it.leaves;
   }
 
   serve_held : {L : Type 0} (serve : ServeWords) (of : LinkReports L) (ports : PortsSeen L) (status : Status)
-      → ServeClause serve keeping of ports status → ServeClause serve (with_held keeping held) of ports status
+      → ServeClause serve keeping of ports status → ServeClause serve (with_held keeping held might) of ports status
   serve_held serve of ports Done h = book_held serve of ports _ h
   serve_held serve of ports PortFault h = book_held serve of ports _ h
   serve_held serve of ports Memory (inl h) = inl (h.0, rows_held h.1)
@@ -503,54 +537,34 @@ module _ (keeping : Keeping) (held : List Row → Type 0)
   pub serves_held :
       {L : Type 0} (words : Option ServeWords) (of : LinkReports L) (ports : PortsSeen L) (status : Status)
       → IfSome words (λ serve. ServeClause serve keeping of ports status)
-      → IfSome words (λ serve. ServeClause serve (with_held keeping held) of ports status)
+      → IfSome words (λ serve. ServeClause serve (with_held keeping held might) of ports status)
   serves_held None of ports status h = h
   serves_held (Some serve) of ports status h = serve_held serve of ports status h
 
 -- what holds of the links, seen with other rows that the keeper held before, if it held these, and with the count of
 -- faults that it had
 pub serve_seen :
-    {L : Type 0} (keeping : Keeping) (held : List Row → Type 0) (faults : ℕ) (words : Option ServeWords)
+    {L : Type 0} (keeping : Keeping) (held might : List Row → Type 0) (faults : ℕ) (words : Option ServeWords)
     (of : LinkReports L) (ports : PortsSeen L) (status : Status)
-    → keeping.faults_before ≡ faults → (IsTrue keeping.sure → (rows : List Row) → held rows → keeping.held rows)
+    → keeping.faults_before ≡ faults → (IsTrue keeping.honest → (rows : List Row) → held rows → keeping.held rows)
+    → (IsTrue keeping.honest → (rows : List Row) → keeping.might_leave rows → might rows)
+    → (IsTrue keeping.sure → IsTrue keeping.honest)
     → IfSome words (λ serve. ServeClause serve keeping of ports status)
-    → IfSome words (λ serve. ServeClause serve (record {
-      sure = keeping.sure;
-      held = held;
-      holds = keeping.holds;
-      faults_before = faults;
-      faults_after = keeping.faults_after;
-    }) of ports status)
-serve_seen keeping held faults words of ports status same holds clause =
+    → IfSome words (λ serve. ServeClause serve (record keeping { held = held; might_leave = might; faults_before = faults }) of ports status)
+serve_seen keeping held might faults words of ports status same holds leaves trusted clause =
     subst
-    (λ (n : ℕ). IfSome words (λ serve. ServeClause serve (record {
-      sure = keeping.sure;
-      held = held;
-      holds = keeping.holds;
-      faults_before = n;
-      faults_after = keeping.faults_after;
-    }) of ports status))
-    same (serves_held keeping held holds words of ports status clause)
+    (λ (n : ℕ). IfSome words (λ serve. ServeClause serve (record keeping { held = held; might_leave = might; faults_before = n }) of ports status))
+    same (serves_held keeping held might holds leaves trusted words of ports status clause)
 
 -- a run, seen with other rows that the keeper held before, if it held these, and with the count of faults that it had
 pub stream_run_seen :
-    (keeping : Keeping) (held : List Row → Type 0) (faults : ℕ) (work : Work) (status : Status)
-    → keeping.faults_before ≡ faults → (IsTrue keeping.sure → (rows : List Row) → held rows → keeping.held rows)
+    (keeping : Keeping) (held might : List Row → Type 0) (faults : ℕ) (work : Work) (status : Status)
+    → keeping.faults_before ≡ faults → (IsTrue keeping.honest → (rows : List Row) → held rows → keeping.held rows)
+    → (IsTrue keeping.honest → (rows : List Row) → keeping.might_leave rows → might rows)
+    → (IsTrue keeping.sure → IsTrue keeping.honest)
     → IsStreamRun work keeping status
-    → IsStreamRun work (record {
-      sure = keeping.sure;
-      held = held;
-      holds = keeping.holds;
-      faults_before = faults;
-      faults_after = keeping.faults_after;
-    }) status
-stream_run_seen keeping held faults work status same holds run =
+    → IsStreamRun work (record keeping { held = held; might_leave = might; faults_before = faults }) status
+stream_run_seen keeping held might faults work status same holds leaves trusted run =
     subst
-    (λ (n : ℕ). IsStreamRun work (record {
-      sure = keeping.sure;
-      held = held;
-      holds = keeping.holds;
-      faults_before = n;
-      faults_after = keeping.faults_after;
-    }) status)
-    same (stream_run_held keeping held holds work status run)
+    (λ (n : ℕ). IsStreamRun work (record keeping { held = held; might_leave = might; faults_before = n }) status)
+    same (stream_run_held keeping held might holds leaves trusted work status run)

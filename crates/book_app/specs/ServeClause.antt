@@ -7,7 +7,7 @@ use Rattle.book_serve.specs.Served.{IsServing, LinkReports, server_state}
 use Rattle.book_serve.specs.declared.serve_end.ServeEnd.{ServeEnd}
 use Rattle.book_serve.specs.declared.serve_end.ServeEnd.TheVariants as end
 use Rattle.book_app.specs.Respond.{kept_answers}
-use Rattle.book_app.specs.StatusClause.{HoldsAsBefore, Keeping, NowOpensTo, OpenedTo}
+use Rattle.book_app.specs.StatusClause.{HoldsAsBefore, Keeping, MayOpenTo, NowOpensTo, OpenedTo}
 use Rattle.book_app.specs.declared.status.Status.{Status}
 use Rattle.book_app.specs.declared.status.Status.TheVariants.{Done, Usage, Memory, InputFault, OutputFault, KeeperFault}
 use Rattle.book_app.specs.declared.status.Status.TheVariants.{BadRows, UnsoundBook, PortFault, InputLimit}
@@ -60,6 +60,7 @@ pub record HasServedBook {L : Type 0} (serve : ServeWords) (keeping : Keeping) (
       (server_state last keeping.faults_after ports.coming_after ports.closed_after ports.accepted_after
       ports.port_after) ended
   pub kept : NowOpensTo keeping (machine_kept last)
+  pub leaves : MayOpenTo keeping (machine_kept last)
 
 -- With the words of `serve`, by the status. The status is none of the last three.
 abbrev pub ServeClause : {L : Type 0} → ServeWords → Keeping → LinkReports L → PortsSeen L → Status → Type 0

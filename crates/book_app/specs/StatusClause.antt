@@ -3,6 +3,7 @@ use Rattle.std.specs.Prelude.{◌≡◌, ℕ, ◌+◌, ◌^◌, ◌<◌, ◌≤�
 use Rattle.std.specs.Prelude.{None, Result, Ok, Err}
 use Rattle.std.specs.Prelude.{length}
 use Rattle.book_keeper.specs.Stream.{Are, Wrote}
+use Rattle.book_keeper.specs.declared.keeper.Keeper.{Ghosts}
 use Rattle.book_keeper.specs.declared.row.Row.{Row}
 use Rattle.book_lines.specs.RunClause.{Moment, at, RunClause}
 use Rattle.book_lines.specs.WholeClause.{IsWhole, WholeClause}
@@ -13,6 +14,7 @@ use Rattle.book_engine.specs.Opening.{row_key}
 use Rattle.book_engine.specs.declared.fault.OpenError.{OpenError}
 use Rattle.book_engine.specs.declared.fault.OpenError.TheVariants as error
 use Rattle.book_engine.specs.Opens.{Bad, Opening, Opens, OpensTo, Unsound}
+use Rattle.book_engine.specs.Standing.{OpensToNext}
 use Rattle.book_app.specs.Machine.{Leads, answers, import_answers}
 use Rattle.book_app.specs.Numbers.{status_of}
 use Rattle.book_sample.specs.Sample.{sample_text}
@@ -23,35 +25,51 @@ use Rattle.book_app.specs.declared.status.Status.{Status}
 use Rattle.book_app.specs.declared.status.Status.TheVariants.{Done, Usage, Memory, InputFault, OutputFault, KeeperFault}
 use Rattle.book_app.specs.declared.status.Status.TheVariants.{BadRows, UnsoundBook, PortFault, InputLimit}
 
--- What is seen of a keeper before and after: whether it still knows its rows, which it holds, and its count of faults.
+-- What is seen of a keeper before and after: whether it is honest, and still knows its rows; those that it held, and
+-- that it holds; those that the next keeper could find before, and may find now; and its count of faults.
 pub record Keeping : Type 1 where
+  pub honest : Bool
   pub sure : Bool
   pub held : List Row → Type 0
   pub holds : List Row → Type 0
+  pub might_leave : List Row → Type 0
+  pub may_leave : List Row → Type 0
   pub faults_before : ℕ
   pub faults_after : ℕ
 
 -- What is seen of this keeper, before and after.
-abbrev pub over : {K : Type 0} → (K → Bool) → (K → List Row → Type 0) → (K → ℕ) → K → K → Keeping
-over sure holds faults before after = record {
-  sure = sure after;
-  held = holds before;
-  holds = holds after;
-  faults_before = faults before;
-  faults_after = faults after;
+abbrev pub over : {K : Type 0} → Ghosts K → K → K → Keeping
+over of before after = record {
+  honest = of.honest after;
+  sure = of.sure after;
+  held = of.holds before;
+  holds = of.holds after;
+  might_leave = of.may_leave before;
+  may_leave = of.may_leave after;
+  faults_before = of.faults before;
+  faults_after = of.faults after;
 }
 
--- The rows that the keeper held before open as this, where it still knows its rows.
+-- The rows that the keeper held before open as this, where it is honest.
 abbrev pub OpenedTo : Keeping → Opening → Type 0
-OpenedTo keeping opening = IsTrue keeping.sure → (rows : List Row) → keeping.held rows → OpensTo rows opening
+OpenedTo keeping opening = IsTrue keeping.honest → (rows : List Row) → keeping.held rows → OpensTo rows opening
 
 -- A keeper that still knows its rows holds rows that open as this machine.
 abbrev pub NowOpensTo : Keeping → Machine → Type 0
 NowOpensTo keeping machine = IsTrue keeping.sure → (rows : List Row) × keeping.holds rows × OpensTo rows (Opens machine)
 
--- A keeper that still knows its rows holds those that it held before.
-abbrev pub HoldsAsBefore : Keeping → Type 0
-HoldsAsBefore keeping = IsTrue keeping.sure → (rows : List Row) → keeping.held rows → keeping.holds rows
+-- As long as the keeper is honest, what the next one may find opens as this machine, or as the one that one command
+-- more makes of it.
+abbrev pub MayOpenTo : Keeping → Machine → Type 0
+MayOpenTo keeping machine =
+    IsTrue keeping.honest → (rows : List Row) → keeping.may_leave rows
+    → OpensTo rows (Opens machine) ⊎ OpensToNext machine rows
+
+-- A keeper that still knows its rows holds those that it held before. As long as it is honest, the next one may find no
+-- rows that it could not find before.
+pub record HoldsAsBefore (keeping : Keeping) : Type 0 where
+  pub rows : IsTrue keeping.sure → (rows : List Row) → keeping.held rows → keeping.holds rows
+  pub left : IsTrue keeping.honest → (rows : List Row) → keeping.may_leave rows → keeping.might_leave rows
 
 -- Nothing was read, nothing written, and the keeper's rows are as they were.
 pub record IsUntouched (keeping : Keeping) (read text : List ℕ) : Type 0 where
@@ -68,6 +86,7 @@ pub record IsSession (keeping : Keeping) (output_before output_after : List ℕ 
   pub run : RunClause answers (at first output_before keeping.faults_before) bytes read left text
       (at last output_after keeping.faults_after) ended
   pub kept : NowOpensTo keeping last
+  pub leaves : MayOpenTo keeping last
 
 -- By the status: `bytes` is what the input had left before, `read` what was read of it, `left` what it has left now,
 -- `text` what was written.
@@ -105,6 +124,7 @@ pub record IsImported (import : ImportWords) (keeping : Keeping) (output_before 
   pub asked : WholeClause (import_answers import) (at first output_before keeping.faults_before) read left text
       (at last output_after keeping.faults_after) ended
   pub kept : NowOpensTo keeping last
+  pub leaves : MayOpenTo keeping last
 
 -- With the words of `import`, by the status: at Done `text` is the one answer to the whole input, of at most 8 MiB; at
 -- OutputFault a front part of it and not all. At each other status nothing was written, and the keeper's rows are as
@@ -157,6 +177,7 @@ pub record HasLed (keeping : Keeping) : Type 0 where
   pub opened : OpenedTo keeping (Opens first)
   pub led : Leads first last
   pub kept : NowOpensTo keeping last
+  pub leaves : MayOpenTo keeping last
 
 -- With the words of `serve`, what became of the keeper's rows, by the status: they are as they were, and where the book
 -- was opened, commands may have led from the machine that they opened as to that as which they open now.

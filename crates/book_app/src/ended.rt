@@ -46,10 +46,11 @@ pub fn run_over<K: Keeper, I: Read, O: Write, P: Ports>(
     writer: O,
     ports: &mut P,
 ) -> Ran<I, O>
-    ensures run { IsBookRun (work_of words.now) (over K.sure K.holds K.faults keeper.old keeper.new)
+    ensures run { IsBookRun (work_of words.now) (over K.Keeper keeper.old keeper.new)
         (I.remaining reader) (left_of I.remaining result.input)
         (may_hold O.contents (sink_over writer)) (may_hold O.contents result.output) result.ended.status }
     ensures path { HasBookPath words.now (K.path_given keeper.new) result.ended.status }
+    ensures honest { IsTrue (K.honest keeper.new) → IsTrue (K.honest keeper.old) }
     ensures sure { IsTrue (K.sure keeper.new) → IsTrue (K.sure keeper.old) }
     ensures usage { (result.ended.status ≡ Status.Usage) ↔ AreNoWords words.now }
     ensures keeper_fault { result.ended.status ≡ Status.KeeperFault
@@ -59,7 +60,7 @@ pub fn run_over<K: Keeper, I: Read, O: Write, P: Ports>(
     ensures output_fault { result.ended.status ≡ Status.OutputFault → Rose 0 (sink_faults result.output) }
     ensures no_output_fault { result.ended.status ≢ Status.OutputFault → sink_faults result.output ≡ 0 }
     ensures serve { IfSome (named_serve words.now) (λ serve. ServeClause serve
-        (over K.sure K.holds K.faults keeper.old keeper.new)
+        (over K.Keeper keeper.old keeper.new)
         (link_reports P.L.left P.L.written P.L.Source.faults P.L.Sink.faults)
         (across P.coming P.closed P.accepted_links P.port_given ports.old ports.new) result.ended.status) }
     ensures other_words { named_serve words.now ≡ None → ports.new ≡ ports.old }
@@ -88,11 +89,12 @@ pub(crate) fn run_words<K: Keeper, I: Read, O: Write, P: Ports>(
     ports: &mut P,
 ) -> Ran<I, O>
     ensures run { IsBookRun (given_work (λ given. given.items) words)
-        (over K.sure K.holds K.faults keeper.old keeper.new) (I.remaining reader) (left_of I.remaining result.input)
+        (over K.Keeper keeper.old keeper.new) (I.remaining reader) (left_of I.remaining result.input)
         (may_hold O.contents (sink_over writer)) (may_hold O.contents result.output) result.ended.status }
     ensures usage { (result.ended.status ≡ Status.Usage) ↔ MatchResult words
         (λ given. AreNoWords given.items) (λ error. error_kind error ≡ ErrorKind.InvalidData) }
     ensures path { IfOk words (λ given. HasBookPath given.items (K.path_given keeper.new) result.ended.status) }
+    ensures honest { IsTrue (K.honest keeper.new) → IsTrue (K.honest keeper.old) }
     ensures sure { IsTrue (K.sure keeper.new) → IsTrue (K.sure keeper.old) }
     ensures memory { OnErr words (result.ended.status ≢ Status.Usage → result.ended.status ≡ Status.Memory) }
     ensures keeper_fault { result.ended.status ≡ Status.KeeperFault
@@ -102,7 +104,7 @@ pub(crate) fn run_words<K: Keeper, I: Read, O: Write, P: Ports>(
     ensures output_fault { result.ended.status ≡ Status.OutputFault → Rose 0 (sink_faults result.output) }
     ensures no_output_fault { result.ended.status ≢ Status.OutputFault → sink_faults result.output ≡ 0 }
     ensures serve { IfSome (given_serve (λ given. given.items) words) (λ serve. ServeClause serve
-        (over K.sure K.holds K.faults keeper.old keeper.new)
+        (over K.Keeper keeper.old keeper.new)
         (link_reports P.L.left P.L.written P.L.Source.faults P.L.Sink.faults)
         (across P.coming P.closed P.accepted_links P.port_given ports.old ports.new) result.ended.status) }
     ensures other_words { given_serve (λ given. given.items) words ≡ None → ports.new ≡ ports.old }

@@ -27,15 +27,15 @@ fn import_input<K: Keeper, S: Source, O: Sink>(
     output: &mut O,
     room: &mut LineRoom,
 ) -> Status
-    requires stands { Stands K.sure K.holds keeper.old importer.old.engine }
+    requires stands { Stands K.Keeper keeper.old importer.old.engine }
     ensures run { IsImportRun importer.old.words
         (at (machine_kept importer.old.engine) (O.written output.old) (K.faults keeper.old))
         (S.left input.old) (S.left input.new)
         (at (machine_kept importer.new.engine) (O.written output.new) (K.faults keeper.new)) result }
     ensures limit { result ≡ Status.InputLimit → keeper.new ≡ keeper.old }
     ensures fault { result ≡ Status.InputFault → keeper.new ≡ keeper.old }
-    ensures stands { Stands K.sure K.holds keeper.new importer.new.engine }
-    ensures keeper { IsLater K.path_given K.sure keeper.old keeper.new }
+    ensures stands { Stands K.Keeper keeper.new importer.new.engine }
+    ensures keeper { IsLater K.path_given K.honest K.sure keeper.old keeper.new }
     ensures input_fault { result ≡ Status.InputFault → Rose (S.faults input.old) (S.faults input.new) }
     ensures no_input_fault { result ≢ Status.InputFault → S.faults input.new ≡ S.faults input.old }
     ensures output_fault { result ≡ Status.OutputFault → Rose (O.faults output.old) (O.faults output.new) }
@@ -56,9 +56,10 @@ pub fn run_import<K: Keeper, S: Source, O: Sink>(
     input: &mut S,
     output: &mut O,
 ) -> Status
-    ensures run { IsBookRun (Import import) (over K.sure K.holds K.faults keeper.old keeper.new) (S.left input.old)
+    ensures run { IsBookRun (Import import) (over K.Keeper keeper.old keeper.new) (S.left input.old)
         (S.left input.new) (O.written output.old) (O.written output.new) result }
     ensures path { HasBookPath words.now (K.path_given keeper.new) result }
+    ensures honest { IsTrue (K.honest keeper.new) → IsTrue (K.honest keeper.old) }
     ensures sure { IsTrue (K.sure keeper.new) → IsTrue (K.sure keeper.old) }
     ensures usage { (result ≡ Status.Usage) ↔ (named_book words.now ≡ None) }
     ensures keeper_fault { result ≡ Status.KeeperFault → Rose (K.faults keeper.old) (K.faults keeper.new) }

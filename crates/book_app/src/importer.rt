@@ -59,8 +59,8 @@ fn answer_file<K: Keeper>(
         → IsChange (machine_kept engine.old) (step (machine_kept engine.old) (import_command words bytes.now)) }
     ensures failed { result ≡ Err Unanswered.Keeper → Rose (K.faults keeper.old) (K.faults keeper.new) }
     ensures later { K.faults keeper.old ≤ K.faults keeper.new }
-    ensures stands { Stands K.sure K.holds keeper.old engine.old → Stands K.sure K.holds keeper.new engine.new }
-    ensures follows { IsLater K.path_given K.sure keeper.old keeper.new }
+    ensures stands { Stands K.Keeper keeper.old engine.old → Stands K.Keeper keeper.new engine.new }
+    ensures follows { IsLater K.path_given K.honest K.sure keeper.old keeper.new }
 {
     match as_text(alloc, bytes) {
         Ok(text) => reply(alloc, engine, keeper, import_command(words, text)),
@@ -78,16 +78,16 @@ impl<K: Keeper> Machine<Answering, K> for Importer {
     ghost answers = { λ old bytes mark text new.
         import_answers old.words (machine_kept old.engine) bytes mark text (machine_kept new.engine) };
 
-    ghost stands = { λ importer keeper. Stands K.sure K.holds keeper importer.engine };
+    ghost stands = { λ importer keeper. Stands K.Keeper keeper importer.engine };
 
-    ghost follows = { λ old new. IsLater K.path_given K.sure old new };
+    ghost follows = { λ old new. IsLater K.path_given K.honest K.sure old new };
 
     ghost faults = { λ keeper. K.faults keeper };
 
-    ghost follows_itself = { λ keeper. same_later K.path_given K.sure keeper };
+    ghost follows_itself = { λ keeper. same_later K.path_given K.honest K.sure keeper };
 
     ghost follows_through = { λ first second third one other.
-        twice_later K.path_given K.sure first second third one other };
+        twice_later K.path_given K.honest K.sure first second third one other };
 
     fn answer(&mut self, alloc: Global, keeper: &mut K, bytes: &[u8]) -> Result<Bytes, Unanswered> {
         answer_file(alloc, &mut self.engine, self.words, keeper, bytes)

@@ -34,12 +34,12 @@ pub fn run_lines<K: Keeper, S: Source, O: Sink>(
     output: &mut O,
     room: &mut LineRoom,
 ) -> Status
-    requires stands { Stands K.sure K.holds keeper.old engine.old }
+    requires stands { Stands K.Keeper keeper.old engine.old }
     ensures run { IsLineRun (at (machine_kept engine.old) (O.written output.old) (K.faults keeper.old))
         (S.left input.old) (S.left input.new)
         (at (machine_kept engine.new) (O.written output.new) (K.faults keeper.new)) result }
-    ensures stands { Stands K.sure K.holds keeper.new engine.new }
-    ensures keeper { IsLater K.path_given K.sure keeper.old keeper.new }
+    ensures stands { Stands K.Keeper keeper.new engine.new }
+    ensures keeper { IsLater K.path_given K.honest K.sure keeper.old keeper.new }
     ensures input_fault { result ≡ Status.InputFault → Rose (S.faults input.old) (S.faults input.new) }
     ensures no_input_fault { result ≢ Status.InputFault → S.faults input.new ≡ S.faults input.old }
     ensures output_fault { result ≡ Status.OutputFault → Rose (O.faults output.old) (O.faults output.new) }
@@ -57,9 +57,10 @@ fn run_book<K: Keeper, S: Source, O: Sink>(
     input: &mut S,
     output: &mut O,
 ) -> Status
-    ensures run { IsBookRun Lines (over K.sure K.holds K.faults keeper.old keeper.new) (S.left input.old)
+    ensures run { IsBookRun Lines (over K.Keeper keeper.old keeper.new) (S.left input.old)
         (S.left input.new) (O.written output.old) (O.written output.new) result }
     ensures path { HasBookPath words.now (K.path_given keeper.new) result }
+    ensures honest { IsTrue (K.honest keeper.new) → IsTrue (K.honest keeper.old) }
     ensures sure { IsTrue (K.sure keeper.new) → IsTrue (K.sure keeper.old) }
     ensures usage { (result ≡ Status.Usage) ↔ (named_book words.now ≡ None) }
     ensures keeper_fault { result ≡ Status.KeeperFault → Rose (K.faults keeper.old) (K.faults keeper.new) }
@@ -101,9 +102,10 @@ fn run_over_input<K: Keeper, S: Source, O: Sink>(
     output: &mut O,
 ) -> Status
     ensures run { IsBookRun (work_named (named_import words.now) None None)
-        (over K.sure K.holds K.faults keeper.old keeper.new)
+        (over K.Keeper keeper.old keeper.new)
         (S.left input.old) (S.left input.new) (O.written output.old) (O.written output.new) result }
     ensures path { HasBookPath words.now (K.path_given keeper.new) result }
+    ensures honest { IsTrue (K.honest keeper.new) → IsTrue (K.honest keeper.old) }
     ensures sure { IsTrue (K.sure keeper.new) → IsTrue (K.sure keeper.old) }
     ensures usage { (result ≡ Status.Usage) ↔ (named_book words.now ≡ None) }
     ensures keeper_fault { result ≡ Status.KeeperFault → Rose (K.faults keeper.old) (K.faults keeper.new) }
@@ -128,9 +130,10 @@ fn run_with_book<K: Keeper, S: Source, O: Sink, P: Ports>(
     ports: &mut P,
 ) -> Status
     ensures run { IsBookRun (work_named (named_import words.now) (named_serve words.now) None)
-        (over K.sure K.holds K.faults keeper.old keeper.new)
+        (over K.Keeper keeper.old keeper.new)
         (S.left input.old) (S.left input.new) (O.written output.old) (O.written output.new) result }
     ensures path { HasBookPath words.now (K.path_given keeper.new) result }
+    ensures honest { IsTrue (K.honest keeper.new) → IsTrue (K.honest keeper.old) }
     ensures sure { IsTrue (K.sure keeper.new) → IsTrue (K.sure keeper.old) }
     ensures usage { (result ≡ Status.Usage) ↔ (named_book words.now ≡ None) }
     ensures keeper_fault { result ≡ Status.KeeperFault → Rose (K.faults keeper.old) (K.faults keeper.new) }
@@ -139,7 +142,7 @@ fn run_with_book<K: Keeper, S: Source, O: Sink, P: Ports>(
     ensures output_fault { result ≡ Status.OutputFault → Rose (O.faults output.old) (O.faults output.new) }
     ensures no_output_fault { result ≢ Status.OutputFault → O.faults output.new ≡ O.faults output.old }
     ensures serve { IfSome (named_serve words.now) (λ serve. ServeClause serve
-        (over K.sure K.holds K.faults keeper.old keeper.new)
+        (over K.Keeper keeper.old keeper.new)
         (link_reports P.L.left P.L.written P.L.Source.faults P.L.Sink.faults)
         (across P.coming P.closed P.accepted_links P.port_given ports.old ports.new) result) }
     ensures other_words { named_serve words.now ≡ None → ports.new ≡ ports.old }
@@ -173,9 +176,10 @@ pub fn book_main<K: Keeper, S: Source, O: Sink, P: Ports>(
     output: &mut O,
     ports: &mut P,
 ) -> Status
-    ensures run { IsBookRun (work_of words.now) (over K.sure K.holds K.faults keeper.old keeper.new)
+    ensures run { IsBookRun (work_of words.now) (over K.Keeper keeper.old keeper.new)
         (S.left input.old) (S.left input.new) (O.written output.old) (O.written output.new) result }
     ensures path { HasBookPath words.now (K.path_given keeper.new) result }
+    ensures honest { IsTrue (K.honest keeper.new) → IsTrue (K.honest keeper.old) }
     ensures sure { IsTrue (K.sure keeper.new) → IsTrue (K.sure keeper.old) }
     ensures usage { (result ≡ Status.Usage) ↔ AreNoWords words.now }
     ensures keeper_fault { result ≡ Status.KeeperFault → Rose (K.faults keeper.old) (K.faults keeper.new) }
@@ -184,7 +188,7 @@ pub fn book_main<K: Keeper, S: Source, O: Sink, P: Ports>(
     ensures output_fault { result ≡ Status.OutputFault → Rose (O.faults output.old) (O.faults output.new) }
     ensures no_output_fault { result ≢ Status.OutputFault → O.faults output.new ≡ O.faults output.old }
     ensures serve { IfSome (named_serve words.now) (λ serve. ServeClause serve
-        (over K.sure K.holds K.faults keeper.old keeper.new)
+        (over K.Keeper keeper.old keeper.new)
         (link_reports P.L.left P.L.written P.L.Source.faults P.L.Sink.faults)
         (across P.coming P.closed P.accepted_links P.port_given ports.old ports.new) result) }
     ensures other_words { named_serve words.now ≡ None → ports.new ≡ ports.old }

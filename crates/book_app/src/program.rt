@@ -26,15 +26,16 @@ pub fn run_program<R: Input + Print + AllocGlobal, K: Keeper, P: Ports>(
     ports: &mut P,
 ) -> Ended
     ensures run { IsStreamRun (given_work (λ given. given.items) words)
-        (over K.sure K.holds K.faults keeper.old keeper.new) result.status }
+        (over K.Keeper keeper.old keeper.new) result.status }
     ensures usage { (result.status ≡ Status.Usage) ↔ MatchResult words
         (λ given. AreNoWords given.items) (λ error. error_kind error ≡ ErrorKind.InvalidData) }
     ensures path { IfOk words (λ given. HasBookPath given.items (K.path_given keeper.new) result.status) }
+    ensures honest { IsTrue (K.honest keeper.new) → IsTrue (K.honest keeper.old) }
     ensures sure { IsTrue (K.sure keeper.new) → IsTrue (K.sure keeper.old) }
     ensures memory { OnErr words (result.status ≢ Status.Usage → result.status ≡ Status.Memory) }
     ensures keeper_fault { result.status ≡ Status.KeeperFault → Rose (K.faults keeper.old) (K.faults keeper.new) }
     ensures serve { IfSome (given_serve (λ given. given.items) words) (λ serve. ServeClause serve
-        (over K.sure K.holds K.faults keeper.old keeper.new)
+        (over K.Keeper keeper.old keeper.new)
         (link_reports P.L.left P.L.written P.L.Source.faults P.L.Sink.faults)
         (across P.coming P.closed P.accepted_links P.port_given ports.old ports.new) result.status) }
     ensures other_words { given_serve (λ given. given.items) words ≡ None → ports.new ≡ ports.old }

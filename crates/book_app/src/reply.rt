@@ -51,8 +51,8 @@ pub fn keep<K: Keeper>(
     ensures commits { result ≡ Err Unanswered.Keeper → IsTrue (commits plan) }
     ensures failed { result ≡ Err Unanswered.Keeper → Rose (K.faults keeper.old) (K.faults keeper.new) }
     ensures later { K.faults keeper.old ≤ K.faults keeper.new }
-    ensures stands { Stands K.sure K.holds keeper.old engine.old → Stands K.sure K.holds keeper.new engine.new }
-    ensures follows { IsLater K.path_given K.sure keeper.old keeper.new }
+    ensures stands { Stands K.Keeper keeper.old engine.old → Stands K.Keeper keeper.new engine.new }
+    ensures follows { IsLater K.path_given K.honest K.sure keeper.old keeper.new }
 {
     match engine.finish(keeper, plan) {
         Ok(answer) => Ok(discard(answer, bytes)),
@@ -77,8 +77,8 @@ fn finished<K: Keeper>(
     ensures commits { result ≡ Err Unanswered.Keeper → IsTrue (commits plan) }
     ensures failed { result ≡ Err Unanswered.Keeper → Rose (K.faults keeper.old) (K.faults keeper.new) }
     ensures later { K.faults keeper.old ≤ K.faults keeper.new }
-    ensures stands { Stands K.sure K.holds keeper.old engine.old → Stands K.sure K.holds keeper.new engine.new }
-    ensures follows { IsLater K.path_given K.sure keeper.old keeper.new }
+    ensures stands { Stands K.Keeper keeper.old engine.old → Stands K.Keeper keeper.new engine.new }
+    ensures follows { IsLater K.path_given K.honest K.sure keeper.old keeper.new }
 {
     match answer_text(alloc, plan.answer(), plan.version()) {
         Ok(text) => keep(engine, keeper, plan, text),
@@ -101,8 +101,8 @@ pub fn reply<K: Keeper>(
         → IsChange (machine_kept engine.old) (step (machine_kept engine.old) command) }
     ensures failed { result ≡ Err Unanswered.Keeper → Rose (K.faults keeper.old) (K.faults keeper.new) }
     ensures later { K.faults keeper.old ≤ K.faults keeper.new }
-    ensures stands { Stands K.sure K.holds keeper.old engine.old → Stands K.sure K.holds keeper.new engine.new }
-    ensures follows { IsLater K.path_given K.sure keeper.old keeper.new }
+    ensures stands { Stands K.Keeper keeper.old engine.old → Stands K.Keeper keeper.new engine.new }
+    ensures follows { IsLater K.path_given K.honest K.sure keeper.old keeper.new }
 {
     match engine.prepare(command) {
         Ok(plan) => finished(alloc, engine, keeper, plan),
@@ -125,8 +125,8 @@ fn answer_to<K: Keeper>(
     ensures changes { result ≡ Err Unanswered.Keeper → Changes (machine_kept engine.old) line.now }
     ensures failed { result ≡ Err Unanswered.Keeper → Rose (K.faults keeper.old) (K.faults keeper.new) }
     ensures later { K.faults keeper.old ≤ K.faults keeper.new }
-    ensures stands { Stands K.sure K.holds keeper.old engine.old → Stands K.sure K.holds keeper.new engine.new }
-    ensures follows { IsLater K.path_given K.sure keeper.old keeper.new }
+    ensures stands { Stands K.Keeper keeper.old engine.old → Stands K.Keeper keeper.new engine.new }
+    ensures follows { IsLater K.path_given K.honest K.sure keeper.old keeper.new }
 {
     match command_of(alloc, line) {
         Ok(command) => reply(alloc, engine, keeper, command),
@@ -144,16 +144,16 @@ impl<K: Keeper> Machine<Answering, K> for Engine {
 
     ghost answers = { λ old line mark text new. line_answers (machine_kept old) line mark text (machine_kept new) };
 
-    ghost stands = { λ engine keeper. Stands K.sure K.holds keeper engine };
+    ghost stands = { λ engine keeper. Stands K.Keeper keeper engine };
 
-    ghost follows = { λ old new. IsLater K.path_given K.sure old new };
+    ghost follows = { λ old new. IsLater K.path_given K.honest K.sure old new };
 
     ghost faults = { λ keeper. K.faults keeper };
 
-    ghost follows_itself = { λ keeper. same_later K.path_given K.sure keeper };
+    ghost follows_itself = { λ keeper. same_later K.path_given K.honest K.sure keeper };
 
     ghost follows_through = { λ first second third one other.
-        twice_later K.path_given K.sure first second third one other };
+        twice_later K.path_given K.honest K.sure first second third one other };
 
     fn answer(&mut self, alloc: Global, keeper: &mut K, line: &[u8]) -> Result<Bytes, Unanswered> {
         answer_to(alloc, self, keeper, line)

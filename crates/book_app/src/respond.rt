@@ -79,8 +79,8 @@ fn finished<K: Keeper>(
     ensures commits { result ≡ Err Unanswered.Keeper → IsTrue (commits plan) }
     ensures failed { result ≡ Err Unanswered.Keeper → Rose (K.faults keeper.old) (K.faults keeper.new) }
     ensures later { K.faults keeper.old ≤ K.faults keeper.new }
-    ensures stands { Stands K.sure K.holds keeper.old engine.old → Stands K.sure K.holds keeper.new engine.new }
-    ensures follows { IsLater K.path_given K.sure keeper.old keeper.new }
+    ensures stands { Stands K.Keeper keeper.old engine.old → Stands K.Keeper keeper.new engine.new }
+    ensures follows { IsLater K.path_given K.honest K.sure keeper.old keeper.new }
 {
     match answer_response(alloc, &plan, close) {
         Ok(bytes) => keep(engine, keeper, plan, bytes),
@@ -104,8 +104,8 @@ fn respond_to_command<K: Keeper>(
         → IsChange (machine_kept engine.old) (step (machine_kept engine.old) command) }
     ensures failed { result ≡ Err Unanswered.Keeper → Rose (K.faults keeper.old) (K.faults keeper.new) }
     ensures later { K.faults keeper.old ≤ K.faults keeper.new }
-    ensures stands { Stands K.sure K.holds keeper.old engine.old → Stands K.sure K.holds keeper.new engine.new }
-    ensures follows { IsLater K.path_given K.sure keeper.old keeper.new }
+    ensures stands { Stands K.Keeper keeper.old engine.old → Stands K.Keeper keeper.new engine.new }
+    ensures follows { IsLater K.path_given K.honest K.sure keeper.old keeper.new }
 {
     match engine.prepare(command) {
         Ok(plan) => finished(alloc, engine, keeper, plan, close),
@@ -132,8 +132,8 @@ fn respond_to<K: Keeper>(
     ensures changes { result ≡ Err Unanswered.Keeper → RequestChanges (machine_kept engine.old) request.now }
     ensures failed { result ≡ Err Unanswered.Keeper → Rose (K.faults keeper.old) (K.faults keeper.new) }
     ensures later { K.faults keeper.old ≤ K.faults keeper.new }
-    ensures stands { Stands K.sure K.holds keeper.old engine.old → Stands K.sure K.holds keeper.new engine.new }
-    ensures follows { IsLater K.path_given K.sure keeper.old keeper.new }
+    ensures stands { Stands K.Keeper keeper.old engine.old → Stands K.Keeper keeper.new engine.new }
+    ensures follows { IsLater K.path_given K.honest K.sure keeper.old keeper.new }
 {
     match command_of_request(alloc, request) {
         Ok(command) => respond_to_command(alloc, engine, keeper, command, request.close),
@@ -151,16 +151,16 @@ impl<K: Keeper> Responder<Answering, K> for Engine {
 
     ghost answers = { kept_answers };
 
-    ghost stands = { λ engine keeper. Stands K.sure K.holds keeper engine };
+    ghost stands = { λ engine keeper. Stands K.Keeper keeper engine };
 
-    ghost follows = { λ old new. IsLater K.path_given K.sure old new };
+    ghost follows = { λ old new. IsLater K.path_given K.honest K.sure old new };
 
     ghost faults = { λ keeper. K.faults keeper };
 
-    ghost follows_itself = { λ keeper. same_later K.path_given K.sure keeper };
+    ghost follows_itself = { λ keeper. same_later K.path_given K.honest K.sure keeper };
 
     ghost follows_through = { λ first second third one other.
-        twice_later K.path_given K.sure first second third one other };
+        twice_later K.path_given K.honest K.sure first second third one other };
 
     fn respond(
         &mut self,

@@ -30,7 +30,7 @@ fn serve_links<K: Keeper, P: Ports>(
     ports: &mut P,
     words: ServeWords,
 ) -> ServeEnd
-    requires stands { Stands K.sure K.holds keeper.old engine.old }
+    requires stands { Stands K.Keeper keeper.old engine.old }
     ensures served { IsServing kept_answers (link_reports P.L.left P.L.written P.L.Source.faults P.L.Sink.faults)
         words.links words.port
         (server_state engine.old (K.faults keeper.old) (P.coming ports.old) (P.closed ports.old)
@@ -38,8 +38,8 @@ fn serve_links<K: Keeper, P: Ports>(
         (server_state engine.new (K.faults keeper.new) (P.coming ports.new) (P.closed ports.new)
         (P.accepted_links ports.new) (P.port_given ports.new))
         result }
-    ensures stands { Stands K.sure K.holds keeper.new engine.new }
-    ensures keeper { IsLater K.path_given K.sure keeper.old keeper.new }
+    ensures stands { Stands K.Keeper keeper.new engine.new }
+    ensures keeper { IsLater K.path_given K.honest K.sure keeper.old keeper.new }
     ensures open_links { P.open_links ports.new ≡ P.open_links ports.old }
     ensures port_fault { result ≡ ServeEnd.PortFault → Rose (P.faults ports.old) (P.faults ports.new) }
     ensures no_port_fault { result ≢ ServeEnd.PortFault → P.faults ports.new ≡ P.faults ports.old }
@@ -64,14 +64,15 @@ pub fn run_serve<K: Keeper, P: Ports>(
     keeper: &mut K,
     ports: &mut P,
 ) -> Status
-    ensures rows { ServedRows (over K.sure K.holds K.faults keeper.old keeper.new) result }
-    ensures serve { ServeClause serve (over K.sure K.holds K.faults keeper.old keeper.new)
+    ensures rows { ServedRows (over K.Keeper keeper.old keeper.new) result }
+    ensures serve { ServeClause serve (over K.Keeper keeper.old keeper.new)
         (link_reports P.L.left P.L.written P.L.Source.faults P.L.Sink.faults)
         (across P.coming P.closed P.accepted_links P.port_given ports.old ports.new) result }
     ensures open_links { P.open_links ports.new ≡ P.open_links ports.old }
     ensures port_fault { result ≡ Status.PortFault → Rose (P.faults ports.old) (P.faults ports.new) }
     ensures no_port_fault { result ≢ Status.PortFault → P.faults ports.new ≡ P.faults ports.old }
     ensures path { HasBookPath words.now (K.path_given keeper.new) result }
+    ensures honest { IsTrue (K.honest keeper.new) → IsTrue (K.honest keeper.old) }
     ensures sure { IsTrue (K.sure keeper.new) → IsTrue (K.sure keeper.old) }
     ensures usage { (result ≡ Status.Usage) ↔ (named_book words.now ≡ None) }
     ensures keeper_fault { result ≡ Status.KeeperFault → Rose (K.faults keeper.old) (K.faults keeper.new) }

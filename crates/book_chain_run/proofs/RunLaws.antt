@@ -18,13 +18,14 @@ use Rattle.book_texts.specs.RefusedText.{too_long_bytes}
 use Rattle.book_app.specs.Machine.{AreDone, IsOutcome, IsReply, Leads, Replies, answers, import_answers}
 use Rattle.book_app.specs.Machine.{import_command}
 use Rattle.book_app.specs.StatusClause.{IsBookRun, IsImportRun, IsImported, IsLineRun, IsSession, Keeping}
-use Rattle.book_app.specs.StatusClause.{HasLed, HoldsAsBefore, ImportClause, ServedRows, StatusClause, WorkClause}
+use Rattle.book_app.specs.StatusClause.{HasLed, HoldsAsBefore, ImportClause, NowOpensTo, OpenedTo, ServedRows, StatusClause}
+use Rattle.book_app.specs.StatusClause.{WorkClause}
 use Rattle.book_app.specs.Words.{Import, Lines, Sample, Serve, Work}
 use Rattle.book_app.specs.declared.status.Status.{Status}
 use Rattle.book_app.specs.declared.status.Status.TheVariants as status
 use Rattle.book_app.specs.declared.words.ImportWords.{ImportWords}
 use Rattle.book_chain_run.specs.Books.{AreChained, AreSound, AllKeepBroken, AllSumToLast}
-use Rattle.book_chain_run.specs.Made.{ByFile, ByLines, ByLinks, HoldsMade, IsMade, New, OpensMade}
+use Rattle.book_chain_run.specs.Made.{ByFile, ByLines, ByLinks, HoldsMade, IsMade, Knows, New, OpensMade}
 use Rattle.book_one_opening.proofs.OneOpening.{only-machine}
 use Rattle.book_chain_run.proofs.StepLaws.{all-books-sum, fresh-all-chained, fresh-all-sound, fresh-keeps-broken}
 use Rattle.book_chain_run.proofs.StepLaws.{step-chained, step-keeps-broken, step-sound}
@@ -198,128 +199,138 @@ pub rows-chained :
 rows-chained rows machine made opens = made-chained machine (first-made rows machine made opens)
 
 as-before :
-    (keeping : Keeping) (rows : List Row) → IsTrue keeping.sure → keeping.held rows → OpensMade rows
+    (keeping : Keeping) (rows : List Row) → Knows keeping → keeping.held rows → OpensMade rows
     → HoldsAsBefore keeping → HoldsMade keeping
-as-before keeping rows sure held made same = (rows, same sure rows held, made)
+as-before keeping rows known held made same = (rows, same.rows known.sure rows held, made)
 
 session-made :
     (keeping : Keeping) (rows : List Row) (before after : List ℕ → Type 0) (bytes read left text : List ℕ)
-    (ended : RunEnd) → IsTrue keeping.sure → keeping.held rows → OpensMade rows
+    (ended : RunEnd) → Knows keeping → keeping.held rows → OpensMade rows
     → IsSession keeping before after bytes read left text ended → HoldsMade keeping
-session-made keeping rows before after bytes read left text ended sure held made session =
-    let first = first-made rows session.first made (session.opened sure rows held) in
+session-made keeping rows before after bytes read left text ended known held made session =
+    let first = first-made rows session.first made (session.opened known.honest rows held) in
     let last = clause-made (at session.first before keeping.faults_before) (at session.last after keeping.faults_after)
     bytes read left text ended first session.run in
-    let kept = session.kept sure in
+    let kept = session.kept known.sure in
     (kept.0, kept.1, (session.last, kept.2, last))
 
 imported-made :
     (words : ImportWords) (keeping : Keeping) (rows : List Row) (before after : List ℕ → Type 0)
-    (read left text : List ℕ) (ended : RunEnd) → IsTrue keeping.sure → keeping.held rows → OpensMade rows
+    (read left text : List ℕ) (ended : RunEnd) → Knows keeping → keeping.held rows → OpensMade rows
     → IsImported words keeping before after read left text ended → HoldsMade keeping
-imported-made words keeping rows before after read left text ended sure held made imported =
-    let first = first-made rows imported.first made (imported.opened sure rows held) in
+imported-made words keeping rows before after read left text ended known held made imported =
+    let first = first-made rows imported.first made (imported.opened known.honest rows held) in
     let last = whole-made words (at imported.first before keeping.faults_before)
     (at imported.last after keeping.faults_after) read left text ended first imported.asked in
-    let kept = imported.kept sure in
+    let kept = imported.kept known.sure in
     (kept.0, kept.1, (imported.last, kept.2, last))
 
 -- By the status of a run of lines.
 lines_status-made :
     (keeping : Keeping) (rows : List Row) (before after : List ℕ → Type 0) (bytes read left text : List ℕ)
-    (ended : Status) → IsTrue keeping.sure → keeping.held rows → OpensMade rows
+    (ended : Status) → Knows keeping → keeping.held rows → OpensMade rows
     → StatusClause keeping before after bytes read left text ended → HoldsMade keeping
-lines_status-made keeping rows before after bytes read left text status.Done sure held made clause =
-    session-made keeping rows before after bytes read left text end.Done sure held made clause
-lines_status-made keeping rows before after bytes read left text status.InputLimit sure held made clause =
-    session-made keeping rows before after bytes read left text end.InputLimit sure held made clause
-lines_status-made keeping rows before after bytes read left text status.InputFault sure held made clause =
-    session-made keeping rows before after bytes read left text end.InputFault sure held made clause
-lines_status-made keeping rows before after bytes read left text status.OutputFault sure held made clause =
-    session-made keeping rows before after bytes read left text end.OutputFault sure held made clause
-lines_status-made keeping rows before after bytes read left text status.Usage sure held made clause =
-    as-before keeping rows sure held made clause.rows
-lines_status-made keeping rows before after bytes read left text status.Memory sure held made clause =
-    as-before keeping rows sure held made clause.rows
-lines_status-made keeping rows before after bytes read left text status.KeeperFault sure held made clause =
-    as-before keeping rows sure held made clause.rows
-lines_status-made keeping rows before after bytes read left text (status.BadRows kind id) sure held made clause =
-    as-before keeping rows sure held made clause.0.rows
-lines_status-made keeping rows before after bytes read left text (status.UnsoundBook kind id) sure held made clause =
-    as-before keeping rows sure held made clause.0.rows
-lines_status-made keeping rows before after bytes read left text status.PortFault sure held made clause = absurd clause
+lines_status-made keeping rows before after bytes read left text status.Done known held made clause =
+    session-made keeping rows before after bytes read left text end.Done known held made clause
+lines_status-made keeping rows before after bytes read left text status.InputLimit known held made clause =
+    session-made keeping rows before after bytes read left text end.InputLimit known held made clause
+lines_status-made keeping rows before after bytes read left text status.InputFault known held made clause =
+    session-made keeping rows before after bytes read left text end.InputFault known held made clause
+lines_status-made keeping rows before after bytes read left text status.OutputFault known held made clause =
+    session-made keeping rows before after bytes read left text end.OutputFault known held made clause
+lines_status-made keeping rows before after bytes read left text status.Usage known held made clause =
+    as-before keeping rows known held made clause.rows
+lines_status-made keeping rows before after bytes read left text status.Memory known held made clause =
+    as-before keeping rows known held made clause.rows
+lines_status-made keeping rows before after bytes read left text status.KeeperFault known held made clause =
+    as-before keeping rows known held made clause.rows
+lines_status-made keeping rows before after bytes read left text (status.BadRows kind id) known held made clause =
+    as-before keeping rows known held made clause.0.rows
+lines_status-made keeping rows before after bytes read left text (status.UnsoundBook kind id) known held made clause =
+    as-before keeping rows known held made clause.0.rows
+lines_status-made keeping rows before after bytes read left text status.PortFault known held made clause = absurd clause
 
 -- And by that of an import.
 import_status-made :
     (words : ImportWords) (keeping : Keeping) (rows : List Row) (before after : List ℕ → Type 0)
-    (read left text : List ℕ) (ended : Status) → IsTrue keeping.sure → keeping.held rows → OpensMade rows
+    (read left text : List ℕ) (ended : Status) → Knows keeping → keeping.held rows → OpensMade rows
     → ImportClause words keeping before after read left text ended → HoldsMade keeping
-import_status-made words keeping rows before after read left text status.Done sure held made clause =
-    imported-made words keeping rows before after read left text end.Done sure held made clause
-import_status-made words keeping rows before after read left text status.OutputFault sure held made clause =
-    imported-made words keeping rows before after read left text end.OutputFault sure held made clause
-import_status-made words keeping rows before after read left text status.InputLimit sure held made clause =
-    as-before keeping rows sure held made clause.1
-import_status-made words keeping rows before after read left text status.InputFault sure held made clause =
-    as-before keeping rows sure held made clause.1
-import_status-made words keeping rows before after read left text status.Usage sure held made clause =
-    as-before keeping rows sure held made clause.rows
-import_status-made words keeping rows before after read left text status.Memory sure held made clause =
-    as-before keeping rows sure held made clause.rows
-import_status-made words keeping rows before after read left text status.KeeperFault sure held made clause =
-    as-before keeping rows sure held made clause.rows
-import_status-made words keeping rows before after read left text (status.BadRows kind id) sure held made clause =
-    as-before keeping rows sure held made clause.0.rows
-import_status-made words keeping rows before after read left text (status.UnsoundBook kind id) sure held made clause =
-    as-before keeping rows sure held made clause.0.rows
-import_status-made words keeping rows before after read left text status.PortFault sure held made clause = absurd clause
+import_status-made words keeping rows before after read left text status.Done known held made clause =
+    imported-made words keeping rows before after read left text end.Done known held made clause
+import_status-made words keeping rows before after read left text status.OutputFault known held made clause =
+    imported-made words keeping rows before after read left text end.OutputFault known held made clause
+import_status-made words keeping rows before after read left text status.InputLimit known held made clause =
+    as-before keeping rows known held made clause.1
+import_status-made words keeping rows before after read left text status.InputFault known held made clause =
+    as-before keeping rows known held made clause.1
+import_status-made words keeping rows before after read left text status.Usage known held made clause =
+    as-before keeping rows known held made clause.rows
+import_status-made words keeping rows before after read left text status.Memory known held made clause =
+    as-before keeping rows known held made clause.rows
+import_status-made words keeping rows before after read left text status.KeeperFault known held made clause =
+    as-before keeping rows known held made clause.rows
+import_status-made words keeping rows before after read left text (status.BadRows kind id) known held made clause =
+    as-before keeping rows known held made clause.0.rows
+import_status-made words keeping rows before after read left text (status.UnsoundBook kind id) known held made clause =
+    as-before keeping rows known held made clause.0.rows
+import_status-made words keeping rows before after read left text status.PortFault known held made clause = absurd clause
 
 led-made :
-    (keeping : Keeping) (rows : List Row) → IsTrue keeping.sure → keeping.held rows → OpensMade rows → HasLed keeping
+    (keeping : Keeping) (rows : List Row) → Knows keeping → keeping.held rows → OpensMade rows → HasLed keeping
     → HoldsMade keeping
-led-made keeping rows sure held made led =
-    let first = first-made rows led.first made (led.opened sure rows held) in
-    let kept = led.kept sure in
+led-made keeping rows known held made led =
+    let first = first-made rows led.first made (led.opened known.honest rows held) in
+    let kept = led.kept known.sure in
     (kept.0, kept.1, (led.last, kept.2, ByLinks led.first led.last first led.led))
 
 -- And by that of a serving of links.
 serve_status-made :
-    (keeping : Keeping) (rows : List Row) (ended : Status) → IsTrue keeping.sure → keeping.held rows → OpensMade rows
+    (keeping : Keeping) (rows : List Row) (ended : Status) → Knows keeping → keeping.held rows → OpensMade rows
     → ServedRows keeping ended → HoldsMade keeping
-serve_status-made keeping rows status.Done sure held made led = led-made keeping rows sure held made led
-serve_status-made keeping rows status.PortFault sure held made led = led-made keeping rows sure held made led
-serve_status-made keeping rows status.Memory sure held made (inl same) = as-before keeping rows sure held made same
-serve_status-made keeping rows status.Memory sure held made (inr led) = led-made keeping rows sure held made led
-serve_status-made keeping rows status.Usage sure held made same = as-before keeping rows sure held made same
-serve_status-made keeping rows status.KeeperFault sure held made same = as-before keeping rows sure held made same
-serve_status-made keeping rows (status.BadRows kind id) sure held made clause =
-    as-before keeping rows sure held made clause.0
-serve_status-made keeping rows (status.UnsoundBook kind id) sure held made clause =
-    as-before keeping rows sure held made clause.0
-serve_status-made keeping rows status.InputFault sure held made clause = absurd clause
-serve_status-made keeping rows status.OutputFault sure held made clause = absurd clause
-serve_status-made keeping rows status.InputLimit sure held made clause = absurd clause
+serve_status-made keeping rows status.Done known held made led = led-made keeping rows known held made led
+serve_status-made keeping rows status.PortFault known held made led = led-made keeping rows known held made led
+serve_status-made keeping rows status.Memory known held made (inl same) = as-before keeping rows known held made same
+serve_status-made keeping rows status.Memory known held made (inr led) = led-made keeping rows known held made led
+serve_status-made keeping rows status.Usage known held made same = as-before keeping rows known held made same
+serve_status-made keeping rows status.KeeperFault known held made same = as-before keeping rows known held made same
+serve_status-made keeping rows (status.BadRows kind id) known held made clause =
+    as-before keeping rows known held made clause.0
+serve_status-made keeping rows (status.UnsoundBook kind id) known held made clause =
+    as-before keeping rows known held made clause.0
+serve_status-made keeping rows status.InputFault known held made clause = absurd clause
+serve_status-made keeping rows status.OutputFault known held made clause = absurd clause
+serve_status-made keeping rows status.InputLimit known held made clause = absurd clause
 
 work-made :
     (work : Work) (keeping : Keeping) (rows : List Row) (before after : List ℕ → Type 0)
-    (bytes read left text : List ℕ) (ended : Status) → IsTrue keeping.sure → keeping.held rows → OpensMade rows
+    (bytes read left text : List ℕ) (ended : Status) → Knows keeping → keeping.held rows → OpensMade rows
     → WorkClause work keeping before after bytes read left text ended → HoldsMade keeping
-work-made Lines keeping rows before after bytes read left text ended sure held made clause =
-    lines_status-made keeping rows before after bytes read left text ended sure held made clause
-work-made (Import words) keeping rows before after bytes read left text ended sure held made clause =
-    import_status-made words keeping rows before after read left text ended sure held made clause
-work-made (Serve serve) keeping rows before after bytes read left text ended sure held made clause =
-    serve_status-made keeping rows ended sure held made clause.2
-work-made (Sample number) keeping rows before after bytes read left text ended sure held made clause =
-    as-before keeping rows sure held made clause.0.rows
+work-made Lines keeping rows before after bytes read left text ended known held made clause =
+    lines_status-made keeping rows before after bytes read left text ended known held made clause
+work-made (Import words) keeping rows before after bytes read left text ended known held made clause =
+    import_status-made words keeping rows before after read left text ended known held made clause
+work-made (Serve serve) keeping rows before after bytes read left text ended known held made clause =
+    serve_status-made keeping rows ended known held made clause.2
+work-made (Sample number) keeping rows before after bytes read left text ended known held made clause =
+    as-before keeping rows known held made clause.0.rows
 
 -- A run of the program, whatever its words and its status are: where its keeper held rows of a book that the program
 -- makes from nothing, and still knows its rows, it holds such rows at the end.
 pub book_run-made :
     (work : Work) (keeping : Keeping) (rows : List Row) (input_before input_after : Option (List ℕ))
-    (output_before output_after : List ℕ → Type 0) (ended : Status) → IsTrue keeping.sure → keeping.held rows
+    (output_before output_after : List ℕ → Type 0) (ended : Status) → Knows keeping → keeping.held rows
     → OpensMade rows → IsBookRun work keeping input_before input_after output_before output_after ended
     → HoldsMade keeping
-book_run-made work keeping rows input_before input_after output_before output_after ended sure held made run =
-    work-made work keeping rows output_before output_after run.bytes run.read run.left run.text ended sure held made
+book_run-made work keeping rows input_before input_after output_before output_after ended known held made run =
+    work-made work keeping rows output_before output_after run.bytes run.read run.left run.text ended known held made
     run.clause
+
+-- Two runs one after the other join: where the rows that one ended with are those that the other began with, the other
+-- began as the machine with which the one ended.
+pub runs-join :
+    (one other : Keeping) (last first : Machine) → Knows one → IsTrue other.honest
+    → ((rows : List Row) → one.holds rows → other.held rows) → NowOpensTo one last → OpenedTo other (Opens first)
+    → first ≡ last
+runs-join one other last first known honest passes kept opened =
+    let now = kept known.sure in
+    only-machine now.0 first last (opened honest now.0 (passes now.0 now.1)) now.2

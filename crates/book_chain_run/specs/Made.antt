@@ -1,5 +1,5 @@
 -- The books that the program makes from nothing, in one run or in several (a rule of this project).
-use Rattle.std.specs.Prelude.{ℕ, List}
+use Rattle.std.specs.Prelude.{ℕ, IsTrue, List}
 use Rattle.book_keeper.specs.declared.row.Row.{Row}
 use Rattle.book_lines.specs.Marks.{Mark}
 use Rattle.book_lines.specs.Transcript.{Run}
@@ -24,6 +24,11 @@ pub data IsMade : Machine → Type 0 where
 -- Rows open as a machine that the program makes from nothing.
 abbrev pub OpensMade : List Row → Type 0
 OpensMade rows = (machine : Machine) × OpensTo rows (Opens machine) × IsMade machine
+
+-- The keeper is honest, and still knows its rows.
+pub record Knows (keeping : Keeping) : Type 0 where
+  pub honest : IsTrue keeping.honest
+  pub sure : IsTrue keeping.sure
 
 -- A keeper holds such rows after a run.
 abbrev pub HoldsMade : Keeping → Type 0

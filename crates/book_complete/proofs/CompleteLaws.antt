@@ -38,12 +38,12 @@ use Rattle.book_complete.proofs.OpenLaws.{opens-not_bad, opens-not_unsound}
 
 not-bad : (keeping : Keeping) (kind id : ℕ) → BookOpens keeping → OpenedTo keeping (Bad (row_key kind id)) → ⊥
 not-bad keeping kind id book opened =
-    opens-not_bad book.rows book.machine (row_key kind id) book.rise book.opens (opened book.sure book.rows book.held)
+    opens-not_bad book.rows book.machine (row_key kind id) book.rise book.opens (opened book.honest book.rows book.held)
 
 not-unsound :
     (keeping : Keeping) (kind id : ℕ) → BookOpens keeping → OpenedTo keeping (Unsound (row_key kind id)) → ⊥
 not-unsound keeping kind id book opened =
-    opens-not_unsound book.rows book.machine (row_key kind id) book.opens (opened book.sure book.rows book.held)
+    opens-not_unsound book.rows book.machine (row_key kind id) book.opens (opened book.honest book.rows book.held)
 
 known-are : (known bytes : List ℕ) (input : Option (List ℕ)) → input ≡ Some known → Are input bytes → known ≡ bytes
 known-are known bytes input is are = subst (λ (o : Option (List ℕ)). IfSome o (λ l. l ≡ bytes)) is are

@@ -16,7 +16,7 @@ use Rattle.book_sample.specs.Sample.{sample_text}
 use Rattle.book_sample.specs.Shown.{AreLastAnswers}
 use Rattle.book_lines.specs.Marks.{mark_of}
 use Rattle.book_app.specs.declared.words.ImportWords.{ImportWords}
-use Rattle.book_app.specs.StatusClause.{IsBookRun, IsLeft, IsUntouched, Keeping, over}
+use Rattle.book_app.specs.StatusClause.{IsBookRun, IsLeft, IsUntouched, Keeping}
 use Rattle.book_app.specs.Words.{Import, Lines, Sample, Work, is_book, named_book, work_of}
 use Rattle.book_app.specs.declared.status.Status.{Status}
 use Rattle.book_complete.specs.Complete.{AreAllTold, DoneOrMemory, IsCompleteRun, IsImportTold}
@@ -29,8 +29,16 @@ use Rattle.book_complete.proofs.CompleteLaws.{book_run-complete}
 
 -- What is seen of the keeper that never fails.
 abbrev pub sure_keeping : RowsKept → RowsKept → Keeping
-sure_keeping before after =
-    over (λ (k : RowsKept). do_rise k.rows) (λ k rows. (k.rows ≡ rows) × Rises rows) (λ k. 0) before after
+sure_keeping before after = record {
+  honest = do_rise after.rows;
+  sure = do_rise after.rows;
+  held = λ rows. (before.rows ≡ rows) × Rises rows;
+  holds = λ rows. (after.rows ≡ rows) × Rises rows;
+  might_leave = λ rows. (before.rows ≡ rows) × Rises rows;
+  may_leave = λ rows. (after.rows ≡ rows) × Rises rows;
+  faults_before = 0;
+  faults_after = 0;
+}
 
 -- The counts of objects that never fail, beside those of some ports.
 abbrev pub no_faults : ℕ → ℕ → Faults
@@ -64,7 +72,7 @@ module _ (machine : Machine) (room : ℕ) (input_before input_after : BytesLeft)
     (rises : Rises keeper_after.rows) (opens : OpensTo keeper_before.rows (Opens machine)) where
   book-opens : BookOpens (sure_keeping keeper_before keeper_after)
   book-opens = record {
-    sure = told_where keeper_after.rows rises;
+    honest = told_where keeper_after.rows rises;
     rows = keeper_before.rows;
     held = (refl, rise);
     rise = rise;
@@ -102,7 +110,7 @@ module _ (machine : Machine) (room : ℕ) (input_before input_after : BytesLeft)
       → IsUntouched (sure_keeping keeper_before keeper_after) read text
       → IsAsBefore input_before input_after keeper_before keeper_after kept_before kept_after
   as-before bytes read left text are left_are parts kept same =
-      let rows = same.rows (told_where keeper_after.rows rises) keeper_before.rows (refl, rise) in
+      let rows = same.rows.rows (told_where keeper_after.rows rises) keeper_before.rows (refl, rise) in
       record {
         left = left_are ∙ sym (are ∙ parts ∙ ap (λ (l : List ℕ). l ++ left) same.input);
         rows = rows.0;

@@ -14,9 +14,9 @@ use Rattle.book_complete.specs.Quiet.{AreQuiet, DidNotRise, Faults}
 abbrev pub AreWords : List (List ℕ) → Type 0
 AreWords words = AreNoWords words → ⊥
 
--- The keeper still knows its rows, and those that it held before open as a machine.
+-- The keeper is honest, and the rows that it held before open as a machine.
 pub record BookOpens (keeping : Keeping) : Type 0 where
-  pub sure : IsTrue keeping.sure
+  pub honest : IsTrue keeping.honest
   pub rows : List Row
   pub held : keeping.held rows
   pub rise : Rises rows

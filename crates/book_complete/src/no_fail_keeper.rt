@@ -1,4 +1,4 @@
-ghost use Rattle.std.specs.Prelude.{◌≡◌, ◌<◌, [], List, IfOk, IfErr, IfSome, OnOk, OnErr, IsTrue};
+ghost use Rattle.std.specs.Prelude.{◌≡◌, ◌≢◌, ◌↔◌, ◌<◌, ◌⊎◌, [], List, IfOk, IfErr, IfSome, OnOk, OnErr, IsTrue};
 ghost use Rattle.book_keeper.specs.Keeping.{HasKeepCause};
 ghost use Rattle.book_keeper.specs.Rows.{Rises, do_rise, rank, after_changes, first_after};
 
@@ -47,17 +47,25 @@ impl NoFailKeeper {
 impl Keeper for NoFailKeeper {
     ghost use Rattle.std.specs.Prelude.{refl};
     ghost use Rattle.book_keeper.specs.Rows.{Rises, do_rise};
-    ghost use Rattle.book_keeper.specs.RisingRows.{rises_where};
+    ghost use Rattle.book_keeper.specs.RisingRows.{rises_where, same_rows};
 
     ghost path_given = { λ keeper. keeper.path };
+
+    ghost honest = { λ keeper. do_rise keeper.rows };
 
     ghost sure = { λ keeper. do_rise keeper.rows };
 
     ghost holds = { λ keeper rows. (keeper.rows ≡ rows) × Rises rows };
 
+    ghost may_leave = { λ keeper rows. (keeper.rows ≡ rows) × Rises rows };
+
     ghost faults = { λ keeper. 0 };
 
+    ghost trusted = { λ keeper sure. sure };
+
     ghost told = { λ keeper sure. (keeper.rows, (refl, rises_where keeper.rows sure)) };
+
+    ghost one = { λ keeper rows other first second. same_rows keeper.rows rows other first.0 second.0 };
 
     ghost rising = { λ keeper rows held. held.1 };
 
@@ -69,6 +77,12 @@ impl Keeper for NoFailKeeper {
         ensures path { OnOk result (self.new.path ≡ path.now) }
         ensures path_kept { OnErr result (self.new.path ≡ self.old.path) }
         ensures sure { IsTrue (do_rise self.new.rows) → IsTrue (do_rise self.old.rows) }
+        ensures honest { IsTrue (do_rise self.new.rows) → IsTrue (do_rise self.old.rows) }
+        ensures known { OnOk result (IsTrue (do_rise self.new.rows) → IsTrue (do_rise self.new.rows)) }
+        ensures left { IsTrue (do_rise self.new.rows) → (rows : List Row) → (self.new.rows ≡ rows) × Rises rows
+            → (self.old.rows ≡ rows) × Rises rows }
+        ensures settled { OnOk result (IsTrue (do_rise self.new.rows) → (rows : List Row)
+            → (self.new.rows ≡ rows) × Rises rows ↔ (self.new.rows ≡ rows) × Rises rows) }
         ensures rows { IsTrue (do_rise self.new.rows) → (rows : List Row) → (self.old.rows ≡ rows) × Rises rows
             → (self.new.rows ≡ rows) × Rises rows }
         ensures cause { HasKeepCause 0 0 result }
@@ -83,6 +97,14 @@ impl Keeper for NoFailKeeper {
         ensures fails { IfErr result (λ error. error ≡ KeepError.OutOfMemory) }
         ensures path { self.new.path ≡ self.old.path }
         ensures sure { IsTrue (do_rise self.new.rows) → IsTrue (do_rise self.old.rows) }
+        ensures honest { IsTrue (do_rise self.new.rows) → IsTrue (do_rise self.old.rows) }
+        ensures known { OnOk result (IsTrue (do_rise self.new.rows) → IsTrue (do_rise self.new.rows)) }
+        ensures left { IsTrue (do_rise self.new.rows) → changes.now ≢ [] → (rows : List Row)
+            → (self.new.rows ≡ rows) × Rises rows → ((self.old.rows ≡ rows) × Rises rows)
+            ⊎ (IsTrue (do_rise self.old.rows) × ((held : List Row) → (self.old.rows ≡ held) × Rises held
+            → rows ≡ after_changes changes.now held)) }
+        ensures settled { OnOk result (IsTrue (do_rise self.new.rows) → (rows : List Row)
+            → (self.new.rows ≡ rows) × Rises rows ↔ (self.new.rows ≡ rows) × Rises rows) }
         ensures made { OnOk result (IsTrue (do_rise self.new.rows) → (rows : List Row)
             → (self.old.rows ≡ rows) × Rises rows
             → (self.new.rows ≡ after_changes changes.now rows) × Rises (after_changes changes.now rows)) }
@@ -100,6 +122,11 @@ impl Keeper for NoFailKeeper {
         ensures kept { self.new ≡ self.old }
         ensures path { self.new.path ≡ self.old.path }
         ensures sure { IsTrue (do_rise self.new.rows) → IsTrue (do_rise self.old.rows) }
+        ensures honest { IsTrue (do_rise self.new.rows) → IsTrue (do_rise self.old.rows) }
+        ensures known { OnOk result (IsTrue (do_rise self.new.rows) → IsTrue (do_rise self.old.rows)
+            → IsTrue (do_rise self.new.rows)) }
+        ensures left { IsTrue (do_rise self.new.rows) → (rows : List Row) → (self.new.rows ≡ rows) × Rises rows
+            → (self.old.rows ≡ rows) × Rises rows }
         ensures rows { IsTrue (do_rise self.new.rows) → (rows : List Row) → (self.old.rows ≡ rows) × Rises rows
             → (self.new.rows ≡ rows) × Rises rows }
         ensures found { IfOk result (λ found. IsTrue (do_rise self.new.rows) → (rows : List Row)

@@ -1,11 +1,16 @@
 -- Rows that stood for what an engine kept stand for what it keeps.
-use Rattle.std.proofs.Common.{◌≡◌, Bool, true, false, ◌||◌, IsTrue, List, inr, refl, sym, ◌∙◌, subst}
+use Rattle.std.proofs.Common.{◌≡◌, ◌≢◌, ◌↔◌, ◌⊎◌, Bool, true, false, ◌||◌, if◌then◌else◌, IsTrue, List, [], inl, inr}
+use Rattle.std.proofs.Common.{Result, Ok, Err, OnErr, refl, sym, ◌∙◌, subst}
+use Rattle.book_command.specs.declared.command.Command.{Command}
 use Rattle.book_keeper.specs.Rows.{after_changes}
+use Rattle.book_keeper.specs.declared.keeper.Keeper.{Ghosts}
 use Rattle.book_keeper.specs.declared.row.Row.{Row}
-use Rattle.book_opening.specs.Opening.{OpenAs}
+use Rattle.book_opening.specs.Opening.{OpenAs, WhereBad}
 use Rattle.book_opening.specs.State.{State}
+use Rattle.book_opening.specs.declared.fault.OpenFault.{OpenFault}
+use Rattle.book_opening.specs.declared.fault.OpenFault.TheVariants as fault
 use Rattle.book_turns.specs.Standing.{StandFor}
-use Rattle.book_turns.specs.Turned.{is_moving, turned_by}
+use Rattle.book_turns.specs.Turned.{changes_to, is_moving, turned_by}
 use Rattle.book_turns.specs.Whole.{IsWhole}
 use Rattle.book_turns.specs.declared.turn.Turn.{Turn}
 use Rattle.book_turns.specs.declared.turn.Way.{Way}
@@ -13,9 +18,13 @@ use Rattle.book_turns.specs.declared.turn.Way.TheVariants.{Stay, Change as ToNew
 use Rattle.book_engine.specs.Acting.{IsUnchanged}
 use Rattle.book_engine.specs.Kept.{Kept}
 use Rattle.book_engine.specs.Books.{machine_of}
-use Rattle.book_engine.specs.Planned.{Planned, IsPlanFor, after, commits}
+use Rattle.book_engine.specs.Planned.{Planned, IsPlanFor, IsPlanOf, after, commits}
+use Rattle.book_engine.specs.Opening.{WhereOpened, open_error}
 use Rattle.book_engine.specs.Opens.{Opens, OpensTo}
-use Rattle.book_engine.specs.Standing.{StandForKept, Stands}
+use Rattle.book_engine.specs.Machine.{step}
+use Rattle.book_engine.specs.Standing.{OpensToNext, OpensToReply, StandForKept, Stands}
+use Rattle.book_engine.specs.declared.fault.OpenError.{OpenError}
+use Rattle.book_engine.specs.declared.fault.OpenError.TheVariants as error
 use Rattle.book_engine.proofs.WholeLemmas.{whole_sound}
 
 pub stand_same :
@@ -35,14 +44,18 @@ stand_kept before now rows same stand =
 
 -- They do where it keeps what it kept.
 pub stands_unchanged :
-    {K : Type 0} (sure : K → Bool) (holds : K → List Row → Type 0) (keeper : K) (before now : Kept)
-    → IsUnchanged before now → Stands sure holds keeper before → Stands sure holds keeper now
-stands_unchanged sure holds keeper before now same stands =
-    λ still. let stood = stands still in (
-      stood.0,
-      stood.1,
-      stand_kept before now stood.0 same stood.2,
-    )
+    {K : Type 0} (of : Ghosts K) (keeper : K) (before now : Kept) → IsUnchanged before now → Stands of keeper before
+    → Stands of keeper now
+stands_unchanged of keeper before now same stands = record {
+  rows = λ still. let stood = stands.rows still in (
+    stood.0,
+    stood.1,
+    stand_kept before now stood.0 same stood.2,
+  );
+  left = λ honest rows left.
+      subst (λ (s : State). OpensTo rows (Opens (machine_of s)) ⊎ OpensToNext (machine_of s) rows)
+      (sym same.same_state) (stands.left honest rows left);
+}
 
 stays : (way : Way) (turn : Turn) (state : State) → is_moving way ≡ false → turned_by way turn state ≡ state
 stays Stay turn state none = refl
@@ -75,25 +88,137 @@ left_unchanged before now plan none made = record {
   same_saved = made.saved ∙ or_none before.saved (commits plan) none;
 }
 
--- They stand where the keeper made the changes of the plan.
-pub stands_made :
-    {K : Type 0} (sure : K → Bool) (holds : K → List Row → Type 0) (old new : K) (before now : Kept) (plan : Planned)
-    → (IsTrue (sure new) → IsTrue (sure old))
-    → (IsTrue (sure new) → (rows : List Row) → holds old rows → holds new (after_changes plan.changes rows))
-    → IsPlanFor before.state before.saved plan → IsTrue (commits plan) → IsAfter before now plan
-    → IsWhole now.state now.saved → Stands sure holds old before → Stands sure holds new now
-stands_made sure holds old new before now plan was held is some made whole stands =
-    λ still.
-    let stood = stands (was still) in
-    let rows = after_changes plan.changes stood.0 in
-    let state = sym made.state in
-    let stand : OpenAs rows (after before.state plan) = is.plan_of.stand stood.0 some stood.2.1 in
-    let open_as : OpenAs rows now.state = subst (λ (s : State). OpenAs rows s) state stand in (
-      rows,
-      held still stood.0 stood.1,
-      (
-        inr (now.state, open_as, whole_sound now.state now.saved whole, refl),
-        stand_same true now.saved (after before.state plan) now.state rows
-            (sym (made.saved ∙ or_some before.saved (commits plan) some)) state stand,
-      ),
+-- What the changes of a plan for an engine's state make of rows that stood for it opens as the machine after the plan.
+step_opens :
+    (before : Kept) (command : Command) (plan : Planned) (rows : List Row)
+    → IsPlanOf before.state before.saved command plan → IsTrue (commits plan) → StandForKept before rows
+    → OpensTo (after_changes plan.changes rows) (Opens (machine_of (after before.state plan)))
+step_opens before command plan rows is some stood =
+    inr (
+      after before.state plan,
+      is.stand rows some stood.1,
+      whole_sound (after before.state plan) (before.saved || commits plan) is.whole,
+      refl,
     )
+
+made_opens :
+    (before : Kept) (plan : Planned) (rows : List Row) → IsPlanFor before.state before.saved plan
+    → IsTrue (commits plan) → StandForKept before rows
+    → OpensTo (after_changes plan.changes rows) (Opens (machine_of (after before.state plan)))
+made_opens before plan rows is some stood = step_opens before is.command plan rows is.plan_of some stood
+
+-- A plan that commits has changes of rows.
+some_changes : (saved : Bool) (state : State) (turn : Turn) → changes_to saved state turn ≡ [] → ⊥
+some_changes true state turn none = cc
+some_changes false state turn none = cc
+
+pub plan_changes :
+    (state : State) (saved : Bool) (plan : Planned) → IsPlanFor state saved plan → IsTrue (commits plan)
+    → plan.changes ≢ []
+plan_changes state saved plan is some none =
+    some_changes saved state plan.turn
+    (subst (λ (b : Bool). (if b then changes_to saved state plan.turn else []) ≡ []) some
+    (sym is.plan_of.changes_are ∙ none))
+
+-- They stand where the keeper made the changes of the plan. Then the next keeper may find only the rows after them.
+pub stands_made :
+    {K : Type 0} (of : Ghosts K) (old new : K) (before now : Kept) (plan : Planned)
+    → (IsTrue (of.sure new) → IsTrue (of.sure old)) → (IsTrue (of.honest new) → IsTrue (of.sure new))
+    → (IsTrue (of.sure new) → (rows : List Row) → of.holds old rows → of.holds new (after_changes plan.changes rows))
+    → (IsTrue (of.sure new) → (rows : List Row) → of.may_leave new rows ↔ of.holds new rows)
+    → ((rows other : List Row) → of.holds new rows → of.holds new other → rows ≡ other)
+    → IsPlanFor before.state before.saved plan → IsTrue (commits plan) → IsAfter before now plan
+    → Stands of old before → Stands of new now
+stands_made of old new before now plan was known held settled one is some made stands =
+    let state = sym made.state in
+    let Opened : List Row → Type 0 = λ rows. OpensTo rows (Opens (machine_of now.state)) in
+    let opens : (rows : List Row) → StandForKept before rows → Opened (after_changes plan.changes rows) =
+    λ rows stood.
+    subst (λ (s : State). OpensTo (after_changes plan.changes rows) (Opens (machine_of s))) state
+    (made_opens before plan rows is some stood) in
+    record {
+      rows = λ still.
+          let stood = stands.rows (was still) in
+          let stand = is.plan_of.stand stood.0 some stood.2.1 in (
+            after_changes plan.changes stood.0,
+            held still stood.0 stood.1,
+            (
+              opens stood.0 stood.2,
+              stand_same true now.saved (after before.state plan) now.state (after_changes plan.changes stood.0)
+                  (sym (made.saved ∙ or_some before.saved (commits plan) some)) state stand,
+            ),
+          );
+      left = λ honest rows left.
+          let still = known honest in
+          let stood = stands.rows (was still) in
+          let made = one rows (after_changes plan.changes stood.0) ((settled still rows).0 left)
+          (held still stood.0 stood.1) in
+          inl (subst Opened (sym made) (opens stood.0 stood.2));
+    }
+
+-- They stand where the keeper failed to make them: then it may leave the rows before them, or those after them.
+pub stands_failed :
+    {K : Type 0} (of : Ghosts K) (old new : K) (before now : Kept) (plan : Planned)
+    → (IsTrue (of.sure new) → IsTrue (of.sure old)) → (IsTrue (of.honest new) → IsTrue (of.honest old))
+    → (IsTrue (of.sure new) → (rows : List Row) → of.holds old rows → of.holds new rows)
+    → (IsTrue (of.honest new) → plan.changes ≢ [] → (rows : List Row) → of.may_leave new rows
+    → of.may_leave old rows ⊎ (IsTrue (of.sure old) × ((held : List Row) → of.holds old held
+    → rows ≡ after_changes plan.changes held)))
+    → IsPlanFor before.state before.saved plan → IsTrue (commits plan) → IsUnchanged before now
+    → Stands of old before → Stands of new now
+stands_failed of old new before now plan was honest_was held left is some same stands =
+    stands_unchanged of new before now same (record {
+      rows = λ still. let stood = stands.rows (was still) in (stood.0, held still stood.0 stood.1, stood.2);
+      left = λ honest rows may.
+          elim (left honest (plan_changes before.state before.saved plan is some) rows may) [
+            | inl earlier ↦ stands.left (honest_was honest) rows earlier
+            | inr made ↦
+                let stood = stands.rows made.0 in
+                inr (record {
+                  command = is.command;
+                  next = machine_of (after before.state plan);
+                  answer = plan.answer;
+                  done = is.plan_of.made;
+                  opens = subst (λ (r : List Row). OpensTo r (Opens (machine_of (after before.state plan))))
+                      (sym (made.1 stood.0 stood.1)) (made_opens before plan stood.0 is some stood.2);
+                })
+          ];
+    })
+
+-- What holds of a keeper that was read holds where the book was opened.
+pub where_opened : {T : Type 0} (result : Result T OpenError) (Holds : Type 0) → Holds → WhereOpened result Holds
+where_opened (Ok it) Holds holds = holds
+where_opened (Err (error.BadRows kind id)) Holds holds = holds
+where_opened (Err (error.UnsoundBook kind id)) Holds holds = holds
+where_opened (Err error.Keeper) Holds holds = tt
+where_opened (Err error.OutOfMemory) Holds holds = tt
+
+pub where_unread :
+    (T : Type 0) (why : OpenFault) (Holds : Type 0) → WhereBad why Holds
+    → WhereOpened {T = T} (Err (open_error why)) Holds
+where_unread T fault.Keeper Holds holds = tt
+where_unread T (fault.BadRows kind id) Holds holds = holds
+where_unread T fault.OutOfMemory Holds holds = tt
+
+-- What a keeper may leave that failed to make the changes of the plan of a command.
+pub leaves_step :
+    {K : Type 0} (of : Ghosts K) (old new : K) (before : Kept) (command : Command) (plan : Planned)
+    → (IsTrue (of.honest new) → (rows : List Row) → of.may_leave new rows
+    → of.may_leave old rows ⊎ (IsTrue (of.sure old) × ((held : List Row) → of.holds old held
+    → rows ≡ after_changes plan.changes held)))
+    → IsPlanOf before.state before.saved command plan → IsTrue (commits plan) → Stands of old before
+    → IsTrue (of.honest new) → (rows : List Row) → of.may_leave new rows
+    → of.may_leave old rows ⊎ OpensToReply (step (machine_of before.state) command) rows
+leaves_step of old new before command plan left is some stands = λ honest rows may.
+    elim (left honest rows may) [
+      | inl earlier ↦ inl earlier
+      | inr made ↦
+          let stood = stands.rows made.0 in
+          inr (record {
+            next = machine_of (after before.state plan);
+            answer = plan.answer;
+            done = is.made;
+            opens = subst (λ (r : List Row). OpensTo r (Opens (machine_of (after before.state plan))))
+                (sym (made.1 stood.0 stood.1)) (step_opens before command plan stood.0 is some stood.2);
+          })
+    ]

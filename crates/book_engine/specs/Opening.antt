@@ -36,6 +36,14 @@ IsOpenedAs state (Err (error.UnsoundBook kind id)) = unsound_at state ≡ Some (
 IsOpenedAs state (Err error.Keeper) = ⊤
 IsOpenedAs state (Err error.OutOfMemory) = ⊤
 
+-- This holds, unless the keeper failed or the program is out of memory.
+abbrev pub WhereOpened : {T : Type 0} → Result T OpenError → Type 0 → Type 0
+WhereOpened (Ok it) Holds = Holds
+WhereOpened (Err (error.BadRows kind id)) Holds = Holds
+WhereOpened (Err (error.UnsoundBook kind id)) Holds = Holds
+WhereOpened (Err error.Keeper) Holds = ⊤
+WhereOpened (Err error.OutOfMemory) Holds = ⊤
+
 -- What is answered without rows: an engine that keeps the fresh state, before a keeper was given rows.
 abbrev pub IsBegun : Result Kept OpenError → Type 0
 IsBegun (Ok kept) = (kept.state ≡ fresh_state) × (kept.saved ≡ false)

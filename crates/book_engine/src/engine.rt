@@ -1,12 +1,13 @@
-ghost use Rattle.std.specs.Prelude.{◌≡◌, ◌||◌, List, IfOk, IfErr, OnOk, OnErr, IsTrue, option_map};
+ghost use Rattle.std.specs.Prelude.{◌≡◌, ◌⊎◌, ◌||◌, List, IfOk, IfErr, OnOk, OnErr, IsTrue, option_map};
 ghost use Rattle.std.specs.Option.{option_copied};
 ghost use Rattle.book_free.specs.FreeSplits.{free_splits};
 ghost use Rattle.book_free.specs.Kept.{Keeps as KeepsFree};
 ghost use Rattle.book_keeper.specs.Keeping.{HasKeepCause};
+ghost use Rattle.book_keeper.specs.Rows.{after_changes};
 ghost use Rattle.book_keeper.specs.declared.row.Row.{Row as HeldRow};
 ghost use Rattle.book_ledger.specs.Ledger.{Keeps, live_register};
 ghost use Rattle.book_step.specs.Soundness.{IsSound};
-ghost use Rattle.book_opening.specs.Opening.{OpenAs, WasRead};
+ghost use Rattle.book_opening.specs.Opening.{OpenAs, StaysSure, WasRead};
 ghost use Rattle.book_opening.specs.State.{State};
 ghost use Rattle.book_report_answers.specs.LotsAsked.{lots_asked};
 ghost use Rattle.book_turns.specs.Whole.{IsWhole, step_state};
@@ -17,10 +18,10 @@ ghost use Rattle.book_engine.specs.Changed.{live_changes, live_lots};
 ghost use Rattle.book_engine.specs.Books.{machine_of};
 ghost use Rattle.book_engine.specs.Kept.{IsNew};
 ghost use Rattle.book_engine.specs.Machine.{Done, step as step_from};
-ghost use Rattle.book_engine.specs.Opening.{HasOpenCause, IsOpenedAs, Opened};
+ghost use Rattle.book_engine.specs.Opening.{HasOpenCause, IsOpenedAs, Opened, WhereOpened};
 ghost use Rattle.book_engine.specs.Planned.{after, commits, HasMoves, HasRoomFor, IsPlanFor, IsPlanned, IsPlanOf};
 ghost use Rattle.book_engine.specs.Planned.{IsRefusal, with_moves};
-ghost use Rattle.book_engine.specs.Standing.{Stands};
+ghost use Rattle.book_engine.specs.Standing.{OpensToReply, Stands};
 
 use crate::opening::{begin, checked, open_error};
 use crate::planning::plan_of;
@@ -76,11 +77,12 @@ impl Engine {
     /// head doesn't count.
     /// UnsoundBook: where all rows are spellings, the first key at which the rule of its kind is broken.
     pub fn open<K: Keeper>(alloc: Global, keeper: &mut K) -> Result<Engine, OpenError>
-        ensures keeper { WasRead K.path_given K.sure K.holds keeper.old keeper.new }
+        ensures keeper { WasRead K.Keeper keeper.old keeper.new }
         ensures opened { IsTrue (K.sure keeper.new) → (rows : List HeldRow) → K.holds keeper.old rows
             → Opened rows result }
         ensures again { IsTrue (K.sure keeper.new) → (rows : List HeldRow) → K.holds keeper.old rows
             → (state : State) → OpenAs rows state → IsOpenedAs state result }
+        ensures known { WhereOpened result (StaysSure K.Keeper keeper.old keeper.new) }
         ensures sound { IfOk result (λ engine. IsSound (step_state engine.state)) }
         ensures new { IfOk result IsNew }
         ensures cause { HasOpenCause (K.faults keeper.old) (K.faults keeper.new) result }
@@ -242,10 +244,14 @@ impl Engine {
         ensures commits { OnErr result (IsTrue (commits plan)) }
         ensures sound { IsSound (step_state self.new.state) }
         ensures path { K.path_given keeper.new ≡ K.path_given keeper.old }
+        ensures honest { IsTrue (K.honest keeper.new) → IsTrue (K.honest keeper.old) }
         ensures sure { IsTrue (K.sure keeper.new) → IsTrue (K.sure keeper.old) }
-        ensures stands { Stands K.sure K.holds keeper.old self.old → Stands K.sure K.holds keeper.new self.new }
+        ensures stands { Stands K.Keeper keeper.old self.old → Stands K.Keeper keeper.new self.new }
         ensures rows { OnErr result (IsTrue (K.sure keeper.new) → (rows : List HeldRow) → K.holds keeper.old rows
             → K.holds keeper.new rows) }
+        ensures leaves { OnErr result (IsTrue (K.honest keeper.new) → (rows : List HeldRow)
+            → K.may_leave keeper.new rows → K.may_leave keeper.old rows ⊎ (IsTrue (K.sure keeper.old)
+            × ((held : List HeldRow) → K.holds keeper.old held → rows ≡ after_changes plan.changes held))) }
         ensures cause { HasKeepCause (K.faults keeper.old) (K.faults keeper.new) result }
     {
         self.sound();
@@ -305,10 +311,14 @@ impl Engine {
         ensures unchanged { OnErr result (IsUnchanged self.old self.new) }
         ensures sound { IsSound (step_state self.new.state) }
         ensures path { K.path_given keeper.new ≡ K.path_given keeper.old }
+        ensures honest { IsTrue (K.honest keeper.new) → IsTrue (K.honest keeper.old) }
         ensures sure { IsTrue (K.sure keeper.new) → IsTrue (K.sure keeper.old) }
-        ensures stands { Stands K.sure K.holds keeper.old self.old → Stands K.sure K.holds keeper.new self.new }
+        ensures stands { Stands K.Keeper keeper.old self.old → Stands K.Keeper keeper.new self.new }
         ensures rows { OnErr result (IsTrue (K.sure keeper.new) → (rows : List HeldRow) → K.holds keeper.old rows
             → K.holds keeper.new rows) }
+        ensures leaves { OnErr result (Stands K.Keeper keeper.old self.old → IsTrue (K.honest keeper.new)
+            → (rows : List HeldRow) → K.may_leave keeper.new rows → K.may_leave keeper.old rows
+            ⊎ OpensToReply (step_from (machine_of self.old.state) command) rows) }
         ensures cause { HasActCause (machine_of self.old.state) (step_from (machine_of self.old.state) command)
             (K.faults keeper.old) (K.faults keeper.new) result }
     {

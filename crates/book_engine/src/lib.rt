@@ -1,10 +1,25 @@
-//! The machine that keeps a whole book, and whose rows a keeper holds. It opens from the rows. It prepares a command,
-//! which tries all rules and takes all memory, and then finishes the plan: the keeper makes the changes of rows, and
-//! then the state is changed, which can't fail. Between the two the answer is already there to be written out.
-//! Each change adds an edit that leads back. `undo` takes the last one and keeps the edit that leads forth, which
-//! `redo` takes. Beside the book stand the registers of its accounts and the splits that may be matched with a bank
-//! line; both follow each edit. Contracts see an engine as its state with its steps, whether rows were given to a
-//! keeper, and the tables that hold the book.
+//! The machine that keeps a whole book, and whose rows a keeper holds. Between two calls on an `Engine` this holds:
+//!
+//! 1. Its state is sound: so is the present book, and so is each book to which its steps lead back or forth.
+//! 2. It keeps at most 256 steps in all, each as an edit under its number: those back lead from the present book to the
+//!    earlier ones, those forth to the later ones.
+//! 3. The registers are those of the present book, and the index has exactly the splits of it that are free to be
+//!    matched with a bank line. Both follow each edit and are made once, as the book is opened.
+//! 4. Where rows stood for the state before a call, they stand for the state after it, as far as the keeper knows them.
+//!    What an honest keeper may leave opens as the engine's machine, or as the one that one command more makes of it:
+//!    a command whose changes it failed to keep, as `leaves` of `act` says.
+//!
+//! A command takes two calls. `prepare` tries all rules, takes all memory and has the answer; it leaves the state.
+//! `finish` lets the keeper make the changes of rows, and then makes the turn of the state, which takes no memory and
+//! can't fail. The text of the answer is made between the two: what is out of memory by then has changed nothing, and no
+//! change is kept whose answer could not be written for want of memory.
+//!
+//! A turn is what becomes of the state: it stays, where the command asks something or leaves all as it is; it changes
+//! the book, and keeps the edit that leads back; or it goes one step back or forth, for `undo` or `redo`, and keeps the
+//! edit that leads the other way.
+//!
+//! Contracts see an engine as its state with its steps, whether rows were given to a keeper, and the tables that hold
+//! the book.
 #![tactic(auto)]
 
 mod engine;

@@ -1,5 +1,5 @@
--- Rows whose keys rise, and the test that computes it.
-use Rattle.std.proofs.Common.{◌≡◌, ℕ, ◌<◌, nat_lt, Bool, true, ◌&&◌, IsTrue, List, [], ◌∷◌, refl, arith}
+-- Rows whose keys rise, the test that computes it, and that rows which are held are one list.
+use Rattle.std.proofs.Common.{◌≡◌, ◌∙◌, ℕ, ◌<◌, nat_lt, Bool, true, ◌&&◌, IsTrue, List, [], ◌∷◌, refl, sym, arith}
 use Rattle.std.specs.List.{list_all}
 use Rattle.std.proofs.lemmas.Bool.Decides.{nat_tests}
 use Rattle.book_keeper.specs.declared.row.Row.{Row}
@@ -36,3 +36,7 @@ told_by (row ∷ rows) rise = grind (arith, nat_tests, below_where (rank row.key
 -- the test says so where rows rise
 pub told_where : (rows : List Row) → Rises rows → IsTrue (do_rise rows)
 told_where rows rise = let all = told_by rows rise in grind (arith, nat_tests, all)
+
+-- rows that are those that are held are one list
+pub same_rows : (held rows other : List Row) → held ≡ rows → held ≡ other → rows ≡ other
+same_rows held rows other first second = sym first ∙ second

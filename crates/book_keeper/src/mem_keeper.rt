@@ -1,4 +1,4 @@
-ghost use Rattle.std.specs.Prelude.{◌≡◌, ◌↔◌, ◌<◌, [], true, List, Err, IfOk, IfErr, IfSome, OnOk, OnErr, IsTrue};
+ghost use Rattle.std.specs.Prelude.{◌≡◌, ◌≢◌, ◌↔◌, ◌<◌, ◌⊎◌, [], true, List, Err, IfOk, IfErr, IfSome, OnOk, OnErr, IsTrue};
 ghost use Rattle.book_keeper.specs.Calls.{FailsNext};
 ghost use Rattle.book_keeper.specs.Keeping.{HasKeepCause};
 ghost use Rattle.book_keeper.specs.KeeperInMemory.{after_commit, after_refusal};
@@ -98,17 +98,25 @@ fn text_of(alloc: Global, path: &str) -> Result<Text, OutOfMemory>
 impl Keeper for MemKeeper {
     ghost use Rattle.std.specs.Prelude.{refl};
     ghost use Rattle.book_keeper.specs.Rows.{do_rise};
-    ghost use Rattle.book_keeper.specs.RisingRows.{rises_where};
+    ghost use Rattle.book_keeper.specs.RisingRows.{rises_where, same_rows};
 
     ghost path_given = { λ keeper. keeper.path };
+
+    ghost honest = { λ keeper. do_rise keeper.rows };
 
     ghost sure = { λ keeper. do_rise keeper.rows };
 
     ghost holds = { λ keeper rows. (keeper.rows ≡ rows) × Rises rows };
 
+    ghost may_leave = { λ keeper rows. (keeper.rows ≡ rows) × Rises rows };
+
     ghost faults = { λ keeper. keeper.faults };
 
+    ghost trusted = { λ keeper sure. sure };
+
     ghost told = { λ keeper sure. (keeper.rows, (refl, rises_where keeper.rows sure)) };
+
+    ghost one = { λ keeper rows other first second. same_rows keeper.rows rows other first.0 second.0 };
 
     ghost rising = { λ keeper rows held. held.1 };
 
@@ -120,6 +128,12 @@ impl Keeper for MemKeeper {
         ensures path { OnOk result (self.new.path ≡ path.now) }
         ensures path_kept { OnErr result (self.new.path ≡ self.old.path) }
         ensures sure { IsTrue (do_rise self.new.rows) → IsTrue (do_rise self.old.rows) }
+        ensures honest { IsTrue (do_rise self.new.rows) → IsTrue (do_rise self.old.rows) }
+        ensures known { OnOk result (IsTrue (do_rise self.new.rows) → IsTrue (do_rise self.new.rows)) }
+        ensures left { IsTrue (do_rise self.new.rows) → (rows : List Row) → (self.new.rows ≡ rows) × Rises rows
+            → (self.old.rows ≡ rows) × Rises rows }
+        ensures settled { OnOk result (IsTrue (do_rise self.new.rows) → (rows : List Row)
+            → (self.new.rows ≡ rows) × Rises rows ↔ (self.new.rows ≡ rows) × Rises rows) }
         ensures rows { IsTrue (do_rise self.new.rows) → (rows : List Row) → (self.old.rows ≡ rows) × Rises rows
             → (self.new.rows ≡ rows) × Rises rows }
         ensures cause { HasKeepCause self.old.faults self.new.faults result }
@@ -141,6 +155,14 @@ impl Keeper for MemKeeper {
         ensures failed { IfErr result (λ error. self.new ≡ after_refusal error self.old) }
         ensures path { self.new.path ≡ self.old.path }
         ensures sure { IsTrue (do_rise self.new.rows) → IsTrue (do_rise self.old.rows) }
+        ensures honest { IsTrue (do_rise self.new.rows) → IsTrue (do_rise self.old.rows) }
+        ensures known { OnOk result (IsTrue (do_rise self.new.rows) → IsTrue (do_rise self.new.rows)) }
+        ensures left { IsTrue (do_rise self.new.rows) → changes.now ≢ [] → (rows : List Row)
+            → (self.new.rows ≡ rows) × Rises rows → ((self.old.rows ≡ rows) × Rises rows)
+            ⊎ (IsTrue (do_rise self.old.rows) × ((held : List Row) → (self.old.rows ≡ held) × Rises held
+            → rows ≡ after_changes changes.now held)) }
+        ensures settled { OnOk result (IsTrue (do_rise self.new.rows) → (rows : List Row)
+            → (self.new.rows ≡ rows) × Rises rows ↔ (self.new.rows ≡ rows) × Rises rows) }
         ensures made { OnOk result (IsTrue (do_rise self.new.rows) → (rows : List Row)
             → (self.old.rows ≡ rows) × Rises rows
             → (self.new.rows ≡ after_changes changes.now rows) × Rises (after_changes changes.now rows)) }
@@ -166,6 +188,11 @@ impl Keeper for MemKeeper {
         ensures kept { self.new ≡ self.old }
         ensures path { self.new.path ≡ self.old.path }
         ensures sure { IsTrue (do_rise self.new.rows) → IsTrue (do_rise self.old.rows) }
+        ensures honest { IsTrue (do_rise self.new.rows) → IsTrue (do_rise self.old.rows) }
+        ensures known { OnOk result (IsTrue (do_rise self.new.rows) → IsTrue (do_rise self.old.rows)
+            → IsTrue (do_rise self.new.rows)) }
+        ensures left { IsTrue (do_rise self.new.rows) → (rows : List Row) → (self.new.rows ≡ rows) × Rises rows
+            → (self.old.rows ≡ rows) × Rises rows }
         ensures rows { IsTrue (do_rise self.new.rows) → (rows : List Row) → (self.old.rows ≡ rows) × Rises rows
             → (self.new.rows ≡ rows) × Rises rows }
         ensures found { IfOk result (λ found. IsTrue (do_rise self.new.rows) → (rows : List Row)

@@ -1,8 +1,9 @@
 -- One row more is read: the state so far has what it stands for, and has exactly what the rows so far stand for.
-use Rattle.std.proofs.Common.{◌≡◌, ℕ, Bool, List, [], ◌∷◌, ◌++◌, map, Some, None, Result, Ok, Err, IfOk, IfErr}
+use Rattle.std.proofs.Common.{◌≡◌, ℕ, List, [], ◌∷◌, ◌++◌, map, Some, None, Result, Ok, Err, IfOk, IfErr}
 use Rattle.std.proofs.Common.{inl, inr, refl, sym, ap, ◌∙◌, subst, ◌≤◌, arith}
 use Rattle.book_rows.specs.Row.{kind_of}
 use Rattle.std.specs.List.{AllByRecursion}
+use Rattle.book_keeper.specs.declared.keeper.Keeper.{Ghosts}
 use Rattle.book_keeper.specs.declared.row.Row.{Row}
 use Rattle.book_keeper.specs.declared.row.RowKey.{RowKey}
 use Rattle.book_keeper.specs.Rows.{Rises, rank, first_above, first_row, with_row}
@@ -16,7 +17,8 @@ use Rattle.book_opening.specs.BookRows.{back_records, behind_head, forth_records
 use Rattle.book_opening.specs.BookRows.{things_of}
 use Rattle.book_opening.specs.Item.{record_of_item, with_item}
 use Rattle.book_opening.specs.Opening.{Begins, IsBadFor, IsBadHead, IsBadThing, IsLeastBad, IsNoRecord}
-use Rattle.book_opening.specs.Opening.{IsOnlyRecord, IsOpened, OpenAs, WasRead, head_key}
+use Rattle.book_opening.specs.Opening.{IsOnlyRecord, IsOpened, OpenAs, StaysSure, WasRead, WhereBad, WhereRead}
+use Rattle.book_opening.specs.Opening.{head_key}
 use Rattle.book_opening.specs.Reading.{IsBegun, IsFirstBad, IsWhole, bad_key}
 use Rattle.book_opening.specs.State.{State, head_of, state_of}
 use Rattle.book_opening.specs.Steps.{AreCounted}
@@ -83,19 +85,53 @@ last_rows rows last s none so_far = sym (up_to_end last rows none) ∙ so_far
 
 -- a keeper that was read once more was read
 pub read_more :
-    {K : Type 0} (path : K → List ℕ) (sure : K → Bool) (holds : K → List Row → Type 0) (a b c : K)
-    → WasRead path sure holds a b → WasRead path sure holds b c → WasRead path sure holds a c
-read_more path sure holds a b c first second = record {
+    {K : Type 0} (keeper : Ghosts K) (a b c : K) → WasRead keeper a b → WasRead keeper b c → WasRead keeper a c
+read_more keeper a b c first second = record {
   same_path = second.same_path ∙ first.same_path;
+  still_honest = λ now. first.still_honest (second.still_honest now);
   still_sure = λ now. first.still_sure (second.still_sure now);
   same_rows = λ now rows held. second.same_rows now rows (first.same_rows (second.still_sure now) rows held);
+  leaves = λ now rows left. first.leaves (second.still_honest now) rows (second.leaves now rows left);
 }
 
-pub read_none :
-    {K : Type 0} (path : K → List ℕ) (sure : K → Bool) (holds : K → List Row → Type 0) (a : K)
-    → WasRead path sure holds a a
-read_none path sure holds a =
-    record { same_path = refl; still_sure = λ now. now; same_rows = λ now rows held. held }
+pub read_none : {K : Type 0} (keeper : Ghosts K) (a : K) → WasRead keeper a a
+read_none keeper a = record {
+  same_path = refl;
+  still_honest = λ now. now;
+  still_sure = λ now. now;
+  same_rows = λ now rows held. held;
+  leaves = λ now rows left. left;
+}
+
+-- of a fault that is no bad row nothing is said
+pub unread_known : (why : OpenFault) (Holds : Type 0) → bad_key why ≡ None → WhereBad why Holds
+unread_known fault.Keeper Holds none = tt
+unread_known fault.OutOfMemory Holds none = tt
+unread_known (fault.BadRows kind id) Holds none = absurd cc
+
+-- what holds in any case holds at a fault, and where rows were read
+pub where_bad : (why : OpenFault) (Holds : Type 0) → Holds → WhereBad why Holds
+where_bad (fault.BadRows kind id) Holds holds = holds
+where_bad fault.Keeper Holds holds = tt
+where_bad fault.OutOfMemory Holds holds = tt
+
+pub where_read : {T : Type 0} (result : Result T OpenFault) (Holds : Type 0) → Holds → WhereRead result Holds
+where_read (Ok it) Holds holds = holds
+where_read (Err why) Holds holds = where_bad why Holds holds
+
+-- a keeper that was read once more, and knew its rows, still knows them
+pub known_twice :
+    {K : Type 0} (keeper : Ghosts K) (a b c : K) → WasRead keeper b c → StaysSure keeper a b → StaysSure keeper b c
+    → StaysSure keeper a c
+known_twice keeper a b c read first second = λ now before. second now (first (read.still_honest now) before)
+
+pub known_more :
+    {K : Type 0} (keeper : Ghosts K) (a b c : K) (why : OpenFault) → WasRead keeper b c → StaysSure keeper a b
+    → WhereBad why (StaysSure keeper b c) → WhereBad why (StaysSure keeper a c)
+known_more keeper a b c (fault.BadRows kind id) read first second =
+    λ now before. second now (first (read.still_honest now) before)
+known_more keeper a b c fault.Keeper read first second = tt
+known_more keeper a b c fault.OutOfMemory read first second = tt
 
 -- ---- faults
 -- A fault without a key says nothing of the rows.

@@ -1,9 +1,10 @@
 -- What rows open as: the state whose rows they are, or a key at which they are bad.
-use Rattle.std.specs.Prelude.{ℕ, ◌≡◌, ◌≤◌, ◌<◌, ◌⊎◌, ⊤, Bool, IsTrue, List, [], Option, Some, None, Result, Ok}
+use Rattle.std.specs.Prelude.{ℕ, ◌≡◌, ◌≤◌, ◌<◌, ◌⊎◌, ⊤, IsTrue, List, [], Option, Some, None, Result, Ok}
 use Rattle.std.specs.Prelude.{Err, OnOk, IfErr}
 use Rattle.std.specs.List.{AllByRecursion}
 use Rattle.book_keeper.specs.Faults.{Rose}
 use Rattle.book_keeper.specs.Rows.{rank, first_row}
+use Rattle.book_keeper.specs.declared.keeper.Keeper.{Ghosts}
 use Rattle.book_keeper.specs.declared.row.Row.{Row}
 use Rattle.book_keeper.specs.declared.row.RowKey.{RowKey}
 use Rattle.book_rows.specs.Row.{StandsFor}
@@ -90,12 +91,31 @@ IsBadHead row (fault.BadRows kind id) =
 IsBadHead row fault.Keeper = ⊥
 IsBadHead row fault.OutOfMemory = ⊤
 
--- A keeper that was read: its path stays; it knows its rows now only if it did before, and then they stay.
-pub record WasRead {K : Type 0} (path : K → List ℕ) (sure : K → Bool) (holds : K → List Row → Type 0) (before now : K)
-    : Type 0 where
-  pub same_path : path now ≡ path before
-  pub still_sure : IsTrue (sure now) → IsTrue (sure before)
-  pub same_rows : IsTrue (sure now) → (rows : List Row) → holds before rows → holds now rows
+-- A keeper that was read: its path stays; it is honest, and knows its rows, now only if it was and did before; where
+-- it knows them they stay; and the next keeper finds no rows that it could not find before.
+pub record WasRead {K : Type 0} (keeper : Ghosts K) (before now : K) : Type 0 where
+  pub same_path : keeper.path_given now ≡ keeper.path_given before
+  pub still_honest : IsTrue (keeper.honest now) → IsTrue (keeper.honest before)
+  pub still_sure : IsTrue (keeper.sure now) → IsTrue (keeper.sure before)
+  pub same_rows : IsTrue (keeper.sure now) → (rows : List Row) → keeper.holds before rows → keeper.holds now rows
+  pub leaves : IsTrue (keeper.honest now) → (rows : List Row) → keeper.may_leave now rows
+      → keeper.may_leave before rows
+
+-- An honest keeper that knew its rows before it was read knows them now.
+abbrev pub StaysSure : {K : Type 0} → Ghosts K → K → K → Type 0
+StaysSure keeper before now =
+    IsTrue (keeper.honest now) → IsTrue (keeper.sure before) → IsTrue (keeper.sure now)
+
+-- This holds at a fault, unless the keeper failed or the program is out of memory.
+abbrev pub WhereBad : OpenFault → Type 0 → Type 0
+WhereBad (fault.BadRows kind id) Holds = Holds
+WhereBad fault.Keeper Holds = ⊤
+WhereBad fault.OutOfMemory Holds = ⊤
+
+-- This holds, unless the keeper failed or the program is out of memory.
+abbrev pub WhereRead : {T : Type 0} → Result T OpenFault → Type 0 → Type 0
+WhereRead (Ok it) Holds = Holds
+WhereRead (Err why) Holds = WhereBad why Holds
 
 -- The answer is this state, unless the keeper failed or the program is out of memory.
 abbrev pub IsOpened : State → Result (Option Saved) OpenFault → Type 0

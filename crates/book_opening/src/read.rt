@@ -9,7 +9,7 @@ ghost use Rattle.book_opening.specs.BookRows.{records_of, row_of, rows_of};
 ghost use Rattle.book_opening.specs.Changes.{IsShallow};
 ghost use Rattle.book_opening.specs.Item.{record_of_item, with_item};
 ghost use Rattle.book_opening.specs.Opening.{Answers, Begins, HasOpenCause, IsBadFor, IsBadHead, IsBadThing};
-ghost use Rattle.book_opening.specs.Opening.{IsOnlyRecord, IsOpened, OpenAs, WasRead, head_key};
+ghost use Rattle.book_opening.specs.Opening.{IsOnlyRecord, IsOpened, OpenAs, StaysSure, WasRead, WhereRead, head_key};
 ghost use Rattle.book_opening.specs.Reading.{IsBegun, IsFirstBad, IsReadable, IsWhole, bad_key};
 ghost use Rattle.book_opening.specs.State.{State, state_of, head_of};
 ghost use Rattle.book_opening.specs.Steps.{AreCounted};
@@ -30,11 +30,12 @@ use std::alloc::Global;
 /// BadRows: the least key whose row can't be opened, or is needed and missing, or is that of a step which the head
 /// doesn't count.
 pub fn read_rows<K: Keeper>(alloc: Global, keeper: &mut K) -> Result<Option<Saved>, OpenFault>
-    ensures keeper { WasRead K.path_given K.sure K.holds keeper.old keeper.new }
+    ensures keeper { WasRead K.Keeper keeper.old keeper.new }
     ensures answer { IsTrue (K.sure keeper.new) → (rows : List HeldRow) → K.holds keeper.old rows
         → Answers rows result }
     ensures again { IsTrue (K.sure keeper.new) → (rows : List HeldRow) → K.holds keeper.old rows
         → (state : State) → OpenAs rows state → IsOpened state result }
+    ensures known { WhereRead result (StaysSure K.Keeper keeper.old keeper.new) }
     ensures readable { IfOk result (λ found. IfSome found (λ saved. IsReadable (state_of saved))) }
     ensures cause { HasOpenCause (K.faults keeper.old) (K.faults keeper.new) result }
 {
@@ -143,10 +144,11 @@ fn bad(key: RowKey) -> OpenFault
 fn read_behind<K: Keeper>(alloc: Global, keeper: &mut K, state: Saved) -> Result<Saved, OpenFault>
     requires only { AllByRecursion IsOnlyRecord (records_of (state_of state)) }
     requires begun { IsBegun (head_of (state_of state)) (state_of state) }
-    ensures keeper { WasRead K.path_given K.sure K.holds keeper.old keeper.new }
+    ensures keeper { WasRead K.Keeper keeper.old keeper.new }
     ensures head { IfOk result (λ saved. head_of (state_of saved) ≡ head_of (state_of state)) }
     ensures read { IfOk result (λ saved. AllByRecursion IsOnlyRecord (records_of (state_of saved))) }
     ensures counted { IfOk result (λ saved. AreCounted (state_of saved)) }
+    ensures known { WhereRead result (StaysSure K.Keeper keeper.old keeper.new) }
     ensures rows { IfOk result (λ saved. IsTrue (K.sure keeper.new) → (rows : List HeldRow) → K.holds keeper.old rows
         → Begins rows (head_of (state_of state)) → OpenAs rows (state_of saved)) }
     ensures bad { IfErr result (λ fault. IsTrue (K.sure keeper.new) → (rows : List HeldRow)
@@ -164,9 +166,10 @@ fn read_behind<K: Keeper>(alloc: Global, keeper: &mut K, state: Saved) -> Result
 fn read_into<K: Keeper>(alloc: Global, keeper: &mut K, saved: &mut Saved) -> Result<(), OpenFault>
     requires only { AllByRecursion IsOnlyRecord (records_of (state_of saved.old)) }
     requires begun { IsBegun (head_of (state_of saved.old)) (state_of saved.old) }
-    ensures keeper { WasRead K.path_given K.sure K.holds keeper.old keeper.new }
+    ensures keeper { WasRead K.Keeper keeper.old keeper.new }
     ensures head { OnOk result (head_of (state_of saved.new) ≡ head_of (state_of saved.old)) }
     ensures read { OnOk result (AllByRecursion IsOnlyRecord (records_of (state_of saved.new))) }
+    ensures known { WhereRead result (StaysSure K.Keeper keeper.old keeper.new) }
     ensures rows { OnOk result (IsTrue (K.sure keeper.new) → (rows : List HeldRow) → K.holds keeper.old rows
         → Begins rows (head_of (state_of saved.old)) → rows ≡ rows_of (state_of saved.new)) }
     ensures bad { IfErr result (λ fault. IsTrue (K.sure keeper.new) → (rows : List HeldRow)

@@ -41,7 +41,7 @@ pub enum BookError {
 /// The present book of the keeper's rows, which stay, with its version: those of the machine that opens from them, and
 /// without rows the fresh book.
 pub fn open_book<K: Keeper>(alloc: Global, keeper: &mut K) -> Result<Opened, BookError>
-    ensures keeper { WasRead K.path_given K.sure K.holds keeper.old keeper.new }
+    ensures keeper { WasRead K.Keeper keeper.old keeper.new }
     ensures opened { IsTrue (K.sure keeper.new) → (rows : List Row) → K.holds keeper.old rows → OpenedAs rows result }
     ensures cause { HasBookCause (K.faults keeper.old) (K.faults keeper.new) result }
 {

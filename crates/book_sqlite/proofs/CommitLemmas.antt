@@ -53,6 +53,10 @@ pub at_error : {A : Type 0} {P : Type 0} (r : Result A Error) → P → OnErr r 
 at_error (Ok a) p = tt
 at_error (Err e) p = p
 
+pub at_ok : {A : Type 0} {P : Type 0} (r : Result A Error) → P → OnOk r P
+at_ok (Ok a) p = p
+at_ok (Err e) p = tt
+
 module _ (old last end : State) (all : List Change) (back : HasCleanDisk end → HasCleanDisk last) (making : HasCleanDisk last → IsMaking old last [] all) where
   pub commit_made : {A : Type 0} (r : Result A Error)
       → (HasCleanDisk end → OnOk r (IsTrue last.in_transaction × Shows last end last.now last.now false × KeepsCounts last end × (end.marks ≡ [])))

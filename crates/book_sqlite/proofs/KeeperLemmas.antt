@@ -1,5 +1,5 @@
 -- What the calls on the connection say of the keeper.
-use Rattle.std.proofs.Common.{◌≡◌, ◌⊎◌, ◌&&◌, List, [], ◌∷◌, Some, None, inl, inr, refl, sym, ap, subst, ◌∙◌, IsTrue, Option}
+use Rattle.std.proofs.Common.{◌≡◌, ◌↔◌, ◌⊎◌, ◌&&◌, List, [], ◌∷◌, Some, None, inl, inr, refl, sym, ap, subst, ◌∙◌, IsTrue, Option}
 use Rattle.std.proofs.lemmas.Bool.{and_parts, and_from}
 use Rattle.sqlite_value.specs.Order.{Row as Entry}
 use Rattle.sqlite_trees.specs.Tree.{Trees}
@@ -13,11 +13,11 @@ use Rattle.sqlite.specs.declared.FileStore.{FileStore}
 use Rattle.sqlite_disk.specs.declared.Disk as disk
 use Rattle.book_keeper.specs.declared.row.Row.{Row}
 use Rattle.book_keeper.specs.declared.row.RowKey.{RowKey}
-use Rattle.book_keeper.specs.Rows.{first_after}
+use Rattle.book_keeper.specs.Rows.{first_row, first_after}
 use Rattle.book_sqlite.specs.Content.{rows_of}
 use Rattle.book_sqlite.specs.RowsDatabase.{IsRowsDatabase, rows_in, ListsRows}
-use Rattle.book_sqlite.specs.RowCalls.{IsSure, IsReady, Committed, StaysCommitted, AreNext, PassesNone}
-use Rattle.book_sqlite.specs.KeeperInSqlite.{SqliteKept, AreAhead, is_sure, HoldsRows, HasEntries, MayLeave}
+use Rattle.book_sqlite.specs.RowCalls.{IsSure, IsReady, Committed, StaysCommitted, AreNext, AreNextOn, PassesNone}
+use Rattle.book_sqlite.specs.KeeperInSqlite.{SqliteKept, AreAhead, is_sure, HoldsRows, HasEntries, MayLeave, has_clean_store}
 
 module _ {S : Type 0} (g : Ghosts S) where
   abbrev knows : Held S → Type 0
@@ -106,10 +106,10 @@ module _ {S : Type 0} (g : Ghosts S) where
     pub crash_adds : (change : List Row → List Row) (Changes : Type 0) → IsReady (state g c)
         → Survives (state g c) (state g new) (λ db. (Changes → IsTrue (state g c).is_open)
         × (IsRowsDatabase (state g c).now → rows_of (db 0) ≡ change (rows_in (state g c).now)))
-        → Changes → IsTrue (state g new).is_clean → (rows : List Row)
+        → IsTrue (state g new).is_clean → Changes → (rows : List Row)
         → (db : Trees) × (state g new).may_leave db × (rows ≡ rows_of (db 0))
         → MayLeave g k rows ⊎ (IsTrue (is_sure g k) × ((held : List Row) → HoldsRows g k held → rows ≡ change held))
-    crash_adds change Changes ready survives some clean rows left =
+    crash_adds change Changes ready survives clean some rows left =
         elim (survives.crash (no_doubt _ clean) left.0 left.1) [
           | inl earlier ↦
               let may : (db : Trees) × (state g c).may_leave db × (rows ≡ rows_of (db 0)) = (left.0, earlier, left.2) in
@@ -126,16 +126,55 @@ module _ {S : Type 0} (g : Ghosts S) where
               )
         ]
 
-    -- of a commit that is made, and whose connection is open, a crash leaves the rows after it alone
-    pub crash_settles : (change : List Row → List Row) → IsReady (state g c) → (HasCleanDisk (state g new) → Committed (state g c) (state g new) change)
-        → ((db : Trees) → IsTrue (state g new).is_open → (state g new).may_leave db → db ≡ (state g new).committed.trees)
-        → knows new → (rows held : List Row) → HoldsRows g k held
-        → (db : Trees) × (state g new).may_leave db × (rows ≡ rows_of (db 0)) → rows ≡ change held
-    crash_settles change ready made settled sure rows held holds left =
-        let now = sure_from new sure in
-        left.2 ∙ ap (λ (t : Trees). rows_of (t 0)) (settled left.0 now.1 left.1) ∙ sym (rows_made change ready made sure held holds)
+    -- the store was clean before
+    pub clean_back : IsTrue (state g new).is_clean → IsTrue (has_clean_store g k)
+    clean_back clean = let was : IsTrue (state g c).is_clean = clean_of _ (back (no_doubt _ clean)) in rw is was
+
+    -- what a select leaves at a crash could be left before
+    pub select_leaves : Survives (state g c) (state g new) (λ _. ⊥) → IsTrue (state g new).is_clean → (rows : List Row)
+        → (db : Trees) × (state g new).may_leave db × (rows ≡ rows_of (db 0)) → MayLeave g k rows
+    select_leaves survives clean rows left =
+        elim (survives.crash (no_doubt _ clean) left.0 left.1) [
+          | inl earlier ↦
+              let may : (db : Trees) × (state g c).may_leave db × (rows ≡ rows_of (db 0)) = (left.0, earlier, left.2) in rw is may
+          | inr made ↦ absurd made
+        ]
+
+  -- a connection that a clean store leaves open
+  pub known_if_open : (new : Held S) → (HasCleanDisk (state g new) → IsTrue (state g new).is_open) → IsTrue (state g new).is_clean → knows new
+  known_if_open new opens clean = and_from _ _ clean (opens (no_doubt _ clean))
+
+  -- of an open store a crash leaves the last commit, and nothing else
+  pub settled_rows : (new : Held S)
+      → ((db : Trees) → IsTrue (state g new).is_open → (state g new).may_leave db → db ≡ (state g new).committed.trees)
+      → (IsTrue (state g new).is_open → (state g new).may_leave (state g new).committed.trees)
+      → knows new → (rows : List Row) → ((db : Trees) × (state g new).may_leave db × (rows ≡ rows_of (db 0)))
+      ↔ (rows ≡ rows_of ((state g new).committed.trees 0))
+  settled_rows new settled stays sure rows = (
+    λ left. left.2 ∙ ap (λ (t : Trees). rows_of (t 0)) (settled left.0 (sure_from new sure).1 left.1),
+    λ are. ((state g new).committed.trees, stays (sure_from new sure).1, are),
+  )
 
 -- ---- rows that were read ahead
+next_from : (after : Option RowKey) (rows : List Row) (entries : List Entry) → first_row rows ≡ first_after after (rows_of entries)
+    → PassesNone after entries (first_row rows) → AreNextOn rows entries → AreNext after rows entries
+next_from after [] entries found passed next = tt
+next_from after (row ∷ rows) entries found passed next = (found, passed, next)
+
+-- the rows that a select read are those that come next
+pub reads_next : {S : Type 0} (g : Ghosts S) (c new : Held S) → (HasCleanDisk (state g new) → HasCleanDisk (state g c)) → IsReady (state g c)
+    → (HasCleanDisk (state g new) → StaysCommitted (state g c) (state g new)) → (after : Option RowKey) (rows : List Row)
+    → (HasCleanDisk (state g new) → IsTrue (state g new).is_open → first_row rows ≡ first_after after (rows_in (state g c).now))
+    → (HasCleanDisk (state g new) → IsTrue (state g new).is_open → PassesNone after ((state g c).now.trees 0) (first_row rows))
+    → (HasCleanDisk (state g new) → IsTrue (state g new).is_open → AreNextOn rows ((state g c).now.trees 0))
+    → IsSure (state g new) → AreNext after rows ((state g new).committed.trees 0)
+reads_next g c new back ready stays after rows found passed next sure =
+    let kept = stays sure.0 in
+    let was : IsSure (state g c) = (back sure.0, kept.was_open sure.1) in
+    let same = ap (λ (d : Database). d.trees 0) (ready.settled was ∙ sym (kept.committed sure.1)) in
+    subst (AreNext after rows) same
+    (next_from after rows ((state g c).now.trees 0) (found sure.0 sure.1) (passed sure.0 sure.1) (next sure.0 sure.1))
+
 module _ {S : Type 0} (g : Ghosts S) (new old : SqliteKept S) (after asked : Option RowKey) (row : Row) (ahead rest : List Row)
     (asked_is : after ≡ asked) (first : ahead ≡ row ∷ rest) where
   next_by : (entries : List Entry) → AreNext after ahead entries

@@ -11,6 +11,7 @@ pub mod NextLemmas
 pub mod OpeningLemmas
 pub mod PassedLemmas
 pub mod PutLemmas
+pub mod SelectLemmas
 pub mod ShownLemmas
 pub mod StateFacts
 pub mod TakeLemmas

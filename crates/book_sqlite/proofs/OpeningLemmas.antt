@@ -92,6 +92,13 @@ create_empty old new count empty ran clean =
     (creates old new count empty (subst (λ t. Writes old new Rattle.std.proofs.Common.None CreateTable t [] count) create_is.1
     (runs_as create_text [] old new no_schema empty CreateTable create_is.0 create_plain count (ran clean)))).1
 
+-- and its connection is open
+pub create_open :
+    (old new : State) (count : ℕ) → old.now.schema ≡ no_schema → (HasCleanDisk new → Executes create_text [] old new (Ok count))
+    → HasCleanDisk new → IsTrue new.is_open
+create_open old new count empty ran clean =
+    (runs_as create_text [] old new no_schema empty CreateTable create_is.0 create_plain count (ran clean)).shown.is_open
+
 zip_apart : {A B : Type 0} (R : A → B → Type 0) (xs : List A) (y : B) (ys : List B) → AllZip R xs (y ∷ ys) → AllZip R xs [] → ⊥
 zip_apart R [] y ys one none = absurd one
 zip_apart R (x ∷ xs) y ys one none = absurd none

@@ -188,6 +188,17 @@ module _ {A : Type 0} (items : A → List Entry) (old new : State) (back : HasCl
       stays old new back ready clean (inl (shown_unchanged sql params old new (items rows) it.schema plain h))
   select_left sql params plain (Err e) ok err clean = stays old new back ready clean (query_failed old new sql params e (err clean))
 
+  -- a select that shows rows leaves the connection open
+  pub select_open :
+      (sql : List ℕ) (params : Entry) (plain : IsPlain (understood rows_schema sql)) (r : Result A Error)
+      → (HasCleanDisk new → IfOk r (λ rows. Shown sql params old new (items rows)))
+      → OnOk r (HasCleanDisk new → IsTrue new.is_open)
+  select_open sql params plain (Ok rows) ok = λ clean.
+      let h = ok clean in
+      let it = ready.rows (back clean, shown_open old new sql params (items rows) h) in
+      (shown_unchanged sql params old new (items rows) it.schema plain h).0.is_open
+  select_open sql params plain (Err e) ok = tt
+
   pub behind_answer :
       (kind id : ℤ) (params : Entry) (r : Result A Error) → params ≡ Int kind ∷ Int id ∷ []
       → (HasCleanDisk new → IfOk r (λ rows. Shown behind_text params old new (items rows)))

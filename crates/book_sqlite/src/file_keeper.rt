@@ -1,13 +1,14 @@
-ghost use Rattle.std.specs.Prelude.{◌≡◌, [], IsTrue, IfErr};
+ghost use Rattle.std.specs.Prelude.{◌≡◌, ◌↔◌, [], List, IsTrue, IfErr};
 ghost use Rattle.sqlite_trees.specs.declared.error.StoreError.{StoreError};
 ghost use Rattle.sqlite.specs.State.{store_error};
 ghost use Rattle.sqlite_trees.specs.Tree.{Trees};
 ghost use Rattle.sqlite.specs.WalFiles.{image_at};
 ghost use Rattle.sqlite.specs.Files.{over_files, HoldsDatabase};
+ghost use Rattle.book_keeper.specs.declared.row.Row.{Row};
 ghost use Rattle.book_sqlite.specs.Content.{rows_of};
 ghost use Rattle.book_sqlite.specs.RowsDatabase.{ListsRows};
 ghost use Rattle.book_sqlite.specs.NewFiles.{HoldNothing};
-ghost use Rattle.book_sqlite.specs.KeeperInSqlite.{is_sure, HoldsRows};
+ghost use Rattle.book_sqlite.specs.KeeperInSqlite.{is_sure, has_clean_store, HoldsRows, MayLeave};
 
 use crate::SqliteKeeper;
 use crate::orphan::usable_path;
@@ -35,6 +36,9 @@ impl<T: Start> SqliteKeeper<FileStore<FileFrom<T>>> {
             → ListsRows db → HoldsRows over_files result (rows_of (db 0)) }
         ensures empty { IsTrue (is_sure over_files result) → HoldNothing (image_at T.Start)
             → HoldsRows over_files result [] }
+        ensures known { IsTrue (has_clean_store over_files result) → IsTrue (is_sure over_files result) }
+        ensures settled { IsTrue (is_sure over_files result) → (rows : List Row)
+            → MayLeave over_files result rows ↔ HoldsRows over_files result rows }
         ensures path { result.path ≡ [] }
         ensures faults { result.faults ≡ 0 }
     {
@@ -50,6 +54,9 @@ impl<T: Start> SqliteKeeper<FileStore<FileFrom<T>>> {
             → ListsRows db → HoldsRows over_files result (rows_of (db 0)) }
         ensures empty { IsTrue (is_sure over_files result) → HoldNothing (image_at T.Start)
             → HoldsRows over_files result [] }
+        ensures known { IsTrue (has_clean_store over_files result) → IsTrue (is_sure over_files result) }
+        ensures settled { IsTrue (is_sure over_files result) → (rows : List Row)
+            → MayLeave over_files result rows ↔ HoldsRows over_files result rows }
         ensures path { result.path ≡ [] }
         ensures faults { result.faults ≡ 0 }
     {

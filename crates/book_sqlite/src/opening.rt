@@ -17,6 +17,7 @@ fn make_table<S: Alter>(conn: &mut Connection<S>) -> Result<(), Error>
     ensures empty { OnOk result (HasCleanDisk (state S.Store conn.new)
         → (state S.Store conn.new).now.trees 0 ≡ []) }
     ensures clean { HasCleanDisk (state S.Store conn.new) → HasCleanDisk (state S.Store conn.old) }
+    ensures open { OnOk result (HasCleanDisk (state S.Store conn.new) → IsTrue (state S.Store conn.new).is_open) }
 {
     conn.execute(
         "CREATE TABLE bk_rows(kind INTEGER, id INTEGER, body BLOB, PRIMARY KEY(kind, id)) STRICT",
@@ -40,6 +41,8 @@ fn with_table<S: Alter>(conn: &mut Connection<S>) -> Result<(), Error>
     ensures empty { OnOk result (HasCleanDisk (state S.Store conn.new)
         → (state S.Store conn.old).now.schema ≡ no_schema → (state S.Store conn.new).now.trees 0 ≡ []) }
     ensures clean { HasCleanDisk (state S.Store conn.new) → HasCleanDisk (state S.Store conn.old) }
+    ensures open { OnOk result (HasCleanDisk (state S.Store conn.new) → IsTrue (state S.Store conn.old).is_open
+        → IsTrue (state S.Store conn.new).is_open) }
     ensures left { (state S.Store conn.old).now.schema ≢ no_schema → conn.new ≡ conn.old }
 {
     let schema = conn.schema();
@@ -63,6 +66,7 @@ pub fn prepared<S: Alter + Drop>(connection: Connection<S>) -> Result<Connection
     ensures empty { IfOk result (λ c. HasCleanDisk (state S.Store c)
         → (state S.Store connection).now.schema ≡ no_schema → (state S.Store c).now.trees 0 ≡ []) }
     ensures clean { IfOk result (λ c. HasCleanDisk (state S.Store c) → HasCleanDisk (state S.Store connection)) }
+    ensures open { IfOk result (λ c. HasCleanDisk (state S.Store c) → IsTrue (state S.Store c).is_open) }
     ensures rows { IfOk result (λ c. HasCleanDisk (state S.Store c)
         → ListsRows (state S.Store connection).committed.trees
         → (state S.Store c).committed.trees ≡ (state S.Store connection).committed.trees) }

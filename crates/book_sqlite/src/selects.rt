@@ -3,7 +3,7 @@ ghost use Rattle.std.specs.Prelude.{IfOk, IfSome, OnOk, OnErr};
 ghost use Rattle.sqlite_value.specs.declared.value.Value.TheVariants.{Int};
 ghost use Rattle.sqlite_value.specs.Order.{column};
 ghost use Rattle.sqlite_value.specs.Value.{owned};
-ghost use Rattle.sqlite.specs.State.{HasCleanDisk};
+ghost use Rattle.sqlite.specs.State.{HasCleanDisk, Survives};
 ghost use Rattle.sqlite.specs.Held.{state};
 ghost use Rattle.book_keeper.specs.declared.row.Row.{Row as HeldRow};
 ghost use Rattle.book_keeper.specs.Rows.{rank, first_row, first_after};
@@ -39,6 +39,8 @@ fn shown_behind<S: Alter>(conn: &mut Connection<S>, kind: u8, id: u64) -> Result
     requires fits { id < 2 ^ 63 }
     ensures ready { IsReady (state S.Store conn.new) }
     ensures clean { HasCleanDisk (state S.Store conn.new) → HasCleanDisk (state S.Store conn.old) }
+    ensures open { OnOk result (HasCleanDisk (state S.Store conn.new) → IsTrue (state S.Store conn.new).is_open) }
+    ensures survives { Survives (state S.Store conn.old) (state S.Store conn.new) (λ _. ⊥) }
     ensures stays { HasCleanDisk (state S.Store conn.new)
         → StaysCommitted (state S.Store conn.old) (state S.Store conn.new) }
     ensures shown { IfOk result (λ rows. HasCleanDisk (state S.Store conn.new)
@@ -56,6 +58,8 @@ fn shown_from<S: Alter>(conn: &mut Connection<S>, kind: Option<u8>) -> Result<Ve
     requires { IsReady (state S.Store conn.old) }
     ensures ready { IsReady (state S.Store conn.new) }
     ensures clean { HasCleanDisk (state S.Store conn.new) → HasCleanDisk (state S.Store conn.old) }
+    ensures open { OnOk result (HasCleanDisk (state S.Store conn.new) → IsTrue (state S.Store conn.new).is_open) }
+    ensures survives { Survives (state S.Store conn.old) (state S.Store conn.new) (λ _. ⊥) }
     ensures stays { HasCleanDisk (state S.Store conn.new)
         → StaysCommitted (state S.Store conn.old) (state S.Store conn.new) }
     ensures shown { IfOk result (λ rows. HasCleanDisk (state S.Store conn.new)
@@ -149,6 +153,8 @@ fn rows_behind<S: Alter>(
     requires fits { id < 2 ^ 63 }
     ensures ready { IsReady (state S.Store conn.new) }
     ensures clean { HasCleanDisk (state S.Store conn.new) → HasCleanDisk (state S.Store conn.old) }
+    ensures open { OnOk result (HasCleanDisk (state S.Store conn.new) → IsTrue (state S.Store conn.new).is_open) }
+    ensures survives { Survives (state S.Store conn.old) (state S.Store conn.new) (λ _. ⊥) }
     ensures stays { HasCleanDisk (state S.Store conn.new)
         → StaysCommitted (state S.Store conn.old) (state S.Store conn.new) }
     ensures found { IfOk result (λ rows. HasCleanDisk (state S.Store conn.new)
@@ -174,6 +180,8 @@ fn rows_from<S: Alter>(
     requires { IsReady (state S.Store conn.old) }
     ensures ready { IsReady (state S.Store conn.new) }
     ensures clean { HasCleanDisk (state S.Store conn.new) → HasCleanDisk (state S.Store conn.old) }
+    ensures open { OnOk result (HasCleanDisk (state S.Store conn.new) → IsTrue (state S.Store conn.new).is_open) }
+    ensures survives { Survives (state S.Store conn.old) (state S.Store conn.new) (λ _. ⊥) }
     ensures stays { HasCleanDisk (state S.Store conn.new)
         → StaysCommitted (state S.Store conn.old) (state S.Store conn.new) }
     ensures found { IfOk result (λ rows. HasCleanDisk (state S.Store conn.new)
@@ -199,6 +207,8 @@ fn rows_next<S: Alter>(
     requires { IsReady (state S.Store conn.old) }
     ensures ready { IsReady (state S.Store conn.new) }
     ensures clean { HasCleanDisk (state S.Store conn.new) → HasCleanDisk (state S.Store conn.old) }
+    ensures open { OnOk result (HasCleanDisk (state S.Store conn.new) → IsTrue (state S.Store conn.new).is_open) }
+    ensures survives { Survives (state S.Store conn.old) (state S.Store conn.new) (λ _. ⊥) }
     ensures stays { HasCleanDisk (state S.Store conn.new)
         → StaysCommitted (state S.Store conn.old) (state S.Store conn.new) }
     ensures found { IfOk result (λ rows. HasCleanDisk (state S.Store conn.new)
@@ -228,6 +238,8 @@ pub fn rows_after<S: Alter>(
     requires { IsReady (state S.Store conn.old) }
     ensures ready { IsReady (state S.Store conn.new) }
     ensures clean { HasCleanDisk (state S.Store conn.new) → HasCleanDisk (state S.Store conn.old) }
+    ensures open { OnOk result (HasCleanDisk (state S.Store conn.new) → IsTrue (state S.Store conn.new).is_open) }
+    ensures survives { Survives (state S.Store conn.old) (state S.Store conn.new) (λ _. ⊥) }
     ensures stays { HasCleanDisk (state S.Store conn.new)
         → StaysCommitted (state S.Store conn.old) (state S.Store conn.new) }
     ensures found { IfOk result (λ rows. HasCleanDisk (state S.Store conn.new)

@@ -5,7 +5,7 @@ ghost use Rattle.sqlite.specs.State.{HasCleanDisk, IsLive, Opens};
 ghost use Rattle.sqlite.specs.Held.{state};
 ghost use Rattle.book_keeper.specs.Faults.{Rose};
 ghost use Rattle.book_keeper.specs.Keeping.{HasKeepCause};
-ghost use Rattle.book_keeper.specs.Rows.{AreRising, rank, after_changes, first_after};
+ghost use Rattle.book_keeper.specs.Rows.{AreRising, rank, after_changes, first_after, first_row};
 ghost use Rattle.book_sqlite.specs.Content.{rows_of};
 ghost use Rattle.book_sqlite.specs.RowsDatabase.{HasRowids, ListsNothing, ListsRows};
 ghost use Rattle.book_sqlite.specs.RowCalls.{IsSure, PassesNone};
@@ -49,11 +49,18 @@ impl<S: Alter> Model for SqliteKeeper<S> {
 }
 
 impl<S: Alter + Drop> SqliteKeeper<S> {
+    ghost use Rattle.book_keeper.specs.declared.row.Row.{Row};
+    ghost use Rattle.book_sqlite.specs.KeeperInSqlite.{AreAhead};
+    ghost use Rattle.book_sqlite.specs.RowCalls.{AreAbove};
+
     /// A keeper over this connection, whose database is checked once more. Where the database has nothing yet, it makes
     /// the table of rows, and the keeper holds none. Where it has the table, the keeper holds the rows of the last
     /// commit. Another schema is left as it is, and `open` fails.
     pub fn over(alloc: Global, connection: Connection<S>) -> SqliteKeeper<S>
         ensures clean { IsTrue (is_sure S.Store result) → HasCleanDisk (state S.Store connection) }
+        ensures known { IsTrue (has_clean_store S.Store result) → IsTrue (is_sure S.Store result) }
+        ensures settled { IsTrue (is_sure S.Store result) → (rows : List Row)
+            → MayLeave S.Store result rows ↔ HoldsRows S.Store result rows }
         ensures rows { IsTrue (is_sure S.Store result) → ListsRows (state S.Store connection).committed.trees
             → HoldsRows S.Store result (rows_of ((state S.Store connection).committed.trees 0)) }
         ensures empty { IsTrue (is_sure S.Store result) → ListsNothing (state S.Store connection).committed.trees
@@ -74,6 +81,9 @@ impl<S: Alter + Drop> SqliteKeeper<S> {
             → Opens (state S.Store connection) × IsLive (state S.Store connection) }
         requires rowids { IsSure (state S.Store connection) → HasRowids (state S.Store connection).now }
         ensures clean { IsTrue (is_sure S.Store result) → HasCleanDisk (state S.Store connection) }
+        ensures known { IsTrue (has_clean_store S.Store result) → IsTrue (is_sure S.Store result) }
+        ensures settled { IsTrue (is_sure S.Store result) → (rows : List Row)
+            → MayLeave S.Store result rows ↔ HoldsRows S.Store result rows }
         ensures rows { IsTrue (is_sure S.Store result) → ListsRows (state S.Store connection).committed.trees
             → HoldsRows S.Store result (rows_of ((state S.Store connection).committed.trees 0)) }
         ensures empty { IsTrue (is_sure S.Store result) → ListsNothing (state S.Store connection).committed.trees
@@ -117,6 +127,42 @@ impl<S: Alter + Drop> SqliteKeeper<S> {
         self.connection
     }
 
+    /// Reads ahead, in the store, the rows behind the key, or the first of all. What was read before is forgotten.
+    /// Fails where the keeper has no connection, is out of memory where that was why there is none, and passes on what
+    /// the store fails at.
+    fn read_ahead(&mut self, after: Option<RowKey>) -> Result<ReadAhead, KeepError>
+        ensures key { IfOk result (λ ahead. ahead.after ≡ after) }
+        ensures next { IfOk result (λ ahead. AreAhead S.Store self.new.connection after ahead.rows.items) }
+        ensures rising { IfOk result (λ ahead. AreAbove after ahead.rows.items) }
+        ensures found { IfOk result (λ ahead. IsTrue (is_sure S.Store self.new) → (rows : List Row)
+            → HoldsRows S.Store self.old rows → first_row ahead.rows.items ≡ first_after after rows) }
+        ensures none_passed { IfOk result (λ ahead. IsTrue (is_sure S.Store self.new) → (entries : List Entry)
+            → HasEntries S.Store self.old entries → PassesNone after entries (first_row ahead.rows.items)) }
+        ensures honest { IsTrue (has_clean_store S.Store self.new) → IsTrue (has_clean_store S.Store self.old) }
+        ensures sure { IsTrue (is_sure S.Store self.new) → IsTrue (is_sure S.Store self.old) }
+        ensures known { OnOk result (IsTrue (has_clean_store S.Store self.new) → IsTrue (is_sure S.Store self.new)) }
+        ensures left { IsTrue (has_clean_store S.Store self.new) → (rows : List Row) → MayLeave S.Store self.new rows
+            → MayLeave S.Store self.old rows }
+        ensures settled { OnOk result (IsTrue (is_sure S.Store self.new) → (rows : List Row)
+            → MayLeave S.Store self.new rows ↔ HoldsRows S.Store self.new rows) }
+        ensures rows { IsTrue (is_sure S.Store self.new) → (rows : List Row)
+            → HoldsRows S.Store self.old rows → HoldsRows S.Store self.new rows }
+        ensures there { OnOk result (IsSome self.new.connection) }
+        ensures connection { IsSome self.old.connection → IsSome self.new.connection }
+        ensures path { self.new.path ≡ self.old.path }
+        ensures cause { HasKeepCause self.old.faults self.new.faults result }
+    {
+        self.ahead = ReadAhead::none(self.alloc);
+        let Some(connection) = &mut self.connection else {
+            let lacked_memory = self.lacked_memory;
+            return Err(self.fail(lacked_memory));
+        };
+        match rows_after(self.alloc, connection, after) {
+            Ok(rows) => Ok(ReadAhead::behind(after, rows)),
+            Err(error) => Err(self.fail(is_want_of_memory(error))),
+        }
+    }
+
     /// Counts a fault, unless the call was out of memory.
     fn fail(&mut self, lacked_memory: bool) -> KeepError
         ensures connection { self.new.connection ≡ self.old.connection }
@@ -154,15 +200,29 @@ fn text_of(alloc: Global, path: &str) -> Result<Text, KeepError>
 
 impl<S: Alter + Drop> Keeper for SqliteKeeper<S> {
     ghost use Rattle.book_keeper.specs.declared.row.Row.{Row};
-    ghost use Rattle.book_sqlite.specs.KnownRows.{told_rows, rising_rows};
+    ghost use Rattle.book_sqlite.specs.KnownRows.{told_rows, only_rows, rising_rows, trusted_store};
 
     ghost path_given = { λ keeper. keeper.path };
+
+    ghost honest = { has_clean_store S.Store };
 
     ghost sure = { is_sure S.Store };
 
     ghost holds = { HoldsRows S.Store };
 
+    ghost may_leave = { MayLeave S.Store };
+
     ghost faults = { λ keeper. keeper.faults };
+
+    ghost trusted = { λ keeper sure. trusted_store (record {
+      view = S.Store.view;
+      faults = S.Store.faults;
+      recovers = S.Store.recovers;
+      is_shielded = S.Store.is_shielded;
+      is_step = S.Store.is_step;
+      blamed = S.Store.blamed;
+      names = S.Store.names;
+    }) keeper sure };
 
     ghost told = { λ keeper sure. told_rows (record {
       view = S.Store.view;
@@ -174,6 +234,16 @@ impl<S: Alter + Drop> Keeper for SqliteKeeper<S> {
       names = S.Store.names;
     }) keeper sure };
 
+    ghost one = { λ keeper rows other first second. only_rows (record {
+      view = S.Store.view;
+      faults = S.Store.faults;
+      recovers = S.Store.recovers;
+      is_shielded = S.Store.is_shielded;
+      is_step = S.Store.is_step;
+      blamed = S.Store.blamed;
+      names = S.Store.names;
+    }) keeper rows other first second };
+
     ghost rising = { λ keeper rows held. rising_rows (record {
       view = S.Store.view;
       faults = S.Store.faults;
@@ -184,22 +254,27 @@ impl<S: Alter + Drop> Keeper for SqliteKeeper<S> {
       names = S.Store.names;
     }) keeper rows held };
 
-    /// Keeps the path; which store it is was said as the keeper was made. Fails where the keeper has no file of rows.
+    /// Reads the first rows ahead, so that a keeper whose store an earlier error has shut fails, and keeps the path;
+    /// which store it is was said as the keeper was made. The first call of `next_row` for the first row of all then
+    /// needs no second select. Fails where the keeper has no file of rows.
     fn open(&mut self, path: &str) -> Result<(), KeepError>
         ensures there { OnOk result (IsSome self.new.connection) }
-        ensures connection { self.new.connection ≡ self.old.connection }
+        ensures connection { IsSome self.old.connection → IsSome self.new.connection }
         ensures path { OnOk result (self.new.path ≡ path.now) }
         ensures path_kept { OnErr result (self.new.path ≡ self.old.path) }
+        ensures honest { IsTrue (has_clean_store S.Store self.new) → IsTrue (has_clean_store S.Store self.old) }
         ensures sure { IsTrue (is_sure S.Store self.new) → IsTrue (is_sure S.Store self.old) }
+        ensures known { OnOk result (IsTrue (has_clean_store S.Store self.new) → IsTrue (is_sure S.Store self.new)) }
+        ensures left { IsTrue (has_clean_store S.Store self.new) → (rows : List Row) → MayLeave S.Store self.new rows
+            → MayLeave S.Store self.old rows }
+        ensures settled { OnOk result (IsTrue (is_sure S.Store self.new) → (rows : List Row)
+            → MayLeave S.Store self.new rows ↔ HoldsRows S.Store self.new rows) }
         ensures rows { IsTrue (is_sure S.Store self.new) → (rows : List Row)
             → HoldsRows S.Store self.old rows → HoldsRows S.Store self.new rows }
         ensures cause { HasKeepCause self.old.faults self.new.faults result }
     {
         let text = text_of(self.alloc, path)?;
-        if self.connection.is_none() {
-            let lacked_memory = self.lacked_memory;
-            return Err(self.fail(lacked_memory));
-        }
+        self.ahead = self.read_ahead(None)?;
         self.path = text;
         Ok(())
     }
@@ -213,13 +288,14 @@ impl<S: Alter + Drop> Keeper for SqliteKeeper<S> {
         ensures crash { IsTrue (is_sure S.Store self.old) → IsTrue (has_clean_store S.Store self.new)
             → (rows held : List Row) → HoldsRows S.Store self.old held → MayLeave S.Store self.new rows
             → (rows ≡ held) ⊎ (rows ≡ after_changes changes.now held) }
-        ensures crash_shut { changes.now ≢ [] → IsTrue (has_clean_store S.Store self.new)
-            → (rows : List Row) → MayLeave S.Store self.new rows → MayLeave S.Store self.old rows
+        ensures left { IsTrue (has_clean_store S.Store self.new) → changes.now ≢ [] → (rows : List Row)
+            → MayLeave S.Store self.new rows → MayLeave S.Store self.old rows
             ⊎ (IsTrue (is_sure S.Store self.old) × ((held : List Row) → HoldsRows S.Store self.old held
             → rows ≡ after_changes changes.now held)) }
-        ensures settled { OnOk result (IsTrue (is_sure S.Store self.new)
-            → (rows held : List Row) → HoldsRows S.Store self.old held → MayLeave S.Store self.new rows
-            → rows ≡ after_changes changes.now held) }
+        ensures settled { OnOk result (IsTrue (is_sure S.Store self.new) → (rows : List Row)
+            → MayLeave S.Store self.new rows ↔ HoldsRows S.Store self.new rows) }
+        ensures honest { IsTrue (has_clean_store S.Store self.new) → IsTrue (has_clean_store S.Store self.old) }
+        ensures known { OnOk result (IsTrue (has_clean_store S.Store self.new) → IsTrue (is_sure S.Store self.new)) }
         ensures path { self.new.path ≡ self.old.path }
         ensures sure { IsTrue (is_sure S.Store self.new) → IsTrue (is_sure S.Store self.old) }
         ensures made { OnOk result (IsTrue (is_sure S.Store self.new) → (rows : List Row)
@@ -246,7 +322,12 @@ impl<S: Alter + Drop> Keeper for SqliteKeeper<S> {
         ensures none_passed { IfOk result (λ found. IsTrue (is_sure S.Store self.new) → (entries : List Entry)
             → HasEntries S.Store self.old entries → PassesNone after entries found) }
         ensures path { self.new.path ≡ self.old.path }
+        ensures honest { IsTrue (has_clean_store S.Store self.new) → IsTrue (has_clean_store S.Store self.old) }
         ensures sure { IsTrue (is_sure S.Store self.new) → IsTrue (is_sure S.Store self.old) }
+        ensures known { OnOk result (IsTrue (has_clean_store S.Store self.new) → IsTrue (is_sure S.Store self.old)
+            → IsTrue (is_sure S.Store self.new)) }
+        ensures left { IsTrue (has_clean_store S.Store self.new) → (rows : List Row) → MayLeave S.Store self.new rows
+            → MayLeave S.Store self.old rows }
         ensures rows { IsTrue (is_sure S.Store self.new) → (rows : List Row)
             → HoldsRows S.Store self.old rows → HoldsRows S.Store self.new rows }
         ensures found { IfOk result (λ found. IsTrue (is_sure S.Store self.new) → (rows : List Row)
@@ -259,16 +340,7 @@ impl<S: Alter + Drop> Keeper for SqliteKeeper<S> {
         if let Some(row) = self.ahead.take_behind(after) {
             return Ok(Some(row));
         }
-        self.ahead = ReadAhead::none(self.alloc);
-        let Some(connection) = &mut self.connection else {
-            return Err(self.fail(false));
-        };
-        match rows_after(self.alloc, connection, after) {
-            Ok(rows) => {
-                self.ahead = ReadAhead::behind(after, rows);
-                Ok(self.ahead.take_behind(after))
-            }
-            Err(error) => Err(self.fail(is_want_of_memory(error))),
-        }
+        self.ahead = self.read_ahead(after)?;
+        Ok(self.ahead.take_behind(after))
     }
 }

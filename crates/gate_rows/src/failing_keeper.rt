@@ -81,17 +81,26 @@ impl FailingKeeper {
 
 impl Keeper for FailingKeeper {
     ghost use Rattle.book_keeper.specs.Rows.{Rises, do_rise};
+    ghost use Rattle.book_keeper.specs.RisingRows.{same_rows};
     ghost use Rattle.gate_rows.specs.KeptRows.{held_where};
 
     ghost path_given = { λ it. it.keeper.path };
+
+    ghost honest = { λ it. do_rise it.keeper.rows };
 
     ghost sure = { λ it. do_rise it.keeper.rows };
 
     ghost holds = { λ it rows. (it.keeper.rows ≡ rows) × Rises rows };
 
+    ghost may_leave = { λ it rows. (it.keeper.rows ≡ rows) × Rises rows };
+
     ghost faults = { λ it. it.faults };
 
+    ghost trusted = { λ it sure. sure };
+
     ghost told = { λ it sure. held_where it.keeper.rows sure };
+
+    ghost one = { λ it rows other first second. same_rows it.keeper.rows rows other first.0 second.0 };
 
     ghost rising = { λ it rows held. held.1 };
 

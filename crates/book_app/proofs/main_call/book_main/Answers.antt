@@ -7,15 +7,15 @@ use Rattle.book_app.specs.Words.{named_import, named_serve, work_named}
 use Rattle.book_app.specs.declared.status.Status.TheVariants.{InputFault, KeeperFault, PortFault, Usage}
 use Rattle.book_app.specs.declared.words.ServeWords.{ServeWords}
 use Rattle.book_app.proofs.ServeLemmas.{sample_serves_none}
-use Rattle.book_app.proofs.StatusClauseLemmas.{no_sample, path_of_sample, run_of_sample}
+use Rattle.book_app.proofs.StatusClauseLemmas.{no_sample, not_asked, path_of_sample, run_of_sample}
 use Rattle.book_app.proofs.main_call.book_main.Goals as goal
 
 -- the words name a number
 pub returns-in-Some-clause-run : goal.returns-in-Some-clause-run
 returns-in-Some-clause-run g c =
     run_of_sample _ c.in-Some.number
-    (over g.K.Keeper.sure g.K.Keeper.holds g.K.Keeper.faults c.args.keeper.now c.args.keeper.now) _ _ _
-    c.run_sample.result (λ still rows held. held)
+    (over g.K.Keeper c.args.keeper.now c.args.keeper.now) _ _ _
+    c.run_sample.result (not_asked g.K.Keeper c.args.keeper.now)
     (ap (work_named (named_import c.args.words.now) (named_serve c.args.words.now)) c.in-Some.ensures)
     c.run_sample.ensures.shown
 
@@ -48,7 +48,7 @@ returns-in-Some-clause-port_fault g c =
 
 pub returns-in-Some-clause-serve : goal.returns-in-Some-clause-serve
 returns-in-Some-clause-serve g c =
-    let keeping = over g.K.Keeper.sure g.K.Keeper.holds g.K.Keeper.faults c.args.keeper.now c.args.keeper.now in
+    let keeping = over g.K.Keeper c.args.keeper.now c.args.keeper.now in
     let of = link_reports g.P.L.Source.left g.P.L.Sink.written g.P.L.Source.faults g.P.L.Sink.faults in
     let ports = across g.P.Ports.coming g.P.Ports.closed g.P.Ports.accepted_links g.P.Ports.port_given
     c.args.ports.now c.args.ports.now in
@@ -60,7 +60,7 @@ pub returns-in-None-clause-run : goal.returns-in-None-clause-run
 returns-in-None-clause-run g c =
     subst
     (λ (named : Option ℕ). IsBookRun (work_named (named_import c.args.words.now) (named_serve c.args.words.now) named)
-    (over g.K.Keeper.sure g.K.Keeper.holds g.K.Keeper.faults c.args.keeper.now c.run_with_book.new.keeper)
+    (over g.K.Keeper c.args.keeper.now c.run_with_book.new.keeper)
     (g.S.Source.left c.args.input.now) (g.S.Source.left c.run_with_book.new.input)
     (g.O.Sink.written c.args.output.now) (g.O.Sink.written c.run_with_book.new.output) c.run_with_book.result)
     c.in-None.ensures c.run_with_book.ensures.run

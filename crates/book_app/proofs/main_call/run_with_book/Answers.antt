@@ -13,25 +13,25 @@ use Rattle.book_app.proofs.main_call.run_with_book.Goals as goal
 pub returns-in-Some-clause-run : goal.returns-in-Some-clause-run
 returns-in-Some-clause-run g c =
     run_of_serving _ c.in-Some.serve
-    (over g.K.Keeper.sure g.K.Keeper.holds g.K.Keeper.faults c.args.keeper.now c.run_serve.new.keeper) _ _
+    (over g.K.Keeper c.args.keeper.now c.run_serve.new.keeper) _ _
     c.run_serve.result c.run_serve.ensures.rows
     (ap (λ (named : Option ServeWords). work_named (named_import c.args.words.now) named None) c.in-Some.ensures)
 
 pub returns-in-Some-clause-input_fault : goal.returns-in-Some-clause-input_fault
 returns-in-Some-clause-input_fault g c =
     λ is. absurd (no_serving
-    (over g.K.Keeper.sure g.K.Keeper.holds g.K.Keeper.faults c.args.keeper.now c.run_serve.new.keeper)
+    (over g.K.Keeper c.args.keeper.now c.run_serve.new.keeper)
     c.run_serve.result InputFault c.run_serve.ensures.rows (λ never. never) is)
 
 pub returns-in-Some-clause-output_fault : goal.returns-in-Some-clause-output_fault
 returns-in-Some-clause-output_fault g c =
     λ is. absurd (no_serving
-    (over g.K.Keeper.sure g.K.Keeper.holds g.K.Keeper.faults c.args.keeper.now c.run_serve.new.keeper)
+    (over g.K.Keeper c.args.keeper.now c.run_serve.new.keeper)
     c.run_serve.result OutputFault c.run_serve.ensures.rows (λ never. never) is)
 
 pub returns-in-Some-clause-serve : goal.returns-in-Some-clause-serve
 returns-in-Some-clause-serve g c =
-    let keeping = over g.K.Keeper.sure g.K.Keeper.holds g.K.Keeper.faults c.args.keeper.now c.run_serve.new.keeper in
+    let keeping = over g.K.Keeper c.args.keeper.now c.run_serve.new.keeper in
     let of = link_reports g.P.L.Source.left g.P.L.Sink.written g.P.L.Source.faults g.P.L.Sink.faults in
     let ports = across g.P.Ports.coming g.P.Ports.closed g.P.Ports.accepted_links g.P.Ports.port_given
     c.args.ports.now c.run_serve.new.ports in
@@ -47,14 +47,14 @@ pub returns-in-None-clause-run : goal.returns-in-None-clause-run
 returns-in-None-clause-run g c =
     subst
     (λ (named : Option ServeWords). IsBookRun (work_named (named_import c.args.words.now) named None)
-    (over g.K.Keeper.sure g.K.Keeper.holds g.K.Keeper.faults c.args.keeper.now c.run_over_input.new.keeper)
+    (over g.K.Keeper c.args.keeper.now c.run_over_input.new.keeper)
     (g.S.Source.left c.args.input.now) (g.S.Source.left c.run_over_input.new.input)
     (g.O.Sink.written c.args.output.now) (g.O.Sink.written c.run_over_input.new.output) c.run_over_input.result)
     c.in-None.ensures c.run_over_input.ensures.run
 
 pub returns-in-None-clause-serve : goal.returns-in-None-clause-serve
 returns-in-None-clause-serve g c =
-    let keeping = over g.K.Keeper.sure g.K.Keeper.holds g.K.Keeper.faults c.args.keeper.now c.run_over_input.new.keeper in
+    let keeping = over g.K.Keeper c.args.keeper.now c.run_over_input.new.keeper in
     let of = link_reports g.P.L.Source.left g.P.L.Sink.written g.P.L.Source.faults g.P.L.Sink.faults in
     let ports = across g.P.Ports.coming g.P.Ports.closed g.P.Ports.accepted_links g.P.Ports.port_given
     c.args.ports.now c.args.ports.now in
@@ -65,7 +65,7 @@ returns-in-None-clause-serve g c =
 pub returns-in-None-clause-port_fault : goal.returns-in-None-clause-port_fault
 returns-in-None-clause-port_fault g c =
     λ is. absurd (no_port_fault (named_import c.args.words.now)
-    (over g.K.Keeper.sure g.K.Keeper.holds g.K.Keeper.faults c.args.keeper.now c.run_over_input.new.keeper)
+    (over g.K.Keeper c.args.keeper.now c.run_over_input.new.keeper)
     (g.S.Source.left c.args.input.now) (g.S.Source.left c.run_over_input.new.input)
     (g.O.Sink.written c.args.output.now) (g.O.Sink.written c.run_over_input.new.output) c.run_over_input.result
     c.run_over_input.ensures.run is)

@@ -1,7 +1,31 @@
-use Rattle.book_app.proofs.StatusClauseLemmas.{stands_opened}
+use Rattle.book_app.proofs.StatusClauseLemmas.{opened_honest, stands_opened}
 use Rattle.book_app.proofs.opening.open_book.Goals as goal
+
+pub returns-in-Ok-clause-opened : goal.returns-in-Ok-clause-opened
+returns-in-Ok-clause-opened g c =
+    opened_honest g.K.Keeper c.args.keeper.now c.open.new.self c.open-in-Ok.new.keeper c.in-Ok.ensures.known
+    c.open-in-Ok.ensures.keeper c.open-in-Ok.result c.in-Ok.ensures.rows c.open-in-Ok.ensures.known
+    c.open-in-Ok.ensures.opened
 
 pub returns-in-Ok-clause-stands : goal.returns-in-Ok-clause-stands
 returns-in-Ok-clause-stands g c =
-    stands_opened g.K.Keeper.sure g.K.Keeper.holds g.K.Keeper.path_given c.open.new.self c.open-in-Ok.new.keeper
-    c.open-in-Ok.result (g.met.K.Keeper.told c.open.new.self) c.open-in-Ok.ensures.keeper c.open-in-Ok.ensures.opened
+    stands_opened g.K.Keeper c.args.keeper.now c.open.new.self c.open-in-Ok.new.keeper c.in-Ok.ensures.known
+    c.open-in-Ok.ensures.keeper c.open-in-Ok.result (g.met.K.Keeper.told c.open.new.self)
+    (λ still rows left. (c.in-Ok.ensures.settled still rows).0 left) c.open-in-Ok.ensures.known
+    c.open-in-Ok.ensures.opened
+
+pub returns-in-Ok-clause-before : goal.returns-in-Ok-clause-before
+returns-in-Ok-clause-before g c =
+    let read = c.open-in-Ok.ensures.keeper in
+    record {
+      rows = λ still rows held. read.same_rows still rows (c.in-Ok.ensures.rows (read.still_sure still) rows held);
+      left = λ honest rows left. c.in-Ok.ensures.left (read.still_honest honest) rows (read.leaves honest rows left);
+    }
+
+pub returns-in-Err-Failed-clause-before : goal.returns-in-Err-Failed-clause-before
+returns-in-Err-Failed-clause-before g c =
+    record { rows = c.in-Err-Failed.ensures.rows; left = c.in-Err-Failed.ensures.left }
+
+pub returns-in-Err-OutOfMemory-clause-before : goal.returns-in-Err-OutOfMemory-clause-before
+returns-in-Err-OutOfMemory-clause-before g c =
+    record { rows = c.in-Err-OutOfMemory.ensures.rows; left = c.in-Err-OutOfMemory.ensures.left }

@@ -1,6 +1,6 @@
-use Rattle.std.proofs.Common.{◌≡◌, subst}
+use Rattle.std.proofs.Common.{◌≡◌, ap, rules, subst}
 use Rattle.book_command.specs.declared.rule.Rule.{Rule}
-use Rattle.book_engine.specs.Books.{machine_kept}
+use Rattle.book_engine.specs.Books.{machine_kept, machine_of}
 use Rattle.book_engine.specs.Machine.{Broken, step}
 use Rattle.book_engine.specs.Planned.{IsRefusal}
 use Rattle.book_engine.proofs.StandLemmas.{stands_unchanged}
@@ -16,7 +16,7 @@ returns-in-Ok-clause-answered g c =
 pub returns-in-Ok-clause-stands : goal.returns-in-Ok-clause-stands
 returns-in-Ok-clause-stands g c = λ stood.
     c.finished.ensures.stands
-    (stands_unchanged g.K.Keeper.sure g.K.Keeper.holds c.args.keeper.now c.args.engine.now c.prepare.new.self
+    (stands_unchanged g.K.Keeper c.args.keeper.now c.args.engine.now c.prepare.new.self
     c.prepare.ensures.unchanged stood)
 
 pub returns-in-Err-Broken-clause-answered : goal.returns-in-Err-Broken-clause-answered
@@ -29,3 +29,19 @@ returns-in-Err-Broken-clause-answered g c =
     broken_response c.rule_text.result c.response.result c.responded.result c.args.engine.now c.prepare.new.self
     c.args.command rule c.version.result c.args.close c.prepare.ensures.unchanged broken c.version.ensures
     c.responded.ensures.bytes c.response.ensures c.rule_text.ensures
+
+pub returns-in-Err-Broken-clause-stands : goal.returns-in-Err-Broken-clause-stands
+returns-in-Err-Broken-clause-stands g c =
+    stands_unchanged g.K.Keeper c.args.keeper.now c.args.engine.now c.prepare.new.self c.prepare.ensures.unchanged
+
+pub returns-in-Err-Keeper : goal.returns-in-Err-Keeper
+returns-in-Err-Keeper g c = record {
+  answered = tt;
+  kept = ap machine_of c.prepare.ensures.unchanged.same_state;
+  changes = λ is. absurd cc;
+  failed = λ is. absurd cc;
+  later = search rules;
+  stands = stands_unchanged g.K.Keeper c.args.keeper.now c.args.engine.now c.prepare.new.self
+      c.prepare.ensures.unchanged;
+  follows = search rules;
+}

@@ -6,50 +6,52 @@ use Rattle.book_app.specs.StatusClause.{ServedRows, over}
 use Rattle.book_app.specs.declared.status.Status.{Status}
 use Rattle.book_app.proofs.ServeLemmas.{has_served, no_port_unopened, none_accepted, port_end, served_clause, served_rows}
 use Rattle.book_app.proofs.ServeLemmas.{unopened_links}
-use Rattle.book_app.proofs.StatusClauseLemmas.{unopened_rows}
+use Rattle.book_app.proofs.StatusClauseLemmas.{not_asked, unopened_rows}
 use Rattle.book_app.proofs.serve_call.run_serve.Goals as goal
 
 -- the words name no book
 pub returns-in_default-clause-rows : goal.returns-in_default-clause-rows
-returns-in_default-clause-rows g c = λ still rows held. held
+returns-in_default-clause-rows g c = not_asked g.K.Keeper c.args.keeper.now
 
 pub returns-in_default-clause-serve : goal.returns-in_default-clause-serve
 returns-in_default-clause-serve g c = none_accepted _ _ _ _
 
 -- there was no memory before the keeper was opened
 pub returns-in_default-routes_after-clause-rows : goal.returns-in_default-routes_after-clause-rows
-returns-in_default-routes_after-clause-rows g c = inl (λ still rows held. held)
+returns-in_default-routes_after-clause-rows g c = inl (not_asked g.K.Keeper c.args.keeper.now)
 
 pub returns-in_default-routes_after-clause-serve : goal.returns-in_default-routes_after-clause-serve
-returns-in_default-routes_after-clause-serve g c = inl (none_accepted _ _ _ _, λ still rows held. held)
+returns-in_default-routes_after-clause-serve g c = inl (none_accepted _ _ _ _, not_asked g.K.Keeper c.args.keeper.now)
 
 -- links were served
 pub returns-in-Ok-open_book-clause-rows : goal.returns-in-Ok-open_book-clause-rows
 returns-in-Ok-open_book-clause-rows g c =
-    let keeping = over g.K.Keeper.sure g.K.Keeper.holds g.K.Keeper.faults c.args.keeper.now c.serve_links.new.keeper in
+    let keeping = over g.K.Keeper c.args.keeper.now c.serve_links.new.keeper in
     let of = link_reports g.P.L.Source.left g.P.L.Sink.written g.P.L.Source.faults g.P.L.Sink.faults in
     let ports = across g.P.Ports.coming g.P.Ports.closed g.P.Ports.accepted_links g.P.Ports.port_given
     c.args.ports.now c.serve_links.new.ports in
     let later = c.serve_links.ensures.keeper in
     let served = has_served c.args.serve keeping of ports c.in-Ok-open_book.engine c.serve_links.new.engine
     (g.K.Keeper.faults c.open_book.new.keeper) c.serve_links.result c.in-Ok-open_book.ensures.cause.done
-    (λ still rows held. (c.in-Ok-open_book.ensures.opened (later.still_sure still) rows held).0)
-    (λ still. let stood = c.serve_links.ensures.stands still in (stood.0, stood.1, stood.2.0))
+    (λ honest rows held. (c.in-Ok-open_book.ensures.opened (later.still_honest honest) rows held).0)
+    (λ still. let stood = c.serve_links.ensures.stands.rows still in (stood.0, stood.1, stood.2.0))
+    c.serve_links.ensures.stands.left
     c.serve_links.ensures.served in
     subst (λ (s : Status). ServedRows keeping s) (sym c.status_served.ensures)
     (served_rows c.args.serve keeping of ports c.serve_links.result served)
 
 pub returns-in-Ok-open_book-clause-serve : goal.returns-in-Ok-open_book-clause-serve
 returns-in-Ok-open_book-clause-serve g c =
-    let keeping = over g.K.Keeper.sure g.K.Keeper.holds g.K.Keeper.faults c.args.keeper.now c.serve_links.new.keeper in
+    let keeping = over g.K.Keeper c.args.keeper.now c.serve_links.new.keeper in
     let of = link_reports g.P.L.Source.left g.P.L.Sink.written g.P.L.Source.faults g.P.L.Sink.faults in
     let ports = across g.P.Ports.coming g.P.Ports.closed g.P.Ports.accepted_links g.P.Ports.port_given
     c.args.ports.now c.serve_links.new.ports in
     let later = c.serve_links.ensures.keeper in
     let served = has_served c.args.serve keeping of ports c.in-Ok-open_book.engine c.serve_links.new.engine
     (g.K.Keeper.faults c.open_book.new.keeper) c.serve_links.result c.in-Ok-open_book.ensures.cause.done
-    (λ still rows held. (c.in-Ok-open_book.ensures.opened (later.still_sure still) rows held).0)
-    (λ still. let stood = c.serve_links.ensures.stands still in (stood.0, stood.1, stood.2.0))
+    (λ honest rows held. (c.in-Ok-open_book.ensures.opened (later.still_honest honest) rows held).0)
+    (λ still. let stood = c.serve_links.ensures.stands.rows still in (stood.0, stood.1, stood.2.0))
+    c.serve_links.ensures.stands.left
     c.serve_links.ensures.served in
     subst (λ (s : Status). ServeClause c.args.serve keeping of ports s) (sym c.status_served.ensures)
     (served_clause c.args.serve keeping of ports c.serve_links.result served)
@@ -65,18 +67,18 @@ returns-in-Ok-open_book-clause-no_port_fault g c =
 -- no book was opened
 pub returns-clause-rows : goal.returns-clause-rows
 returns-clause-rows g c =
-    let keeping = over g.K.Keeper.sure g.K.Keeper.holds g.K.Keeper.faults c.args.keeper.now c.open_book.new.keeper in
+    let keeping = over g.K.Keeper c.args.keeper.now c.open_book.new.keeper in
     subst (λ (s : Status). ServedRows keeping s) (sym c.status_unopened.ensures)
-    (unopened_rows keeping c.in-Err.error c.open_book.ensures.rows c.in-Err.ensures.opened)
+    (unopened_rows keeping c.in-Err.error c.open_book.ensures.before c.in-Err.ensures.opened)
 
 pub returns-clause-serve : goal.returns-clause-serve
 returns-clause-serve g c =
-    let keeping = over g.K.Keeper.sure g.K.Keeper.holds g.K.Keeper.faults c.args.keeper.now c.open_book.new.keeper in
+    let keeping = over g.K.Keeper c.args.keeper.now c.open_book.new.keeper in
     let of = link_reports g.P.L.Source.left g.P.L.Sink.written g.P.L.Source.faults g.P.L.Sink.faults in
     let ports = across g.P.Ports.coming g.P.Ports.closed g.P.Ports.accepted_links g.P.Ports.port_given
     c.args.ports.now c.args.ports.now in
     subst (λ (s : Status). ServeClause c.args.serve keeping of ports s) (sym c.status_unopened.ensures)
-    (unopened_links c.args.serve keeping of ports c.in-Err.error (none_accepted _ _ _ _) c.open_book.ensures.rows)
+    (unopened_links c.args.serve keeping of ports c.in-Err.error (none_accepted _ _ _ _) c.open_book.ensures.before)
 
 pub returns-clause-port_fault : goal.returns-clause-port_fault
 returns-clause-port_fault g c = λ is. absurd (no_port_unopened c.in-Err.error (sym c.status_unopened.ensures ∙ is))

@@ -4,7 +4,7 @@ use Rattle.book_keeper.specs.Rows.{rank}
 use Rattle.book_opening.specs.State.{head_of, state_of}
 use Rattle.book_opening.proofs.ReadLaws.{bad_thing, begins_as, last_rows, next_bad, next_head, next_read, next_rows}
 use Rattle.book_opening.proofs.ReadLaws.{read_more}
-use Rattle.book_opening.proofs.ReadLaws.{read_none, start_rows, unread_bad, whole_bad_for, whole_counted}
+use Rattle.book_opening.proofs.ReadLaws.{read_none, start_rows, unread_bad, unread_known, where_bad, whole_bad_for, whole_counted}
 use Rattle.book_opening.proofs.ReadLaws.{whole_head, whole_read, whole_rows}
 use Rattle.book_opening.proofs.read.read_into.Goals as goal
 
@@ -13,7 +13,8 @@ rows-init g c = record {
   read = c.requires.only;
   head = refl;
   last = omega arith;
-  keeper = read_none g.K.Keeper.path_given g.K.Keeper.sure g.K.Keeper.holds c.args.keeper.now;
+  keeper = read_none g.K.Keeper c.args.keeper.now;
+  known = λ honest sure. sure;
   count = refl;
   rows = λ known rows held begins.
       start_rows rows (state_of c.args.saved.now) c.requires.begun
@@ -32,13 +33,16 @@ rows-preserved g c =
       head = next_head before after row.key.id c.in-Ok.item (head_of (state_of c.args.saved.now)) c.in-Ok-put.ensures
           c.rows.invariant.head;
       last = (let past = c.rows.invariant.last in omega (arith, past, above));
-      keeper = read_more g.K.Keeper.path_given g.K.Keeper.sure g.K.Keeper.holds c.args.keeper.now c.rows.keeper
-          c.next_row.new.self c.rows.invariant.keeper
+      keeper = read_more g.K.Keeper c.args.keeper.now c.rows.keeper c.next_row.new.self c.rows.invariant.keeper
           (record {
             same_path = c.in-Ok-Some.ensures.path;
+            still_honest = c.in-Ok-Some.ensures.honest;
             still_sure = c.in-Ok-Some.ensures.sure;
             same_rows = c.in-Ok-Some.ensures.rows;
+            leaves = c.in-Ok-Some.ensures.left;
           });
+      known = λ honest before.
+          c.in-Ok-Some.ensures.known honest (c.rows.invariant.known (c.in-Ok-Some.ensures.honest honest) before);
       count = c.in-Ok-Some.ensures.cause.done ∙ c.rows.invariant.count;
       rows = λ known rows held begins.
           let still = c.in-Ok-Some.ensures.sure known in
@@ -63,6 +67,18 @@ returns-in-Ok-None-clause-rows g c = λ known rows held begins.
     last_rows rows (rank c.rows.last) (state_of c.rows.saved)
     (sym (c.in-Ok-None.ensures.found known rows now) ∙ c.in-Ok-None.field-0-is)
     (c.rows.invariant.rows still rows held begins)
+
+pub returns-in-Ok-None-clause-known : goal.returns-in-Ok-None-clause-known
+returns-in-Ok-None-clause-known g c = λ honest before.
+    c.in-Ok-None.ensures.known honest (c.rows.invariant.known (c.in-Ok-None.ensures.honest honest) before)
+
+pub returns-in-Err-clause-known : goal.returns-in-Err-clause-known
+returns-in-Err-clause-known g c = unread_known c.keeper_fault.result _ c.keeper_fault.ensures.unread
+
+pub returns-in-Err-BadRows-clause-known : goal.returns-in-Err-BadRows-clause-known
+returns-in-Err-BadRows-clause-known g c =
+    where_bad c.bad.result _ (λ honest before.
+    c.in-Ok-Some.ensures.known honest (c.rows.invariant.known (c.in-Ok-Some.ensures.honest honest) before))
 
 pub returns-in-Err-clause-bad : goal.returns-in-Err-clause-bad
 returns-in-Err-clause-bad g c = λ known rows held begins.

@@ -4,7 +4,7 @@ use Rattle.std.specs.List.{AllByRecursion}
 use Rattle.book_keeper.specs.Rows.{rank}
 use Rattle.book_keeper.specs.declared.row.Row.{Row}
 use Rattle.book_opening.specs.BookRows.{records_of, rows_of}
-use Rattle.book_opening.specs.Opening.{Begins, IsOnlyRecord, WasRead, head_key}
+use Rattle.book_opening.specs.Opening.{Begins, IsOnlyRecord, StaysSure, WasRead, head_key}
 use Rattle.book_opening.specs.State.{head_of, state_of}
 use Rattle.book_opening.proofs.UpTo.{up_to}
 use Rattle.book_opening.proofs.read.read_into.Given as goal
@@ -14,7 +14,8 @@ invariant-rows g l = record {
   read : AllByRecursion IsOnlyRecord (records_of (state_of l.saved));
   head : head_of (state_of l.saved) ≡ head_of (state_of l.fn.saved);
   last : rank head_key ≤ rank l.last;
-  keeper : WasRead g.K.Keeper.path_given g.K.Keeper.sure g.K.Keeper.holds l.fn.keeper l.keeper;
+  keeper : WasRead g.K.Keeper l.fn.keeper l.keeper;
+  known : StaysSure g.K.Keeper l.fn.keeper l.keeper;
   count : g.K.Keeper.faults l.keeper ≡ g.K.Keeper.faults l.fn.keeper;
   rows : IsTrue (g.K.Keeper.sure l.keeper) → (rows : List Row) → g.K.Keeper.holds l.fn.keeper rows
       → Begins rows (head_of (state_of l.fn.saved)) → up_to (rank l.last) rows ≡ rows_of (state_of l.saved);

@@ -3,7 +3,8 @@ use Rattle.std.proofs.Common.{Some, ap, sym, ◌∙◌}
 use Rattle.book_keeper.specs.declared.row.Row.{Row}
 use Rattle.book_opening.specs.State.{state_of}
 use Rattle.book_opening.proofs.KeptSteps.{only_can}
-use Rattle.book_opening.proofs.ReadLaws.{bad_start, begins_as, unread_bad, unread_opens}
+use Rattle.book_opening.proofs.ReadLaws.{bad_start, begins_as, known_more, known_twice, read_more, unread_bad}
+use Rattle.book_opening.proofs.ReadLaws.{unread_known, unread_opens, where_bad}
 use Rattle.book_opening.proofs.OpenLaws.{bad_answers, bad_opens, only_state, start_opens}
 use Rattle.book_opening.proofs.read.read_rows.Goals as goal
 
@@ -69,3 +70,20 @@ returns-clause-again g c = λ known rows held state opens.
     (g.met.K.Keeper.rising c.args.keeper.now rows held) begins c.in-Ok.ensures.read opens
     (c.in-Err-read_behind.ensures.bad known rows (c.in-Ok-Some.ensures.rows still rows held)
     (begins_as rows (state_of c.begun.result) c.in-Ok.head c.begun.ensures.head_is begins))
+
+-- whether the keeper still knows its rows
+pub returns-in-Err-clause-known : goal.returns-in-Err-clause-known
+returns-in-Err-clause-known g c = unread_known c.keeper_fault.result _ c.keeper_fault.ensures.unread
+
+pub returns-in-Err-read_head-clause-known : goal.returns-in-Err-read_head-clause-known
+returns-in-Err-read_head-clause-known g c = where_bad c.in-Err-read_head.fault _ c.in-Ok-Some.ensures.known
+
+pub returns-in-Ok-read_behind-clause-known : goal.returns-in-Ok-read_behind-clause-known
+returns-in-Ok-read_behind-clause-known g c =
+    known_twice g.K.Keeper c.args.keeper.now c.next_row.new.self c.read_behind.new.keeper c.read_behind.ensures.keeper
+    c.in-Ok-Some.ensures.known c.in-Ok-read_behind.ensures.known
+
+pub returns-clause-known : goal.returns-clause-known
+returns-clause-known g c =
+    known_more g.K.Keeper c.args.keeper.now c.next_row.new.self c.read_behind.new.keeper c.in-Err-read_behind.fault
+    c.read_behind.ensures.keeper c.in-Ok-Some.ensures.known c.in-Err-read_behind.ensures.known

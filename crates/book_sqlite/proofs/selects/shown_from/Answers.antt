@@ -2,7 +2,8 @@ use Rattle.std.proofs.Common.{[], ◌∷◌, arith, refl}
 use Rattle.sqlite.specs.Held.{state}
 use Rattle.sqlite.specs.Values.{bound}
 use Rattle.book_sqlite.specs.RowCalls.{kinds_behind}
-use Rattle.book_sqlite.proofs.StateFacts.{stays_ready, select_left, from_answer}
+use Rattle.book_sqlite.proofs.StateFacts.{stays_ready, select_left, select_open, from_answer}
+use Rattle.book_sqlite.proofs.SelectLemmas.{from_returns_none, select_survives}
 use Rattle.book_sqlite.proofs.Meanings.{from_text, from_plain}
 use Rattle.book_sqlite.proofs.selects.shown_from.Goals as goal
 
@@ -26,3 +27,16 @@ returns-clause-shown g c =
     let new = state g.S.Store c.query_all.new.self in
     from_answer (λ rows. rows.items) old new (λ clean. omega (arith, clean, c.query_all.ensures.survives.clean)) c.requires
     (kinds_behind c.args.kind) (bound (c.kind_behind.result ∷ [])) c.query_all.result (rw c.kind_behind.ensures refl) c.query_all.ensures.ok
+
+pub returns-clause-open : goal.returns-clause-open
+returns-clause-open g c =
+    let old = state g.S.Store c.args.conn.now in
+    let new = state g.S.Store c.query_all.new.self in
+    select_open (λ rows. rows.items) old new (λ clean. omega (arith, clean, c.query_all.ensures.survives.clean)) c.requires
+    from_text (bound (c.kind_behind.result ∷ [])) from_plain c.query_all.result c.query_all.ensures.ok
+
+pub returns-clause-survives : goal.returns-clause-survives
+returns-clause-survives g c =
+    let old = state g.S.Store c.args.conn.now in
+    let new = state g.S.Store c.query_all.new.self in
+    select_survives from_text (bound (c.kind_behind.result ∷ [])) old new from_returns_none c.query_all.ensures.survives

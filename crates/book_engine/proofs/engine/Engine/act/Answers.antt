@@ -1,26 +1,26 @@
 use Rattle.book_report_answers.specs.LotsAsked.{lots_asked}
 use Rattle.book_engine.proofs.ChangedLemmas.{risen_from}
 use Rattle.book_engine.proofs.LotsLemmas.{kept_up_left}
-use Rattle.book_engine.proofs.StandLemmas.{stands_unchanged}
+use Rattle.book_engine.proofs.StandLemmas.{leaves_step, stands_unchanged}
 use Rattle.book_engine.proofs.engine.Engine.act.Goals as goal
 
 pub returns-in-Ok-finish-clause-stands : goal.returns-in-Ok-finish-clause-stands
 returns-in-Ok-finish-clause-stands g c = λ stands.
     c.finish.ensures.stands
-    (stands_unchanged g.K.Keeper.sure g.K.Keeper.holds c.args.keeper.now c.args.self.now c.prepare.new.self
-    c.prepare.ensures.unchanged stands)
+    (stands_unchanged g.K.Keeper c.args.keeper.now c.args.self.now c.prepare.new.self c.prepare.ensures.unchanged
+    stands)
 
 pub returns-in-Err-Failed-clause-stands : goal.returns-in-Err-Failed-clause-stands
 returns-in-Err-Failed-clause-stands g c = λ stands.
     c.finish.ensures.stands
-    (stands_unchanged g.K.Keeper.sure g.K.Keeper.holds c.args.keeper.now c.args.self.now c.prepare.new.self
-    c.prepare.ensures.unchanged stands)
+    (stands_unchanged g.K.Keeper c.args.keeper.now c.args.self.now c.prepare.new.self c.prepare.ensures.unchanged
+    stands)
 
 pub returns-in-Err-OutOfMemory-clause-stands : goal.returns-in-Err-OutOfMemory-clause-stands
 returns-in-Err-OutOfMemory-clause-stands g c = λ stands.
     c.finish.ensures.stands
-    (stands_unchanged g.K.Keeper.sure g.K.Keeper.holds c.args.keeper.now c.args.self.now c.prepare.new.self
-    c.prepare.ensures.unchanged stands)
+    (stands_unchanged g.K.Keeper c.args.keeper.now c.args.self.now c.prepare.new.self c.prepare.ensures.unchanged
+    stands)
 
 pub returns-in-Ok-finish-clause-changes : goal.returns-in-Ok-finish-clause-changes
 returns-in-Ok-finish-clause-changes g c =
@@ -46,3 +46,17 @@ returns-in-Err-OutOfMemory-clause-kept_up g c =
     kept_up_left c.args.self.now c.prepare.new.self c.finish.new.self
     (lots_asked c.args.self.now.state.book.accounts c.args.command.what) c.prepare.ensures.kept_up
     c.in-Err-OutOfMemory.ensures.left
+
+pub returns-in-Err-Failed-clause-leaves : goal.returns-in-Err-Failed-clause-leaves
+returns-in-Err-Failed-clause-leaves g c =
+    leaves_step g.K.Keeper c.args.keeper.now c.finish.new.keeper c.args.self.now c.args.command c.in-Ok.plan
+    c.in-Err-Failed.ensures.leaves c.in-Ok.ensures.planned c.in-Err-Failed.ensures.commits
+
+pub returns-in-Err-OutOfMemory-clause-leaves : goal.returns-in-Err-OutOfMemory-clause-leaves
+returns-in-Err-OutOfMemory-clause-leaves g c =
+    leaves_step g.K.Keeper c.args.keeper.now c.finish.new.keeper c.args.self.now c.args.command c.in-Ok.plan
+    c.in-Err-OutOfMemory.ensures.leaves c.in-Ok.ensures.planned c.in-Err-OutOfMemory.ensures.commits
+
+pub returns-in-Err-clause-stands : goal.returns-in-Err-clause-stands
+returns-in-Err-clause-stands g c =
+    stands_unchanged g.K.Keeper c.args.keeper.now c.args.self.now c.prepare.new.self c.prepare.ensures.unchanged
