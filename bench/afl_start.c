@@ -3,7 +3,9 @@
    what lies beside it is removed, and START_LINES gives the lines. A link comes from memory: it sends what the input has,
    and then ends. */
 #define _GNU_SOURCE
+#include <arpa/inet.h>
 #include <fcntl.h>
+#include <netinet/in.h>
 #include <pthread.h>
 #include <stdio.h>
 #include <stdlib.h>
@@ -11,6 +13,7 @@
 #include <sys/sendfile.h>
 #include <sys/socket.h>
 #include <sys/stat.h>
+#include <sys/syscall.h>
 #include <unistd.h>
 
 static void remove_files(const char *book, int first) {
@@ -51,6 +54,12 @@ int bind(int socket, const struct sockaddr *address, socklen_t size) { return 0;
 
 int listen(int socket, int most) { return 0; }
 
+/* A link from memory takes none of the settings of TCP. */
+int setsockopt(int socket, int level, int name, const void *value, socklen_t size) {
+    int answer = syscall(SYS_setsockopt, socket, level, name, value, size);
+    return level == IPPROTO_TCP ? 0 : answer;
+}
+
 static int link_from_input(void) {
     char piece[65536];
     ssize_t count;
@@ -64,6 +73,13 @@ static int link_from_input(void) {
     return ends[0];
 }
 
-int accept(int socket, struct sockaddr *address, socklen_t *size) { return link_from_input(); }
+int accept4(int socket, struct sockaddr *address, socklen_t *size, int flags) {
+    struct sockaddr_in from = {.sin_family = AF_INET, .sin_port = htons(40000), .sin_addr.s_addr = htonl(0x7f000001)};
+    if (address && size) {
+        memcpy(address, &from, *size < sizeof from ? *size : sizeof from);
+        *size = sizeof from;
+    }
+    return link_from_input();
+}
 
-int accept4(int socket, struct sockaddr *address, socklen_t *size, int flags) { return link_from_input(); }
+int accept(int socket, struct sockaddr *address, socklen_t *size) { return accept4(socket, address, size, 0); }
