@@ -297,7 +297,7 @@ class Draw:
             lambda: dict(do='gains', account=r.choice([4] + security), **{'from': '2024-01-01', 'to': '2024-12-31'}),
             lambda: post([]),
             lambda: post([dict(account=3, value=1, quantity=2), dict(account=4, value=-1)]),
-            lambda: post([dict(account=3, value=10 ** 12 + 1), dict(account=4, value=-10 ** 12 - 1)]),
+            lambda: post([dict(account=3, value=10 ** 13 + 1), dict(account=4, value=-10 ** 13 - 1)]),
             lambda: post([dict(account=n, value=5, quantity=1) for n in security] + [dict(account=3, value=-5 * len(security))]),
             lambda: dict(do='schedule_add', name='Odd', recurrences=[dict(kind='day', every=r.choice([0, 1]), start='2020-01-01')],
                          currency=1, splits=[dict(account=3, value=0)]),

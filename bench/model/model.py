@@ -14,7 +14,7 @@ import reports as rp
 
 sys.setrecursionlimit(20000)
 TOP = 2 ** 62
-SIZE = 10 ** 12
+SIZE = 10 ** 13
 LIMITS = dict(transactions=200_000, splits=1_000_000, accounts=10_000, commodities=10_000, prices=1_000_000, schedules=1_000,
               lines=1_000_000, statements=100_000, bindings=10_000, recons=100_000)
 KINDS = 'ROOT ASSET BANK CASH CREDIT LIABILITY STOCK MUTUAL RECEIVABLE PAYABLE INCOME EXPENSE EQUITY'.split()

@@ -1,5 +1,5 @@
 -- What splits give to their accounts, and the balance of an account once one transaction stands in the place of another.
-use Rattle.std.proofs.Common.{◌≡◌, ℕ, ◌+◌, ◌<◌, ◌≤◌, ◌==◌, ◌^◌, ℤ, pos, ◌+ℤ◌, ◌-ℤ◌, Bool, true, false, if◌then◌else◌}
+use Rattle.std.proofs.Common.{◌≡◌, ℕ, ◌+◌, ◌<◌, ◌≤◌, ◌==◌, ℤ, pos, ◌+ℤ◌, ◌-ℤ◌, Bool, true, false, if◌then◌else◌}
 use Rattle.std.proofs.Common.{List, [], ◌∷◌, ◌++◌, All, length, map, take, get_or, Option, Some, None, IfSome, refl, sym, ap}
 use Rattle.std.proofs.Common.{◌∙◌, subst, arith, not}
 use Rattle.std.specs.Prelude.{filter, unsigned_abs}
@@ -23,7 +23,8 @@ use Rattle.book_splits.specs.declared.split.Split.{Split}
 use Rattle.book_splits.specs.declared.transaction.Txn.{Txn}
 use Rattle.book_splits.proofs.BalanceLemmas.{quantity_on-append, quantity_on-one, quantity_on-with}
 use Rattle.book_undo.specs.Book.{Book}
-use Rattle.book_balances.specs.Balances.{IsMoved, given, moved, sum_in}
+use Rattle.book_limits.specs.Limits.{largest_split_amount}
+use Rattle.book_balances.specs.Balances.{IsMoved, given, largest_move, moved, sum_in}
 
 -- ---- one account
 
@@ -66,12 +67,12 @@ moved_more before split after old new is so_far more a =
     ∙ ap (λ (z : ℤ). quantity_on a before +ℤ z) (sym (quantity_on-one a split))
     ∙ sym (quantity_on-append a before (split ∷ [])) ∙ ap (quantity_on a) is
 
--- What 500 splits give is at most 10^15 in size.
+-- What 500 splits give is small.
 pub given_small :
     (account : ℕ) (splits : List Split) → All HasAmounts splits → length splits ≤ 500
-    → IsAtMost (10 ^ 15) (quantity_on account splits)
+    → IsAtMost largest_move (quantity_on account splits)
 given_small account splits small few =
-    let Small : ℤ → Type 0 = λ a. unsigned_abs a ≤ 10 ^ 12 in
+    let Small : ℤ → Type 0 = λ a. unsigned_abs a ≤ largest_split_amount in
     let quantity : Split → ℤ = λ s. s.quantity in
     let test : Split → Bool = λ s. s.account == account in
     let picked = filter test splits in
@@ -101,7 +102,7 @@ has_places book is = record {
 -- So what it gives to an account is small.
 pub form_small :
     (account : ℕ) (found : Option Txn) → IfSome found (λ old. transaction.IsSound old.splits)
-    → IsAtMost (10 ^ 15) (given account found)
+    → IsAtMost largest_move (given account found)
 form_small account None form = (omega (arith, ints), omega (arith, ints))
 form_small account (Some t) form = given_small account t.splits form.amounts form.few
 

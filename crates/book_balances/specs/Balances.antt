@@ -1,8 +1,10 @@
 -- What the balances of an answer are summed from: the registers of a book, and the transaction that an edit puts there.
-use Rattle.std.specs.Prelude.{◌≡◌, ℕ, ◌==◌, if◌then◌else◌, List, [], ◌∷◌, Option, Some, None, ℤ, pos, ◌+ℤ◌}
+use Rattle.std.specs.Prelude.{◌≡◌, ℕ, ◌*◌, ◌==◌, if◌then◌else◌, List, [], ◌∷◌, Option, Some, None, ℤ, pos}
+use Rattle.std.specs.Prelude.{◌+ℤ◌}
 use Rattle.book_commodity.specs.Table.{value_of}
 use Rattle.book_ledger.specs.Ledger.{Keeps}
 use Rattle.book_ledger.specs.Page.{Page}
+use Rattle.book_limits.specs.Limits.{largest_split_amount}
 use Rattle.book_sound.specs.Soundness.{IsSoundBook}
 use Rattle.book_splits.specs.Balance.{quantity_on}
 use Rattle.book_splits.specs.Check as transaction
@@ -32,6 +34,10 @@ pub record CanMove (registers : List (ℕ × Page)) (book : Book) (new : Txn) : 
 abbrev pub given : ℕ → Option Txn → ℤ
 given account None = pos 0
 given account (Some transaction) = quantity_on account transaction.splits
+
+-- The largest size of what a transaction gives to an account, by its splits, of which there are at most 500.
+abbrev pub largest_move : ℕ
+largest_move = largest_split_amount * 500
 
 -- A sum, or 0 where there is none.
 abbrev pub sum_in : Option ℤ → ℤ

@@ -1,13 +1,14 @@
-ghost use Rattle.std.specs.Prelude.{◌≡◌, ℕ, ◌^◌, ◌+ℤ◌, ◌-ℤ◌, IfOk, IfSome, flat_map};
+ghost use Rattle.std.specs.Prelude.{◌≡◌, ℕ, ◌+ℤ◌, ◌-ℤ◌, IfOk, IfSome, flat_map};
 ghost use Rattle.std.specs.Option.{option_copied};
 ghost use Rattle.book_undo.specs.Book.{book_of};
 ghost use Rattle.book_undo.specs.Edit.{edited, leaves};
 ghost use Rattle.book_step.specs.AnswerBalances.{PutsAnswered, PutsUnder, balances_of, with_balances as filled};
 ghost use Rattle.book_commodity.specs.Table.{with_entry};
 ghost use Rattle.book_splits.specs.Balance.{balances_in, splits_of};
+ghost use Rattle.book_limits.specs.Limits.{largest_sum};
 ghost use Rattle.book_sound.proofs.SoundFacts.{IsAtMost};
 ghost use Rattle.book_splits.specs.Check.{IsSound as IsSoundTxn};
-ghost use Rattle.book_balances.specs.Balances.{CanMove, CanSum, given, moved, put_at};
+ghost use Rattle.book_balances.specs.Balances.{CanMove, CanSum, given, largest_move, moved, put_at};
 ghost use Rattle.book_balances.specs.Answered.{whole_step};
 
 use crate::moves::Moves;
@@ -149,9 +150,9 @@ fn put_among(parts: &[Edit], number: u64) -> Option<&Txn>
 
 /// A balance without what an account lost, and with what it gained.
 fn moved_balance(balance: i128, lost: i128, gained: i128) -> i128
-    requires balance { IsAtMost (10 ^ 18) balance }
-    requires lost { IsAtMost (10 ^ 15) lost }
-    requires gained { IsAtMost (10 ^ 15) gained }
+    requires balance { IsAtMost largest_sum balance }
+    requires lost { IsAtMost largest_move lost }
+    requires gained { IsAtMost largest_move gained }
     ensures { result ≡ balance -ℤ lost +ℤ gained }
 {
     balance - lost + gained

@@ -1,5 +1,5 @@
-ghost use Rattle.std.specs.Prelude.{◌≡◌, ℕ, ◌≤◌, ◌^◌, All, IfOk, OnOk, length, pos};
-ghost use Rattle.book_balances.specs.Balances.{IsMoved, moved};
+ghost use Rattle.std.specs.Prelude.{◌≡◌, ℕ, ◌≤◌, All, IfOk, OnOk, length, pos};
+ghost use Rattle.book_balances.specs.Balances.{IsMoved, largest_move, moved};
 ghost use Rattle.book_sound.proofs.SoundFacts.{IsAtMost};
 ghost use Rattle.book_splits.specs.Balance.{quantity_on};
 ghost use Rattle.book_splits.specs.Check.{HasAmounts};
@@ -50,7 +50,7 @@ impl Moves {
 
     /// Gives an account so much more.
     fn add(&mut self, account: u64, quantity: i64) -> Result<(), OutOfMemory>
-        requires { IsAtMost (10 ^ 15) (moved account self.old.sums.entries) }
+        requires { IsAtMost largest_move (moved account self.old.sums.entries) }
         ensures { OnOk result (IsMoved account quantity self.old.sums.entries self.new.sums.entries) }
     {
         let sum = self.to(account) + i128::from(quantity);

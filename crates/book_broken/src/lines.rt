@@ -1,10 +1,9 @@
 ghost use Rattle.std.specs.Prelude.{◌≡◌, ◌==◌, ◌&&◌, Some, nat_eq};
 ghost use Rattle.std.specs.Option.{option_copied, option_eq};
 ghost use Rattle.book_commodity.specs.Rules.{stands_before};
-ghost use Rattle.book_splits.specs.Check.{is_over_limit};
 ghost use Rattle.book_statement.specs.Keys.{same_text};
 ghost use Rattle.book_sound.specs.LineRules.{fits_in_state, fits_line, has_same_key, line_rules, shares_split};
-ghost use Rattle.book_sound.specs.LineRules.{matched_split, split_among, split_at};
+ghost use Rattle.book_sound.specs.LineRules.{is_over_limit, matched_split, split_among, split_at};
 ghost use Rattle.book_broken.specs.Broken.{broken_in};
 ghost use Rattle.book_broken.specs.Names.{line_names};
 
@@ -12,10 +11,7 @@ use crate::BrokenRule;
 use book_accounts::Tree;
 use book_commodity::Table;
 use book_splits::{Split, Txn, Txns};
-use book_statement::{Held, Line, LineState};
-
-/// How large the amount of a line is at most.
-const MAX_AMOUNT: u64 = 1_000_000_000_000;
+use book_statement::{Held, LARGEST_AMOUNT, Line, LineState};
 
 /// The rule that the line under the number breaks, if a line is there.
 pub(crate) fn in_lines(
@@ -53,11 +49,11 @@ pub(crate) fn in_lines(
     Some(BrokenRule::TooMany)
 }
 
-/// Whether an amount is above 10^12 in size.
+/// Whether the amount of a line is above 10^12 in size.
 fn is_over_limit(amount: i64) -> bool
     ensures { result ≡ is_over_limit amount }
 {
-    amount.unsigned_abs() > MAX_AMOUNT
+    amount.unsigned_abs() > LARGEST_AMOUNT
 }
 
 /// Whether a line with a smaller number has the same key.

@@ -1,6 +1,6 @@
 -- The rules of an account, as a walk asks them.
 use Rattle.std.proofs.Common.{◌≡◌, ℕ, suc, ◌+◌, ◌-◌, ◌<◌, ◌≤◌, not, Bool, true, false, ◌&&◌, ◌||◌, List, [], ◌∷◌}
-use Rattle.std.proofs.Common.{length, nat_eq, Option, Some, is_some, refl, sym, ap, ◌∙◌, arith}
+use Rattle.std.proofs.Common.{length, nat_eq, Option, Some, is_some, option_map, slice_get, refl, sym, ap, ◌∙◌, arith}
 use Rattle.std.specs.List.{list_any}
 use Rattle.std.specs.Option.{option_eq}
 use Rattle.book_commodity.specs.Rules.{stands_before}
@@ -70,29 +70,19 @@ regrouped true true true true true true true false = refl
 regrouped true true true true true true false true = refl
 regrouped true true true true true true false false = refl
 
+-- the rules of an account, as a walk asks them: what it has and where it stands, and then whether it was seen
 pub account_asked :
-    (commodities : List (ℕ × Commodity)) (es : List (ℕ × Account)) (n : ℕ) (account : Account)
+    (commodities : List (ℕ × Commodity)) (es : List (ℕ × Account)) (i n m : ℕ) (account : Account) (kept : Bool)
+    → kept ≡ (is_whole commodities account && is_under_root es m account)
+    → option_map (λ e. e.0) (slice_get es i) ≡ Some m → slice_get es i ≡ Some (n, account)
     → all_hold (account_rules commodities es n account)
-    ≡ ((is_whole commodities account && is_under_root es n account) && not (stands_before (has_same_name account) n es))
-account_asked commodities es n account =
+    ≡ (kept && not (stands_before (has_same_name account) n es))
+account_asked commodities es i n m account kept is number there =
+    let same : Some m ≡ Some n = sym number ∙ ap (option_map (λ (e : ℕ × Account). e.0)) there in
+    let here : m ≡ n = cc in
     regrouped (is_some (value_of account.commodity commodities))
     (fits_basis commodities (is_security account.kind) account.basis) (has_parent_unless_root account)
     (is_placeholder_if_root account) (is_root_if_of_kind es n account) (fits_parent es account.kind account.parent)
     (stands_before (has_same_name account) n es) (leads_to_root es n)
-
--- what a walk asks of an account: an answer of no breaks a rule
-pub account_breaks :
-    (commodities : List (ℕ × Commodity)) (es : List (ℕ × Account)) (n : ℕ) (account : Account)
-    → (is_whole commodities account && is_under_root es n account) ≡ false
-    → all_hold (account_rules commodities es n account) ≡ false
-account_breaks commodities es n account fails =
-    account_asked commodities es n account ∙ ap (λ b. b && not (stands_before (has_same_name account) n es)) fails
-
-pub account_taken :
-    (commodities : List (ℕ × Commodity)) (es : List (ℕ × Account)) (n : ℕ) (account : Account) (before : Bool)
-    → (is_whole commodities account && is_under_root es n account) ≡ true
-    → before ≡ stands_before (has_same_name account) n es
-    → all_hold (account_rules commodities es n account) ≡ not before
-account_taken commodities es n account before holds is =
-    account_asked commodities es n account
-    ∙ ap (λ b. b && not (stands_before (has_same_name account) n es)) holds ∙ ap not (sym is)
+    ∙ ap (λ b. b && not (stands_before (has_same_name account) n es))
+    (sym (is ∙ ap (λ (k : ℕ). is_whole commodities account && is_under_root es k account) here))

@@ -1,13 +1,15 @@
 -- Keys of things that may stand once, as their order compares them.
-use Rattle.std.proofs.Common.{◌≡◌, Ordering, ℕ, ℤ, ◌==◌, nat_eq, Bool, true, false, ◌&&◌, List, Option, Some, None, Bor}
-use Rattle.std.proofs.Common.{refl, sym, ap, ◌∙◌}
-use Rattle.std.specs.Cmp.{int_eq_equiv, nat_eq_equiv, tied_then, unsigned_tied}
+use Rattle.std.proofs.Common.{◌≡◌, Ordering, ◌==◌, nat_eq, Bool, true, false, ◌&&◌, Option, Some, None, refl}
+use Rattle.std.proofs.Common.{sym, ap, ◌∙◌}
 use Rattle.std.specs.Cmp.Lexicographic.{slice_cmp}
+use Rattle.std.specs.Cmp.{int_eq_equiv, nat_eq_equiv, tied_then, unsigned_tied}
 use Rattle.std.specs.Option.{option_cmp, option_eq}
 use Rattle.std.specs.Bool.{beq}
 use Rattle.std.specs.Ordering.{bool_cmp, int_cmp, int_eq, is_eq, nat_cmp, ordering_then}
 use Rattle.std.proofs.lemmas.Map.Text.{is_eq-slice_cmp}
 use lib.Pointwise.{pointwise}
+use Rattle.book_check.specs.Keys.{account_keys, binding_keys, commodity_keys, line_keys, price_keys, statement_keys}
+use Rattle.book_check.specs.Walk.{Ties}
 
 -- two comparisons one after another
 then_is :
@@ -28,68 +30,23 @@ bool_is true false = refl
 bool_is false true = refl
 bool_is false false = refl
 
--- The key of an account: its parent and its name.
-abbrev pub AccountKey : Type 0
-AccountKey = Option ℕ × Bor (List ℕ)
-
-abbrev pub account_cmp : AccountKey → AccountKey → Ordering
-account_cmp one other = ordering_then (option_cmp nat_cmp one.0 other.0) (slice_cmp nat_cmp one.1.now other.1.now)
-
-abbrev pub account_shown : AccountKey → Option ℕ × List ℕ
-account_shown key = (key.0, key.1.now)
-
-abbrev pub account_same : Option ℕ × List ℕ → Option ℕ × List ℕ → Bool
-account_same one other = option_eq nat_eq one.0 other.0 && pointwise nat_eq one.1 other.1
-
-pub account_ties :
-    (one other : AccountKey) → is_eq (account_cmp one other) ≡ account_same (account_shown one) (account_shown other)
+pub account_ties : Ties account_keys
 account_ties one other =
     then_is (option_cmp nat_cmp one.0 other.0) (slice_cmp nat_cmp one.1.now other.1.now)
     (option_eq nat_eq one.0 other.0) (pointwise nat_eq one.1.now other.1.now)
     (option_is nat_cmp nat_eq unsigned_tied one.0 other.0) (is_eq-slice_cmp one.1.now other.1.now)
 
--- The key of a commodity: its space and its name.
-abbrev pub CommodityKey : Type 0
-CommodityKey = Bor (List ℕ) × Bor (List ℕ)
-
-abbrev pub commodity_cmp : CommodityKey → CommodityKey → Ordering
-commodity_cmp one other =
-    ordering_then (slice_cmp nat_cmp one.0.now other.0.now) (slice_cmp nat_cmp one.1.now other.1.now)
-
-abbrev pub commodity_shown : CommodityKey → List ℕ × List ℕ
-commodity_shown key = (key.0.now, key.1.now)
-
-abbrev pub commodity_same : List ℕ × List ℕ → List ℕ × List ℕ → Bool
-commodity_same one other = pointwise nat_eq one.0 other.0 && pointwise nat_eq one.1 other.1
-
-pub commodity_ties :
-    (one other : CommodityKey)
-    → is_eq (commodity_cmp one other) ≡ commodity_same (commodity_shown one) (commodity_shown other)
+pub commodity_ties : Ties commodity_keys
 commodity_ties one other =
     then_is (slice_cmp nat_cmp one.0.now other.0.now) (slice_cmp nat_cmp one.1.now other.1.now)
     (pointwise nat_eq one.0.now other.0.now) (pointwise nat_eq one.1.now other.1.now)
     (is_eq-slice_cmp one.0.now other.0.now) (is_eq-slice_cmp one.1.now other.1.now)
 
--- The key of a price: its commodity, its currency and its day.
-abbrev pub PriceKey : Type 0
-PriceKey = ℕ × ℕ × ℤ
-
-abbrev pub price_cmp : PriceKey → PriceKey → Ordering
-price_cmp one other =
-    ordering_then (ordering_then (nat_cmp one.0 other.0) (nat_cmp one.1 other.1)) (int_cmp one.2 other.2)
-
-abbrev pub price_shown : PriceKey → PriceKey
-price_shown key = key
-
-abbrev pub price_same : PriceKey → PriceKey → Bool
-price_same one other = (other.0 == one.0) && ((other.1 == one.1) && int_eq other.2 one.2)
-
 and_assoc : (a b c : Bool) → ((a && b) && c) ≡ (a && (b && c))
 and_assoc true b c = refl
 and_assoc false b c = refl
 
-pub price_ties :
-    (one other : PriceKey) → is_eq (price_cmp one other) ≡ price_same (price_shown one) (price_shown other)
+pub price_ties : Ties price_keys
 price_ties one other =
     then_is (ordering_then (nat_cmp one.0 other.0) (nat_cmp one.1 other.1)) (int_cmp one.2 other.2)
     ((one.0 == other.0) && (one.1 == other.1)) (int_eq one.2 other.2)
@@ -101,45 +58,8 @@ price_ties one other =
     ∙ ap (λ t. (other.0 == one.0) && (t && int_eq one.2 other.2)) (nat_eq_equiv.symm one.1 other.1)
     ∙ ap (λ t. (other.0 == one.0) && ((other.1 == one.1) && t)) (int_eq_equiv.symm one.2 other.2)
 
--- The key of a binding: its text.
-abbrev pub BindingKey : Type 0
-BindingKey = Bor (List ℕ)
-
-abbrev pub binding_cmp : BindingKey → BindingKey → Ordering
-binding_cmp one other = slice_cmp nat_cmp one.now other.now
-
-abbrev pub binding_shown : BindingKey → List ℕ
-binding_shown key = key.now
-
-abbrev pub binding_same : List ℕ → List ℕ → Bool
-binding_same one other = pointwise nat_eq one other
-
-pub binding_ties :
-    (one other : BindingKey) → is_eq (binding_cmp one other) ≡ binding_same (binding_shown one) (binding_shown other)
+pub binding_ties : Ties binding_keys
 binding_ties one other = is_eq-slice_cmp one.now other.now
-
--- The key of a statement: all its fields.
-abbrev pub StatementKey : Type 0
-StatementKey = ℕ × Bor (List ℕ) × Bor (List ℕ) × Option ℤ × Option ℤ × ℤ × Option Bool
-
-abbrev pub StatementParts : Type 0
-StatementParts = ℕ × List ℕ × List ℕ × Option ℤ × Option ℤ × ℤ × Option Bool
-
-abbrev pub statement_cmp : StatementKey → StatementKey → Ordering
-statement_cmp one other =
-    ordering_then (ordering_then (ordering_then (ordering_then (ordering_then (ordering_then
-    (nat_cmp one.0 other.0) (slice_cmp nat_cmp one.1.now other.1.now)) (slice_cmp nat_cmp one.2.now other.2.now))
-    (option_cmp int_cmp one.3 other.3)) (option_cmp int_cmp one.4 other.4)) (int_cmp one.5 other.5))
-    (option_cmp bool_cmp one.6 other.6)
-
-abbrev pub statement_shown : StatementKey → StatementParts
-statement_shown key = (key.0, key.1.now, key.2.now, key.3, key.4, key.5, key.6)
-
-abbrev pub statement_same : StatementParts → StatementParts → Bool
-statement_same one other =
-    (one.0 == other.0) && (pointwise nat_eq one.1 other.1 && (pointwise nat_eq one.2 other.2
-    && (option_eq int_eq one.3 other.3 && (option_eq int_eq one.4 other.4
-    && (int_eq one.5 other.5 && option_eq beq one.6 other.6)))))
 
 seven :
     (a b c d e f g : Bool)
@@ -152,9 +72,7 @@ seven true true true true false f g = refl
 seven true true true true true false g = refl
 seven true true true true true true g = refl
 
-pub statement_ties :
-    (one other : StatementKey)
-    → is_eq (statement_cmp one other) ≡ statement_same (statement_shown one) (statement_shown other)
+pub statement_ties : Ties statement_keys
 statement_ties one other =
     let a = one.0 == other.0 in
     let b = pointwise nat_eq one.1.now other.1.now in
@@ -176,3 +94,45 @@ statement_ties one other =
     refl)
     (option_is bool_cmp beq bool_is one.6 other.6)
     ∙ seven a b c d e f g
+
+eight :
+    (a b c e f g h o : Bool)
+    → ((((a && b) && c) && (((e && f) && g) && h)) && o) ≡ (a && (b && (c && (e && (f && (g && (h && o)))))))
+eight false b c e f g h o = refl
+eight true false c e f g h o = refl
+eight true true false e f g h o = refl
+eight true true true false f g h o = refl
+eight true true true true false g h o = refl
+eight true true true true true false h o = refl
+eight true true true true true true false o = refl
+eight true true true true true true true o = refl
+
+pub line_ties : Ties line_keys
+line_ties one other =
+    let a = one.0.0 == other.0.0 in
+    let b = int_eq one.0.1 other.0.1 in
+    let c = int_eq one.0.2 other.0.2 in
+    let e = pointwise nat_eq one.1.0.now other.1.0.now in
+    let f = pointwise nat_eq one.1.1.now other.1.1.now in
+    let g = pointwise nat_eq one.1.2.now other.1.2.now in
+    let h = pointwise nat_eq one.1.3.now other.1.3.now in
+    let o = one.2 == other.2 in
+    let first = ordering_then (ordering_then (nat_cmp one.0.0 other.0.0) (int_cmp one.0.1 other.0.1))
+    (int_cmp one.0.2 other.0.2) in
+    let two = ordering_then (slice_cmp nat_cmp one.1.0.now other.1.0.now)
+    (slice_cmp nat_cmp one.1.1.now other.1.1.now) in
+    let three = ordering_then two (slice_cmp nat_cmp one.1.2.now other.1.2.now) in
+    let texts = ordering_then three (slice_cmp nat_cmp one.1.3.now other.1.3.now) in
+    then_is (ordering_then first texts) (nat_cmp one.2 other.2) (((a && b) && c) && (((e && f) && g) && h)) o
+    (then_is first texts ((a && b) && c) (((e && f) && g) && h)
+    (then_is (ordering_then (nat_cmp one.0.0 other.0.0) (int_cmp one.0.1 other.0.1)) (int_cmp one.0.2 other.0.2)
+    (a && b) c
+    (then_is (nat_cmp one.0.0 other.0.0) (int_cmp one.0.1 other.0.1) a b (unsigned_tied one.0.0 other.0.0) refl) refl)
+    (then_is three (slice_cmp nat_cmp one.1.3.now other.1.3.now) ((e && f) && g) h
+    (then_is two (slice_cmp nat_cmp one.1.2.now other.1.2.now) (e && f) g
+    (then_is (slice_cmp nat_cmp one.1.0.now other.1.0.now) (slice_cmp nat_cmp one.1.1.now other.1.1.now) e f
+    (is_eq-slice_cmp one.1.0.now other.1.0.now) (is_eq-slice_cmp one.1.1.now other.1.1.now))
+    (is_eq-slice_cmp one.1.2.now other.1.2.now))
+    (is_eq-slice_cmp one.1.3.now other.1.3.now)))
+    (unsigned_tied one.2 other.2)
+    ∙ eight a b c e f g h o

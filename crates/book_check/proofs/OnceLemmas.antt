@@ -17,15 +17,6 @@ use Rattle.book_sound.specs.StatementRules.{is_same_statement, statement_rules}
 use Rattle.book_sound.specs.Tests.{is_live}
 use Rattle.book_check.specs.FirstUnsound.{all_hold}
 
--- a thing that fails a test of its own breaks a rule
-pub own_fails : (rules kept before : Bool) → rules ≡ (kept && not before) → kept ≡ false → rules ≡ false
-own_fails rules kept before are fails = are ∙ ap (λ b. b && not before) fails
-
--- one that passes them keeps its rules where it wasn't seen
-pub own_holds :
-    (rules kept before seen : Bool) → rules ≡ (kept && not before) → kept ≡ true → seen ≡ before → rules ≡ not seen
-own_holds rules kept before seen are holds is = are ∙ ap (λ b. b && not before) holds ∙ ap not (sym is)
-
 first_last : (s a : Bool) → (not s && (a && true)) ≡ (a && not s)
 first_last true true = refl
 first_last true false = refl

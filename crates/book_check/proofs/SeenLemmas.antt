@@ -1,14 +1,15 @@
 -- Keys that a walk has seen, against the entries that it has come by.
-use Rattle.std.proofs.Common.{◌≡◌, ℕ, zero, suc, ◌+◌, ◌<◌, nat_lt, Bool, false, ◌&&◌, ◌||◌, List, []}
+use Rattle.std.proofs.Common.{◌≡◌, ℕ, zero, suc, ◌+◌, ◌<◌, nat_lt, Bool, true, false, not, ◌&&◌, ◌||◌, List, []}
 use Rattle.std.proofs.Common.{◌∷◌, take, Option, Some, None, option_map, slice_get, refl, sym, ap, subst, ◌∙◌, arith}
+use Rattle.std.specs.Bool.{OnTrue}
 use Rattle.std.specs.List.{list_any}
-use Rattle.std.specs.declared.cmp.Ordering.{Ordering}
-use Rattle.std.specs.Ordering.{is_eq}
 use Rattle.std.proofs.lemmas.Bool.Decides.{nat_tests}
 use Rattle.book_commodity.proofs.ListLemmas.{mapped_some}
 use Rattle.book_commodity.specs.Rules.{stands_before}
 use Rattle.book_commodity.specs.Table.{AllAbove, Rises}
+use Rattle.book_check.specs.FirstUnsound.{all_hold}
 use Rattle.book_check.specs.Seen.{Adds, is_seen}
+use Rattle.book_check.specs.Walk.{HasKeys, Keying, Ties}
 use Rattle.book_check.proofs.AnyLemmas.{any_next, or_swap}
 
 entry_of :
@@ -52,37 +53,6 @@ before_place test (x ∷ es) (suc i) n v rise e =
     let below = number_above x.0 n v es i rise.0 e in
     grind (arith, nat_tests, below, before_place test es i n v rise.1 e)
 
--- ---- keys of things that may stand once
--- The keys seen are those of the entries: each is shown as its parts, as a thing has parts, and the parts are compared.
-abbrev pub HasKeys :
-    {K P T : Type 0} → (K → K → Ordering) → (K → P) → (P → P → Bool) → (T → P) → List K → List (ℕ × T) → Type 0
-HasKeys {K} cmp shown same parts keys entries =
-    (key : K) → is_seen cmp keys key ≡ list_any (λ entry. same (parts entry.1) (shown key)) entries
-
--- the key of one thing more
-pub keys_next :
-    {K P T : Type 0} (cmp : K → K → Ordering) (shown : K → P) (same : P → P → Bool) (parts : T → P)
-    (ties : (k q : K) → is_eq (cmp k q) ≡ same (shown k) (shown q)) (es : List (ℕ × T)) (i n : ℕ) (t : T) (k : K)
-    (old new : List K) → slice_get es i ≡ Some (n, t) → shown k ≡ parts t
-    → HasKeys cmp shown same parts old (take i es) → Adds cmp old k new
-    → HasKeys cmp shown same parts new (take (i + 1) es)
-keys_next {K} {P} {T} cmp shown same parts ties es i n t k old new there is has adds = λ key.
-    adds key
-    ∙ ap (λ b. b || is_seen cmp old key) (ties k key ∙ ap (λ (p : P). same p (shown key)) is)
-    ∙ ap (λ b. same (parts t) (shown key) || b) (has key)
-    ∙ or_swap (same (parts t) (shown key)) (list_any (λ (e : ℕ × T). same (parts e.1) (shown key)) (take i es))
-    ∙ sym (any_next (λ (e : ℕ × T). same (parts e.1) (shown key)) es i (n, t) there)
-
--- the key of a thing was seen, where one before it has the same
-pub keys_before :
-    {K P T : Type 0} (cmp : K → K → Ordering) (shown : K → P) (same : P → P → Bool) (parts : T → P)
-    (es : List (ℕ × T)) (i n : ℕ) (t : T) (k : K) (keys : List K) → Rises es → slice_get es i ≡ Some (n, t)
-    → shown k ≡ parts t → HasKeys cmp shown same parts keys (take i es)
-    → is_seen cmp keys k ≡ stands_before (λ other. same (parts other) (parts t)) n es
-keys_before {K} {P} {T} cmp shown same parts es i n t k keys rise there is has =
-    has k ∙ ap (λ (p : P). list_any (λ (e : ℕ × T). same (parts e.1) p) (take i es)) is
-    ∙ sym (before_place (λ other. same (parts other) (parts t)) es i n t rise there)
-
 -- a test of the value at a place
 pub value_test :
     {T : Type 0} (test : T → Bool) (es : List (ℕ × T)) (i : ℕ) (v : T)
@@ -91,3 +61,59 @@ pub value_test :
 value_test {T} test es i v value =
     let r = mapped_some (λ (e : ℕ × T). e.1) (slice_get es i) v value in
     ap (option_map (λ (e : ℕ × T). test e.1)) r.1 ∙ ap (λ (w : T). Some (test w)) r.2
+
+-- a thing keeps its rules, whatever its number
+pub kept_alone :
+    {T : Type 0} (rules : ℕ → T → List Bool) (es : List (ℕ × T)) (i : ℕ) (t : T) (kept : Bool)
+    → option_map (λ e. e.1) (slice_get es i) ≡ Some t
+    → ((n : ℕ) → slice_get es i ≡ Some (n, t) → kept ≡ all_hold (rules n t))
+    → option_map (λ e. all_hold (rules e.0 e.1)) (slice_get es i) ≡ Some kept
+kept_alone {T} rules es i t kept value is =
+    let at = mapped_some (λ (e : ℕ × T). e.1) (slice_get es i) t value in
+    let there = at.1 ∙ ap (λ (v : T). Some (at.0.0, v)) at.2 in
+    ap (option_map (λ (e : ℕ × T). all_hold (rules e.0 e.1))) there ∙ ap Some (sym (is at.0.0 there))
+
+-- ---- keys of things that may stand once
+-- the key of one thing more
+keys_next :
+    {K P T : Type 0} (keying : Keying K P T) → Ties keying → (es : List (ℕ × T)) (i : ℕ) (e : ℕ × T) (k : K)
+    (old new : List K) → slice_get es i ≡ Some e → keying.shown k ≡ keying.parts e.1
+    → HasKeys keying old (take i es) → Adds keying.cmp old k new → HasKeys keying new (take (i + 1) es)
+keys_next {K} {P} {T} keying ties es i e k old new there is has adds = λ key.
+    let test = λ (x : ℕ × T). keying.same (keying.parts x.1) (keying.shown key) in
+    adds key
+    ∙ ap (λ b. b || is_seen keying.cmp old key)
+    (ties k key ∙ ap (λ (p : P). keying.same p (keying.shown key)) is)
+    ∙ ap (λ b. test e || b) (has key)
+    ∙ or_swap (test e) (list_any test (take i es)) ∙ sym (any_next test es i e there)
+
+-- A thing keeps its rules where those that ask for no other are kept, and its key was not seen; then its key is.
+pub once :
+    {K P T : Type 0} (keying : Keying K P T) → Ties keying → (rules : ℕ → T → List Bool) (es : List (ℕ × T)) (i : ℕ)
+    (t : T) (k : K) (old new : List K) (own before : Bool) → Rises es
+    → option_map (λ e. e.1) (slice_get es i) ≡ Some t → keying.shown k ≡ keying.parts t
+    → HasKeys keying old (take i es) → own ≡ true
+    → ((n : ℕ) → slice_get es i ≡ Some (n, t) → all_hold (rules n t)
+    ≡ (own && not (stands_before (λ other. keying.same (keying.parts other) (keying.parts t)) n es)))
+    → before ≡ is_seen keying.cmp old k → Adds keying.cmp old k new
+    → (option_map (λ e. all_hold (rules e.0 e.1)) (slice_get es i) ≡ Some (not before))
+    × OnTrue (not before) (HasKeys keying new (take (i + 1) es))
+once {K} {P} {T} keying ties rules es i t k old new own before rise value is has holds asked seen adds = (
+  kept_alone rules es i t (not before) value (λ n there.
+      ap not (before_is n there)
+      ∙ ap (λ b. b && not (stands_before same n es)) (sym holds) ∙ sym (asked n there)),
+  on_true (not before) (let at = mapped_some (λ (e : ℕ × T). e.1) (slice_get es i) t value in
+      keys_next keying ties es i at.0 k old new at.1 (is ∙ ap keying.parts (sym at.2)) has adds),
+)
+  where
+    same : T → Bool
+    same other = keying.same (keying.parts other) (keying.parts t)
+
+    before_is : (n : ℕ) → slice_get es i ≡ Some (n, t) → before ≡ stands_before same n es
+    before_is n there =
+        seen ∙ has k ∙ ap (λ (p : P). list_any (λ (e : ℕ × T). keying.same (keying.parts e.1) p) (take i es)) is
+        ∙ sym (before_place same es i n t rise there)
+
+    on_true : {A : Type 0} (b : Bool) → A → OnTrue b A
+    on_true true a = a
+    on_true false a = tt

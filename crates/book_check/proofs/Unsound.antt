@@ -295,114 +295,53 @@ sound_where_none book next rise none =
       },
     )
 
-true_is : (b : Bool) → b ≡ true → IsTrue b
-true_is b e = grind (arith, nat_tests, e)
-
 -- A sound book whose numbers are drawn has no unsound key.
 pub none_where_sound :
     (book : Book) (next : ℕ) → IsSoundBook book → AreDrawn book next → first_unsound book next ≡ None
 none_where_sound book next sound drawn =
-    let head : AllHold (head_rules book next) = (
-      sound.currency,
-      (
-        sound.root,
-        (
-          true_is _ (below_entries next book.commodities drawn.commodities),
-          (
-            true_is _ (below_entries next book.accounts drawn.accounts),
-            (
-              true_is _ (below_entries next book.transactions drawn.transactions),
-              (
-                true_is _ (below_entries next book.prices drawn.prices),
-                (
-                  true_is _ (below_entries next book.schedules drawn.schedules),
-                  (
-                    true_is _ (below_entries next book.statements drawn.statements),
-                    (
-                      true_is _ (below_entries next book.lines drawn.lines),
-                      (
-                        true_is _ (below_entries next book.bindings drawn.bindings),
-                        (
-                          true_is _ (below_entries next book.reconciliations drawn.reconciliations),
-                          (
-                            true_is _ (of_all (λ (x : Split). nat_lt x.id next) (λ (x : Split). x.id < next)
-                                (λ x t. of_below x.id next t)
-                                (splits_of book.transactions) drawn.splits),
-                            (
-                              true_is _
-                                  (of_all
-                                  (λ (e : ℕ × Recon). list_all (λ (m : MarkedSplit). nat_lt m.split next) e.1.marked)
-                                  (λ (e : ℕ × Recon). All (λ (m : MarkedSplit). m.split < next) e.1.marked)
-                                  (λ e t. of_all (λ (m : MarkedSplit). nat_lt m.split next)
-                                  (λ (m : MarkedSplit). m.split < next)
-                                  (λ m u. of_below m.split next u) e.1.marked t) book.reconciliations drawn.marked),
-                              (
-                                true_is _ (of_all (λ (e : ℕ × Schedule). nat_lt e.1.timing.made next)
-                                    (λ (e : ℕ × Schedule). e.1.timing.made < next)
-                                    (λ e t. of_below e.1.timing.made next t) book.schedules drawn.made),
-                                tt,
-                              ),
-                            ),
-                          ),
-                        ),
-                      ),
-                    ),
-                  ),
-                ),
-              ),
-            ),
-          ),
-        ),
-      ),
-    ) in
-    let txns = sound.transactions in
-    let few_txns = txns.few in
+    let splits = of_all (λ (x : Split). nat_lt x.id next) (λ (x : Split). x.id < next) (λ x t. of_below x.id next t)
+    (splits_of book.transactions) drawn.splits in
+    let marked = of_all (λ (e : ℕ × Recon). list_all (λ (m : MarkedSplit). nat_lt m.split next) e.1.marked)
+    (λ (e : ℕ × Recon). All (λ (m : MarkedSplit). m.split < next) e.1.marked)
+    (λ e t. of_all (λ (m : MarkedSplit). nat_lt m.split next) (λ (m : MarkedSplit). m.split < next)
+    (λ m u. of_below m.split next u) e.1.marked t) book.reconciliations drawn.marked in
+    let made = of_all (λ (e : ℕ × Schedule). nat_lt e.1.timing.made next) (λ (e : ℕ × Schedule). e.1.timing.made < next)
+    (λ e t. of_below e.1.timing.made next t) book.schedules drawn.made in
+    let head : all_hold (head_rules book next) ≡ true =
+    both_true _ _ (true_of _ sound.currency) (both_true _ _ (true_of _ sound.root)
+    (both_true _ _ (below_entries next book.commodities drawn.commodities)
+    (both_true _ _ (below_entries next book.accounts drawn.accounts)
+    (both_true _ _ (below_entries next book.transactions drawn.transactions)
+    (both_true _ _ (below_entries next book.prices drawn.prices)
+    (both_true _ _ (below_entries next book.schedules drawn.schedules)
+    (both_true _ _ (below_entries next book.statements drawn.statements)
+    (both_true _ _ (below_entries next book.lines drawn.lines)
+    (both_true _ _ (below_entries next book.bindings drawn.bindings)
+    (both_true _ _ (below_entries next book.reconciliations drawn.reconciliations)
+    (both_true _ _ splits (both_true _ _ marked (both_true _ _ made refl))))))))))))) in
+    let txn_rules = marked_transaction_rules book.commodities book.accounts book.reconciliations book.transactions in
+    let few = sound.transactions.few in
     let few_splits = sound.few_splits in
     let weigh = splits_weigh book.transactions in
-    none_broken (unsound_keys book next) (
-      ap (λ (t : Bool). broken_where (not t) (record { kind = 1; id = 0 })) (of_hold (head_rules book next) head),
-      (
-        key_none 2 _ (table_none (commodity_rules book.commodities) 10000 book.commodities sound.commodities),
-        (
-          key_none 3 _ (table_none (account_rules book.commodities book.accounts) 10000 book.accounts sound.accounts),
-          (
-            key_none 4 _
-                (none_of
-                (marked_transaction_rules book.commodities book.accounts book.reconciliations book.transactions)
-                200000 splits_in 1000000 0 0 book.transactions (omega (arith, few_txns))
-                (omega (arith, few_splits, weigh))
-                (keep_of
-                (marked_transaction_rules book.commodities book.accounts book.reconciliations book.transactions)
-                book.transactions txns.rise txns.keep.each)),
-            (
-              key_none 5 _ (table_none (price_rules book.commodities book.prices) 1000000 book.prices sound.prices),
-              (
-                key_none 6 _
-                    (table_none (schedule_rules book.commodities book.accounts) 1000 book.schedules sound.schedules),
-                (
-                  key_none 7 _
-                      (table_none (statement_rules book.accounts book.statements) 100000 book.statements
-                      sound.statements),
-                  (
-                    key_none 8 _
-                        (table_none
-                        (line_rules book.accounts book.statements book.transactions book.lines) 1000000 book.lines
-                        sound.lines),
-                    (
-                      key_none 9 _
-                          (table_none (binding_rules book.accounts book.bindings) 10000 book.bindings sound.bindings),
-                      (
-                        key_none 10 _
-                            (table_none
-                            (reconciliation_rules book.accounts) 100000 book.reconciliations sound.reconciliations),
-                        tt,
-                      ),
-                    ),
-                  ),
-                ),
-              ),
-            ),
-          ),
-        ),
-      ),
-    )
+    let moved = key_none 4 _ (none_of txn_rules 200000 splits_in 1000000 0 0 book.transactions (omega (arith, few))
+    (omega (arith, few_splits, weigh))
+    (keep_of txn_rules book.transactions sound.transactions.rise sound.transactions.keep.each)) in
+    let key = ap (λ (t : Bool). broken_where (not t) (record { kind = 1; id = 0 })) head in
+    let commodities = key_none 2 _ (table_none (commodity_rules book.commodities) 10000 book.commodities
+    sound.commodities) in
+    let accounts = key_none 3 _ (table_none (account_rules book.commodities book.accounts) 10000 book.accounts
+    sound.accounts) in
+    let prices = key_none 5 _ (table_none (price_rules book.commodities book.prices) 1000000 book.prices
+    sound.prices) in
+    let schedules = key_none 6 _ (table_none (schedule_rules book.commodities book.accounts) 1000 book.schedules
+    sound.schedules) in
+    let statements = key_none 7 _ (table_none (statement_rules book.accounts book.statements) 100000 book.statements
+    sound.statements) in
+    let lines = key_none 8 _ (table_none
+    (line_rules book.accounts book.statements book.transactions book.lines) 1000000 book.lines sound.lines) in
+    let bindings = key_none 9 _ (table_none (binding_rules book.accounts book.bindings) 10000 book.bindings
+    sound.bindings) in
+    let listed = key_none 10 _ (table_none (reconciliation_rules book.accounts) 100000 book.reconciliations
+    sound.reconciliations) in
+    none_broken (unsound_keys book next)
+    (key, (commodities, (accounts, (moved, (prices, (schedules, (statements, (lines, (bindings, (listed, tt))))))))))

@@ -7,3 +7,4 @@ pub mod Numbers
 pub mod Rising
 pub mod Seen
 pub mod Splits
+pub mod Walk

@@ -1,19 +1,62 @@
-ghost use Rattle.std.specs.Prelude.{◌≡◌, IfOk};
+ghost use Rattle.std.specs.Prelude.{◌≡◌, ◌&&◌, IfOk};
 ghost use Rattle.book_accounts.specs.AccountRules.{account_rules, fits_basis, fits_parent, is_root, leads_to_root};
 ghost use Rattle.book_accounts.specs.AccountRules.{root_of};
 ghost use Rattle.book_accounts.specs.Tree.{parent_of};
 ghost use Rattle.book_check.specs.AccountTests.{is_under_root, is_whole};
 ghost use Rattle.book_check.specs.FirstUnsound.{first_of_table};
-ghost use Rattle.book_check.specs.Keys.{account_parts};
+ghost use Rattle.book_check.specs.Keys.{account_keys};
 
 use crate::commodities::is_currency;
 use crate::seen::Seen;
+use crate::walk::{Checked, first_broken};
 use book_accounts::{Account, AccountKind, Tree};
 use book_commodity::{Commodities, OutOfMemory};
 use std::alloc::Global;
 
 /// How many accounts a book has at most.
 const MOST: usize = 10_000;
+
+/// A walk over accounts, the root, and the keys of those that were asked.
+#[derive(Drop)]
+struct AccountWalk<'a> {
+    commodities: &'a Commodities,
+    accounts: &'a Tree,
+    root: Option<u64>,
+    keys: Seen<(Option<u64>, &'a str)>,
+    ghost top: { root ≡ root_of accounts.now.entries },
+}
+
+impl<'a> Checked for AccountWalk<'a> {
+    ghost use Rattle.std.specs.Prelude.{take};
+    ghost use Rattle.book_check.specs.Keys.{account_keys};
+    ghost use Rattle.book_check.specs.Walk.{HasKeys};
+
+    type Thing = Account;
+
+    ghost entries = { λ w. w.accounts.now.entries };
+
+    ghost rules = { λ w. account_rules w.commodities.now.entries w.accounts.now.entries };
+
+    ghost knows = { λ w place. HasKeys account_keys w.keys (take place w.accounts.now.entries) };
+
+    fn count(&self) -> usize {
+        self.accounts.len()
+    }
+
+    fn number_at(&self, place: usize) -> u64 {
+        self.accounts.number_at(place)
+    }
+
+    fn keeps(&mut self, place: usize) -> Result<bool, OutOfMemory> {
+        let number = self.accounts.number_at(place);
+        let account = self.accounts.value_at(place);
+        if !is_kept(self.commodities, self.accounts, self.root, number, account) {
+            return Ok(false);
+        }
+        let is_taken = self.keys.insert(key_of(account))?;
+        Ok(!is_taken)
+    }
+}
 
 /// The first number at which an account breaks a rule of its kind, or is one too many.
 pub(crate) fn first_account(
@@ -24,30 +67,18 @@ pub(crate) fn first_account(
     ensures { IfOk result (λ found. found ≡ first_of_table
         (account_rules commodities.now.entries accounts.now.entries) 10000 accounts.now.entries) }
 {
-    let root = root_of(accounts);
-    let mut seen = Seen::new(alloc);
-    for place in 0..accounts.len() {
-        let number = accounts.number_at(place);
-        let account = accounts.value_at(place);
-        if place >= MOST {
-            return Ok(Some(number));
-        }
-        if !is_whole(commodities, account) {
-            return Ok(Some(number));
-        }
-        if !is_under_root(accounts, root, number, account) {
-            return Ok(Some(number));
-        }
-        if seen.insert(key_of(account))? {
-            return Ok(Some(number));
-        }
-    }
-    Ok(None)
+    let walk = AccountWalk {
+        commodities,
+        accounts,
+        root: root_of(accounts),
+        keys: Seen::new(alloc),
+    };
+    first_broken(walk, MOST)
 }
 
 /// The parent and the name of the account.
 fn key_of(account: &Account) -> (Option<u64>, &str)
-    ensures { (result.0, result.1.now) ≡ account_parts account.now }
+    ensures { account_keys.shown result ≡ account_keys.parts account.now }
 {
     (account.parent, account.name.as_str())
 }
@@ -69,6 +100,21 @@ fn is_root(kind: AccountKind) -> bool
     ensures { result ≡ is_root kind }
 {
     matches!(kind, AccountKind::Root)
+}
+
+/// Whether the account keeps the rules that ask for no other account with its name.
+fn is_kept(
+    commodities: &Commodities,
+    accounts: &Tree,
+    root: Option<u64>,
+    number: u64,
+    account: &Account,
+) -> bool
+    requires { root ≡ root_of accounts.now.entries }
+    ensures { result ≡ (is_whole commodities.now.entries account.now
+        && is_under_root accounts.now.entries number account.now) }
+{
+    is_whole(commodities, account) && is_under_root(accounts, root, number, account)
 }
 
 /// Whether what the account has fits: its commodity, its basis, and a parent unless it is a root, which takes no

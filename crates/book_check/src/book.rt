@@ -77,7 +77,7 @@ fn first_of_ledger(alloc: Global, plain: &Plain) -> Result<Option<RowKey>, OutOf
 fn first_of_rest(alloc: Global, plain: &Plain) -> Result<Option<RowKey>, OutOfMemory>
     ensures { IfOk result (λ found. found ≡ first_broken (drop 4 (thing_keys (book_of plain.now)))) }
 {
-    if let Some(id) = first_schedule(&plain.commodities, &plain.accounts, &plain.schedules) {
+    if let Some(id) = first_schedule(&plain.commodities, &plain.accounts, &plain.schedules)? {
         return Ok(Some(RowKey { kind: 6, id }));
     }
     if let Some(id) = first_statement(alloc, &plain.accounts, &plain.statements)? {

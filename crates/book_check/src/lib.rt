@@ -3,7 +3,7 @@
 //! none exactly where the book is sound and all its numbers are drawn; it changes nothing, and fails only when it is
 //! out of memory. What may stand once is looked up in a set of the keys that were seen; numbers of splits, while they
 //! rise, in a list; and a split by its number in a map. So no walk compares each thing with each. Set, list and map take
-//! memory.
+//! memory. One walk goes over the things of each kind but transactions, and asks what the kind states.
 #![tactic(auto)]
 
 mod accounts;
@@ -22,5 +22,6 @@ mod seen;
 mod splits;
 mod statements;
 mod transactions;
+mod walk;
 
 pub use book::first_unsound;

@@ -1,29 +1,77 @@
 ghost use Rattle.std.specs.Prelude.{◌≡◌, ◌&&◌, not, IfOk, OnOk};
 ghost use Rattle.std.specs.List.{list_any};
 ghost use Rattle.book_splits.specs.Balance.{splits_of};
-ghost use Rattle.book_splits.specs.Check.{is_over_limit};
-ghost use Rattle.book_sound.specs.LineRules.{fits_in_state, has_same_key, line_rules, shares_split};
+ghost use Rattle.book_sound.specs.LineRules.{fits_in_state, is_over_limit, line_rules, shares_split};
 ghost use Rattle.book_sound.specs.Tests.{is_live};
 ghost use Rattle.book_check.specs.FirstUnsound.{first_of_table};
-ghost use Rattle.book_check.specs.LineWalk.{AddsKey, AddsMatched, HasKeys, HasMatched};
+ghost use Rattle.book_check.specs.Keys.{line_keys};
+ghost use Rattle.book_check.specs.LineWalk.{AddsMatched, HasMatched};
 ghost use Rattle.book_check.specs.Splits.{HasSplits};
 
 use crate::seen::Seen;
 use crate::splits::Splits;
+use crate::walk::{Checked, first_broken};
 use book_accounts::Tree;
 use book_commodity::{OutOfMemory, Table};
 use book_splits::Txns;
-use book_statement::{Held, Line, LineState};
+use book_statement::{Held, LARGEST_AMOUNT, Line, LineState};
 use std::alloc::Global;
 
 /// How many lines a book has at most.
 const MOST: usize = 1_000_000;
 
-/// How large the amount of a line is at most.
-const MAX_AMOUNT: u64 = 1_000_000_000_000;
-
 /// The key of a line: its account, day and amount; its type, its references and its text; its ordinal.
 type LineParts<'a> = ((u64, i32, i64), (&'a str, &'a str, &'a str, &'a str), u64);
+
+/// A walk over lines, the splits of the book, and the keys and the splits of the lines that were asked.
+#[derive(Drop)]
+struct LineWalk<'a> {
+    accounts: &'a Tree,
+    statements: &'a Table<Held>,
+    transactions: &'a Txns,
+    lines: &'a Table<Line>,
+    splits: Splits,
+    matched: Seen<u64>,
+    keys: Seen<LineParts<'a>>,
+}
+
+impl<'a> Checked for LineWalk<'a> {
+    ghost use Rattle.std.specs.Prelude.{take};
+    ghost use Rattle.book_check.specs.Keys.{line_keys};
+    ghost use Rattle.book_check.specs.LineWalk.{HasMatched};
+    ghost use Rattle.book_check.specs.Walk.{HasKeys};
+
+    type Thing = Line;
+
+    ghost entries = { λ w. w.lines.now.entries };
+
+    ghost rules = { λ w. line_rules w.accounts.now.entries w.statements.now.entries w.transactions.now.entries
+        w.lines.now.entries };
+
+    ghost knows = { λ w place. HasSplits (splits_of w.transactions.now.entries) w.splits
+        × HasMatched w.matched (take place w.lines.now.entries)
+        × HasKeys line_keys w.keys (take place w.lines.now.entries) };
+
+    fn count(&self) -> usize {
+        self.lines.len()
+    }
+
+    fn number_at(&self, place: usize) -> u64 {
+        self.lines.number_at(place)
+    }
+
+    fn keeps(&mut self, place: usize) -> Result<bool, OutOfMemory> {
+        let line = self.lines.value_at(place);
+        if !keeps_alone(self.accounts, self.statements, &self.splits, line) {
+            return Ok(false);
+        }
+        if add_matched(&mut self.matched, line)? {
+            return Ok(false);
+        }
+        let is_taken = self.keys.insert(parts_of(line))?;
+        Ok(!is_taken)
+    }
+}
 
 /// The first number at which a line breaks a rule of its kind, or is one too many. Where there are lines, a map of all
 /// splits is made for those that are matched.
@@ -42,25 +90,16 @@ pub(crate) fn first_line(
         return Ok(None);
     }
     let splits = Splits::of(alloc, transactions)?;
-    let mut keys = Seen::new(alloc);
-    let mut matched = Seen::new(alloc);
-    for place in 0..lines.len() {
-        let number = lines.number_at(place);
-        let line = lines.value_at(place);
-        if place >= MOST {
-            return Ok(Some(number));
-        }
-        if !keeps_alone(accounts, statements, &splits, line) {
-            return Ok(Some(number));
-        }
-        if add_key(&mut keys, line)? {
-            return Ok(Some(number));
-        }
-        if add_matched(&mut matched, line)? {
-            return Ok(Some(number));
-        }
-    }
-    Ok(None)
+    let walk = LineWalk {
+        accounts,
+        statements,
+        transactions,
+        lines,
+        splits,
+        matched: Seen::new(alloc),
+        keys: Seen::new(alloc),
+    };
+    first_broken(walk, MOST)
 }
 
 /// Whether the line keeps the rules that ask for no other line.
@@ -72,7 +111,7 @@ fn keeps_alone(accounts: &Tree, statements: &Table<Held>, splits: &Splits, line:
 {
     accounts.find(line.account).is_some()
         && statements.find(line.statement).is_some()
-        && line.body.amount.unsigned_abs() <= MAX_AMOUNT
+        && line.body.amount.unsigned_abs() <= LARGEST_AMOUNT
         && fits_in_state(splits, line)
 }
 
@@ -85,15 +124,6 @@ fn fits_in_state(splits: &Splits, line: &Line) -> bool
         LineState::Open | LineState::Dismissed => true,
         LineState::Matched(split) => splits.fits(split, line.account, line.body.amount),
     }
-}
-
-/// Adds the key of the line, and says whether a line before has it.
-fn add_key<'a>(keys: &mut Seen<LineParts<'a>>, line: &'a Line) -> Result<bool, OutOfMemory>
-    ensures before { IfOk result (λ before. (lines : _) → HasKeys keys.old lines
-        → before ≡ list_any (λ entry. has_same_key line.now entry.1) lines) }
-    ensures adds { OnOk result (AddsKey keys.old line.now keys.new) }
-{
-    keys.insert(parts_of(line))
 }
 
 /// Adds the split that the line is matched with, if it is, and says whether a line before is matched with it.
@@ -110,14 +140,7 @@ fn add_matched(splits: &mut Seen<u64>, line: &Line) -> Result<bool, OutOfMemory>
 
 /// The key of the line.
 fn parts_of(line: &Line) -> LineParts<'_>
-    ensures account { result.0.0 ≡ line.now.account }
-    ensures day { result.0.1 ≡ line.now.body.day }
-    ensures amount { result.0.2 ≡ line.now.body.amount }
-    ensures kind { result.1.0.now ≡ line.now.body.kind }
-    ensures own { result.1.1.now ≡ line.now.body.ref_own }
-    ensures bank { result.1.2.now ≡ line.now.body.ref_bank }
-    ensures text { result.1.3.now ≡ line.now.body.text }
-    ensures ordinal { result.2 ≡ line.now.ordinal }
+    ensures { line_keys.shown result ≡ line_keys.parts line.now }
 {
     let body = &line.body;
     (

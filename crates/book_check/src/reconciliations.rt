@@ -5,6 +5,7 @@ ghost use Rattle.book_sound.specs.ReconciliationRules.{reconciliation_rules};
 ghost use Rattle.book_check.specs.FirstUnsound.{all_hold, first_of_table};
 
 use crate::seen::Seen;
+use crate::walk::{Checked, first_broken};
 use book_accounts::Tree;
 use book_commodity::{OutOfMemory, Table};
 use book_splits::{MarkedSplit, Recon};
@@ -12,6 +13,39 @@ use std::alloc::Global;
 
 /// How many reconciliations a book has at most.
 const MOST: usize = 100_000;
+
+/// A walk over reconciliations; what each has marked is looked up in a set of its own.
+#[derive(Drop)]
+struct ReconciliationWalk<'a> {
+    alloc: Global,
+    accounts: &'a Tree,
+    reconciliations: &'a Table<Recon>,
+}
+
+impl<'a> Checked for ReconciliationWalk<'a> {
+    ghost use Rattle.std.specs.Prelude.{⊤};
+
+    type Thing = Recon;
+
+    ghost entries = { λ w. w.reconciliations.now.entries };
+
+    ghost rules = { λ w. reconciliation_rules w.accounts.now.entries };
+
+    ghost knows = { λ _ _. ⊤ };
+
+    fn count(&self) -> usize {
+        self.reconciliations.len()
+    }
+
+    fn number_at(&self, place: usize) -> u64 {
+        self.reconciliations.number_at(place)
+    }
+
+    fn keeps(&mut self, place: usize) -> Result<bool, OutOfMemory> {
+        let reconciliation = self.reconciliations.value_at(place);
+        is_kept(self.alloc, self.accounts, reconciliation)
+    }
+}
 
 /// The first number at which a reconciliation breaks a rule of its kind, or is one too many.
 pub(crate) fn first_reconciliation(
@@ -22,17 +56,12 @@ pub(crate) fn first_reconciliation(
     ensures { IfOk result (λ found. found ≡ first_of_table (reconciliation_rules accounts.now.entries)
         100000 reconciliations.now.entries) }
 {
-    for place in 0..reconciliations.len() {
-        let number = reconciliations.number_at(place);
-        let reconciliation = reconciliations.value_at(place);
-        if place >= MOST {
-            return Ok(Some(number));
-        }
-        if !is_kept(alloc, accounts, reconciliation)? {
-            return Ok(Some(number));
-        }
-    }
-    Ok(None)
+    let walk = ReconciliationWalk {
+        alloc,
+        accounts,
+        reconciliations,
+    };
+    first_broken(walk, MOST)
 }
 
 /// Whether the reconciliation keeps its rules, whatever its number.

@@ -1,12 +1,13 @@
-ghost use Rattle.std.specs.Prelude.{◌≡◌};
+ghost use Rattle.std.specs.Prelude.{◌≡◌, IfOk};
 ghost use Rattle.std.specs.List.{list_all};
 ghost use Rattle.book_sound.specs.ScheduleRules.{has_multiplier, has_occurrences, is_blank, schedule_rules};
 ghost use Rattle.book_sound.specs.Tests.{is_within};
 ghost use Rattle.book_check.specs.FirstUnsound.{all_hold, first_of_table};
 
 use crate::passes::passes_check;
+use crate::walk::{Checked, first_broken};
 use book_accounts::Tree;
-use book_commodity::{Commodities, Table};
+use book_commodity::{Commodities, OutOfMemory, Table};
 use book_schedule::{End, Recurrence};
 use book_splits::{Mark, Split};
 use book_undo::Schedule;
@@ -14,26 +15,54 @@ use book_undo::Schedule;
 /// How many schedules a book has at most.
 const MOST: usize = 1_000;
 
+/// A walk over schedules.
+#[derive(Drop)]
+struct ScheduleWalk<'a> {
+    commodities: &'a Commodities,
+    accounts: &'a Tree,
+    schedules: &'a Table<Schedule>,
+}
+
+impl<'a> Checked for ScheduleWalk<'a> {
+    ghost use Rattle.std.specs.Prelude.{⊤};
+
+    type Thing = Schedule;
+
+    ghost entries = { λ w. w.schedules.now.entries };
+
+    ghost rules = { λ w. schedule_rules w.commodities.now.entries w.accounts.now.entries };
+
+    ghost knows = { λ _ _. ⊤ };
+
+    fn count(&self) -> usize {
+        self.schedules.len()
+    }
+
+    fn number_at(&self, place: usize) -> u64 {
+        self.schedules.number_at(place)
+    }
+
+    fn keeps(&mut self, place: usize) -> Result<bool, OutOfMemory> {
+        let schedule = self.schedules.value_at(place);
+        Ok(is_kept(self.commodities, self.accounts, schedule))
+    }
+}
+
 /// The first number at which a schedule breaks a rule of its kind, or is one too many.
 pub(crate) fn first_schedule(
     commodities: &Commodities,
     accounts: &Tree,
     schedules: &Table<Schedule>,
-) -> Option<u64>
-    ensures { result ≡ first_of_table (schedule_rules commodities.now.entries accounts.now.entries)
-        1000 schedules.now.entries }
+) -> Result<Option<u64>, OutOfMemory>
+    ensures { IfOk result (λ found. found ≡ first_of_table
+        (schedule_rules commodities.now.entries accounts.now.entries) 1000 schedules.now.entries) }
 {
-    for place in 0..schedules.len() {
-        let number = schedules.number_at(place);
-        let schedule = schedules.value_at(place);
-        if place >= MOST {
-            return Some(number);
-        }
-        if !is_kept(commodities, accounts, schedule) {
-            return Some(number);
-        }
-    }
-    None
+    let walk = ScheduleWalk {
+        commodities,
+        accounts,
+        schedules,
+    };
+    first_broken(walk, MOST)
 }
 
 /// Whether the schedule keeps its rules, whatever its number.

@@ -2,9 +2,10 @@ ghost use Rattle.std.specs.Prelude.{◌≡◌, IfOk};
 ghost use Rattle.book_sound.specs.StatementRules.{statement_rules};
 ghost use Rattle.book_sound.specs.Tests.{is_live};
 ghost use Rattle.book_check.specs.FirstUnsound.{first_of_table};
-ghost use Rattle.book_check.specs.Keys.{statement_parts};
+ghost use Rattle.book_check.specs.Keys.{statement_keys};
 
 use crate::seen::Seen;
+use crate::walk::{Checked, first_broken};
 use book_accounts::Tree;
 use book_commodity::{OutOfMemory, Table};
 use book_statement::Held;
@@ -24,6 +25,45 @@ type StatementKey<'a> = (
     Option<bool>,
 );
 
+/// A walk over statements, and the keys of those that were asked.
+#[derive(Drop)]
+struct StatementWalk<'a> {
+    accounts: &'a Tree,
+    statements: &'a Table<Held>,
+    keys: Seen<StatementKey<'a>>,
+}
+
+impl<'a> Checked for StatementWalk<'a> {
+    ghost use Rattle.std.specs.Prelude.{take};
+    ghost use Rattle.book_check.specs.Keys.{statement_keys};
+    ghost use Rattle.book_check.specs.Walk.{HasKeys};
+
+    type Thing = Held;
+
+    ghost entries = { λ w. w.statements.now.entries };
+
+    ghost rules = { λ w. statement_rules w.accounts.now.entries w.statements.now.entries };
+
+    ghost knows = { λ w place. HasKeys statement_keys w.keys (take place w.statements.now.entries) };
+
+    fn count(&self) -> usize {
+        self.statements.len()
+    }
+
+    fn number_at(&self, place: usize) -> u64 {
+        self.statements.number_at(place)
+    }
+
+    fn keeps(&mut self, place: usize) -> Result<bool, OutOfMemory> {
+        let statement = self.statements.value_at(place);
+        if !is_there(self.accounts, statement.account) {
+            return Ok(false);
+        }
+        let is_taken = self.keys.insert(key_of(statement))?;
+        Ok(!is_taken)
+    }
+}
+
 /// The first number at which a statement breaks a rule of its kind, or is one too many.
 pub(crate) fn first_statement(
     alloc: Global,
@@ -33,27 +73,18 @@ pub(crate) fn first_statement(
     ensures { IfOk result (λ found. found ≡ first_of_table
         (statement_rules accounts.now.entries statements.now.entries) 100000 statements.now.entries) }
 {
-    let mut seen = Seen::new(alloc);
-    for place in 0..statements.len() {
-        let number = statements.number_at(place);
-        let statement = statements.value_at(place);
-        if place >= MOST {
-            return Ok(Some(number));
-        }
-        if !is_there(accounts, statement.account) {
-            return Ok(Some(number));
-        }
-        if seen.insert(key_of(statement))? {
-            return Ok(Some(number));
-        }
-    }
-    Ok(None)
+    let keys = Seen::new(alloc);
+    let walk = StatementWalk {
+        accounts,
+        statements,
+        keys,
+    };
+    first_broken(walk, MOST)
 }
 
 /// All fields of the statement.
 fn key_of(statement: &Held) -> StatementKey<'_>
-    ensures { (result.0, result.1.now, result.2.now, result.3, result.4, result.5, result.6)
-        ≡ statement_parts statement.now }
+    ensures { statement_keys.shown result ≡ statement.now }
 {
     (
         statement.account,

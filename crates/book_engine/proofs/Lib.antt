@@ -1,8 +1,11 @@
 pub mod AskLemmas
+pub mod BoundLemmas
 pub mod ChangedLemmas
 pub mod DueLemmas
 pub mod LotsLemmas
 pub mod MachineLemmas
 pub mod PlanLemmas
+pub mod RoomLemmas
 pub mod StandLemmas
+pub mod TurnNow
 pub mod WholeLemmas

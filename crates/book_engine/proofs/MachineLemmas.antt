@@ -1,5 +1,5 @@
--- A turn of a state that an engine keeps leads to the machine's next state, and where there is none to take the machine's
--- reply is the broken rule.
+-- A turn of a state that an engine keeps leads to the machine's next state, and where there is none to take the
+-- machine's reply is the broken rule.
 use Rattle.std.proofs.Common.{◌≡◌, ℕ, ◌+◌, ◌-◌, ◌≤◌, Bool, List, [], ◌∷◌, length, Option, Some, None, sym, ap, ◌∙◌}
 use Rattle.std.proofs.Common.{arith}
 use Rattle.book_commodity.specs.Table.{value_of}
@@ -20,9 +20,9 @@ use Rattle.book_history.proofs.TurnLaws.{redone_books, undo_none, undone_books}
 use Rattle.book_step.specs.Outcome.{numbers}
 use Rattle.book_opening.specs.State.{State}
 use Rattle.book_turns.specs.Whole.{IsWhole, step_state}
-use Rattle.book_turns.specs.Turned.{IsKeptStep, turned}
+use Rattle.book_turns.specs.Turned.{IsKeptStep, turn_of, turned}
 use Rattle.book_turns.specs.declared.turn.Way.TheVariants.{Change as ToNew, Undo, Redo}
-use Rattle.book_turns.proofs.TurnLemmas.{kept_can, turn_of}
+use Rattle.book_turns.proofs.TurnLemmas.{kept_can}
 use Rattle.book_engine.specs.Books.{machine_of}
 use Rattle.book_engine.specs.Machine.{Broken, Done, Machine, Reply, changed, redone, reply, undone}
 use Rattle.book_engine.specs.Machine.{unless_broken}
@@ -31,7 +31,7 @@ use Rattle.book_engine.specs.Planned.{IsLimitRefusal, IsRefusal}
 pub changed_machine :
     (state : State) (saved : Bool) (edit inverse : Edit) (next : ℕ) → IsWhole state saved
     → LeadsBack state.book edit inverse
-    → machine_of (turned (turn_of ToNew edit inverse next) state)
+    → machine_of (turned (turn_of state ToNew edit inverse next) state)
     ≡ changed (machine_of state)
     (record { book = edited edit state.book; next = next; version = state.version + 1 })
 changed_machine state saved edit inverse next whole leads =
@@ -57,7 +57,7 @@ pub undone_machine :
     (state : State) (saved : Bool) (edit inverse : Edit) → IsWhole state saved → IsKeptStep Undo state edit
     → LeadsBack state.book edit inverse → numbers (step_state state) 0 ≡ None
     → reply (machine_of state) AskUndo
-    ≡ Done (machine_of (turned (turn_of Undo edit inverse state.next) state)) answer.Undo
+    ≡ Done (machine_of (turned (turn_of state Undo edit inverse state.next) state)) answer.Undo
 undone_machine state saved edit inverse whole kept leads none =
     let machine = machine_of state in
     let books = undone_books state.next state.book state.position state.past state.later state.back state.forth
@@ -79,7 +79,7 @@ pub redone_machine :
     (state : State) (saved : Bool) (edit inverse : Edit) → IsWhole state saved → IsKeptStep Redo state edit
     → LeadsBack state.book edit inverse → numbers (step_state state) 0 ≡ None
     → reply (machine_of state) AskRedo
-    ≡ Done (machine_of (turned (turn_of Redo edit inverse state.next) state)) answer.Redo
+    ≡ Done (machine_of (turned (turn_of state Redo edit inverse state.next) state)) answer.Redo
 redone_machine state saved edit inverse whole kept leads none =
     let machine = machine_of state in
     let books = redone_books state.next state.book state.position state.past state.later state.back state.forth

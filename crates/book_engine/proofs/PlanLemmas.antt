@@ -1,17 +1,15 @@
--- A turn with its changes of rows is a plan: it commits exactly where it changes the machine, and with its changes made
--- the rows that stand for the state before stand for the state after.
-use Rattle.std.proofs.Common.{◌≡◌, ◌≢◌, ℕ, ◌+◌, ◌==◌, ◌||◌, Bool, true, false, if◌then◌else◌, IsTrue}
-use Rattle.std.proofs.Common.{List, [], None, Option, Result, Ok, Err, IfOk, inl, inr, refl, sym, ap, ◌∙◌, subst, arith}
+-- A turn with its changes of rows is a plan: it commits exactly where it changes the machine, and with its changes
+-- made the rows that stand for the state before stand for the state after.
+use Rattle.std.proofs.Common.{◌≡◌, ◌≢◌, ℕ, ◌+◌, ◌==◌, Bool, true, false, if◌then◌else◌}
+use Rattle.std.proofs.Common.{List, [], None, Some, Option, Result, Ok, Err, IfOk, inl, inr, refl, sym, ap, ◌∙◌}
+use Rattle.std.proofs.Common.{subst, arith}
 use Rattle.std.proofs.lemmas.Bool.Decides.{nat_tests}
 use Rattle.book_free.specs.declared.moves.Move.{Move}
 use Rattle.book_keeper.specs.declared.row.Change.{Change}
-use Rattle.book_undo.specs.Edit.{Leaf, edited, is_nothing, outline}
+use Rattle.book_undo.specs.Edit.{edited, is_nothing, outline}
 use Rattle.book_undo.specs.EditRules.{IsAllowed}
 use Rattle.book_undo.specs.Inverse.{LeadsBack}
-use Rattle.book_undo.specs.declared.edit.Edit.{Edit, All}
-use Rattle.book_undo.proofs.EditLaws.{after_leaves, edited-leaves}
-use Rattle.book_undo.proofs.PartLaws.{leaves_of_all}
-use Rattle.book_undo.proofs.ExactLaws.{exact_nothing}
+use Rattle.book_undo.specs.declared.edit.Edit.{Edit}
 use Rattle.book_undo.proofs.InverseLaws.{allowed_depth}
 use Rattle.book_command.specs.declared.answer.Answer.{Answer}
 use Rattle.book_command.specs.declared.answer.Answer.TheVariants as answer
@@ -20,7 +18,6 @@ use Rattle.book_command.specs.declared.refusal.Refusal.{Refusal}
 use Rattle.book_command.specs.declared.refusal.Refusal.TheVariants as refusal
 use Rattle.book_command.specs.declared.rule.Rule.{Rule}
 use Rattle.book_command.specs.declared.command.What.TheVariants.{Redo as AskRedo, Undo as AskUndo}
-use Rattle.book_sound.proofs.SoundFacts.{tables_rise}
 use Rattle.book_history.proofs.ExactBack.{exact_back}
 use Rattle.book_step.specs.Outcome.{after as after_step, numbers, version_after}
 use Rattle.book_step.specs.Soundness.{IsSound}
@@ -32,55 +29,42 @@ use Rattle.book_opening.specs.State.{State}
 use Rattle.book_balances.specs.Answered.{IsWholeStep}
 use Rattle.book_balances.proofs.StepLemmas.{outcome_moves}
 use Rattle.book_report_answers.specs.Reports.{IsAskRefusal}
-use Rattle.book_turns.specs.Turned.{HaveSpellings, IsChangeTo, IsKeptStep, IsTurnFor, changes_to, is_moving, turned}
-use Rattle.book_turns.specs.Turned.{turned_by}
+use Rattle.book_turns.specs.Turned.{HasNextHead, HaveSpellings, IsChangeTo, IsKeptStep, IsTurnFor, changes_to}
+use Rattle.book_turns.specs.Turned.{turn_of, turned, turned_by}
 use Rattle.book_turns.specs.Whole.{IsWhole, step_state}
 use Rattle.book_turns.specs.declared.turn.Turn.{Turn}
 use Rattle.book_turns.specs.declared.turn.Way.{Way}
-use Rattle.book_turns.specs.declared.turn.Way.TheVariants.{Stay, Change as ToNew, Undo, Redo}
+use Rattle.book_turns.specs.declared.turn.Way.TheVariants.{Change as ToNew, Undo, Redo}
 use Rattle.book_turns.proofs.RowTurns.{turn_rises, turn_stands}
-use Rattle.book_turns.proofs.TurnLemmas.{changed_whole, kept_can, kept_saved, kept_whole, turn_of}
+use Rattle.book_turns.proofs.TurnLemmas.{changed_whole, head_version, kept_can, kept_saved, kept_whole}
 use Rattle.book_engine.specs.Books.{machine_of}
 use Rattle.book_engine.specs.Machine.{Done, Machine, Reply, asked, changed, reply, unless_broken, updated}
 use Rattle.book_engine.specs.Planned.{IsExactTurn, IsPlanTo, IsRefusal, IsTurnPlan, Planned, stay_plan, turn_plan}
-use Rattle.book_engine.specs.Planned.{with_moves}
 use Rattle.book_engine.proofs.MachineLemmas.{changed_machine, redone_machine, undone_machine}
+use Rattle.book_engine.proofs.TurnNow.{either_same, either_true}
 
--- Each turn that moves raises the version by one.
-pub version_turned :
-    (state : State) (turn : Turn) → IsTrue (is_moving turn.way) → (turned turn state).version ≡ state.version + 1
-version_turned state turn moving = by_way turn.way moving
+-- Each turn raises the version by one.
+pub version_turned : (state : State) (turn : Turn) → (turned turn state).version ≡ state.version + 1
+version_turned state turn = by_way turn.way
   where
-    by_way : (way : Way) → IsTrue (is_moving way) → (turned_by way turn state).version ≡ state.version + 1
-    by_way Stay moves = absurd cc
-    by_way ToNew moves = refl
-    by_way Undo moves = refl
-    by_way Redo moves = refl
+    by_way : (way : Way) → (turned_by way turn state).version ≡ state.version + 1
+    by_way ToNew = refl
+    by_way Undo = refl
+    by_way Redo = refl
 
 -- It leads to the book after its edit.
-turned_book :
-    (state : State) (turn : Turn) → IsTrue (is_moving turn.way)
-    → (turned turn state).book ≡ edited turn.edit state.book
-turned_book state turn moving = by_way turn.way moving
+turned_book : (state : State) (turn : Turn) → (turned turn state).book ≡ edited turn.edit state.book
+turned_book state turn = by_way turn.way
   where
-    by_way : (way : Way) → IsTrue (is_moving way) → (turned_by way turn state).book ≡ edited turn.edit state.book
-    by_way Stay moves = absurd cc
-    by_way ToNew moves = refl
-    by_way Undo moves = refl
-    by_way Redo moves = refl
+    by_way : (way : Way) → (turned_by way turn state).book ≡ edited turn.edit state.book
+    by_way ToNew = refl
+    by_way Undo = refl
+    by_way Redo = refl
 
-other_machine :
-    (state : State) (turn : Turn) → IsTrue (is_moving turn.way) → machine_of (turned turn state) ≢ machine_of state
-other_machine state turn moving = λ same.
-    let versions = sym (version_turned state turn moving) ∙ ap (λ (m : Machine). m.version) same in
+other_machine : (state : State) (turn : Turn) → machine_of (turned turn state) ≢ machine_of state
+other_machine state turn = λ same.
+    let versions = sym (version_turned state turn) ∙ ap (λ (m : Machine). m.version) same in
     omega (arith, versions)
-
-either_true : (saved moves : Bool) → IsTrue moves → (saved || moves) ≡ true
-either_true true moves is = refl
-either_true false moves is = is
-
-either_made : (moves : Bool) (changes : List Change) → IsTrue moves → changes ≡ (if moves then changes else [])
-either_made moves changes is = sym (ap (λ (b : Bool). if b then changes else []) is)
 
 -- A turn that comes to a reply is a plan for it.
 pub is_turn_plan :
@@ -92,23 +76,23 @@ pub is_turn_plan :
     → IsPlanTo state saved reply (turn_plan saved state turn answer)
 is_turn_plan state saved turn answer reply whole after is allowed fit exact leads form made = record {
   made = made;
-  whole = subst (IsWhole (turned turn state)) (sym (either_true saved (is_moving turn.way) is.moving)) after;
-  allowed = allowed;
-  book = turned_book state turn is.moving;
-  shallow = is.shallow;
-  can = is.can;
-  exact = exact;
-  back = λ commits. (leads, form);
+  whole = subst (IsWhole (turned turn state)) (sym (either_true saved)) after;
+  turn_is = record {
+    allowed = allowed;
+    book = turned_book state turn;
+    shallow = is.shallow;
+    can = is.can;
+    head = is.head;
+    exact = exact;
+    back = leads;
+    form = form;
+    changes_are = refl;
+    stand = λ rows stand. turn_stands state saved turn rows whole after is allowed fit stand;
+  };
   version_is = refl;
-  changes_where = ((λ commits. other_machine state turn is.moving), (λ differ. is.moving));
-  changes_are = either_made (is_moving turn.way) (changes_to saved state turn) is.moving;
+  changes_where = ((λ commits. other_machine state turn), (λ differ. refl));
   rise = turn_rises state saved turn whole after is allowed fit;
-  stand = λ rows commits stand. turn_stands state saved turn rows whole after is allowed fit stand;
 }
-
-either_same : (saved : Bool) → (saved || false) ≡ saved
-either_same true = refl
-either_same false = refl
 
 -- A refusal of a question is one of the machine's reply.
 pub ask_refused :
@@ -126,18 +110,10 @@ pub is_stay_plan :
 is_stay_plan state saved answer reply whole made = record {
   made = made;
   whole = subst (IsWhole state) (sym (either_same saved)) whole;
-  allowed = (exact_nothing state.book (tables_rise state.book whole.sound.book)).allowed;
-  book = sym (edited-leaves (All []) state.book ∙ ap (λ (ls : List Leaf). after_leaves ls state.book) (leaves_of_all []));
-  shallow = allowed_depth state.book (All [])
-      (exact_nothing state.book (tables_rise state.book whole.sound.book)).allowed;
-  can = tt;
-  exact = λ none. absurd cc;
-  back = λ commits. absurd cc;
+  turn_is = refl;
   version_is = refl;
   changes_where = ((λ commits. absurd cc), (λ differ. absurd (differ refl)));
-  changes_are = refl;
   rise = tt;
-  stand = λ rows commits stand. absurd cc;
 }
 
 -- ---- a change of the book
@@ -195,7 +171,7 @@ pub updated_change :
     → IsWholeStep (step_state state) update taken → is_nothing taken.edit ≡ false
     → LeadsBack state.book taken.edit inverse
     → updated (machine_of state) (outcome (step_state state) update)
-    ≡ Done (machine_of (turned (turn_of ToNew taken.edit inverse taken.next) state)) taken.answer
+    ≡ Done (machine_of (turned (turn_of state ToNew taken.edit inverse taken.next) state)) taken.answer
 updated_change state saved update taken inverse whole is some leads =
     let after = after_step (step_state state) taken in
     let version = version_up (is_nothing taken.edit) state.version some in
@@ -207,12 +183,13 @@ updated_change state saved update taken inverse whole is some leads =
     ∙ ap (λ (n : ℕ). changed (machine_of state) (Of n)) version
     ∙ sym (changed_machine state saved taken.edit inverse taken.next whole leads))
 
-turn_for :
+-- The turn of a change can be made.
+pub turn_for :
     (state : State) (saved : Bool) (edit inverse : Edit) (next : ℕ) → IsAllowed state.book edit
-    → LeadsBack state.book edit inverse → IsTurnFor state saved (turn_of ToNew edit inverse next)
+    → LeadsBack state.book edit inverse → IsTurnFor state saved (turn_of state ToNew edit inverse next)
 turn_for state saved edit inverse next allowed leads = record {
   can = tt;
-  moving = refl;
+  head = refl;
   first = λ none. refl;
   shallow = allowed_depth state.book edit allowed;
   back = allowed_depth (edited edit state.book) inverse leads.allowed;
@@ -226,7 +203,7 @@ pub planned_change :
     → IsPlanTo state saved (updated (machine_of state) (outcome (step_state state) update)) plan
 planned_change state saved update taken plan whole is some made =
     let change = change_to state saved update taken whole is some in
-    let turn = turn_of ToNew taken.edit made.inverse taken.next in
+    let turn = turn_of state ToNew taken.edit made.inverse taken.next in
     let comes = updated (machine_of state) (outcome (step_state state) update) in
     subst (λ (p : Planned). IsPlanTo state saved comes p) (sym made.plan_is)
     (is_turn_plan state saved turn taken.answer comes whole
@@ -237,14 +214,14 @@ planned_change state saved update taken plan whole is some made =
     (updated_change state saved update taken made.inverse whole is some made.leads))
 
 -- ---- a kept step
-kept_moves : (way : Way) (state : State) (edit : Edit) → IsKeptStep way state edit → IsTrue (is_moving way)
-kept_moves Stay state edit kept = absurd kept
-kept_moves ToNew state edit kept = refl
-kept_moves Undo state edit kept = refl
-kept_moves Redo state edit kept = refl
+-- It has the head of the state to which it leads.
+next_head :
+    (state : State) (way : Way) (edit inverse : Edit) → HasNextHead state (turn_of state way edit inverse state.next)
+next_head state ToNew edit inverse = refl
+next_head state Undo edit inverse = refl
+next_head state Redo edit inverse = refl
 
 not_new : (way : Way) (state : State) (edit : Edit) → IsKeptStep way state edit → way ≡ ToNew → ⊥
-not_new Stay state edit kept e = kept
 not_new ToNew state edit kept e = kept
 not_new Undo state edit kept e = cc
 not_new Redo state edit kept e = cc
@@ -253,13 +230,13 @@ not_new Redo state edit kept e = cc
 pub kept_turn_for :
     (state : State) (saved : Bool) (way : Way) (edit inverse : Edit) → IsWhole state saved
     → IsKeptStep way state edit → LeadsBack state.book edit inverse
-    → IsTurnFor state saved (turn_of way edit inverse state.next)
+    → IsTurnFor state saved (turn_of state way edit inverse state.next)
 kept_turn_for state saved way edit inverse whole kept leads =
     let can = kept_can state saved way edit whole kept in
     let given = kept_saved state saved way edit whole kept in
     record {
       can = can.0;
-      moving = kept_moves way state edit kept;
+      head = next_head state way edit inverse;
       first = λ none. absurd (let both = sym given ∙ none in cc);
       shallow = allowed_depth state.book edit can.1.allowed;
       back = allowed_depth (edited edit state.book) inverse leads.allowed;
@@ -269,10 +246,10 @@ kept_plan :
     (state : State) (saved : Bool) (way : Way) (edit : Edit) (answer : Answer) (plan : Planned) (comes : Reply)
     → IsWhole state saved → IsKeptStep way state edit → numbers (step_state state) 0 ≡ None
     → (made : IsTurnPlan state saved way edit state.next answer plan)
-    → comes ≡ Done (machine_of (turned (turn_of way edit made.inverse state.next) state)) answer
+    → comes ≡ Done (machine_of (turned (turn_of state way edit made.inverse state.next) state)) answer
     → IsPlanTo state saved comes plan
 kept_plan state saved way edit answer plan comes whole kept none made leads =
-    let turn = turn_of way edit made.inverse state.next in
+    let turn = turn_of state way edit made.inverse state.next in
     subst (λ (p : Planned). IsPlanTo state saved comes p) (sym made.plan_is)
     (is_turn_plan state saved turn answer comes whole
     (kept_whole state saved way edit made.inverse whole kept made.leads none)
@@ -297,28 +274,42 @@ planned_redo state saved edit plan whole kept none made =
     kept_plan state saved Redo edit answer.Redo plan (reply (machine_of state) AskRedo) whole kept none made
     (redone_machine state saved edit made.inverse whole kept made.leads none)
 
+-- ---- the plan of a turn
+-- The version after it is that of its head.
+pub made_plan :
+    (state : State) (saved : Bool) (turn : Turn) (answer : Answer) (changes : List Change) (moves : List (ℕ × Move))
+    → HasNextHead state turn → changes ≡ changes_to saved state turn → moves ≡ []
+    → record { turn = Some turn; version = turn.head.version; answer = answer; changes = changes; moves = moves }
+    ≡ turn_plan saved state turn answer
+made_plan state saved turn answer changes moves head are none =
+    ap (λ (version : ℕ). plan_of version changes moves) (head_version state turn head)
+    ∙ ap (λ (cs : List Change). plan_of (turned turn state).version cs moves) are
+    ∙ ap (plan_of (turned turn state).version (changes_to saved state turn)) none
+  where
+    plan_of : ℕ → List Change → List (ℕ × Move) → Planned
+    plan_of version changes moves =
+        record { turn = Some turn; version = version; answer = answer; changes = changes; moves = moves }
+
+-- A turn that is made of a state has the plan of a turn on its way.
+pub turn_planned :
+    {E : Type 0} (state : State) (saved : Bool) (way : Way) (edit inverse : Edit) (next : ℕ) (answer : Answer)
+    (turn : Turn) (result : Result Planned E) → turn ≡ turn_of state way edit inverse next
+    → LeadsBack state.book edit inverse → outline inverse ≡ outline edit
+    → IfOk result (λ plan. plan ≡ turn_plan saved state turn answer)
+    → IfOk result (λ plan. HaveSpellings saved state turn)
+    → IfOk result (IsTurnPlan state saved way edit next answer)
+turn_planned state saved way edit inverse next answer turn (Ok plan) is leads form planned fits = record {
+  inverse = inverse;
+  leads = leads;
+  form = form;
+  plan_is = planned ∙ ap (λ (t : Turn). turn_plan saved state t answer) is;
+  fits = subst (λ (t : Turn). HaveSpellings saved state t) is fits;
+}
+turn_planned state saved way edit inverse next answer turn (Err why) is leads form planned fits = tt
+
 -- What follows of a result from two things that hold of it.
 pub ok_with :
     {T E : Type 0} (result : Result T E) (P Q R : T → Type 0) → ((value : T) → P value → Q value → R value)
     → IfOk result P → IfOk result Q → IfOk result R
 ok_with (Ok value) P Q R both p q = both value p q
 ok_with (Err why) P Q R both p q = tt
-
--- A plan comes to the same reply with what becomes of the free splits.
-pub plan_with : (state : State) (saved : Bool) (reply : Reply) (plan : Planned) (moves : List (ℕ × Move))
-    → IsPlanTo state saved reply plan → IsPlanTo state saved reply (with_moves moves plan)
-plan_with state saved reply plan moves is = record {
-  made = is.made;
-  whole = is.whole;
-  allowed = is.allowed;
-  book = is.book;
-  shallow = is.shallow;
-  can = is.can;
-  exact = is.exact;
-  back = is.back;
-  version_is = is.version_is;
-  changes_where = is.changes_where;
-  changes_are = is.changes_are;
-  rise = is.rise;
-  stand = is.stand;
-}

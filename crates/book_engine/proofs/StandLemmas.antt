@@ -1,24 +1,23 @@
 -- Rows that stood for what an engine kept stand for what it keeps.
-use Rattle.std.proofs.Common.{◌≡◌, ◌≢◌, ◌↔◌, ◌⊎◌, Bool, true, false, ◌||◌, if◌then◌else◌, IsTrue, List, [], inl, inr}
-use Rattle.std.proofs.Common.{Result, Ok, Err, OnErr, refl, sym, ◌∙◌, subst}
+use Rattle.std.proofs.Common.{◌≡◌, ◌≢◌, ◌↔◌, ◌⊎◌, Bool, true, false, ◌||◌, IsTrue, List, [], inl, inr}
+use Rattle.std.proofs.Common.{Option, Some, None, is_some, Result, Ok, Err, OnErr, refl, sym, ◌∙◌, subst}
 use Rattle.book_command.specs.declared.command.Command.{Command}
 use Rattle.book_keeper.specs.Rows.{after_changes}
 use Rattle.book_keeper.specs.declared.keeper.Keeper.{Ghosts}
+use Rattle.book_keeper.specs.declared.row.Change.{Change}
 use Rattle.book_keeper.specs.declared.row.Row.{Row}
 use Rattle.book_opening.specs.Opening.{OpenAs, WhereBad}
 use Rattle.book_opening.specs.State.{State}
 use Rattle.book_opening.specs.declared.fault.OpenFault.{OpenFault}
 use Rattle.book_opening.specs.declared.fault.OpenFault.TheVariants as fault
 use Rattle.book_turns.specs.Standing.{StandFor}
-use Rattle.book_turns.specs.Turned.{changes_to, is_moving, turned_by}
+use Rattle.book_turns.specs.Turned.{changes_to}
 use Rattle.book_turns.specs.Whole.{IsWhole}
 use Rattle.book_turns.specs.declared.turn.Turn.{Turn}
-use Rattle.book_turns.specs.declared.turn.Way.{Way}
-use Rattle.book_turns.specs.declared.turn.Way.TheVariants.{Stay, Change as ToNew, Undo, Redo}
 use Rattle.book_engine.specs.Acting.{IsUnchanged}
 use Rattle.book_engine.specs.Kept.{Kept}
 use Rattle.book_engine.specs.Books.{machine_of}
-use Rattle.book_engine.specs.Planned.{Planned, IsPlanFor, IsPlanOf, after, commits}
+use Rattle.book_engine.specs.Planned.{Planned, IsPlanFor, IsPlanOf, IsPlanTurn, after, after_turn, commits}
 use Rattle.book_engine.specs.Opening.{WhereOpened, open_error}
 use Rattle.book_engine.specs.Opens.{Opens, OpensTo}
 use Rattle.book_engine.specs.Machine.{step}
@@ -57,15 +56,13 @@ stands_unchanged of keeper before now same stands = record {
       (sym same.same_state) (stands.left honest rows left);
 }
 
-stays : (way : Way) (turn : Turn) (state : State) → is_moving way ≡ false → turned_by way turn state ≡ state
-stays Stay turn state none = refl
-stays ToNew turn state none = absurd cc
-stays Undo turn state none = absurd cc
-stays Redo turn state none = absurd cc
+stays : (state : State) (turn : Option Turn) → is_some turn ≡ false → after_turn turn state ≡ state
+stays state None none = refl
+stays state (Some turn) none = absurd cc
 
 -- A plan that doesn't commit leaves the state.
 pub plan_leaves : (state : State) (plan : Planned) → commits plan ≡ false → after state plan ≡ state
-plan_leaves state plan none = stays plan.turn.way plan.turn state none
+plan_leaves state plan none = stays state plan.turn none
 
 or_none : (saved commits : Bool) → commits ≡ false → (saved || commits) ≡ saved
 or_none true commits e = refl
@@ -88,6 +85,14 @@ left_unchanged before now plan none made = record {
   same_saved = made.saved ∙ or_none before.saved (commits plan) none;
 }
 
+-- With the changes of a plan made the rows of the state before are those of the state after.
+plan_stands :
+    (state : State) (saved : Bool) (changes : List Change) (turn : Option Turn) (rows : List Row)
+    → IsPlanTurn state saved changes turn → IsTrue (is_some turn) → StandFor saved state rows
+    → OpenAs (after_changes changes rows) (after_turn turn state)
+plan_stands state saved changes None rows is some stood = absurd cc
+plan_stands state saved changes (Some turn) rows is some stood = is.stand rows stood
+
 -- What the changes of a plan for an engine's state make of rows that stood for it opens as the machine after the plan.
 step_opens :
     (before : Kept) (command : Command) (plan : Planned) (rows : List Row)
@@ -96,7 +101,7 @@ step_opens :
 step_opens before command plan rows is some stood =
     inr (
       after before.state plan,
-      is.stand rows some stood.1,
+      plan_stands before.state before.saved plan.changes plan.turn rows is.turn_is some stood.1,
       whole_sound (after before.state plan) (before.saved || commits plan) is.whole,
       refl,
     )
@@ -112,13 +117,16 @@ some_changes : (saved : Bool) (state : State) (turn : Turn) → changes_to saved
 some_changes true state turn none = cc
 some_changes false state turn none = cc
 
+turn_changes :
+    (state : State) (saved : Bool) (changes : List Change) (turn : Option Turn) → IsPlanTurn state saved changes turn
+    → IsTrue (is_some turn) → changes ≢ []
+turn_changes state saved changes None is some = absurd cc
+turn_changes state saved changes (Some turn) is some = λ none. some_changes saved state turn (sym is.changes_are ∙ none)
+
 pub plan_changes :
     (state : State) (saved : Bool) (plan : Planned) → IsPlanFor state saved plan → IsTrue (commits plan)
     → plan.changes ≢ []
-plan_changes state saved plan is some none =
-    some_changes saved state plan.turn
-    (subst (λ (b : Bool). (if b then changes_to saved state plan.turn else []) ≡ []) some
-    (sym is.plan_of.changes_are ∙ none))
+plan_changes state saved plan is some = turn_changes state saved plan.changes plan.turn is.plan_of.turn_is some
 
 -- They stand where the keeper made the changes of the plan. Then the next keeper may find only the rows after them.
 pub stands_made :
@@ -139,7 +147,8 @@ stands_made of old new before now plan was known held settled one is some made s
     record {
       rows = λ still.
           let stood = stands.rows (was still) in
-          let stand = is.plan_of.stand stood.0 some stood.2.1 in (
+          let stand = plan_stands before.state before.saved plan.changes plan.turn stood.0 is.plan_of.turn_is some
+          stood.2.1 in (
             after_changes plan.changes stood.0,
             held still stood.0 stood.1,
             (

@@ -1,6 +1,7 @@
 -- What an engine keeps, seen as the state whose rows a keeper holds.
 use Rattle.std.specs.Prelude.{◌≡◌, ℕ, Bool, List}
 use Rattle.book_free.specs.Kept as free
+use Rattle.book_ledger.specs.Changes.{AreBounded}
 use Rattle.book_ledger.specs.Ledger.{Keeps}
 use Rattle.book_ledger.specs.Opening.{AreNew}
 use Rattle.book_ledger.specs.Page.{Page}
@@ -34,11 +35,12 @@ kept_by engine = record {
   forth_room = engine.state.forth.spare;
 }
 
--- What holds of every engine: its state is whole, its registers are those of its book, and so is what it keeps of the
--- free splits.
+-- What holds of every engine: its state is whole, its registers are those of its book, each with a count of changes of
+-- 64 bits, and what it keeps of the free splits is that of its book.
 pub record IsKept (engine : Inside) : Type 0 where
   pub whole : IsWhole (state_of engine.state) engine.saved
   pub registers : Keeps engine.registers.entries (book_of engine.state.plain)
+  pub bounded : AreBounded engine.registers.entries
   pub free : free.Keeps engine.free (book_of engine.state.plain)
 
 -- What an engine keeps beside its book was just made from it: each register was changed once for each of its rows, no

@@ -1,15 +1,18 @@
-ghost use Rattle.std.specs.Prelude.{◌≡◌, ◌⊎◌, ◌||◌, List, IfOk, IfErr, OnOk, OnErr, IsTrue, option_map};
+ghost use Rattle.std.specs.Prelude.{◌≡◌, ◌<◌, ◌^◌, ◌⊎◌, ◌||◌, List, IfOk, IfErr, OnOk, OnErr, IsTrue};
+ghost use Rattle.std.specs.Prelude.{option_map, true};
 ghost use Rattle.std.specs.Option.{option_copied};
 ghost use Rattle.book_free.specs.FreeSplits.{free_splits};
 ghost use Rattle.book_free.specs.Kept.{Keeps as KeepsFree};
 ghost use Rattle.book_keeper.specs.Keeping.{HasKeepCause};
 ghost use Rattle.book_keeper.specs.Rows.{after_changes};
 ghost use Rattle.book_keeper.specs.declared.row.Row.{Row as HeldRow};
+ghost use Rattle.book_ledger.specs.Changes.{AreBounded};
 ghost use Rattle.book_ledger.specs.Ledger.{Keeps, live_register};
 ghost use Rattle.book_step.specs.Soundness.{IsSound};
 ghost use Rattle.book_opening.specs.Opening.{OpenAs, StaysSure, WasRead};
 ghost use Rattle.book_opening.specs.State.{State};
 ghost use Rattle.book_report_answers.specs.LotsAsked.{lots_asked};
+ghost use Rattle.book_turns.specs.Turned.{turned};
 ghost use Rattle.book_turns.specs.Whole.{IsWhole, step_state};
 ghost use Rattle.book_undo.specs.Book.{book_of};
 ghost use Rattle.book_engine.specs.Acting.{HasActCause, IsUnchanged};
@@ -19,8 +22,9 @@ ghost use Rattle.book_engine.specs.Books.{machine_of};
 ghost use Rattle.book_engine.specs.Kept.{IsNew};
 ghost use Rattle.book_engine.specs.Machine.{Done, step as step_from};
 ghost use Rattle.book_engine.specs.Opening.{HasOpenCause, IsOpenedAs, Opened, WhereOpened};
-ghost use Rattle.book_engine.specs.Planned.{after, commits, HasMoves, HasRoomFor, IsPlanFor, IsPlanned, IsPlanOf};
-ghost use Rattle.book_engine.specs.Planned.{IsRefusal, with_moves};
+ghost use Rattle.book_engine.specs.Planned.{after, AreMovesOf, commits, HasMoves, HasNoLessRoom, HasRoomFor};
+ghost use Rattle.book_engine.specs.Planned.{HasRoomForTurn, IsPlanFor, IsPlanned, IsPlanOf, IsRefusal, IsTurnNow};
+ghost use Rattle.book_engine.specs.Planned.{with_moves};
 ghost use Rattle.book_engine.specs.Standing.{OpensToReply, Stands};
 
 use crate::opening::{begin, checked, open_error};
@@ -28,7 +32,7 @@ use crate::planning::plan_of;
 use crate::{OpenError, Plan};
 use book_command::What;
 use book_commodity::{OutOfMemory, discard};
-use book_free::FreeSplits;
+use book_free::{FreeSplits, Moves};
 use book_keeper::{KeepError, Keeper};
 use book_ledger::Registers;
 use book_lots::Lots;
@@ -37,8 +41,8 @@ use book_opening::{Saved, read_rows};
 use book_register::Register;
 use book_report_answers::{is_security, lots_asked};
 use book_step::{Answer, Command, Refusal};
-use book_turns::make_turn;
-use book_undo::Plain;
+use book_turns::{Turn, make_turn};
+use book_undo::{Edit, Plain};
 use std::alloc::Global;
 use std::marker::Model;
 
@@ -111,7 +115,7 @@ impl Engine {
         if self.state.plain.accounts.find(account).is_none() {
             return None;
         }
-        let _ = &self.saved;
+        self.known();
         self.registers.kept(account)
     }
 
@@ -124,7 +128,7 @@ impl Engine {
         if !is_security(&self.state.plain.accounts, account) {
             return None;
         }
-        let _ = &self.saved;
+        self.known();
         self.registers.lots(account)
     }
 
@@ -134,7 +138,7 @@ impl Engine {
         ensures entries { result.now.entries ≡ free_splits self.now.state.book }
         ensures changes { result.now.changes ≡ self.now.free.index.changes }
     {
-        let _ = &self.saved;
+        self.known();
         self.free.index()
     }
 
@@ -148,12 +152,15 @@ impl Engine {
 
     /// Tries all rules of the command, takes all memory that it needs, and makes the edit that leads back, the whole
     /// answer and the changes of the rows. The state stays as it is; where a report on the lots of an account is asked,
-    /// they are brought up to its register. Refused by the first rule that the command breaks, or out of memory.
+    /// they are brought up to its register. No room is taken away, so a plan that was made before in the same state
+    /// still has all that it had. Refused by the first rule that the command breaks, or out of memory.
     pub fn prepare(&mut self, command: Command) -> Result<Plan, Refusal>
         ensures planned { IfOk result (IsPlanOf self.old.state self.old.saved command) }
         ensures moves { IfOk result (HasMoves self.old.state) }
         ensures room { IfOk result (HasRoomFor self.new) }
         ensures refused { IfErr result (IsRefusal (step_from (machine_of self.old.state) command)) }
+        ensures spare { HasNoLessRoom self.old self.new }
+        ensures still { (earlier : _) → HasRoomFor self.old earlier → HasRoomFor self.new earlier }
         ensures unchanged { IsUnchanged self.old self.new }
         ensures kept_up { AreKeptUp self.old self.new (lots_asked self.old.state.book.accounts command.what) }
         ensures reckoned { OnOk result
@@ -163,17 +170,14 @@ impl Engine {
         if let Err(OutOfMemory) = self.reckon_for(&command.what) {
             return Err(discard(command, Refusal::OutOfMemory));
         }
-        let plan = match plan_of(
+        let plan = plan_of(
             self.alloc,
             &self.state,
             &self.registers,
             &self.free,
             self.saved,
             command,
-        ) {
-            Ok(plan) => plan,
-            Err(refusal) => return Err(refusal),
-        };
+        )?;
         match self.ready(plan) {
             Ok(plan) => Ok(plan),
             Err(OutOfMemory) => Err(Refusal::OutOfMemory),
@@ -186,11 +190,13 @@ impl Engine {
         ensures plan { IfOk result (λ ready. ready ≡ with_moves ready.moves plan) }
         ensures moves { IfOk result (HasMoves self.old.state) }
         ensures room { IfOk result (HasRoomFor self.new) }
+        ensures spare { HasNoLessRoom self.old self.new }
         ensures unchanged { IsUnchanged self.old self.new }
         ensures left { AreLeft self.old self.new }
         ensures sound { IsSound (step_state self.new.state) }
     {
-        let moves = match self.free.moves(self.alloc, &self.state.plain, plan.edit()) {
+        self.known();
+        let moves = match self.moves_of(&plan) {
             Ok(moves) => moves,
             Err(OutOfMemory) => return Err(discard(plan, OutOfMemory)),
         };
@@ -203,6 +209,7 @@ impl Engine {
 
     /// Brings the lots of an account up to its register, where a report on them is asked.
     fn reckon_for(&mut self, what: &What) -> Result<(), OutOfMemory>
+        ensures spare { HasNoLessRoom self.old self.new }
         ensures unchanged { IsUnchanged self.old self.new }
         ensures kept_up { AreKeptUp self.old self.new (lots_asked self.old.state.book.accounts what.now) }
         ensures reckoned { OnOk result
@@ -215,17 +222,43 @@ impl Engine {
         }
     }
 
-    /// Makes room for what the plan puts: things, rows of registers, free splits, and a step back or forth.
+    /// What becomes of the free splits with the turn of a plan, if it has one.
+    fn moves_of(&self, plan: &Plan) -> Result<Moves, OutOfMemory>
+        requires { IsPlanned self.now.state self.now.saved plan.now }
+        ensures { IfOk result (λ moves. AreMovesOf self.now.state moves plan.now.turn) }
+    {
+        self.known();
+        match &plan.turn {
+            Some(turn) => self.free.moves(self.alloc, &self.state.plain, &turn.edit),
+            None => Ok(Moves::none(self.alloc)),
+        }
+    }
+
+    /// Makes room for what the turn of a plan puts, if it has one.
     fn make_room(&mut self, plan: &Plan) -> Result<(), OutOfMemory>
         ensures room { OnOk result (HasRoomFor self.new plan.now) }
+        ensures spare { HasNoLessRoom self.old self.new }
         ensures unchanged { IsUnchanged self.old self.new }
         ensures left { AreLeft self.old self.new }
     {
-        self.state.plain.reserve_for(plan.edit())?;
+        match &plan.turn {
+            Some(turn) => self.make_room_for(&turn.edit, &plan.moves),
+            None => Ok(()),
+        }
+    }
+
+    /// Makes room for what an edit puts: things, rows of registers, free splits, and a step back or forth.
+    fn make_room_for(&mut self, edit: &Edit, moves: &Moves) -> Result<(), OutOfMemory>
+        ensures room { OnOk result (HasRoomForTurn self.new edit.now moves.now) }
+        ensures spare { HasNoLessRoom self.old self.new }
+        ensures unchanged { IsUnchanged self.old self.new }
+        ensures left { AreLeft self.old self.new }
+    {
+        self.state.plain.reserve_for(edit)?;
         self.state.back.reserve(1)?;
         self.state.forth.reserve(1)?;
-        self.registers.reserve_for(plan.edit())?;
-        self.free.reserve_for(&plan.moves)
+        self.registers.reserve_for(edit)?;
+        self.free.reserve_for(moves)
     }
 
     /// Finishes what was prepared and hands out its answer: where the plan commits, the keeper makes its changes of
@@ -254,7 +287,7 @@ impl Engine {
             × ((held : List HeldRow) → K.holds keeper.old held → rows ≡ after_changes plan.changes held))) }
         ensures cause { HasKeepCause (K.faults keeper.old) (K.faults keeper.new) result }
     {
-        self.sound();
+        self.known();
         if !plan.commits() {
             return Ok(self.apply(plan));
         }
@@ -265,12 +298,15 @@ impl Engine {
     }
 
     /// What holds of every engine holds of this one.
-    fn sound(&self)
+    fn known(&self)
         ensures whole { IsWhole self.now.state self.now.saved }
         ensures registers { Keeps self.now.registers self.now.state.book }
         ensures free { KeepsFree self.now.free self.now.state.book }
+        ensures bounded { AreBounded self.now.registers }
+        ensures index { self.now.free.index.changes < 2 ^ 64 }
     {
         let _ = &self.saved;
+        let _ = self.free.index().changes();
     }
 
     /// Makes the state that the plan leads to and hands out its answer. It can't fail and takes no memory.
@@ -283,7 +319,7 @@ impl Engine {
         ensures changes { AreChanged self.old self.new }
         ensures whole { IsWhole self.new.state self.new.saved }
     {
-        let saved = self.saved || plan.commits();
+        self.known();
         let Plan {
             turn,
             version: _,
@@ -291,11 +327,28 @@ impl Engine {
             changes: _,
             moves,
         } = plan;
+        match turn {
+            Some(turn) => {
+                self.take_turn(turn, &moves);
+                answer
+            }
+            None => answer,
+        }
+    }
+
+    /// Makes the state after a turn. It can't fail and takes no memory.
+    fn take_turn(&mut self, turn: Turn, moves: &Moves)
+        requires made { IsTurnNow self.old.state turn moves.now }
+        requires room { HasRoomForTurn self.old turn.edit moves.now }
+        ensures state { self.new.state ≡ turned turn self.old.state }
+        ensures saved { self.new.saved ≡ true }
+        ensures changes { AreChanged self.old self.new }
+        ensures whole { IsWhole self.new.state self.new.saved }
+    {
         self.registers.apply(&self.state.plain, &turn.edit);
-        self.free.follow(&moves);
+        self.free.follow(moves);
         make_turn(self.alloc, &mut self.state, turn);
-        self.saved = saved;
-        answer
+        self.saved = true;
     }
 
     /// Does the command: prepares it and finishes it.
@@ -322,10 +375,7 @@ impl Engine {
         ensures cause { HasActCause (machine_of self.old.state) (step_from (machine_of self.old.state) command)
             (K.faults keeper.old) (K.faults keeper.new) result }
     {
-        let plan = match self.prepare(command) {
-            Ok(plan) => plan,
-            Err(refusal) => return Err(refusal),
-        };
+        let plan = self.prepare(command)?;
         match self.finish(keeper, plan) {
             Ok(answer) => Ok(answer),
             Err(KeepError::Failed) => Err(Refusal::Keeper),

@@ -6,14 +6,14 @@ use book_free::Moves;
 use book_keeper::Change;
 use book_step::Answer;
 use book_turns::Turn;
-use book_undo::Edit;
 use std::marker::Model;
 
-/// A command that breaks no rule, ready to be finished: how it moves from the state, the version after it, the whole
-/// answer, the changes of the rows, and what becomes of the free splits. Contracts see exactly these.
+/// A command that breaks no rule, ready to be finished: how it moves from the state, which a question leaves; the
+/// version after it; the whole answer; the changes of the rows; and what becomes of the free splits. Contracts see
+/// exactly these.
 #[derive(Drop)]
 pub struct Plan {
-    pub(crate) turn: Turn,
+    pub(crate) turn: Option<Turn>,
     pub(crate) version: u64,
     pub(crate) answer: Answer,
     pub(crate) changes: Many<Change>,
@@ -44,7 +44,7 @@ impl Plan {
     pub fn commits(&self) -> bool
         ensures { result ≡ commits self.now }
     {
-        self.turn.way.is_moving()
+        self.turn.is_some()
     }
 
     /// The version after the command.
@@ -73,13 +73,6 @@ impl Plan {
             changes,
             moves,
         }
-    }
-
-    /// What changes in the book.
-    pub(crate) fn edit(&self) -> &Edit
-        ensures { result.now ≡ self.now.turn.edit }
-    {
-        &self.turn.edit
     }
 
     /// The changes of the rows.

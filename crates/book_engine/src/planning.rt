@@ -2,7 +2,6 @@ ghost use Rattle.std.specs.Prelude.{◌≡◌, true, Ok, None, Some, IfOk, IfErr
 ghost use Rattle.book_free.specs.Kept.{Keeps as KeepsFree};
 ghost use Rattle.book_ledger.specs.Ledger.{Keeps};
 ghost use Rattle.book_undo.specs.Edit.{outline};
-ghost use Rattle.book_undo.specs.EditRules.{IsAllowed};
 ghost use Rattle.book_undo.specs.Inverse.{LeadsBack};
 ghost use Rattle.book_step.specs.Outcome.{numbers};
 ghost use Rattle.book_step.specs.Step.{outcome};
@@ -16,7 +15,7 @@ ghost use Rattle.book_command.specs.declared.answer.Answer.TheVariants.{Recons a
 ghost use Rattle.book_command.specs.declared.command.What.TheVariants.{Redo as AskRedo, Undo as AskUndo};
 ghost use Rattle.book_opening.specs.State.{state_of};
 ghost use Rattle.book_report_answers.specs.Reports.{report_answer as report_answer_of, report_rules};
-ghost use Rattle.book_turns.specs.Turned.{HaveSpellings, IsChangeTo, IsKeptStep, IsTurnFor, turned};
+ghost use Rattle.book_turns.specs.Turned.{HaveSpellings, IsChangeTo, IsKeptStep, IsTurnFor, turn_of, turned};
 ghost use Rattle.book_turns.specs.Whole.{IsWhole, step_state};
 ghost use Rattle.book_turns.specs.declared.turn.Way.TheVariants.{Change as ToNew};
 ghost use Rattle.book_engine.specs.Books.{machine_of};
@@ -120,10 +119,8 @@ fn plan_report(
         (report_answer_of (state_of state.now).book report.now))) }
 {
     let _ = saved;
-    match report_answer(alloc, &state.plain, registers, report) {
-        Ok(answer) => Ok(plan_stay(alloc, state, answer)),
-        Err(refusal) => Err(refusal),
-    }
+    let answer = report_answer(alloc, &state.plain, registers, report)?;
+    Ok(plan_stay(alloc, state, answer))
 }
 
 /// The plan of the question which days are due up to the day. It leaves the state as it is.
@@ -132,10 +129,8 @@ fn plan_due(alloc: Global, state: &Saved, upto: Day) -> Result<Plan, Refusal>
     ensures { Finds (day_rules upto (state_of state.now).book.schedules)
         (λ plan. plan ≡ stay_plan (state_of state.now) (DueAnswer (due_of (state_of state.now).book upto))) result }
 {
-    match due_answer(alloc, &state.plain, upto) {
-        Ok(answer) => Ok(plan_stay(alloc, state, answer)),
-        Err(refusal) => Err(refusal),
-    }
+    let answer = due_answer(alloc, &state.plain, upto)?;
+    Ok(plan_stay(alloc, state, answer))
 }
 
 /// The plan of the question for the lines of an account. It leaves the state as it is.
@@ -144,10 +139,8 @@ fn plan_lines(alloc: Global, state: &Saved, account: u64) -> Result<Plan, Refusa
         (λ plan. plan ≡ stay_plan (state_of state.now)
         (LinesAnswer (lines_of account (state_of state.now).book.lines))) result }
 {
-    match lines_answer(alloc, &state.plain, account) {
-        Ok(answer) => Ok(plan_stay(alloc, state, answer)),
-        Err(refusal) => Err(refusal),
-    }
+    let answer = lines_answer(alloc, &state.plain, account)?;
+    Ok(plan_stay(alloc, state, answer))
 }
 
 /// The plan of the question for the statements of an account. It leaves the state as it is.
@@ -156,10 +149,8 @@ fn plan_statements(alloc: Global, state: &Saved, account: u64) -> Result<Plan, R
         (λ plan. plan ≡ stay_plan (state_of state.now)
         (StatementsAnswer (statements_of account (state_of state.now).book.statements))) result }
 {
-    match statements_answer(alloc, &state.plain, account) {
-        Ok(answer) => Ok(plan_stay(alloc, state, answer)),
-        Err(refusal) => Err(refusal),
-    }
+    let answer = statements_answer(alloc, &state.plain, account)?;
+    Ok(plan_stay(alloc, state, answer))
 }
 
 /// The plan of the question for the reconciliations of an account. It leaves the state as it is.
@@ -169,10 +160,8 @@ fn plan_recons(alloc: Global, state: &Saved, account: u64) -> Result<Plan, Refus
         (λ plan. plan ≡ stay_plan (state_of state.now)
         (ReconsAnswer (recons_of account (state_of state.now).book))) result }
 {
-    match recons_answer(alloc, &state.plain, account) {
-        Ok(answer) => Ok(plan_stay(alloc, state, answer)),
-        Err(refusal) => Err(refusal),
-    }
+    let answer = recons_answer(alloc, &state.plain, account)?;
+    Ok(plan_stay(alloc, state, answer))
 }
 
 /// How much of each kind there is.
@@ -196,12 +185,7 @@ fn plan_stay(alloc: Global, state: &Saved, answer: Answer) -> Plan
     ensures { result ≡ stay_plan (state_of state.now) answer }
 {
     Plan {
-        turn: Turn {
-            way: Way::Stay,
-            edit: Edit::nothing(alloc),
-            inverse: Edit::nothing(alloc),
-            next: state.next,
-        },
+        turn: None,
         version: state.version,
         answer,
         changes: Many::new(alloc),
@@ -226,7 +210,7 @@ fn plan_update(
     ensures refused { IfErr result (IsRefusal
         (updated (machine_of (state_of state.now)) (outcome (step_state (state_of state.now)) update))) }
 {
-    let step = match answered_step(
+    let step = answered_step(
         alloc,
         &state.plain,
         state.next,
@@ -234,10 +218,7 @@ fn plan_update(
         registers,
         free.index(),
         update,
-    ) {
-        Ok(step) => step,
-        Err(refusal) => return Err(refusal),
-    };
+    )?;
     let Step { edit, next, answer } = step;
     if edit.is_nothing() {
         drop(edit);
@@ -266,12 +247,7 @@ fn plan_change(
         Ok(inverse) => inverse,
         Err(error) => return Err(discard(edit, discard(answer, error))),
     };
-    let turn = Turn {
-        way: Way::Change,
-        edit,
-        inverse,
-        next,
-    };
+    let turn = Turn::of(state, Way::Change, edit, inverse, next);
     plan_turn(alloc, state, saved, turn, answer)
 }
 
@@ -291,8 +267,8 @@ fn plan_turn(
 {
     match row_changes(alloc, state, saved, &turn) {
         Ok(changes) => Ok(Plan {
-            turn,
-            version: state.version + 1,
+            version: turn.head.version,
+            turn: Some(turn),
             answer,
             changes,
             moves: Moves::none(alloc),
@@ -349,28 +325,31 @@ fn plan_kept(
             at: NUMBERS_LIMIT,
         }));
     }
-    match kept_turn(alloc, state, way, edit) {
+    match kept_turn(alloc, state, saved, way, edit) {
         Ok(turn) => planned(plan_turn(alloc, state, saved, turn, answer)),
         Err(OutOfMemory) => Err(Refusal::OutOfMemory),
     }
 }
 
 /// The turn of a kept step.
-fn kept_turn(alloc: Global, state: &Saved, way: Way, edit: &Edit) -> Result<Turn, OutOfMemory>
-    requires { IsAllowed (state_of state.now).book edit.now }
-    ensures turn { IfOk result (λ turn. (turn.way ≡ way) × (turn.edit ≡ edit.now)
-        × (turn.next ≡ state.now.next)) }
+fn kept_turn(
+    alloc: Global,
+    state: &Saved,
+    saved: bool,
+    way: Way,
+    edit: &Edit,
+) -> Result<Turn, OutOfMemory>
+    requires whole { IsWhole (state_of state.now) saved }
+    requires kept { IsKeptStep way (state_of state.now) edit.now }
+    ensures turn { IfOk result (λ turn. turn
+        ≡ turn_of (state_of state.now) way edit.now turn.inverse state.now.next) }
     ensures back { IfOk result (λ turn. LeadsBack (state_of state.now).book edit.now turn.inverse) }
     ensures form { IfOk result (λ turn. outline turn.inverse ≡ outline edit.now) }
 {
+    let _ = saved;
     let inverse = state.plain.inverse(alloc, edit)?;
     match edit.copy(alloc) {
-        Ok(copy) => Ok(Turn {
-            way,
-            edit: copy,
-            inverse,
-            next: state.next,
-        }),
+        Ok(copy) => Ok(Turn::of(state, way, copy, inverse, state.next)),
         Err(error) => Err(discard(inverse, error)),
     }
 }

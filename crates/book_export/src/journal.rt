@@ -52,10 +52,8 @@ fn write_book<O: Sink>(
         (export_text (book_of book.now) order.now) result }
     ensures faults { HasFault (O.faults output.old) (O.faults output.new) result }
 {
-    match write_commodities(alloc, book, output) {
-        Ok(()) => write_from_accounts(alloc, book, order, output),
-        Err(error) => Err(error),
-    }
+    write_commodities(alloc, book, output)?;
+    write_from_accounts(alloc, book, order, output)
 }
 
 /// Writes the journal from the accounts on.
@@ -72,10 +70,8 @@ fn write_from_accounts<O: Sink>(
         (text_from_accounts (book_of book.now) order.now) result }
     ensures faults { HasFault (O.faults output.old) (O.faults output.new) result }
 {
-    match write_accounts(alloc, book, output) {
-        Ok(()) => write_from_prices(alloc, book, order, output),
-        Err(error) => Err(error),
-    }
+    write_accounts(alloc, book, output)?;
+    write_from_prices(alloc, book, order, output)
 }
 
 /// Writes the journal from the prices on.
@@ -92,10 +88,8 @@ fn write_from_prices<O: Sink>(
         (text_from_prices (book_of book.now) order.now) result }
     ensures faults { HasFault (O.faults output.old) (O.faults output.new) result }
 {
-    match write_prices(alloc, book, output) {
-        Ok(()) => write_transactions(alloc, book, order, output),
-        Err(error) => Err(error),
-    }
+    write_prices(alloc, book, output)?;
+    write_transactions(alloc, book, order, output)
 }
 
 /// Writes the commodities.
@@ -109,10 +103,7 @@ fn write_commodities<O: Sink>(
     ensures faults { HasFault (O.faults output.old) (O.faults output.new) result }
 {
     for (_, commodity) in book.commodities.as_slice() {
-        match write_piece(output, commodity_lines(alloc, commodity)) {
-            Ok(()) => {}
-            Err(error) => return Err(error),
-        }
+        write_piece(output, commodity_lines(alloc, commodity))?;
     }
     Ok(())
 }
@@ -127,10 +118,7 @@ fn write_accounts<O: Sink>(alloc: Global, book: &Plain, output: &mut O) -> Resul
     for place in 0..book.accounts.len() {
         let number = book.accounts.number_at(place);
         let account = book.accounts.value_at(place);
-        match write_piece(output, account_line(alloc, &book.accounts, number, account)) {
-            Ok(()) => {}
-            Err(error) => return Err(error),
-        }
+        write_piece(output, account_line(alloc, &book.accounts, number, account))?;
     }
     Ok(())
 }
@@ -165,10 +153,7 @@ fn write_prices<O: Sink>(alloc: Global, book: &Plain, output: &mut O) -> Result<
 {
     for place in 0..book.prices.len() {
         let price = book.prices.value_at(place);
-        match write_piece(output, price_line(alloc, &book.commodities, price)) {
-            Ok(()) => {}
-            Err(error) => return Err(error),
-        }
+        write_piece(output, price_line(alloc, &book.commodities, price))?;
     }
     Ok(())
 }
@@ -186,10 +171,7 @@ fn write_transactions<O: Sink>(
     ensures faults { HasFault (O.faults output.old) (O.faults output.new) result }
 {
     for (_, number) in order {
-        match write_piece(output, lines_at(alloc, book, *number)) {
-            Ok(()) => {}
-            Err(error) => return Err(error),
-        }
+        write_piece(output, lines_at(alloc, book, *number))?;
     }
     Ok(())
 }

@@ -1,22 +1,24 @@
 -- Sums of small quantities are small, and the rows up to the last row's day are all.
-use Rattle.std.proofs.Common.{◌≡◌, ℕ, suc, ◌-◌, ◌*◌, ◌^◌, ◌<◌, ◌≤◌, ℤ, pos, negsuc, ◌-ℤ◌, ◌≤ℤ◌, int_le, Bool}
+use Rattle.std.proofs.Common.{◌≡◌, ℕ, suc, ◌-◌, ◌*◌, ◌<◌, ◌≤◌, ℤ, pos, negsuc, ◌-ℤ◌, ◌≤ℤ◌, int_le, Bool}
 use Rattle.std.proofs.Common.{true, false, if◌then◌else◌, unsigned_abs, List, [], ◌∷◌, All, length, filter, Some, slice_get}
 use Rattle.std.proofs.Common.{ap, subst, ◌∙◌, arith}
 use Rattle.std.proofs.lemmas.Bool.Decides.{nat_tests}
 use Rattle.std.proofs.lemmas.Int.{ints}
 use Rattle.std.proofs.lemmas.List.Elements.{All-filter, All-head, All-tail}
 use Rattle.book_commodity.proofs.DayLemmas.{test_of_le}
+use Rattle.book_limits.specs.Limits.{largest_split_amount, largest_sum}
 use Rattle.book_register.specs.Register.{IsSorted, balance, key_of, precedes, rows_until}
 use Rattle.book_register.specs.declared.entry.Entry.{Entry}
 use Rattle.book_finish.specs.Kept.{AreWithinLimits, IsSmall}
 
 -- ---- sums
 
--- An amount is at most so many times 10^12 in size.
+-- An amount is at most so many times the largest amount of a split in size.
 abbrev IsUpTo : ℕ → ℤ → Type 0
-IsUpTo count amount = ((pos 0 -ℤ pos (10 ^ 12 * count)) ≤ℤ amount) × (amount ≤ℤ pos (10 ^ 12 * count))
+IsUpTo count amount =
+    ((pos 0 -ℤ pos (largest_split_amount * count)) ≤ℤ amount) × (amount ≤ℤ pos (largest_split_amount * count))
 
-one-small : (amount : ℤ) → unsigned_abs amount ≤ 10 ^ 12 → IsUpTo 1 amount
+one-small : (amount : ℤ) → unsigned_abs amount ≤ largest_split_amount → IsUpTo 1 amount
 one-small (pos n) small = (omega (arith, ints, small), omega (arith, ints, small))
 one-small (negsuc n) small = (omega (arith, ints, small), omega (arith, ints, small))
 
@@ -42,9 +44,9 @@ until-few day (row ∷ rows) =
       | false ↦ omega (arith, rest)
     ]
 
--- A sum is at most 10^18 in size.
+-- A sum is at most the largest sum in size.
 abbrev pub IsSmallSum : ℤ → Type 0
-IsSmallSum sum = ((pos 0 -ℤ pos (10 ^ 18)) ≤ℤ sum) × (sum ≤ℤ pos (10 ^ 18))
+IsSmallSum sum = ((pos 0 -ℤ pos largest_sum) ≤ℤ sum) × (sum ≤ℤ pos largest_sum)
 
 pub small-until : (test : Entry → Bool) (day : ℤ) (rows : List Entry) → AreWithinLimits rows
     → IsSmallSum (balance (filter test (rows_until day rows)))

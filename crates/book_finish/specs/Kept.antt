@@ -1,8 +1,9 @@
 -- What a reconciliation of an account needs, as the rows of the account's register tell it (GnuCash Manual, reconciling
 -- accounts).
-use Rattle.std.specs.Prelude.{ℕ, ◌^◌, ◌≤◌, ℤ, ◌-ℤ◌, int_le, Bool, true, false, ◌&&◌, All, unsigned_abs, length, List}
+use Rattle.std.specs.Prelude.{ℕ, ◌≤◌, ℤ, ◌-ℤ◌, int_le, Bool, true, false, ◌&&◌, All, unsigned_abs, length, List}
 use Rattle.std.specs.Prelude.{filter, map}
 use Rattle.std.specs.List.{list_any}
+use Rattle.book_limits.specs.Limits.{largest_split_amount}
 use Rattle.book_splits.specs.declared.reconciliation.MarkedSplit.{MarkedSplit}
 use Rattle.book_splits.specs.declared.split.Mark.TheVariants as mark
 use Rattle.book_splits.specs.declared.transaction.Txn.{Txn}
@@ -12,9 +13,9 @@ use Rattle.book_register.specs.declared.entry.Entry.{Entry}
 use Rattle.book_register.specs.declared.entry.Mark2.{Mark2}
 use Rattle.book_register.specs.declared.entry.Mark2.TheVariants.{Plain, Cleared, Reconciled}
 
--- A row whose quantity is at most 10^12 in size.
+-- A row whose quantity is at most as large as that of a split.
 abbrev pub IsSmall : Entry → Type 0
-IsSmall row = unsigned_abs row.quantity ≤ 10 ^ 12
+IsSmall row = unsigned_abs row.quantity ≤ largest_split_amount
 
 -- The rows of a register of a book: at most 1,000,000, with quantities within the limit.
 pub record AreWithinLimits (rows : List Entry) : Type 0 where

@@ -10,13 +10,13 @@ use Rattle.book_commodity.specs.Rules.{IsSoundTable}
 use Rattle.book_commodity.specs.Table.{value_of, with_entry}
 use Rattle.book_commodity.proofs.DrawnLemmas.{drawn_below, length_changed}
 use Rattle.book_commodity.proofs.RuleLemmas.{none_before_with}
-use Rattle.book_splits.specs.Check.{is_over_limit}
 use Rattle.book_statement.specs.Keys.{same_text}
 use Rattle.book_statement.specs.declared.line.Line.{Line}
 use Rattle.book_statement.specs.declared.line_key.LineKey.{LineKey}
 use Rattle.book_statement.specs.declared.line_state.LineState.{LineState}
 use Rattle.book_statement.specs.declared.line_state.LineState.TheVariants.{Open, Matched, Dismissed}
-use Rattle.book_sound.specs.LineRules.{fits_in_state, fits_line, has_same_key, is_same_key, key_of_line, line_rules}
+use Rattle.book_sound.specs.LineRules.{fits_in_state, fits_line, has_same_key, is_over_limit, is_same_key}
+use Rattle.book_sound.specs.LineRules.{key_of_line, line_rules}
 use Rattle.book_sound.specs.LineRules.{matched_split, shares_split, split_at}
 use Rattle.book_sound.specs.Soundness.{AreDrawn, IsSoundBook}
 use Rattle.book_sound.specs.Tests.{is_live}

@@ -1,5 +1,5 @@
 -- How large gains, costs and adjustments are, so that their sums fit.
-use Rattle.std.proofs.Common.{◌≡◌, ℕ, zero, suc, ◌+◌, ◌-◌, ◌*◌, ◌/◌, ◌^◌, ◌<◌, ◌≤◌, max, Bool, true, false, cond, ℤ}
+use Rattle.std.proofs.Common.{◌≡◌, ℕ, zero, suc, ◌+◌, ◌-◌, ◌*◌, ◌/◌, ◌<◌, ◌≤◌, max, Bool, true, false, cond, ℤ}
 use Rattle.std.proofs.Common.{pos, negsuc, neg_ℤ, ◌-ℤ◌, ◌≤ℤ◌, List, [], ◌∷◌, ◌++◌, length, map, take, sym}
 use Rattle.std.proofs.Common.{ap, subst, arith, unsigned_abs, ⊎_elim}
 use Rattle.std.specs.Prelude.{⊤}
@@ -8,6 +8,7 @@ use Rattle.std.proofs.lemmas.Bool.{cases_lt}
 use Rattle.std.proofs.lemmas.Int.{ints}
 use Rattle.std.proofs.lemmas.Nat.{div_below, mul-le}
 use Rattle.std.proofs.lemmas.List.Elements.{All-head, All-tail}
+use Rattle.book_limits.specs.Limits.{largest_split_amount}
 use Rattle.book_register.specs.declared.entry.Entry.{Entry}
 use Rattle.book_lots.specs.Lots.{IsSmall, adjustments_of, bought_in, common_from, common_to, cost_of, end_of, gain_of}
 use Rattle.book_lots.specs.Lots.{lot_past, lots_of, lots_past, numbered, pair_of_two, pairs_between, pairs_of}
@@ -34,8 +35,8 @@ quotient v units count some le =
     let less = div_below (v * count) units (suc v) (omega (arith, some)) (omega (arith, most, some)) in
     omega (arith, less)
 
-part_size : (value : ℤ) (units count : ℕ) → 1 ≤ units → count ≤ units → unsigned_abs value ≤ 10 ^ 12
-    → IsUpTo (10 ^ 12) (value_of_first value units count)
+part_size : (value : ℤ) (units count : ℕ) → 1 ≤ units → count ≤ units → unsigned_abs value ≤ largest_split_amount
+    → IsUpTo largest_split_amount (value_of_first value units count)
 part_size (pos v) units count some le small =
     let less = quotient v units count some le in
     (omega (arith, ints), omega (arith, ints, less, small))
@@ -43,20 +44,20 @@ part_size (negsuc v) units count some le small =
     let less = quotient (suc v) units count some le in
     negative (suc v * count / units) (omega (arith, less, small))
   where
-    negative : (n : ℕ) → n ≤ 10 ^ 12 → IsUpTo (10 ^ 12) (neg_ℤ (pos n))
+    negative : (n : ℕ) → n ≤ largest_split_amount → IsUpTo largest_split_amount (neg_ℤ (pos n))
     negative zero le = (omega (arith, ints), omega (arith, ints))
     negative (suc n) le = (omega (arith, ints, le), omega (arith, ints, le))
 
 -- a split with units and a small value
 abbrev IsValued : Stretch → Type 0
-IsValued s = (1 ≤ unsigned_abs s.quantity) × (unsigned_abs s.value ≤ 10 ^ 12)
+IsValued s = (1 ≤ unsigned_abs s.quantity) × (unsigned_abs s.value ≤ largest_split_amount)
 
 abbrev AreValued : List Stretch → Type 0
 AreValued [] = ⊤
 AreValued (s ∷ more) = IsValued s × AreValued more
 
 share_size : (s : Stretch) (from to : ℕ) → IsValued s → from ≤ end_of s → to ≤ end_of s
-    → IsUpTo (2 * 10 ^ 12) (share_of s from to)
+    → IsUpTo (2 * largest_split_amount) (share_of s from to)
 share_size s from to valued le le' =
     let one = part_size s.value (unsigned_abs s.quantity) (to - s.first) valued.0 (omega (arith, le')) valued.1 in
     let two = part_size s.value (unsigned_abs s.quantity) (from - s.first) valued.0 (omega (arith, le)) valued.1 in
@@ -65,10 +66,10 @@ share_size s from to valued le le' =
 -- ---- gains of pairs
 abbrev pub AreGains : List Pair → Type 0
 AreGains [] = ⊤
-AreGains (pair ∷ more) = IsUpTo (4 * 10 ^ 12) pair.gain × AreGains more
+AreGains (pair ∷ more) = IsUpTo (4 * largest_split_amount) pair.gain × AreGains more
 
 gain_size : (p m : Stretch) → IsValued p → IsValued m → common_from p m < common_to p m
-    → IsUpTo (4 * 10 ^ 12) (pair_of_two p m).gain
+    → IsUpTo (4 * largest_split_amount) (pair_of_two p m).gain
 gain_size p m one two lt =
     let first = share_size p (common_from p m) (common_to p m) one (omega (arith, lt)) (omega arith) in
     let second = share_size m (common_from p m) (common_to p m) two (omega (arith, lt)) (omega arith) in
@@ -117,12 +118,12 @@ gains_small es small = gains_between (bought_in es) (sold_in es) (bought_valued 
 
 -- the sum of the gains of some of the first so many
 pub some_gains : (test : Pair → Bool) (i : ℕ) (all : List Pair) → AreGains all
-    → IsUpTo (4 * 10 ^ 12 * i) (gain_of (filter test (take i all)))
+    → IsUpTo (4 * largest_split_amount * i) (gain_of (filter test (take i all)))
 some_gains test zero all gains = (omega (arith, ints), omega (arith, ints))
 some_gains test (suc i) [] gains = (omega (arith, ints), omega (arith, ints))
 some_gains test (suc i) (pair ∷ more) gains =
     let rest = some_gains test i more gains.1 in
-    elim (test pair) as (λ t. IsUpTo (4 * 10 ^ 12 * suc i)
+    elim (test pair) as (λ t. IsUpTo (4 * largest_split_amount * suc i)
     (gain_of (cond t (pair ∷ filter test (take i more)) (filter test (take i more))))) [
       | true ↦ (omega (arith, ints, rest.0, rest.1, gains.0.0, gains.0.1), omega (arith, ints, rest.0, rest.1, gains.0.0, gains.0.1))
       | false ↦ (omega (arith, ints, rest.0, rest.1), omega (arith, ints, rest.0, rest.1))
@@ -131,7 +132,7 @@ some_gains test (suc i) (pair ∷ more) gains =
 -- ---- costs of lots
 abbrev pub AreCosts : List OpenLot → Type 0
 AreCosts [] = ⊤
-AreCosts (lot ∷ more) = IsUpTo (2 * 10 ^ 12) lot.cost × AreCosts more
+AreCosts (lot ∷ more) = IsUpTo (2 * largest_split_amount) lot.cost × AreCosts more
 
 costs_past : (n : ℕ) (all : List Stretch) → AreValued all → AreCosts (lots_past n all)
 costs_past n [] one = tt
@@ -154,7 +155,8 @@ costs_small es small =
     (costs_past (units_of (sold_in es)) (bought_in es) (bought_valued es small))
     (costs_past (units_of (bought_in es)) (sold_in es) (sold_valued es small))
 
-pub some_costs : (i : ℕ) (all : List OpenLot) → AreCosts all → IsUpTo (2 * 10 ^ 12 * i) (cost_of (take i all))
+pub some_costs : (i : ℕ) (all : List OpenLot) → AreCosts all
+    → IsUpTo (2 * largest_split_amount * i) (cost_of (take i all))
 some_costs zero all costs = (omega (arith, ints), omega (arith, ints))
 some_costs (suc i) [] costs = (omega (arith, ints), omega (arith, ints))
 some_costs (suc i) (lot ∷ more) costs =
@@ -162,12 +164,13 @@ some_costs (suc i) (lot ∷ more) costs =
     (omega (arith, ints, rest.0, rest.1, costs.0.0, costs.0.1), omega (arith, ints, rest.0, rest.1, costs.0.0, costs.0.1))
 
 -- ---- adjustments
-pub adjustments_small : (es : List Entry) → All IsSmall es → IsUpTo (10 ^ 12 * length es) (adjustments_of es)
+pub adjustments_small : (es : List Entry) → All IsSmall es
+    → IsUpTo (largest_split_amount * length es) (adjustments_of es)
 adjustments_small [] small = (omega (arith, ints), omega (arith, ints))
 adjustments_small (e ∷ es) small =
     let rest = adjustments_small es (All-tail IsSmall e es small) in
-    let one = up_to_abs (10 ^ 12) e.value (All-head IsSmall e es small).value in
-    elim (has_none e) as (λ t. IsUpTo (10 ^ 12 * length (e ∷ es))
+    let one = up_to_abs largest_split_amount e.value (All-head IsSmall e es small).value in
+    elim (has_none e) as (λ t. IsUpTo (largest_split_amount * length (e ∷ es))
     (value_of (cond t (e ∷ filter has_none es) (filter has_none es)))) [
       | true ↦ (omega (arith, ints, rest.0, rest.1, one.0, one.1), omega (arith, ints, rest.0, rest.1, one.0, one.1))
       | false ↦ (omega (arith, ints, rest.0, rest.1), omega (arith, ints, rest.0, rest.1))

@@ -1,5 +1,5 @@
 -- The splits of a register's entries, and what one more entry, or fewer, does to them.
-use Rattle.std.proofs.Common.{◌≡◌, ℕ, zero, suc, ◌+◌, ◌*◌, ◌^◌, ◌≤◌, Bool, true, false, ℤ, pos}
+use Rattle.std.proofs.Common.{◌≡◌, ℕ, zero, suc, ◌+◌, ◌*◌, ◌≤◌, Bool, true, false, ℤ, pos}
 use Rattle.std.proofs.Common.{negsuc, ◌+ℤ◌, ◌-ℤ◌, List, [], ◌∷◌, ◌++◌, length, take, refl, sym, ap, ◌∙◌, subst}
 use Rattle.std.proofs.Common.{arith, unsigned_abs, ⊎_elim, ◌⊎◌, inl, inr, append_assoc}
 use Rattle.std.specs.Prelude.{int_lt}
@@ -10,6 +10,7 @@ use Rattle.std.proofs.lemmas.Bool.Decides.{Decides-int_eq}
 use Rattle.std.proofs.lemmas.Int.{ints}
 use Rattle.std.proofs.lemmas.List.{append-nil, take_at}
 use Rattle.std.proofs.lemmas.List.Elements.{All-head, All-tail}
+use Rattle.book_limits.specs.Limits.{largest_split_amount, largest_sum}
 use Rattle.book_register.specs.declared.entry.Entry.{Entry}
 use Rattle.book_lots.specs.Lots.{IsSmall, adjustments_of, all_gains, bought_in, cost_of, lots_of, lots_past, numbered}
 use Rattle.book_lots.specs.Lots.{open_past, pairs_between, pairs_of, sold_in, stretch_at, units_of, value_of}
@@ -221,10 +222,10 @@ pairs_front one other =
 
 -- ---- bounds
 units_below : (picks : Entry → Bool) (k a : ℕ) (es : List Entry) → All IsSmall es
-    → units_of (numbered picks k a es) ≤ 10 ^ 12 * length es
+    → units_of (numbered picks k a es) ≤ largest_split_amount * length es
 units_below picks k a [] small = omega arith
 units_below picks k a (e ∷ es) small =
-    let one : unsigned_abs e.quantity ≤ 10 ^ 12 = (All-head IsSmall e es small).quantity in
+    let one : unsigned_abs e.quantity ≤ largest_split_amount = (All-head IsSmall e es small).quantity in
     let rest = All-tail IsSmall e es small in
     ⊎_elim
     (λ is. (let more = units_below picks (k + 1) (a + unsigned_abs e.quantity) es rest in
@@ -233,11 +234,11 @@ units_below picks k a (e ∷ es) small =
     let all = ap units_of (numbered_no picks k a e es is) in omega (arith, more, all)))
     (either (picks e))
 
-pub bought_units : (es : List Entry) → All IsSmall es → length es ≤ 1_000_000 → units_of (bought_in es) ≤ 10 ^ 18
+pub bought_units : (es : List Entry) → All IsSmall es → length es ≤ 1_000_000 → units_of (bought_in es) ≤ largest_sum
 unfolding bought_in
 bought_units es small few = (let below = units_below buys 0 0 es small in omega (arith, below, few))
 
-pub sold_units : (es : List Entry) → All IsSmall es → length es ≤ 1_000_000 → units_of (sold_in es) ≤ 10 ^ 18
+pub sold_units : (es : List Entry) → All IsSmall es → length es ≤ 1_000_000 → units_of (sold_in es) ≤ largest_sum
 unfolding sold_in
 sold_units es small few = (let below = units_below sells 0 0 es small in omega (arith, below, few))
 

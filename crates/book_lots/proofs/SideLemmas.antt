@@ -1,10 +1,11 @@
 -- What is kept of a side, as its calls change it.
-use Rattle.std.proofs.Common.{◌≡◌, ℕ, zero, suc, ◌+◌, ◌-◌, ◌^◌, ◌<◌, ◌≤◌, List, [], ◌∷◌, ◌++◌, length, map, take, drop, set}
+use Rattle.std.proofs.Common.{◌≡◌, ℕ, zero, suc, ◌+◌, ◌-◌, ◌<◌, ◌≤◌, List, [], ◌∷◌, ◌++◌, length, map, take, drop, set}
 use Rattle.std.proofs.Common.{get_or, refl, sym, ap, ◌∙◌, subst, arith, slice_get, Some, None, ⊎_elim}
 use Rattle.std.proofs.Common.{unsigned_abs, MatchOption, ◌⊎◌, inl, inr}
 use Rattle.std.proofs.lemmas.Bool.{cases_lt}
 use Rattle.std.proofs.lemmas.List.{drop_all, drop_more, take-append-drop, take-map}
 use Rattle.std.proofs.lemmas.List.Elements.{All-push, All-take}
+use Rattle.book_limits.specs.Limits.{largest_sum}
 use Rattle.book_register.specs.declared.entry.Entry.{Entry}
 use Rattle.book_lots.specs.Lots.{IsSmall, end_of, lot_past, open_past, stretch_at, units_of}
 use Rattle.book_lots.specs.Sides.{AreInLine, IsBounded, IsFrontTo, IsKept, IsQueue, Paired, mark_of_side}
@@ -75,7 +76,7 @@ end_within all h x more line at =
 
 -- ---- the changes
 pub side_push : (all : List Stretch) (lots : List OpenLot) (h u n place : ℕ) (e : Entry) → IsKept all lots h u n
-    → IsSmall e → 1 ≤ unsigned_abs e.quantity → u ≤ 10 ^ 18
+    → IsSmall e → 1 ≤ unsigned_abs e.quantity → u ≤ largest_sum
     → IsKept (all ++ stretch_at place u e ∷ []) (lots ++ lot_past 0 (stretch_at place u e) ∷ []) h
     (end_of (stretch_at place u e)) n
 side_push all lots h u n place e kept small some few =

@@ -1,11 +1,12 @@
 -- Lots of a security account, first in first out: units that are bought are paired with units that are sold in the
 -- order of the register, whichever come first (GnuCash Concepts Guide, selling securities; that a split's value is cut
 -- by units, with each part the difference of two that are cut toward zero, is this project's own).
-use Rattle.std.specs.Prelude.{ℕ, ◌+◌, ◌-◌, ◌*◌, ◌/◌, ◌^◌, ◌≤◌, nat_lt, min, max, ℤ, pos, ◌+ℤ◌, ◌-ℤ◌}
+use Rattle.std.specs.Prelude.{ℕ, ◌+◌, ◌-◌, ◌*◌, ◌/◌, ◌≤◌, nat_lt, min, max, ℤ, pos, ◌+ℤ◌, ◌-ℤ◌}
 use Rattle.std.specs.Prelude.{int_lt, int_le, Bool, ◌&&◌, if◌then◌else◌, unsigned_abs, List, [], ◌∷◌, ◌++◌, filter, map}
 use Rattle.std.specs.List.{flat_map}
 use Rattle.std.specs.Ordering.{int_eq}
 use Rattle.book_commodity.specs.Amount.{with_sign_of}
+use Rattle.book_limits.specs.Limits.{largest_split_amount}
 use Rattle.book_register.specs.declared.entry.Entry.{Entry}
 use Rattle.book_lots.specs.declared.open_lot.OpenLot.{OpenLot}
 use Rattle.book_lots.specs.declared.pair.Pair.{Pair}
@@ -17,10 +18,10 @@ pub record Reckoned : Type 0 where
   pub entries : List Entry
   pub work : ℕ
 
--- An entry whose quantity and value are at most 10^12 in size.
+-- An entry whose quantity and value are at most as large as those of a split.
 pub record IsSmall (entry : Entry) : Type 0 where
-  pub quantity : unsigned_abs entry.quantity ≤ 10 ^ 12
-  pub value : unsigned_abs entry.value ≤ 10 ^ 12
+  pub quantity : unsigned_abs entry.quantity ≤ largest_split_amount
+  pub value : unsigned_abs entry.value ≤ largest_split_amount
 
 -- ---- Units: the splits that a test picks, in the order of the register, with their units numbered one after another.
 

@@ -1,8 +1,9 @@
 -- What is kept to reckon lots: the splits of each sign with how many of their units are paired, and what has to be
 -- known of so many first entries to come back to them.
-use Rattle.std.specs.Prelude.{◌≡◌, ℕ, ◌+◌, ◌-◌, ◌*◌, ◌/◌, ◌%◌, ◌^◌, ◌<◌, ◌≤◌, ◌==◌, min, ℤ, unsigned_abs, ⊤, if◌then◌else◌}
+use Rattle.std.specs.Prelude.{◌≡◌, ℕ, ◌+◌, ◌-◌, ◌*◌, ◌/◌, ◌%◌, ◌<◌, ◌≤◌, ◌==◌, min, ℤ, unsigned_abs, ⊤, if◌then◌else◌}
 use Rattle.std.specs.Prelude.{List, [], ◌∷◌, ◌++◌, length, map, take, drop, slice_index_or}
 use Rattle.std.specs.List.{All}
+use Rattle.book_limits.specs.Limits.{largest_split_amount, largest_sum}
 use Rattle.book_register.specs.declared.entry.Entry.{Entry}
 use Rattle.book_lots.specs.declared.mark.Mark.{Mark}
 use Rattle.book_lots.specs.declared.mark.SideMark.{SideMark}
@@ -25,10 +26,10 @@ AreInLine first (stretch ∷ more) =
 
 -- The numbers of a split are small enough to be multiplied.
 pub record IsBounded (stretch : Stretch) : Type 0 where
-  pub first : stretch.first ≤ 10 ^ 18
+  pub first : stretch.first ≤ largest_sum
   pub some : 1 ≤ unsigned_abs stretch.quantity
-  pub quantity : unsigned_abs stretch.quantity ≤ 10 ^ 12
-  pub value : unsigned_abs stretch.value ≤ 10 ^ 12
+  pub quantity : unsigned_abs stretch.quantity ≤ largest_split_amount
+  pub value : unsigned_abs stretch.value ≤ largest_split_amount
 
 -- The splits of a side are numbered from 0, and no more units are paired than there are.
 pub record IsSound (side : Paired) : Type 0 where

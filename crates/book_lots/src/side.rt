@@ -1,7 +1,8 @@
-ghost use Rattle.std.specs.Prelude.{◌≡◌, ◌+◌, ◌^◌, ◌≤◌, [], ◌∷◌, ◌++◌, MatchOption, length, slice_get, slice_set, take};
+ghost use Rattle.std.specs.Prelude.{◌≡◌, ◌+◌, ◌≤◌, [], ◌∷◌, ◌++◌, MatchOption, length, slice_get, slice_set, take};
 ghost use Rattle.std.specs.Prelude.{if◌then◌else◌, is_ok, unsigned_abs};
 ghost use Rattle.std.specs.List.{All};
 ghost use Rattle.std.specs.Option.{ForSome};
+ghost use Rattle.book_limits.specs.Limits.{largest_sum};
 ghost use Rattle.book_lots.specs.Lots.{IsSmall, end_of, lot_past, lots_past, open_past, stretch_at, units_of};
 ghost use Rattle.book_lots.specs.Sides.{IsBounded, IsFrontTo, IsSound, mark_of_side};
 
@@ -53,7 +54,7 @@ impl Side {
     pub(crate) fn push(&mut self, place: usize, entry: &Entry) -> Result<(), OutOfMemory>
         requires small { IsSmall entry.now }
         requires some { 1 ≤ unsigned_abs entry.now.quantity }
-        requires few { units_of self.old.stretches ≤ 10 ^ 18 }
+        requires few { units_of self.old.stretches ≤ largest_sum }
         ensures stretches { self.new.stretches ≡ (if is_ok result
             then self.old.stretches ++ stretch_at place (units_of self.old.stretches) entry.now ∷ []
             else self.old.stretches) }

@@ -1,4 +1,5 @@
-ghost use Rattle.std.specs.Prelude.{◌≡◌, ◌*◌, ◌^◌, ◌≤◌, unsigned_abs};
+ghost use Rattle.std.specs.Prelude.{◌≡◌, ◌*◌, ◌≤◌, unsigned_abs};
+ghost use Rattle.book_limits.specs.Limits.{largest_split_amount};
 ghost use Rattle.book_lots.specs.Lots.{common_from, common_to, day_of_later, end_of, gain_from, lot_past, pair_of_two};
 ghost use Rattle.book_lots.specs.Lots.{share_of, stretch_at, value_of_first};
 ghost use Rattle.book_lots.specs.Sides.{IsBounded};
@@ -47,7 +48,7 @@ impl Stretch {
         requires bounded { IsBounded self.now }
         requires within { count ≤ unsigned_abs self.now.quantity }
         ensures part { result ≡ value_of_first self.now.value (unsigned_abs self.now.quantity) count }
-        ensures bound { unsigned_abs result ≤ 10 ^ 12 }
+        ensures bound { unsigned_abs result ≤ largest_split_amount }
     {
         let size = self.value.unsigned_abs() as u128 * count as u128
             / self.quantity.unsigned_abs() as u128;
@@ -65,7 +66,7 @@ impl Stretch {
         requires order { from ≤ to }
         requires most { to ≤ end_of self.now }
         ensures share { result ≡ share_of self.now from to }
-        ensures bound { unsigned_abs result ≤ 2 * 10 ^ 12 }
+        ensures bound { unsigned_abs result ≤ 2 * largest_split_amount }
     {
         self.part_of_value(to - self.first) - self.part_of_value(from - self.first)
     }

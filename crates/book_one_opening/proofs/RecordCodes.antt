@@ -1,5 +1,5 @@
 -- A row stands for one record alone: the spellings of a kind's records are those of no other record of the kind.
-use Rattle.std.proofs.Common.{◌≡◌, ℕ, ◌+◌, ◌==◌, List, ◌∷◌, ◌++◌, length, if◌then◌else◌}
+use Rattle.std.proofs.Common.{◌≡◌, ℕ, ◌+◌, ◌==◌, List, [], ◌∷◌, ◌++◌, length, if◌then◌else◌}
 use Rattle.std.proofs.Common.{◌-◌, zero, suc, flat_map, refl, sym, ap, ◌∙◌, subst, append_assoc, arith}
 use Rattle.std.proofs.lemmas.Int.{ints}
 use Rattle.book_keeper.specs.declared.row.RowKey.{RowKey}
@@ -62,6 +62,7 @@ use Rattle.book_rows.specs.declared.head.Head.{Head}
 use Rattle.book_rows.specs.declared.record.Record.TheVariants as record_of
 use Rattle.book_rows.specs.declared.record.Record.{Record}
 use Rattle.book_rows.proofs.EditLemmas.{HasParts, IsCurrency, IsGone, IsPut, currency_at, gone_at, parts_at, put_at}
+use Rattle.book_opening.proofs.ThingRecords.{kind_least, kind_most}
 use Rattle.book_one_opening.proofs.Codes.{IsCode, behind, byte-code, first-byte, flag-code, listed-code, made-code}
 use Rattle.book_one_opening.proofs.Codes.{number-code, only-items, optional-code, pair-code, signed-code, string-code}
 use Rattle.book_one_opening.proofs.Codes.{weaker-code, whole-code, wide-code}
@@ -398,28 +399,24 @@ only-fields :
     (a b : Record) → kind_of a ≡ kind_of b → IsRecord a → IsRecord b → fields_of a ≡ fields_of b → a ≡ b
 only-fields (record_of.Head a) (record_of.Head b) kinds fit less e =
     ap record_of.Head (whole-code head-code a b fit.0 less.0 e)
-only-fields (record_of.Commodity a) (record_of.Commodity b) kinds fit less e =
-    ap record_of.Commodity (whole-code commodity-code a b fit less e)
-only-fields (record_of.Account a) (record_of.Account b) kinds fit less e =
-    ap record_of.Account (whole-code account-code a b fit less e)
-only-fields (record_of.Txn a) (record_of.Txn b) kinds fit less e =
-    ap record_of.Txn (whole-code txn-code a b fit less e)
-only-fields (record_of.Price a) (record_of.Price b) kinds fit less e =
-    ap record_of.Price (whole-code price-code a b fit less e)
-only-fields (record_of.Schedule a) (record_of.Schedule b) kinds fit less e =
-    ap record_of.Schedule (whole-code schedule-code a b fit less e)
-only-fields (record_of.Held a) (record_of.Held b) kinds fit less e =
-    ap record_of.Held (whole-code held-code a b fit less e)
-only-fields (record_of.Line a) (record_of.Line b) kinds fit less e =
-    ap record_of.Line (whole-code line-code a b fit less e)
-only-fields (record_of.Binding a) (record_of.Binding b) kinds fit less e =
-    ap record_of.Binding (whole-code binding-code a b fit less e)
-only-fields (record_of.Recon a) (record_of.Recon b) kinds fit less e =
-    ap record_of.Recon (whole-code recon-code a b fit less e)
+only-fields (record_of.Thing a) (record_of.Thing b) kinds fit less e =
+    ap record_of.Thing (only-thing a b [] [] kinds fit less (ap (λ (l : List ℕ). l ++ []) e)).0
 only-fields (record_of.Back a) (record_of.Back b) kinds fit less e =
     ap record_of.Back (whole-code (edit-code 8) a b fit less e)
 only-fields (record_of.Forth a) (record_of.Forth b) kinds fit less e =
     ap record_of.Forth (whole-code (edit-code 8) a b fit less e)
+only-fields (record_of.Thing a) (record_of.Head b) kinds fit less e =
+    let least = kind_least (thing_kind_of a) in absurd (omega (arith, kinds, least))
+only-fields (record_of.Head a) (record_of.Thing b) kinds fit less e =
+    let least = kind_least (thing_kind_of b) in absurd (omega (arith, kinds, least))
+only-fields (record_of.Thing a) (record_of.Back b) kinds fit less e =
+    let most = kind_most (thing_kind_of a) in absurd (omega (arith, kinds, most))
+only-fields (record_of.Back a) (record_of.Thing b) kinds fit less e =
+    let most = kind_most (thing_kind_of b) in absurd (omega (arith, kinds, most))
+only-fields (record_of.Thing a) (record_of.Forth b) kinds fit less e =
+    let most = kind_most (thing_kind_of a) in absurd (omega (arith, kinds, most))
+only-fields (record_of.Forth a) (record_of.Thing b) kinds fit less e =
+    let most = kind_most (thing_kind_of b) in absurd (omega (arith, kinds, most))
 only-fields a b kinds fit less e = absurd (omega (arith, kinds))
 
 -- A row stands for one record at most.

@@ -17,48 +17,24 @@ use Rattle.book_undo.specs.EditRules.{is_above, first_unordered, out_of_order}
 use Rattle.book_undo.specs.Thing.{row_kind, kind_of as thing_kind}
 use Rattle.book_undo.specs.declared.edit.Edit.{Edit}
 use Rattle.book_undo.specs.declared.thing.Thing.{Thing}
-use Rattle.book_undo.specs.declared.thing.ThingKind.{ThingKind}
-use Rattle.book_undo.specs.declared.thing.ThingKind.TheVariants as kind
 use Rattle.book_undo.proofs.EditLaws.{after_leaves, edited-leaves}
 use Rattle.book_rows.specs.Row.{IsRecord, kind_of}
 use Rattle.book_rows.specs.declared.head.Head.{Head}
 use Rattle.book_rows.specs.declared.record.Record.{Record}
 use Rattle.book_rows.specs.declared.record.Record.TheVariants as kept
-use Rattle.book_opening.specs.BookRows.{behind_head, record_of, row_of, things_of}
+use Rattle.book_opening.specs.BookRows.{behind_head, row_of, things_of}
 use Rattle.book_opening.specs.Changes.{GoneBack, GoneForth, PutBack, PutForth, StepChange, StepFits, step_change}
 use Rattle.book_opening.specs.Changes.{step_number, with_step, with_steps}
-use Rattle.book_opening.specs.Item.{record_of_item, with_item}
 use Rattle.book_opening.specs.Changes.{LeafFits, IsSmallLeaf, changes_of, leaf_changes}
 use Rattle.book_opening.specs.Opening.{CanBeRow, OpenAs}
+use Rattle.book_opening.specs.Reading.{with_record}
 use Rattle.book_opening.specs.State.{State, head_of}
 use Rattle.book_opening.specs.Steps.{AreCounted}
-use Rattle.book_opening.specs.declared.item.Item.{Item}
-use Rattle.book_opening.specs.declared.item.Item.TheVariants as item
 use Rattle.book_opening.proofs.Ranked.{put_in, take_out, all_both, all_put, all_take, all_weak, pushed, pushed_one}
-use Rattle.book_opening.proofs.StateRecords.{kind-record, kind_most, put_item, record_most, steps_of, take_back}
+use Rattle.book_opening.proofs.StateRecords.{put_record, steps_of, take_back}
 use Rattle.book_opening.proofs.StateRecords.{take_forth, take_thing}
 use Rattle.book_opening.proofs.StateRecords.{with_book, without_back, without_forth}
-use Rattle.book_opening.proofs.ThingRecords.{rank_of, IsSmall}
-
-pub kind_least : (k : ThingKind) → 2 ≤ row_kind k
-kind_least kind.Commodity = omega arith
-kind_least kind.Account = omega arith
-kind_least kind.Txn = omega arith
-kind_least kind.Price = omega arith
-kind_least kind.Schedule = omega arith
-kind_least kind.Held = omega arith
-kind_least kind.Line = omega arith
-kind_least kind.Binding = omega arith
-kind_least kind.Recon = omega arith
-
-pub record_least : (t : Thing) → 2 ≤ kind_of (record_of t)
-record_least t = let same = kind-record t in let least = kind_least (thing_kind t) in omega (arith, same, least)
-
--- the kind of what stands behind the head is not the head's
-pub item_least : (it : Item) → 2 ≤ kind_of (record_of_item it)
-item_least (item.Thing t) = record_least t
-item_least (item.Back e) = omega arith
-item_least (item.Forth e) = omega arith
+use Rattle.book_opening.proofs.ThingRecords.{rank_of, IsSmall, kind_least, kind_most}
 
 -- ---- rows of records
 mapped_put :
@@ -97,13 +73,14 @@ rows_under head s = map row_of ((0, kept.Head head) ∷ behind_head s)
 
 -- The rows with one more are those of the state with what it stands for.
 pub put_row :
-    (head : Head) (n : ℕ) (it : Item) (s : State) → n < 2 ^ 62 → AllByRecursion IsSmall (behind_head s)
-    → with_row (row_of (n, record_of_item it)) (rows_under head s) ≡ rows_under head (with_item n it s)
-put_row head n it s small all =
-    behind_first (row_of (n, record_of_item it)) (row_of (0, kept.Head head)) (map row_of (behind_head s))
-    (past_head (kind_of (record_of_item it)) n (item_least it))
+    (head : Head) (n : ℕ) (it : Record) (s : State) → 2 ≤ kind_of it → n < 2 ^ 62
+    → AllByRecursion IsSmall (behind_head s)
+    → with_row (row_of (n, it)) (rows_under head s) ≡ rows_under head (with_record n it s)
+put_row head n it s least small all =
+    behind_first (row_of (n, it)) (row_of (0, kept.Head head)) (map row_of (behind_head s))
+    (past_head (kind_of it) n least)
     ∙ ap (λ (l : List Row). row_of (0, kept.Head head) ∷ l)
-    (mapped_put (n, record_of_item it) (behind_head s) ∙ ap (map row_of) (put_item n it s small all))
+    (mapped_put (n, it) (behind_head s) ∙ ap (map row_of) (put_record n it s least small all))
 
 gone_row :
     (head : Head) (key : RowKey) (s t : State) → 2 ≤ key.kind
@@ -116,11 +93,11 @@ gone_row head key s t least taken =
 
 -- What holds of all records still does with one more.
 pub all_with :
-    (P : ℕ × Record → Type 0) (n : ℕ) (it : Item) (s : State) → n < 2 ^ 62 → AllByRecursion IsSmall (behind_head s)
-    → P (n, record_of_item it) → AllByRecursion P (behind_head s) → AllByRecursion P (behind_head (with_item n it s))
-all_with P n it s small all here h =
-    subst (AllByRecursion P) (put_item n it s small all)
-    (all_put P rank_of (n, record_of_item it) (behind_head s) here h)
+    (P : ℕ × Record → Type 0) (n : ℕ) (it : Record) (s : State) → 2 ≤ kind_of it → n < 2 ^ 62
+    → AllByRecursion IsSmall (behind_head s) → P (n, it) → AllByRecursion P (behind_head s)
+    → AllByRecursion P (behind_head (with_record n it s))
+all_with P n it s least small all here h =
+    subst (AllByRecursion P) (put_record n it s least small all) (all_put P rank_of (n, it) (behind_head s) here h)
 
 all_gone :
     (P : ℕ × Record → Type 0) (n : ℕ) (s t : State) → take_out rank_of n (behind_head s) ≡ behind_head t
@@ -148,9 +125,10 @@ rows_after_leaves (OfCurrency c ∷ ls) head s all small =
     same
     ∙ rows_after_leaves ls head (with_book (with_currency c s.book) s) (subst (AllByRecursion IsSmall) same all) small.1
 rows_after_leaves (OfPut n t ∷ ls) head s all small =
-    ap (after_changes (flat_map leaf_changes ls)) (put_row head n (item.Thing t) s small.0 all)
-    ∙ rows_after_leaves ls head (with_item n (item.Thing t) s)
-    (all_with IsSmall n (item.Thing t) s small.0 all small.0 all) small.1
+    let least = kind_least (thing_kind t) in
+    ap (after_changes (flat_map leaf_changes ls)) (put_row head n (kept.Thing t) s least small.0 all)
+    ∙ rows_after_leaves ls head (with_record n (kept.Thing t) s)
+    (all_with IsSmall n (kept.Thing t) s least small.0 all small.0 all) small.1
 rows_after_leaves (OfGone k n ∷ ls) head s all small =
     let next = with_book (without_thing k n s.book) s in
     let taken = take_thing k n s small.0 all in
@@ -175,8 +153,9 @@ spelled_after (OfCurrency c ∷ ls) s small fit can =
     (subst (AllByRecursion CanBeRow) (same_behind c s) can)
 spelled_after (OfPut n t ∷ ls) s small fit can =
     let all = small_numbers (behind_head s) can in
-    spelled_after ls (with_item n (item.Thing t) s) small.1 fit.1
-    (all_with CanBeRow n (item.Thing t) s small.0 all (can_be n (record_of t) (record_least t) small.0 fit.0) can)
+    let least = kind_least (thing_kind t) in
+    spelled_after ls (with_record n (kept.Thing t) s) small.1 fit.1
+    (all_with CanBeRow n (kept.Thing t) s least small.0 all (can_be n (kept.Thing t) least small.0 fit.0) can)
 spelled_after (OfGone k n ∷ ls) s small fit can =
     let all = small_numbers (behind_head s) can in
     let next = with_book (without_thing k n s.book) s in
@@ -191,10 +170,10 @@ IsSmallStep step = step_number step < 2 ^ 62
 step_row :
     (step : StepChange) (head : Head) (s : State) → IsSmallStep step → AllByRecursion IsSmall (behind_head s)
     → after_change (step_change step) (rows_under head s) ≡ rows_under head (with_step step s)
-step_row (PutBack n e) head s small all = put_row head n (item.Back e) s small all
+step_row (PutBack n e) head s small all = put_row head n (kept.Back e) s (omega arith) small all
 step_row (GoneBack n) head s small all =
     gone_row head (record { kind = 11; id = n }) s (without_back n s) (omega arith) (take_back n s small all)
-step_row (PutForth n e) head s small all = put_row head n (item.Forth e) s small all
+step_row (PutForth n e) head s small all = put_row head n (kept.Forth e) s (omega arith) small all
 step_row (GoneForth n) head s small all =
     gone_row head (record { kind = 12; id = n }) s (without_forth n s) (omega arith) (take_forth n s all)
 
@@ -204,11 +183,11 @@ step_all :
     → ((it : Record) → 2 ≤ kind_of it → IsRecord it → P (step_number step, it)) → StepFits step
     → AllByRecursion P (behind_head s) → AllByRecursion P (behind_head (with_step step s))
 step_all P (PutBack n e) s small all here fits h =
-    all_with P n (item.Back e) s small all (here (kept.Back e) (omega arith) fits) h
+    all_with P n (kept.Back e) s (omega arith) small all (here (kept.Back e) (omega arith) fits) h
 step_all P (GoneBack n) s small all here fits h =
     all_gone P (11 * 2 ^ 64 + n) s (without_back n s) (take_back n s small all) h
 step_all P (PutForth n e) s small all here fits h =
-    all_with P n (item.Forth e) s small all (here (kept.Forth e) (omega arith) fits) h
+    all_with P n (kept.Forth e) s (omega arith) small all (here (kept.Forth e) (omega arith) fits) h
 step_all P (GoneForth n) s small all here fits h =
     all_gone P (12 * 2 ^ 64 + n) s (without_forth n s) (take_forth n s all) h
 
@@ -290,16 +269,15 @@ rise_from j m (OfCurrency c ∷ ls) n e small low le =
     let above = above_rank 1 0 j m both.0 (omega arith) in
     rise_from 1 0 ls n both.1 small.1 (omega arith) (omega (arith, above))
 rise_from j m (OfPut k t ∷ ls) n e small low le =
-    let least = record_least t in
-    let same = kind-record t in
+    let least = kind_least (thing_kind t) in
     let both = ordered_by (is_above (key_at (row_kind (thing_kind t)) k) (key_at j m))
     (first_unordered (key_at (row_kind (thing_kind t)) k) ls) e in
     let above = above_rank (row_kind (thing_kind t)) k j m both.0 (omega arith) in
     let small_here = small.0 in (
-      omega (arith, above, least, same),
+      omega (arith, above, least),
       small.0,
-      rise_from (row_kind (thing_kind t)) k ls (kind_of (record_of t) * 2 ^ 64 + k + 1) both.1 small.1 small.0
-          (omega (arith, same)),
+      rise_from (row_kind (thing_kind t)) k ls (row_kind (thing_kind t) * 2 ^ 64 + k + 1) both.1 small.1 small.0
+          (omega arith),
     )
 rise_from j m (OfGone t k ∷ ls) n e small low le =
     let least = kind_least t in
@@ -335,7 +313,7 @@ leaves_below :
 leaves_below [] small = tt
 leaves_below (OfCurrency c ∷ ls) small = leaves_below ls small.1
 leaves_below (OfPut n t ∷ ls) small =
-    let most = record_most t in let low = small.0 in (omega (arith, most, low), leaves_below ls small.1)
+    let most = kind_most (thing_kind t) in let low = small.0 in (omega (arith, most, low), leaves_below ls small.1)
 leaves_below (OfGone k n ∷ ls) small =
     let most = kind_most k in let low = small.0 in (omega (arith, most, low), leaves_below ls small.1)
 

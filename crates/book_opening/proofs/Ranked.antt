@@ -16,6 +16,10 @@ take_out r n [] = []
 take_out r n (y ∷ ys) = if n == r y then ys else y ∷ take_out r n ys
 
 -- ---- all items
+-- What holds of an item, before what holds of those behind it.
+pub beside : {A B : Type 0} → A → B → A × B
+beside a b = (a, b)
+
 pub all_both :
     {X : Type 0} (P : X → Type 0) (xs ys : List X) → AllByRecursion P xs → AllByRecursion P ys
     → AllByRecursion P (xs ++ ys)

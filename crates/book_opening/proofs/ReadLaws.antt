@@ -1,7 +1,7 @@
 -- One row more is read: the state so far has what it stands for, and has exactly what the rows so far stand for.
-use Rattle.std.proofs.Common.{◌≡◌, ℕ, List, [], ◌∷◌, ◌++◌, map, Some, None, Result, Ok, Err, IfOk, IfErr}
-use Rattle.std.proofs.Common.{inl, inr, refl, sym, ap, ◌∙◌, subst, ◌≤◌, arith}
-use Rattle.book_rows.specs.Row.{kind_of}
+use Rattle.std.proofs.Common.{◌≡◌, ℕ, zero, suc, ◌+◌, ◌*◌, ◌^◌, ◌<◌, ◌≤◌, List, [], ◌∷◌, ◌++◌, map, Some, None}
+use Rattle.std.proofs.Common.{Result, Ok, Err, IfOk, IfErr, inl, inr, refl, sym, ap, ◌∙◌, subst, arith}
+use Rattle.book_rows.specs.Row.{IsSpelledBy, kind_of}
 use Rattle.std.specs.List.{AllByRecursion}
 use Rattle.book_keeper.specs.declared.keeper.Keeper.{Ghosts}
 use Rattle.book_keeper.specs.declared.row.Row.{Row}
@@ -15,17 +15,14 @@ use Rattle.book_rows.specs.declared.record.Record.{Record}
 use Rattle.book_rows.specs.declared.record.Record.TheVariants as kept
 use Rattle.book_opening.specs.BookRows.{back_records, behind_head, forth_records, records_of, row_of, rows_of}
 use Rattle.book_opening.specs.BookRows.{things_of}
-use Rattle.book_opening.specs.Item.{record_of_item, with_item}
 use Rattle.book_opening.specs.Opening.{Begins, IsBadFor, IsBadHead, IsBadThing, IsLeastBad, IsNoRecord}
 use Rattle.book_opening.specs.Opening.{IsOnlyRecord, IsOpened, OpenAs, StaysSure, WasRead, WhereBad, WhereRead}
 use Rattle.book_opening.specs.Opening.{head_key}
-use Rattle.book_opening.specs.Reading.{IsBegun, IsFirstBad, IsWhole, bad_key}
+use Rattle.book_opening.specs.Reading.{IsBegun, IsFirstBad, IsWhole, bad_key, with_record}
 use Rattle.book_opening.specs.State.{State, head_of, state_of}
 use Rattle.book_opening.specs.Steps.{AreCounted}
 use Rattle.book_opening.specs.declared.fault.OpenFault.{OpenFault}
 use Rattle.book_opening.specs.declared.fault.OpenFault.TheVariants as fault
-use Rattle.book_opening.specs.declared.item.Item.{Item}
-use Rattle.book_opening.specs.declared.item.Item.TheVariants as item
 use Rattle.book_opening.specs.declared.saved.Saved.{Saved}
 use Rattle.book_opening.proofs.Ranked.{all_weak}
 use Rattle.book_opening.proofs.ThingRecords.{IsSmall}
@@ -37,8 +34,9 @@ small_records : (es : List (ℕ × Record)) → AllByRecursion IsOnlyRecord es �
 small_records es h = all_weak IsOnlyRecord IsSmall (λ e only. only.0.0.1) es h
 
 -- The head stays with one more.
-pub head_with : (n : ℕ) (it : Item) (s : State) → head_of (with_item n it s) ≡ head_of s
-head_with n (item.Thing t) s =
+pub head_with : (n : ℕ) (it : Record) (s : State) → head_of (with_record n it s) ≡ head_of s
+head_with n (kept.Head h) s = refl
+head_with n (kept.Thing t) s =
     ap
     (λ (c : ℕ). record {
       next = s.next;
@@ -49,33 +47,33 @@ head_with n (item.Thing t) s =
       currency = c;
     })
     (currency-with n t s.book)
-head_with n (item.Back e) s = refl
-head_with n (item.Forth e) s = refl
+head_with n (kept.Back e) s = refl
+head_with n (kept.Forth e) s = refl
 
 pub next_head :
-    (s t : State) (n : ℕ) (it : Item) (head : Head) → t ≡ with_item n it s → head_of s ≡ head → head_of t ≡ head
+    (s t : State) (n : ℕ) (it : Record) (head : Head) → t ≡ with_record n it s → head_of s ≡ head → head_of t ≡ head
 next_head s t n it head is same = ap head_of is ∙ head_with n it s ∙ same
 
 pub next_read :
-    (s t : State) (n : ℕ) (it : Item) → t ≡ with_item n it s → IsOnlyRecord (n, record_of_item it)
+    (s t : State) (n : ℕ) (it : Record) → 2 ≤ kind_of it → t ≡ with_record n it s → IsOnlyRecord (n, it)
     → AllByRecursion IsOnlyRecord (records_of s) → AllByRecursion IsOnlyRecord (records_of t)
-next_read s t n it is here h =
+next_read s t n it least is here h =
     subst (λ (x : State). AllByRecursion IsOnlyRecord (records_of x)) (sym is) (
       subst (λ (x : Head). IsOnlyRecord (0, kept.Head x)) (sym (head_with n it s)) h.0,
-      all_with IsOnlyRecord n it s here.0.0.1 (small_records (behind_head s) h.1) here h.1,
+      all_with IsOnlyRecord n it s least here.0.0.1 (small_records (behind_head s) h.1) here h.1,
     )
 
 pub next_rows :
-    (rows : List Row) (last : ℕ) (row : Row) (s t : State) (n : ℕ) (it : Item) → Rises rows
-    → first_above last rows ≡ Some row → up_to last rows ≡ rows_of s → row ≡ row_of (n, record_of_item it)
-    → t ≡ with_item n it s → IsOnlyRecord (n, record_of_item it) → AllByRecursion IsOnlyRecord (records_of s)
+    (rows : List Row) (last : ℕ) (row : Row) (s t : State) (n : ℕ) (it : Record) → 2 ≤ kind_of it → Rises rows
+    → first_above last rows ≡ Some row → up_to last rows ≡ rows_of s → row ≡ row_of (n, it)
+    → t ≡ with_record n it s → IsOnlyRecord (n, it) → AllByRecursion IsOnlyRecord (records_of s)
     → up_to (rank row.key) rows ≡ rows_of t
-next_rows rows last row s t n it rise next so_far row_is is here h =
+next_rows rows last row s t n it least rise next so_far row_is is here h =
     up_to_next last rows row rise next
     ∙ ap (with_row row) so_far
     ∙ ap (λ (r : Row). with_row r (rows_of s)) row_is
-    ∙ put_row (head_of s) n it s here.0.0.1 (small_records (behind_head s) h.1)
-    ∙ ap (λ (h : Head). rows_under h (with_item n it s)) (sym (head_with n it s))
+    ∙ put_row (head_of s) n it s least here.0.0.1 (small_records (behind_head s) h.1)
+    ∙ ap (λ (h : Head). rows_under h (with_record n it s)) (sym (head_with n it s))
     ∙ ap rows_of (sym is)
 
 pub last_rows :
@@ -288,17 +286,15 @@ pub next_bad :
 next_bad rows last row s first error rise next so_far only begins none is same =
     subst (IsBadFor rows) (sym same) (part_bad rows last row s first rise next so_far only begins none is)
 
--- What a row of kind 1 stands for is a head.
-pub first_kind : (it : Record) → kind_of it ≤ 1 → (head : Head) × (it ≡ kept.Head head)
-first_kind (kept.Head head) low = (head, refl)
-first_kind (kept.Commodity it) low = absurd (omega (arith, low))
-first_kind (kept.Account it) low = absurd (omega (arith, low))
-first_kind (kept.Txn it) low = absurd (omega (arith, low))
-first_kind (kept.Price it) low = absurd (omega (arith, low))
-first_kind (kept.Schedule it) low = absurd (omega (arith, low))
-first_kind (kept.Held it) low = absurd (omega (arith, low))
-first_kind (kept.Line it) low = absurd (omega (arith, low))
-first_kind (kept.Binding it) low = absurd (omega (arith, low))
-first_kind (kept.Recon it) low = absurd (omega (arith, low))
-first_kind (kept.Back it) low = absurd (omega (arith, low))
-first_kind (kept.Forth it) low = absurd (omega (arith, low))
+past_head_kind : (k n : ℕ) → 1 * 2 ^ 64 + 0 < k * 2 ^ 64 + n → n < 2 ^ 62 → (k ≡ 1 → n ≡ 0) → 2 ≤ k
+past_head_kind zero n past small one = absurd (omega (arith, past, small))
+past_head_kind (suc zero) n past small one = let none = one refl in absurd (omega (arith, past, none))
+past_head_kind (suc (suc k)) n past small one = omega arith
+
+-- What a row behind the head stands for is no head.
+pub behind_kind :
+    (key : RowKey) (body : List ℕ) (it : Record) → rank head_key < rank key → IsSpelledBy key body it
+    → 2 ≤ kind_of it
+behind_kind key body it past is =
+    let least = past_head_kind key.kind key.id past is.0.1 is.0.2 in
+    let same = is.0.0 in omega (arith, least, same)

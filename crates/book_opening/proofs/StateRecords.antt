@@ -7,21 +7,17 @@ use Rattle.book_undo.specs.Book.{Book, IsRising, without_thing}
 use Rattle.book_undo.specs.Thing.{kind_of as thing_kind, row_kind}
 use Rattle.book_undo.specs.declared.edit.Edit.{Edit}
 use Rattle.book_undo.specs.declared.thing.Thing.{Thing}
-use Rattle.book_undo.specs.declared.thing.Thing.TheVariants as thing
 use Rattle.book_undo.specs.declared.thing.ThingKind.{ThingKind}
-use Rattle.book_undo.specs.declared.thing.ThingKind.TheVariants as kind
 use Rattle.book_rows.specs.Row.{kind_of}
 use Rattle.book_rows.specs.declared.record.Record.{Record}
 use Rattle.book_rows.specs.declared.record.Record.TheVariants as kept
-use Rattle.book_opening.specs.BookRows.{back_records, behind_head, forth_records, record_of, things_of}
-use Rattle.book_opening.specs.Item.{record_of_item, with_item}
+use Rattle.book_opening.specs.BookRows.{back_records, behind_head, forth_records, things_of}
+use Rattle.book_opening.specs.Reading.{with_record}
 use Rattle.book_opening.specs.State.{State}
-use Rattle.book_opening.specs.declared.item.Item.{Item}
-use Rattle.book_opening.specs.declared.item.Item.TheVariants as item
 use Rattle.book_opening.proofs.Ranked.{RisesBy, all_both, all_first, all_last, all_weak, put_entry, put_in, put_pass}
 use Rattle.book_opening.proofs.Ranked.{put_stop, rises_both, rises_entries, take_entry, take_out, take_pass, take_stop}
-use Rattle.book_opening.proofs.ThingRecords.{IsSmall, rank_of, things_behind, things_below, things_rise, things_with}
-use Rattle.book_opening.proofs.ThingRecords.{things_without}
+use Rattle.book_opening.proofs.ThingRecords.{IsSmall, kind_most, rank_of, things_behind, things_below, things_rise}
+use Rattle.book_opening.proofs.ThingRecords.{things_with, things_without}
 
 -- Where the records of the steps back and forth begin, and where they end.
 abbrev back_edge : ℕ
@@ -88,24 +84,14 @@ forth_above s n low =
     all_weak (λ (e : ℕ × Record). forth_edge ≤ rank_of e) (λ (e : ℕ × Record). n < rank_of e)
     (λ e past. omega (arith, past, low)) (forth_records s.forth) (forth_edges s.forth)
 
-pub kind_most : (k : ThingKind) → row_kind k ≤ 10
-kind_most kind.Commodity = omega arith
-kind_most kind.Account = omega arith
-kind_most kind.Txn = omega arith
-kind_most kind.Price = omega arith
-kind_most kind.Schedule = omega arith
-kind_most kind.Held = omega arith
-kind_most kind.Line = omega arith
-kind_most kind.Binding = omega arith
-kind_most kind.Recon = omega arith
-
 -- ---- what is put
 put_thing :
-    (n : ℕ) (t : Thing) (s : State) → kind_of (record_of t) ≤ 10 → n < 2 ^ 62 → AllByRecursion IsSmall (behind_head s)
-    → put_in rank_of (n, record_of t) (behind_head s) ≡ behind_head (with_item n (item.Thing t) s)
-put_thing n t s most small all =
-    put_stop rank_of (n, record_of t) (things_of s.book) (steps_of s)
-    (steps_above s (kind_of (record_of t) * 2 ^ 64 + n) all (omega (arith, most, small)))
+    (n : ℕ) (t : Thing) (s : State) → n < 2 ^ 62 → AllByRecursion IsSmall (behind_head s)
+    → put_in rank_of (n, kept.Thing t) (behind_head s) ≡ behind_head (with_record n (kept.Thing t) s)
+put_thing n t s small all =
+    let most = kind_most (thing_kind t) in
+    put_stop rank_of (n, kept.Thing t) (things_of s.book) (steps_of s)
+    (steps_above s (row_kind (thing_kind t) * 2 ^ 64 + n) all (omega (arith, most, small)))
     ∙ ap (λ (l : List (ℕ × Record)). l ++ steps_of s) (sym (things_with n t s.book small (small_things s all)))
 
 back_put :
@@ -122,7 +108,7 @@ forth_put n e es =
 
 put_back :
     (n : ℕ) (e : Edit) (s : State) → n < 2 ^ 62 → AllByRecursion IsSmall (behind_head s)
-    → put_in rank_of (n, kept.Back e) (behind_head s) ≡ behind_head (with_item n (item.Back e) s)
+    → put_in rank_of (n, kept.Back e) (behind_head s) ≡ behind_head (with_record n (kept.Back e) s)
 put_back n e s small all =
     put_pass rank_of (n, kept.Back e) (things_of s.book) (steps_of s)
     (things_before s (back_edge + n) all (omega arith))
@@ -133,7 +119,7 @@ put_back n e s small all =
 
 put_forth :
     (n : ℕ) (e : Edit) (s : State) → AllByRecursion IsSmall (behind_head s)
-    → put_in rank_of (n, kept.Forth e) (behind_head s) ≡ behind_head (with_item n (item.Forth e) s)
+    → put_in rank_of (n, kept.Forth e) (behind_head s) ≡ behind_head (with_record n (kept.Forth e) s)
 put_forth n e s all =
     put_pass rank_of (n, kept.Forth e) (things_of s.book) (steps_of s)
     (things_before s (forth_edge + n) all (omega arith))
@@ -142,28 +128,14 @@ put_forth n e s all =
     (back_before s (forth_edge + n) all (omega arith))
     ∙ ap (λ (l : List (ℕ × Record)). back_records s.back ++ l) (forth_put n e s.forth))
 
--- The kind of a thing's record is that of the thing.
-pub kind-record : (t : Thing) → kind_of (record_of t) ≡ row_kind (thing_kind t)
-kind-record (thing.Commodity x) = refl
-kind-record (thing.Account x) = refl
-kind-record (thing.Txn x) = refl
-kind-record (thing.Price x) = refl
-kind-record (thing.Schedule x) = refl
-kind-record (thing.Held x) = refl
-kind-record (thing.Line x) = refl
-kind-record (thing.Binding x) = refl
-kind-record (thing.Recon x) = refl
-
-pub record_most : (t : Thing) → kind_of (record_of t) ≤ 10
-record_most t = let same = kind-record t in let most = kind_most (thing_kind t) in omega (arith, same, most)
-
 -- The records with one more are those of the state with it.
-pub put_item :
-    (n : ℕ) (it : Item) (s : State) → n < 2 ^ 62 → AllByRecursion IsSmall (behind_head s)
-    → put_in rank_of (n, record_of_item it) (behind_head s) ≡ behind_head (with_item n it s)
-put_item n (item.Thing t) s small all = put_thing n t s (record_most t) small all
-put_item n (item.Back e) s small all = put_back n e s small all
-put_item n (item.Forth e) s small all = put_forth n e s all
+pub put_record :
+    (n : ℕ) (it : Record) (s : State) → 2 ≤ kind_of it → n < 2 ^ 62 → AllByRecursion IsSmall (behind_head s)
+    → put_in rank_of (n, it) (behind_head s) ≡ behind_head (with_record n it s)
+put_record n (kept.Head h) s least small all = absurd (omega (arith, least))
+put_record n (kept.Thing t) s least small all = put_thing n t s small all
+put_record n (kept.Back e) s least small all = put_back n e s small all
+put_record n (kept.Forth e) s least small all = put_forth n e s all
 
 -- ---- what is taken out
 -- The state with another book.

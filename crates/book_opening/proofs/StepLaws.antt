@@ -49,12 +49,12 @@ stands_joined key xs ys = ap (stands_at key) (map_both xs ys) ∙ stands_both ke
 -- no thing stands at the key of a step
 no_thing :
     (key : RowKey) (es : List (ℕ × Record)) → is_step key ≡ true
-    → AllByRecursion (λ e. (2 ≤ kind_of e.1) × (kind_of e.1 ≤ 10)) es
+    → AllByRecursion (λ e. kind_of e.1 ≤ 10) es
     → stands_at key (map row_of es) ≡ false
 no_thing key [] step low = refl
 no_thing key (e ∷ es) step low =
     let rest = no_thing key es step low.1 in
-    let here = low.0.1 in
+    let here = low.0 in
     grind (arith, nat_tests, rest, here)
 
 found_by :

@@ -11,7 +11,8 @@ use Rattle.book_undo.specs.declared.edit.Edit.{Edit}
 use Rattle.book_rows.specs.EditBytes.{edit_bytes, IsEdit}
 use Rattle.book_rows.specs.Row.{IsRecord, fields_of, kind_of}
 use Rattle.book_rows.specs.declared.record.Record.{Record}
-use Rattle.book_opening.specs.BookRows.{back_records, forth_records, record_of, records_in, row_of, tables_of}
+use Rattle.book_rows.specs.declared.record.Record.TheVariants as kept
+use Rattle.book_opening.specs.BookRows.{back_records, forth_records, records_in, row_of, tables_of}
 use Rattle.book_opening.specs.BookRows.{things_of}
 use Rattle.book_opening.specs.Changes.{AreRecords, entry_put, puts_of}
 use Rattle.book_opening.proofs.Ranked.{all_both, joined}
@@ -46,8 +47,8 @@ entry_at {T} es i n v number value =
 
 -- the changes that put a table's entries are those of its records
 pub table_puts :
-    {T : Type 0} (kind : ℕ) (bytes : T → List ℕ) (of : T → Thing) → ((x : T) → kind_of (record_of (of x)) ≡ kind)
-    → ((x : T) → fields_of (record_of (of x)) ≡ bytes x) → (es : List (ℕ × T))
+    {T : Type 0} (kind : ℕ) (bytes : T → List ℕ) (of : T → Thing) → ((x : T) → kind_of (kept.Thing (of x)) ≡ kind)
+    → ((x : T) → fields_of (kept.Thing (of x)) ≡ bytes x) → (es : List (ℕ × T))
     → map (entry_put kind bytes) es ≡ puts_of (records_in of es)
 table_puts kind bytes of same spelled [] = refl
 table_puts {T} kind bytes of same spelled (e ∷ es) =
@@ -56,13 +57,13 @@ table_puts {T} kind bytes of same spelled (e ∷ es) =
     ∷ puts_of (records_in of es)) (sym (same e.1))
     ∙ ap
     (λ (b : List ℕ). change.Put (record {
-      key = record { kind = kind_of (record_of (of e.1)); id = e.0 };
+      key = record { kind = kind_of (kept.Thing (of e.1)); id = e.0 };
       body = 1 ∷ b;
     })
     ∷ puts_of (records_in of es)) (sym (spelled e.1))
 
 pub table_fit :
-    {T : Type 0} (P : T → Type 0) (of : T → Thing) → ((x : T) → P x → IsRecord (record_of (of x)))
+    {T : Type 0} (P : T → Type 0) (of : T → Thing) → ((x : T) → P x → IsRecord (kept.Thing (of x)))
     → (es : List (ℕ × T)) → AllByRecursion (λ e. P e.1) es → AreRecords (records_in of es)
 table_fit P of fits [] h = tt
 table_fit P of fits (e ∷ es) h = (fits e.1 h.0, table_fit P of fits es h.1)
@@ -97,15 +98,15 @@ nine_behind z a b c d e f g h i = simp (append_assoc, append-nil)
 
 -- a table is put behind what was there
 pub table_added :
-    {T : Type 0} (kind : ℕ) (bytes : T → List ℕ) (of : T → Thing) → ((x : T) → kind_of (record_of (of x)) ≡ kind)
-    → ((x : T) → fields_of (record_of (of x)) ≡ bytes x) → (es slice : List (ℕ × T)) (old new : List Change)
+    {T : Type 0} (kind : ℕ) (bytes : T → List ℕ) (of : T → Thing) → ((x : T) → kind_of (kept.Thing (of x)) ≡ kind)
+    → ((x : T) → fields_of (kept.Thing (of x)) ≡ bytes x) → (es slice : List (ℕ × T)) (old new : List Change)
     → slice ≡ es → new ≡ old ++ map (entry_put kind bytes) slice → new ≡ old ++ puts_of (records_in of es)
 table_added kind bytes of same spelled es slice old new is added =
     added ∙ ap (λ l. old ++ map (entry_put kind bytes) l) is
     ∙ ap (λ (l : List Change). old ++ l) (table_puts kind bytes of same spelled es)
 
 pub slice_fit :
-    {T : Type 0} (P : T → Type 0) (of : T → Thing) → ((x : T) → P x → IsRecord (record_of (of x)))
+    {T : Type 0} (P : T → Type 0) (of : T → Thing) → ((x : T) → P x → IsRecord (kept.Thing (of x)))
     → (es slice : List (ℕ × T)) → slice ≡ es → AllByRecursion (λ e. P e.1) slice → AreRecords (records_in of es)
 slice_fit {T} P of fits es slice is h =
     table_fit P of fits es (subst (λ (l : List (ℕ × T)). AllByRecursion (λ e. P e.1) l) is h)

@@ -10,21 +10,9 @@ use Rattle.book_rows.specs.declared.record.Record.{Record}
 use Rattle.book_rows.specs.declared.record.Record.TheVariants as kept
 use Rattle.book_opening.specs.State.{State, head_of}
 
--- The record of a thing.
-abbrev pub record_of : Thing → Record
-record_of (thing.Commodity commodity) = kept.Commodity commodity
-record_of (thing.Account account) = kept.Account account
-record_of (thing.Txn transaction) = kept.Txn transaction
-record_of (thing.Price price) = kept.Price price
-record_of (thing.Schedule schedule) = kept.Schedule schedule
-record_of (thing.Held statement) = kept.Held statement
-record_of (thing.Line line) = kept.Line line
-record_of (thing.Binding binding) = kept.Binding binding
-record_of (thing.Recon reconciliation) = kept.Recon reconciliation
-
 -- The records of a table, each with its number.
 abbrev pub records_in : {T : Type 0} → (T → Thing) → List (ℕ × T) → List (ℕ × Record)
-records_in of entries = map (λ entry. (entry.0, record_of (of entry.1))) entries
+records_in of entries = map (λ entry. (entry.0, kept.Thing (of entry.1))) entries
 
 -- The records of the nine tables, in the order of their kinds.
 abbrev pub tables_of : Book → List (List (ℕ × Record))

@@ -11,14 +11,14 @@ use Rattle.book_rows.specs.Row.{IsRecord}
 use Rattle.book_rows.specs.declared.head.Head.{Head}
 use Rattle.book_rows.specs.declared.record.Record.{Record}
 use Rattle.book_rows.specs.declared.record.Record.TheVariants as kept
-use Rattle.book_opening.specs.BookRows.{record_of, row_of, rows_of}
+use Rattle.book_opening.specs.BookRows.{row_of, rows_of}
 use Rattle.book_opening.specs.State.{State}
 
 -- The changes of rows that a leaf comes to: a thing that is put is written, and one that is deleted has no row any
 -- more. The currency stands in the head.
 abbrev pub leaf_changes : Leaf → List Change
 leaf_changes (OfCurrency currency) = []
-leaf_changes (OfPut number thing) = change.Put (row_of (number, record_of thing)) ∷ []
+leaf_changes (OfPut number thing) = change.Put (row_of (number, kept.Thing thing)) ∷ []
 leaf_changes (OfGone kind number) = change.Gone (record { kind = row_kind kind; id = number }) ∷ []
 
 -- The changes of rows that an edit and a new head come to: the head is written, and then what each leaf changes.
@@ -28,7 +28,7 @@ changes_of head edit = change.Put (row_of (0, kept.Head head)) ∷ flat_map leaf
 -- What a leaf writes has a spelling.
 abbrev pub LeafFits : Leaf → Type 0
 LeafFits (OfCurrency currency) = ⊤
-LeafFits (OfPut number thing) = IsRecord (record_of thing)
+LeafFits (OfPut number thing) = IsRecord (kept.Thing thing)
 LeafFits (OfGone kind number) = ⊤
 
 -- The number of what a leaf changes can be that of a row.

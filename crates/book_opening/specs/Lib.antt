@@ -1,7 +1,6 @@
 pub mod BookRows
 pub mod Changes
 pub mod FirstOdd
-pub mod Item
 pub mod Opening
 pub mod Reading
 pub mod State

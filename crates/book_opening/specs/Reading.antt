@@ -1,9 +1,13 @@
 -- What is known of a state while its rows are read.
-use Rattle.std.specs.Prelude.{◌≡◌, ◌<◌, ◌⊎◌, true, [], Option, Some, None, Result, Ok, Err}
+use Rattle.std.specs.Prelude.{ℕ, ◌≡◌, ◌<◌, ◌⊎◌, true, [], Option, Some, None, Result, Ok, Err}
 use Rattle.std.specs.List.{AllByRecursion}
 use Rattle.book_keeper.specs.Rows.{rank}
 use Rattle.book_keeper.specs.declared.row.RowKey.{RowKey}
+use Rattle.book_commodity.specs.Table.{with_entry}
+use Rattle.book_undo.specs.Book.{with_thing}
 use Rattle.book_rows.specs.declared.head.Head.{Head}
+use Rattle.book_rows.specs.declared.record.Record.{Record}
+use Rattle.book_rows.specs.declared.record.Record.TheVariants as kept
 use Rattle.book_opening.specs.BookRows.{behind_head, records_of}
 use Rattle.book_opening.specs.FirstOdd.{IsFirstOdd}
 use Rattle.book_opening.specs.Opening.{CanBeRow}
@@ -17,6 +21,13 @@ use Rattle.book_opening.specs.declared.saved.Saved.{Saved}
 pub record IsBegun (head : Head) (state : State) : Type 0 where
   pub head_is : head_of state ≡ head
   pub nothing : behind_head state ≡ []
+
+-- The state with what a row behind the head stands for, under the row's number. A head is not put.
+abbrev pub with_record : ℕ → Record → State → State
+with_record number (kept.Head head) state = state
+with_record number (kept.Thing thing) state = record state { book = with_thing number thing state.book }
+with_record number (kept.Back edit) state = record state { back = with_entry number edit state.back }
+with_record number (kept.Forth edit) state = record state { forth = with_entry number edit state.forth }
 
 -- The key of bad rows that is answered, if one is.
 abbrev pub bad_key : OpenFault → Option RowKey

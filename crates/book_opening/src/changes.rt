@@ -4,10 +4,10 @@ ghost use Rattle.book_undo.specs.Edit.{leaves};
 ghost use Rattle.book_rows.specs.Row.{IsRecord, IsWithin};
 ghost use Rattle.book_opening.specs.Changes.{LeafFits, changes_of, leaf_changes};
 
-use crate::thing_row::{head_row, kind_byte, thing_row};
+use crate::thing_row::{head_row, thing_row};
 use book_commodity::{Many, OutOfMemory};
 use book_keeper::{Change, RowKey};
-use book_rows::{Head, Record};
+use book_rows::{Head, Record, kind_byte};
 use book_undo::Edit;
 use std::alloc::Global;
 

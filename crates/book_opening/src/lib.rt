@@ -6,7 +6,6 @@
 
 mod changes;
 mod fault;
-mod item;
 mod read;
 mod saved;
 mod step_changes;

@@ -1,20 +1,16 @@
-ghost use Rattle.std.specs.Prelude.{◌≡◌, ◌≢◌, ◌↔◌, ◌<◌, List, Some, None, Option, IfOk, IfErr, IfSome, IfNone, OnOk};
-ghost use Rattle.std.specs.Prelude.{IsTrue};
+ghost use Rattle.std.specs.Prelude.{◌≡◌, ◌≢◌, ◌↔◌, ◌<◌, ◌≤◌, List, Some, None, Option, IfOk, IfErr, IfSome, IfNone};
+ghost use Rattle.std.specs.Prelude.{IsTrue, OnOk};
 ghost use Rattle.std.specs.List.{AllByRecursion};
 ghost use Rattle.book_keeper.specs.Rows.{rank};
 ghost use Rattle.book_keeper.specs.declared.row.Row.{Row as HeldRow};
-ghost use Rattle.book_undo.specs.Book.{empty_book};
 ghost use Rattle.book_rows.specs.Row.{IsWithin, kind_of};
 ghost use Rattle.book_opening.specs.BookRows.{records_of, row_of, rows_of};
-ghost use Rattle.book_opening.specs.Changes.{IsShallow};
-ghost use Rattle.book_opening.specs.Item.{record_of_item, with_item};
 ghost use Rattle.book_opening.specs.Opening.{Answers, Begins, HasOpenCause, IsBadFor, IsBadHead, IsBadThing};
 ghost use Rattle.book_opening.specs.Opening.{IsOnlyRecord, IsOpened, OpenAs, StaysSure, WasRead, WhereRead, head_key};
 ghost use Rattle.book_opening.specs.Reading.{IsBegun, IsFirstBad, IsReadable, IsWhole, bad_key};
 ghost use Rattle.book_opening.specs.State.{State, state_of, head_of};
 ghost use Rattle.book_opening.specs.Steps.{AreCounted};
 
-use crate::item::Item;
 use crate::steps::first_odd;
 use crate::{OpenFault, Saved};
 use book_commodity::{Table, discard};
@@ -24,8 +20,8 @@ use book_undo::Plain;
 use std::alloc::Global;
 
 /// The state as which the rows of the keeper open; None exactly where it holds none. Each row is asked for and read
-/// once. Whether the keeper knows its rows or not, the state is one whose records have spellings and whose steps are those
-/// that its head counts.
+/// once. Whether the keeper knows its rows or not, the state is one whose records have spellings and whose steps are
+/// those that its head counts.
 /// Keeper: the keeper failed, and its count of faults rose in this call.
 /// BadRows: the least key whose row can't be opened, or is needed and missing, or is that of a step which the head
 /// doesn't count.
@@ -116,17 +112,7 @@ fn seen_head(it: &Record) -> Option<Head>
 {
     match it {
         Record::Head(head) => Some(*head),
-        Record::Commodity(_)
-        | Record::Account(_)
-        | Record::Txn(_)
-        | Record::Price(_)
-        | Record::Schedule(_)
-        | Record::Held(_)
-        | Record::Line(_)
-        | Record::Binding(_)
-        | Record::Recon(_)
-        | Record::Back(_)
-        | Record::Forth(_) => None,
+        Record::Thing(_) | Record::Back(_) | Record::Forth(_) => None,
     }
 }
 
@@ -183,13 +169,13 @@ fn read_into<K: Keeper>(alloc: Global, keeper: &mut K, saved: &mut Saved) -> Res
             Ok(None) => return Ok(()),
             Err(error) => return Err(keeper_fault(error)),
         };
-        let item = match read_item(alloc, &row) {
-            Ok(item) => item,
+        let it = match read_behind_head(alloc, &row) {
+            Ok(it) => it,
             Err(OpenFault::BadRows { .. }) => return Err(bad(first_bad(saved, row.key))),
             Err(OpenFault::OutOfMemory) => return Err(OpenFault::OutOfMemory),
             Err(OpenFault::Keeper) => unreachable!(),
         };
-        let Ok(()) = item.put(row.key.id, saved) else {
+        let Ok(()) = saved.put(row.key.id, it) else {
             return Err(OpenFault::OutOfMemory);
         };
         last = row.key;
@@ -225,18 +211,17 @@ fn is_before(key: RowKey, other: RowKey) -> bool
     key.kind < other.kind || (key.kind == other.kind && key.id < other.id)
 }
 
-/// What a row behind the head stands for.
-fn read_item(alloc: Global, row: &Row) -> Result<Item, OpenFault>
+/// What a row behind the head stands for, which is no head.
+#[tactic(auto, using(crate::proofs::ReadLaws::behind_kind))]
+fn read_behind_head(alloc: Global, row: &Row) -> Result<Record, OpenFault>
     requires { rank head_key < rank row.now.key }
-    ensures found { IfOk result (λ item. row.now ≡ row_of (row.now.key.id, record_of_item item)) }
-    ensures read { IfOk result (λ item. IsOnlyRecord (row.now.key.id, record_of_item item)) }
+    ensures found { IfOk result (λ it. row.now ≡ row_of (row.now.key.id, it)) }
+    ensures behind { IfOk result (λ it. 2 ≤ kind_of it) }
+    ensures read { IfOk result (λ it. IsOnlyRecord (row.now.key.id, it)) }
     ensures bad { IfErr result (IsBadThing row.now) }
 {
     match read_row(alloc, row.key, row.body.as_slice()) {
-        Ok(it) => match Item::of(it) {
-            Some(item) => Ok(item),
-            None => Err(bad(row.key)),
-        },
+        Ok(it) => Ok(it),
         Err(RowError::Bad { .. }) => Err(bad(row.key)),
         Err(RowError::OutOfMemory) => Err(OpenFault::OutOfMemory),
     }

@@ -1,6 +1,6 @@
 ghost use Rattle.std.specs.Prelude.{◌≡◌, ◌++◌, IfOk, OnOk, map};
 ghost use Rattle.std.specs.List.{AllByRecursion};
-ghost use Rattle.book_undo.specs.Book.{book_of};
+ghost use Rattle.book_undo.specs.Thing.{row_kind};
 ghost use Rattle.book_undo.specs.declared.thing.Thing.TheVariants as thing;
 ghost use Rattle.book_rows.specs.AccountBytes.{account_bytes, IsAccount};
 ghost use Rattle.book_rows.specs.EditBytes.{edit_bytes, IsEdit};
@@ -19,10 +19,10 @@ use book_codec::{Field, write_whole};
 use book_commodity::{Commodity, Many, OutOfMemory};
 use book_keeper::{Change, Row, RowKey};
 use book_prices::{Price, Prices};
-use book_rows::{Head, Rows};
+use book_rows::{Head, Rows, kind_byte};
 use book_splits::{Recon, Txn};
 use book_statement::{Binding, Held, Line};
-use book_undo::{Edit, Plain, Schedule};
+use book_undo::{Edit, Plain, Schedule, ThingKind};
 use std::alloc::Global;
 
 /// The changes by which the rows of a state come to be where there were none: each of its rows is put.
@@ -68,9 +68,19 @@ fn add_ledger(alloc: Global, plain: &Plain, changes: &mut Many<Change>) -> Resul
     ensures transactions { OnOk result (AreRecords (records_in (λ it. thing.Txn it)
         plain.now.transactions.entries)) }
 {
-    put_entries::<Commodity>(alloc, 2, plain.commodities.as_slice(), changes)?;
+    put_entries::<Commodity>(
+        alloc,
+        ThingKind::Commodity,
+        plain.commodities.as_slice(),
+        changes,
+    )?;
     put_accounts(alloc, &plain.accounts, changes)?;
-    put_entries::<Txn>(alloc, 4, plain.transactions.as_slice(), changes)?;
+    put_entries::<Txn>(
+        alloc,
+        ThingKind::Txn,
+        plain.transactions.as_slice(),
+        changes,
+    )?;
     Ok(())
 }
 
@@ -87,8 +97,13 @@ fn add_plans(alloc: Global, plain: &Plain, changes: &mut Many<Change>) -> Result
         plain.now.statements.entries)) }
 {
     put_prices(alloc, &plain.prices, changes)?;
-    put_entries::<Schedule>(alloc, 6, plain.schedules.as_slice(), changes)?;
-    put_entries::<Held>(alloc, 7, plain.statements.as_slice(), changes)?;
+    put_entries::<Schedule>(
+        alloc,
+        ThingKind::Schedule,
+        plain.schedules.as_slice(),
+        changes,
+    )?;
+    put_entries::<Held>(alloc, ThingKind::Held, plain.statements.as_slice(), changes)?;
     Ok(())
 }
 
@@ -103,9 +118,19 @@ fn add_bank(alloc: Global, plain: &Plain, changes: &mut Many<Change>) -> Result<
     ensures reconciliations { OnOk result (AreRecords (records_in (λ it. thing.Recon it)
         plain.now.reconciliations.entries)) }
 {
-    put_entries::<Line>(alloc, 8, plain.lines.as_slice(), changes)?;
-    put_entries::<Binding>(alloc, 9, plain.bindings.as_slice(), changes)?;
-    put_entries::<Recon>(alloc, 10, plain.reconciliations.as_slice(), changes)?;
+    put_entries::<Line>(alloc, ThingKind::Line, plain.lines.as_slice(), changes)?;
+    put_entries::<Binding>(
+        alloc,
+        ThingKind::Binding,
+        plain.bindings.as_slice(),
+        changes,
+    )?;
+    put_entries::<Recon>(
+        alloc,
+        ThingKind::Recon,
+        plain.reconciliations.as_slice(),
+        changes,
+    )?;
     Ok(())
 }
 
@@ -144,16 +169,19 @@ fn put_steps(
 /// The change that puts the row of a value under a number.
 fn value_put<T: Field<Rows>>(
     alloc: Global,
-    kind: u8,
+    kind: ThingKind,
     number: u64,
     value: &T,
 ) -> Result<Change, OutOfMemory>
-    ensures change { IfOk result (λ change. change ≡ entry_put kind T.spelling (number, value.now)) }
+    ensures change { IfOk result (λ change. change ≡ entry_put (row_kind kind) T.spelling (number, value.now)) }
     ensures fits { IfOk result (λ change. T.fits value.now) }
 {
     let body = write_whole::<Rows, T>(alloc, value)?;
     Ok(Change::Put(Row {
-        key: RowKey { kind, id: number },
+        key: RowKey {
+            kind: kind_byte(kind),
+            id: number,
+        },
         body,
     }))
 }
@@ -161,11 +189,11 @@ fn value_put<T: Field<Rows>>(
 /// Adds the changes that put the entries of a table.
 fn put_entries<T: Field<Rows>>(
     alloc: Global,
-    kind: u8,
+    kind: ThingKind,
     entries: &[(u64, T)],
     changes: &mut Many<Change>,
 ) -> Result<(), OutOfMemory>
-    ensures added { OnOk result (changes.new ≡ changes.old ++ map (entry_put kind T.spelling) entries.now) }
+    ensures added { OnOk result (changes.new ≡ changes.old ++ map (entry_put (row_kind kind) T.spelling) entries.now) }
     ensures fit { OnOk result (AllByRecursion (λ entry. T.fits entry.1) entries.now) }
 {
     for entry in entries {
@@ -185,7 +213,12 @@ fn put_accounts(
 {
     for place in 0..accounts.len() {
         let number = accounts.number_at(place);
-        changes.push(value_put::<Account>(alloc, 3, number, accounts.value_at(place))?)?;
+        changes.push(value_put::<Account>(
+            alloc,
+            ThingKind::Account,
+            number,
+            accounts.value_at(place),
+        )?)?;
     }
     Ok(())
 }
@@ -197,7 +230,7 @@ fn put_prices(alloc: Global, prices: &Prices, changes: &mut Many<Change>) -> Res
 {
     for place in 0..prices.len() {
         let number = prices.number_at(place);
-        changes.push(value_put::<Price>(alloc, 5, number, prices.value_at(place))?)?;
+        changes.push(value_put::<Price>(alloc, ThingKind::Price, number, prices.value_at(place))?)?;
     }
     Ok(())
 }

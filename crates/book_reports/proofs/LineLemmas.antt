@@ -21,6 +21,7 @@ use Rattle.book_splits.specs.Balance.{total}
 use Rattle.book_splits.proofs.BalanceLemmas.{total-append}
 use Rattle.book_undo.specs.Book.{Book}
 use Rattle.book_sound.specs.Soundness.{IsSoundBook}
+use Rattle.book_limits.specs.Limits.{largest_sum}
 use Rattle.book_reports.specs.Measure.{sum_in, value_in, worth}
 use Rattle.book_reports.specs.Sections.{CanBeAdded, amount_in, holds, line_of, line_with, signed_in}
 use Rattle.book_reports.specs.declared.lines.Line.{Line}
@@ -152,7 +153,7 @@ first_small lines i can =
 -- ---- the lines of a currency
 
 abbrev IsSmallSide : TrialLine → Type 0
-IsSmallSide line = (unsigned_abs line.debit ≤ 10 ^ 18) × (unsigned_abs line.credit ≤ 10 ^ 18)
+IsSmallSide line = (unsigned_abs line.debit ≤ largest_sum) × (unsigned_abs line.credit ≤ largest_sum)
 
 -- the sum of the first debits is small
 pub debits_small :
@@ -182,9 +183,9 @@ pub side_small :
     → IsSmallSide (get_or lines i d)
 side_small lines i d can within = All-get_or IsSmallSide lines i d within can.small
 
-positive_small : (sum : ℤ) → unsigned_abs sum ≤ 10 ^ 18 → unsigned_abs (positive sum) ≤ 10 ^ 18
+positive_small : (sum : ℤ) → unsigned_abs sum ≤ largest_sum → unsigned_abs (positive sum) ≤ largest_sum
 positive_small sum small =
-    elim (int_lt (pos 0) sum) as (λ b. unsigned_abs (if b then sum else pos 0) ≤ 10 ^ 18) [
+    elim (int_lt (pos 0) sum) as (λ b. unsigned_abs (if b then sum else pos 0) ≤ largest_sum) [
       | true ↦ small
       | false ↦ omega arith
     ]
@@ -202,7 +203,7 @@ side_found book day currency account is =
       | true ↦ tt
       | false ↦ (
         positive_small sum small,
-        positive_small (neg_ℤ sum) (subst (λ n. n ≤ 10 ^ 18) (sym (size_turned sum)) small),
+        positive_small (neg_ℤ sum) (subst (λ n. n ≤ largest_sum) (sym (size_turned sum)) small),
       )
     ]
 

@@ -1,5 +1,5 @@
 -- Rows of lots one after another, and the sum of gains.
-use Rattle.std.proofs.Common.{◌≡◌, ℕ, zero, suc, ◌+◌, ◌*◌, ◌^◌, ◌<◌, ℤ, pos, ◌+ℤ◌, List, [], ◌∷◌, ◌++◌, length, take}
+use Rattle.std.proofs.Common.{◌≡◌, ℕ, zero, suc, ◌+◌, ◌*◌, ◌<◌, ℤ, pos, ◌+ℤ◌, List, [], ◌∷◌, ◌++◌, length, take}
 use Rattle.std.proofs.Common.{get_or, refl, sym, ap, ◌∙◌, arith, append_assoc, codes}
 use Rattle.std.specs.List.{All, flat_map}
 use Rattle.std.proofs.lemmas.Int.{ints}
@@ -14,6 +14,7 @@ use Rattle.book_lots.specs.Lots.{adjustments_of, all_gains, cost_of, lots_of}
 use Rattle.book_lots.specs.declared.open_lot.OpenLot.{OpenLot}
 use Rattle.book_ledger.specs.Ledger.{register_of}
 use Rattle.book_undo.specs.Book.{Book}
+use Rattle.book_limits.specs.Limits.{largest_split_amount}
 use Rattle.book_reports.specs.LotsText.{Fields, heading, lot_row, lots_text, pair_row, row_text, rows_text}
 use Rattle.book_reports.specs.LotsText.{style_of, sum_row, word}
 use Rattle.book_reports.specs.declared.form.Form.{Form}
@@ -60,7 +61,8 @@ gain_more pairs i d lt =
     plain z = omega (arith, ints)
 
 -- the gains of the first so many pairs aren't larger than so many times the greatest gain
-gains_up_to : (all : List Pair) (i : ℕ) → AreGains all → IsUpTo (4 * 10 ^ 12 * i) (gain_of (take i all))
+gains_up_to :
+    (all : List Pair) (i : ℕ) → AreGains all → IsUpTo (4 * largest_split_amount * i) (gain_of (take i all))
 gains_up_to all zero gains = (omega (arith, ints), omega (arith, ints))
 gains_up_to [] (suc i) gains = (omega (arith, ints), omega (arith, ints))
 gains_up_to (pair ∷ more) (suc i) gains =
@@ -70,7 +72,7 @@ gains_up_to (pair ∷ more) (suc i) gains =
 
 pub gains_fit :
     (entries : List Entry) (i : ℕ) → All IsSmall entries
-    → IsUpTo (4 * 10 ^ 12 * i) (gain_of (take i (pairs_of entries)))
+    → IsUpTo (4 * largest_split_amount * i) (gain_of (take i (pairs_of entries)))
 gains_fit entries i small = gains_up_to (pairs_of entries) i (gains_small entries small)
 
 -- a row for a person, word by word

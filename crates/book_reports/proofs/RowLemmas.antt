@@ -1,5 +1,5 @@
 -- The rows of the registers of a sound book are few, and their amounts small; and so are sums of them.
-use Rattle.std.proofs.Common.{◌≡◌, ℕ, ◌+◌, ◌^◌, ◌≤◌, ◌==◌, ℤ, pos, negsuc, ◌+ℤ◌, unsigned_abs, Bool, true, false}
+use Rattle.std.proofs.Common.{◌≡◌, ℕ, ◌+◌, ◌≤◌, ◌==◌, ℤ, pos, negsuc, ◌+ℤ◌, unsigned_abs, Bool, true, false}
 use Rattle.std.proofs.Common.{not, if◌then◌else◌, List, [], ◌∷◌, ◌++◌, All, length, map, filter, refl, sym, ap, subst}
 use Rattle.std.proofs.Common.{◌∙◌, zero, suc, add-one, append_assoc, append-nil, take, drop, slice_get, Option, Some, None, IsSome, is_some, arith}
 use Rattle.std.proofs.lemmas.Int.{ints}
@@ -19,6 +19,7 @@ use Rattle.book_splits.specs.Check.{HasAmounts}
 use Rattle.book_splits.specs.declared.split.Split.{Split}
 use Rattle.book_splits.specs.declared.transaction.Txn.{Txn}
 use Rattle.book_undo.specs.Book.{Book}
+use Rattle.book_limits.specs.Limits.{largest_split_amount, largest_sum}
 use Rattle.book_reports.specs.Measure.{CanBeSummed, is_in, rows_in, value_in, value_of_rows}
 use Rattle.book_reports.specs.RegisterText.{row_in, rows_after}
 use Rattle.book_reports.specs.declared.form.Form.{Form}
@@ -26,7 +27,7 @@ use Rattle.book_reports.specs.declared.period.Period.{Period}
 
 -- Amounts of a row that are within the limit.
 abbrev pub IsSmallRow : Entry → Type 0
-IsSmallRow row = (unsigned_abs row.value ≤ 10 ^ 12) × (unsigned_abs row.quantity ≤ 10 ^ 12)
+IsSmallRow row = (unsigned_abs row.value ≤ largest_split_amount) × (unsigned_abs row.quantity ≤ largest_split_amount)
 
 -- ---- small
 
@@ -131,14 +132,15 @@ fewer test rows = omega (arith, length-filter_both test (λ r. not (test r)) (λ
 
 -- a sum of amounts of so few rows is small
 pub sum_of_few :
-    (amount : Entry → ℤ) (rows : List Entry) → ((r : Entry) → IsSmallRow r → unsigned_abs (amount r) ≤ 10 ^ 12)
-    → All IsSmallRow rows → length rows ≤ 1000000 → unsigned_abs (total (map amount rows)) ≤ 10 ^ 18
+    (amount : Entry → ℤ) (rows : List Entry)
+    → ((r : Entry) → IsSmallRow r → unsigned_abs (amount r) ≤ largest_split_amount)
+    → All IsSmallRow rows → length rows ≤ 1000000 → unsigned_abs (total (map amount rows)) ≤ largest_sum
 sum_of_few amount rows each all few =
-    let amounts = All-map (λ (a : ℤ). unsigned_abs a ≤ 10 ^ 12) amount rows
-    (All-weaker IsSmallRow (λ (r : Entry). unsigned_abs (amount r) ≤ 10 ^ 12) each rows all) in
+    let amounts = All-map (λ (a : ℤ). unsigned_abs a ≤ largest_split_amount) amount rows
+    (All-weaker IsSmallRow (λ (r : Entry). unsigned_abs (amount r) ≤ largest_split_amount) each rows all) in
     let sum = sum_is_small (map amount rows) amounts in
     let same : length (map amount rows) ≡ length rows = length-map rows amount in
-    size_at_most (10 ^ 18) (total (map amount rows))
+    size_at_most largest_sum (total (map amount rows))
     (omega (arith, ints, sum.0, same, few), omega (arith, ints, sum.1, same, few))
 
 -- the rows of a sound book can be added up
@@ -148,18 +150,19 @@ can_be_summed book account is = record { few = rows_are_few book account is; sma
 
 -- what an account changes by in a period is small
 pub period_small :
-    (period : Period) (rows : List Entry) → CanBeSummed rows → unsigned_abs (balance (rows_in period rows)) ≤ 10 ^ 18
+    (period : Period) (rows : List Entry) → CanBeSummed rows
+    → unsigned_abs (balance (rows_in period rows)) ≤ largest_sum
 period_small period rows can =
     let test = λ (r : Entry). is_in period r.day in
     let picked = rows_in period rows in
-    subst (λ z. unsigned_abs z ≤ 10 ^ 18) (sym (balance_total picked))
+    subst (λ z. unsigned_abs z ≤ largest_sum) (sym (balance_total picked))
     (sum_of_few (λ (r : Entry). r.quantity) picked (λ r small. small.1) (All-filter test IsSmallRow rows can.small)
     (omega (arith, fewer test rows, can.few)))
 
 -- and in one currency of transactions
 pub currency_small :
     (period : Period) (currency : ℕ) (rows : List Entry) → CanBeSummed rows
-    → unsigned_abs (value_of_rows currency (rows_in period rows)) ≤ 10 ^ 18
+    → unsigned_abs (value_of_rows currency (rows_in period rows)) ≤ largest_sum
 currency_small period currency rows can =
     let test = λ (r : Entry). is_in period r.day in
     let same = λ (r : Entry). r.currency == currency in
@@ -170,7 +173,7 @@ currency_small period currency rows can =
 
 pub value_small :
     (book : Book) (period : Period) (currency account : ℕ) → IsSoundBook book
-    → unsigned_abs (value_in book period currency account) ≤ 10 ^ 18
+    → unsigned_abs (value_in book period currency account) ≤ largest_sum
 unfolding value_in
 value_small book period currency account is =
     currency_small period currency (register_of account book.transactions) (can_be_summed book account is)
@@ -240,9 +243,9 @@ rows_end form book fraction period rows i out whole past held =
     ∙ held
 
 -- the balance of rows is small
-pub balance_small : (rows : List Entry) → CanBeSummed rows → unsigned_abs (balance rows) ≤ 10 ^ 18
+pub balance_small : (rows : List Entry) → CanBeSummed rows → unsigned_abs (balance rows) ≤ largest_sum
 balance_small rows can =
-    subst (λ z. unsigned_abs z ≤ 10 ^ 18) (sym (balance_total rows))
+    subst (λ z. unsigned_abs z ≤ largest_sum) (sym (balance_total rows))
     (sum_of_few (λ (r : Entry). r.quantity) rows (λ r small. small.1) can.small can.few)
 
 sum_push :

@@ -35,6 +35,7 @@ use Rattle.book_splits.specs.declared.split.Split.{Split}
 use Rattle.book_splits.specs.declared.transaction.Txn.{Txn}
 use Rattle.book_command.specs.Rates.{pair_rate, last_price, rate_on}
 use Rattle.book_undo.specs.Book.{Book}
+use Rattle.book_limits.specs.Limits.{largest_sum}
 use Rattle.book_reports.specs.Measure.{commodity_of, fraction_of, is_in, rows_in, sum_in, worth, worth_by}
 use Rattle.book_reports.specs.Sections.{amount_in, holds, is_turned, line_of, line_with, lines_of, signed_in, sum_of, turned}
 use Rattle.book_reports.specs.Sheet.{IsClosed, IsInOneCurrency, until}
@@ -69,14 +70,14 @@ scaled_itself amount fraction some =
 self_equal : (n : ℕ) → (n == n) ≡ true
 self_equal n = grind (arith, nat_tests)
 
-small_shown : (amount : ℤ) → unsigned_abs amount ≤ 10 ^ 18 → shown amount ≡ Amount amount
+small_shown : (amount : ℤ) → unsigned_abs amount ≤ largest_sum → shown amount ≡ Amount amount
 small_shown amount small =
     let fits : nat_le (unsigned_abs amount) (10 ^ 30) ≡ true = grind (arith, nat_tests, small) in
     ap (λ (t : Bool). if t then Amount amount else Over) fits
 
 own_worth :
     (book : Book) (day : ℤ) (commodity : ℕ) (amount : ℤ) → IsSoundBook book → commodity ≡ book.currency
-    → unsigned_abs amount ≤ 10 ^ 18 → worth book day commodity amount ≡ Amount amount
+    → unsigned_abs amount ≤ largest_sum → worth book day commodity amount ≡ Amount amount
 unfolding worth
 own_worth book day commodity amount is own small =
     let c = book.currency in

@@ -1,5 +1,5 @@
 -- The sums by currency that are kept while the rows are read are those of the rows read so far.
-use Rattle.std.proofs.Common.{◌≡◌, ℕ, ◌+◌, ◌^◌, ◌≤◌, ◌==◌, ℤ, pos, ◌+ℤ◌, unsigned_abs, Bool, true, false, if◌then◌else◌}
+use Rattle.std.proofs.Common.{◌≡◌, ℕ, ◌+◌, ◌≤◌, ◌==◌, ℤ, pos, ◌+ℤ◌, unsigned_abs, Bool, true, false, if◌then◌else◌}
 use Rattle.std.proofs.Common.{List, [], ◌∷◌, ◌++◌, ◌<◌, length, get_or, All, take, map, slice_get, Option, Some, IsSome, refl, sym, ap, subst, ◌∙◌, arith}
 use Rattle.std.proofs.lemmas.Bool.{eqb-true}
 use Rattle.std.proofs.lemmas.Bool.Decides.{nat_tests}
@@ -15,6 +15,7 @@ use Rattle.book_ledger.specs.Ledger.{register_of}
 use Rattle.book_register.specs.declared.entry.Entry.{Entry}
 use Rattle.book_sound.specs.Soundness.{IsSoundBook}
 use Rattle.book_undo.specs.Book.{Book}
+use Rattle.book_limits.specs.Limits.{largest_sum}
 use Rattle.book_reports.specs.Measure.{CanBeSummed, is_in, rows_in, value_in, value_of_rows}
 use Rattle.book_reports.specs.Sheet.{until}
 use Rattle.book_reports.specs.Sums.{AreSums, IsAdded, IsSummed, line_by, sum_at}
@@ -78,9 +79,9 @@ sums_next period rows i row value old new there sums added same = record {
 -- the sums stay small
 pub sums_small :
     (period : Period) (rows : List Entry) (i : ℕ) (sums : List (ℕ × ℤ)) (currency : ℕ) → CanBeSummed rows
-    → AreSums (rows_in period (take i rows)) sums → unsigned_abs (sum_at currency sums) ≤ 10 ^ 18
+    → AreSums (rows_in period (take i rows)) sums → unsigned_abs (sum_at currency sums) ≤ largest_sum
 sums_small period rows i sums currency can are =
-    subst (λ (z : ℤ). unsigned_abs z ≤ 10 ^ 18) (sym (are.each currency))
+    subst (λ (z : ℤ). unsigned_abs z ≤ largest_sum) (sym (are.each currency))
     (currency_small period currency (take i rows) (first_can_be_summed rows i can))
 
 -- the lines by the sums are those of the accounts
@@ -106,7 +107,7 @@ pub summed_by :
 unfolding value_in
 summed_by book period account rows sums sound there same own are = record {
   there = subst (λ (n : ℕ). IsSome (value_of n book.accounts)) (sym own) there;
-  small = λ currency. subst (λ (z : ℤ). unsigned_abs z ≤ 10 ^ 18) (sym (is currency))
+  small = λ currency. subst (λ (z : ℤ). unsigned_abs z ≤ largest_sum) (sym (is currency))
       (value_small book period currency sums.account sound);
   each = λ currency. is currency;
 }

@@ -1,6 +1,6 @@
 -- What a report measures: the sum of an account over a period, and what it is worth in the currency of the book.
 use Rattle.std.specs.Prelude.{ℕ, ◌&&◌, ◌==◌, ℤ, pos, int_le, Bool, true, if◌then◌else◌, List, [], filter, map}
-use Rattle.std.specs.Prelude.{◌^◌, ◌≤◌, unsigned_abs, length, All, Option, Some, None}
+use Rattle.std.specs.Prelude.{◌≤◌, unsigned_abs, length, All, Option, Some, None}
 use Rattle.std.specs.Option.{option_map_or}
 use Rattle.std.specs.Ordering.{int_eq}
 use Rattle.book_commodity.specs.Amount.{scaled}
@@ -16,6 +16,7 @@ use Rattle.book_register.specs.declared.entry.Entry.{Entry}
 use Rattle.book_splits.specs.Balance.{total}
 use Rattle.book_command.specs.Rates.{rate_on}
 use Rattle.book_undo.specs.Book.{Book}
+use Rattle.book_limits.specs.Limits.{largest_split_amount}
 use Rattle.book_reports.specs.declared.period.Period.{Period}
 
 -- How many smallest units make one unit of the commodity with a number; 1, where there is no such commodity.
@@ -46,7 +47,8 @@ rows_in period rows = filter (λ row. is_in period row.day) rows
 -- The rows of a register are so few, and their amounts so small, that they can be added up.
 pub record CanBeSummed (rows : List Entry) : Type 0 where
   pub few : length rows ≤ 1000000
-  pub small : All (λ row. (unsigned_abs row.value ≤ 10 ^ 12) × (unsigned_abs row.quantity ≤ 10 ^ 12)) rows
+  pub small : All (λ row. (unsigned_abs row.value ≤ largest_split_amount)
+      × (unsigned_abs row.quantity ≤ largest_split_amount)) rows
 
 -- What an account changes by in a period, which without a first day is its balance at the last: the sum of the
 -- quantities of its rows (GnuCash Concepts Guide, account registers).

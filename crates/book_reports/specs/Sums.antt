@@ -1,10 +1,11 @@
 -- The sums of an account by currency, as a trial balance keeps them while it goes through the currencies.
-use Rattle.std.specs.Prelude.{◌≡◌, ℕ, ◌==◌, ◌^◌, ◌≤◌, ℤ, pos, ◌+ℤ◌, unsigned_abs, if◌then◌else◌, List, Option, IsSome}
+use Rattle.std.specs.Prelude.{◌≡◌, ℕ, ◌==◌, ◌≤◌, ℤ, pos, ◌+ℤ◌, unsigned_abs, if◌then◌else◌, List, Option, IsSome}
 use Rattle.std.specs.Prelude.{unwrap_or}
 use Rattle.book_accounts.specs.Path.{path}
 use Rattle.book_commodity.specs.Table.{value_of}
 use Rattle.book_register.specs.declared.entry.Entry.{Entry}
 use Rattle.book_undo.specs.Book.{Book}
+use Rattle.book_limits.specs.Limits.{largest_sum}
 use Rattle.book_reports.specs.Measure.{value_in, value_of_rows}
 use Rattle.book_reports.specs.declared.period.Period.{Period}
 use Rattle.book_reports.specs.Trial.{line_with}
@@ -26,7 +27,7 @@ pub record IsAdded (currency : ℕ) (value : ℤ) (old new : List (ℕ × ℤ)) 
 -- The sums of an account of the book are what it changes by in a period, in each currency.
 pub record IsSummed (book : Book) (period : Period) (sums : AccountSums) : Type 0 where
   pub there : IsSome (value_of sums.account book.accounts)
-  pub small : (currency : ℕ) → unsigned_abs (sum_at currency sums.by_currency.entries) ≤ 10 ^ 18
+  pub small : (currency : ℕ) → unsigned_abs (sum_at currency sums.by_currency.entries) ≤ largest_sum
   pub each : (currency : ℕ) → sum_at currency sums.by_currency.entries ≡ value_in book period currency sums.account
 
 -- The line of an account in a currency, by the sum that is kept for it.

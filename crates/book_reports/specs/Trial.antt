@@ -2,7 +2,7 @@
 -- (GnuCash Manual, reports: trial balance).
 use Rattle.std.specs.Prelude.{◌≡◌, ℕ, ◌==◌, ℤ, pos, neg_ℤ, int_lt, if◌then◌else◌, List, [], ◌∷◌, ◌++◌, length, map}
 use Rattle.std.specs.Prelude.{codes}
-use Rattle.std.specs.Prelude.{◌≤◌, ◌^◌, unsigned_abs, All, Option, Some, None}
+use Rattle.std.specs.Prelude.{◌≤◌, unsigned_abs, All, Option, Some, None}
 use Rattle.std.specs.List.{filter_map, flat_map}
 use Rattle.std.specs.Ordering.{int_eq}
 use Rattle.book_accounts.specs.Order.{depth_first}
@@ -13,6 +13,7 @@ use Rattle.book_commodity.specs.Day.{day_text}
 use Rattle.book_commodity.specs.declared.commodity.Commodity.{Commodity}
 use Rattle.book_splits.specs.Balance.{total}
 use Rattle.book_undo.specs.Book.{Book}
+use Rattle.book_limits.specs.Limits.{largest_sum}
 use Rattle.book_reports.specs.Layout.{printed, record_text, right}
 use Rattle.book_reports.specs.Measure.{value_in}
 use Rattle.book_reports.specs.Sheet.{until}
@@ -43,7 +44,7 @@ lines_of book day currency = filter_map (line_of book day currency) (depth_first
 -- The lines of a currency are so few, and their sums so small, that they can be added up.
 pub record CanBeAdded (lines : List TrialLine) : Type 0 where
   pub few : length lines ≤ 10000
-  pub small : All (λ line. (unsigned_abs line.debit ≤ 10 ^ 18) × (unsigned_abs line.credit ≤ 10 ^ 18)) lines
+  pub small : All (λ line. (unsigned_abs line.debit ≤ largest_sum) × (unsigned_abs line.credit ≤ largest_sum)) lines
 
 -- The sum of the debits.
 unfoldable pub debits : List TrialLine → ℤ

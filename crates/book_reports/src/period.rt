@@ -1,5 +1,6 @@
-ghost use Rattle.std.specs.Prelude.{◌≡◌, ◌^◌, ◌≤◌, unsigned_abs, pos, None, Some, if◌then◌else◌};
+ghost use Rattle.std.specs.Prelude.{◌≡◌, ◌≤◌, unsigned_abs, pos, None, Some, if◌then◌else◌};
 ghost use Rattle.book_register.specs.Register.{balance};
+ghost use Rattle.book_limits.specs.Limits.{largest_sum};
 ghost use Rattle.book_reports.specs.Measure.{CanBeSummed, is_in, rows_in};
 
 use book_commodity::{Day, Steps};
@@ -62,7 +63,7 @@ impl Period {
     pub(crate) fn sum_in(&self, register: &Register) -> i128
         requires { CanBeSummed register.now.rows }
         ensures sum { result ≡ balance (rows_in self.now register.now.rows) }
-        ensures small { unsigned_abs result ≤ 10 ^ 18 }
+        ensures small { unsigned_abs result ≤ largest_sum }
     {
         match self.from {
             None => register.balances_at(self.to, &mut Steps::new()).all,
@@ -74,7 +75,7 @@ impl Period {
     fn sum_of_rows(&self, register: &Register) -> i128
         requires { CanBeSummed register.now.rows }
         ensures sum { result ≡ balance (rows_in self.now register.now.rows) }
-        ensures small { unsigned_abs result ≤ 10 ^ 18 }
+        ensures small { unsigned_abs result ≤ largest_sum }
     {
         let mut steps = Steps::new();
         let mut sum = 0i128;

@@ -1,5 +1,6 @@
-ghost use Rattle.std.specs.Prelude.{◌≡◌, ◌^◌, ◌≤◌, All, IfOk, IsSome, OnOk, map, unsigned_abs};
+ghost use Rattle.std.specs.Prelude.{◌≡◌, ◌≤◌, All, IfOk, IsSome, OnOk, map, unsigned_abs};
 ghost use Rattle.book_commodity.specs.Table.{value_of};
+ghost use Rattle.book_limits.specs.Limits.{largest_sum};
 ghost use Rattle.book_reports.specs.Measure.{CanBeSummed, rows_in};
 ghost use Rattle.book_reports.specs.Sheet.{until};
 ghost use Rattle.book_reports.specs.Sums.{AreSums, IsAdded, IsSummed, sum_at};
@@ -73,7 +74,7 @@ fn sums_of(alloc: Global, register: &Register, period: &Period) -> Result<Table<
 
 /// Adds a value to the sum in its currency.
 fn add(sums: &mut Table<i128>, currency: u64, value: i64) -> Result<(), OutOfMemory>
-    requires { unsigned_abs (sum_at currency sums.old.entries) ≤ 10 ^ 18 }
+    requires { unsigned_abs (sum_at currency sums.old.entries) ≤ largest_sum }
     ensures { OnOk result (IsAdded currency value sums.old.entries sums.new.entries) }
 {
     let sum = sum_at(sums, currency) + i128::from(value);

@@ -1,8 +1,9 @@
-ghost use Rattle.std.specs.Prelude.{◌≡◌, ◌++◌, ◌≤◌, ◌^◌, All, IfOk, IsSome, OnOk, length, map, string_bytes};
+ghost use Rattle.std.specs.Prelude.{◌≡◌, ◌++◌, ◌≤◌, All, IfOk, IsSome, OnOk, length, map, string_bytes};
 ghost use Rattle.std.specs.Prelude.{unsigned_abs};
 ghost use Rattle.book_accounts.specs.Order.{depth_first};
 ghost use Rattle.book_commodity.specs.Table.{value_of};
 ghost use Rattle.std.specs.List.{filter_map, flat_map};
+ghost use Rattle.book_limits.specs.Limits.{largest_sum};
 ghost use Rattle.book_reports.specs.Sheet.{until};
 ghost use Rattle.book_reports.specs.Sums.{IsSummed, line_by, sum_at};
 ghost use Rattle.book_reports.specs.Trial.{IsBalanced, credits, csv_lines, csv_part, csv_record, debits, heading};
@@ -252,7 +253,7 @@ fn found_lines(
 /// The line of an account in a currency, if its sum isn't zero.
 fn line_of(view: &View, sums: &AccountSums, currency: u64) -> Result<Option<TrialLine>, OutOfMemory>
     requires there { IsSome (value_of sums.now.account view.now.accounts) }
-    requires small { unsigned_abs (sum_at currency sums.now.by_currency.entries) ≤ 10 ^ 18 }
+    requires small { unsigned_abs (sum_at currency sums.now.by_currency.entries) ≤ largest_sum }
     ensures { IfOk result (λ line. line ≡ line_by view.now currency sums.now) }
 {
     let sum = sums.in_currency(currency);

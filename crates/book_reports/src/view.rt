@@ -5,6 +5,7 @@ ghost use Rattle.book_accounts.specs.Path.{path};
 ghost use Rattle.book_commodity.specs.Table.{value_of};
 ghost use Rattle.book_ledger.specs.Ledger.{Keeps, register_of};
 ghost use Rattle.book_lots.specs.Lots.{IsSmall};
+ghost use Rattle.book_limits.specs.Limits.{largest_sum};
 ghost use Rattle.book_reports.specs.Sections.{amount_in};
 ghost use Rattle.book_reports.specs.Measure.{CanBeSummed, commodity_of, fraction_of, name_of, sum_in, worth};
 ghost use Rattle.book_reports.specs.RegisterText.{description_in, number_in};
@@ -150,14 +151,14 @@ impl<'a> View<'a> {
     pub(crate) fn sum(&self, account: u64, period: &Period) -> i128
         requires { IsSome (value_of account self.now.accounts) }
         ensures sum { result ≡ sum_in self.now period.now account }
-        ensures small { unsigned_abs result ≤ 10 ^ 18 }
+        ensures small { unsigned_abs result ≤ largest_sum }
     {
         period.sum_in(self.register(account))
     }
 
     /// What an amount of a commodity is worth on a day in the currency of the book.
     pub(crate) fn worth(&self, day: Day, commodity: u64, amount: i128) -> Valuation
-        requires { unsigned_abs amount ≤ 10 ^ 19 }
+        requires { unsigned_abs amount ≤ largest_sum }
         ensures worth { result ≡ worth self.now day commodity amount }
         ensures small { unsigned_abs (amount_in result) ≤ 10 ^ 30 }
     {

@@ -8,44 +8,23 @@ use Rattle.book_rows.specs.declared.head.Head.{Head}
 use Rattle.book_codec.specs.declared.error.DecodeError.{DecodeError}
 use Rattle.book_codec.specs.declared.error.DecodeError.TheVariants as decode_error
 use Rattle.book_keeper.specs.declared.row.RowKey.{RowKey}
-use Rattle.book_rows.specs.CommodityBytes.{commodity_bytes, IsCommodity}
-use Rattle.book_rows.specs.AccountBytes.{account_bytes, IsAccount}
-use Rattle.book_rows.specs.TransactionBytes.{txn_bytes, IsTxn}
-use Rattle.book_rows.specs.PriceBytes.{price_bytes, IsPrice}
-use Rattle.book_rows.specs.ScheduleBytes.{schedule_bytes, IsSchedule}
-use Rattle.book_rows.specs.StatementBytes.{held_bytes, IsHeld, line_bytes, IsLine, binding_bytes, IsBinding}
-use Rattle.book_rows.specs.ReconciliationBytes.{recon_bytes, IsRecon}
 use Rattle.book_rows.specs.HeadBytes.{head_bytes, IsHead}
 use Rattle.book_rows.specs.EditBytes.{edit_bytes, IsEdit}
+use Rattle.book_rows.specs.ThingBytes.{thing_bytes, IsThing}
 use Rattle.book_undo.specs.Edit.{depth}
+use Rattle.book_undo.specs.Thing.{kind_of as thing_kind, row_kind}
 
 -- The kind of a record's row.
 abbrev pub kind_of : Record → ℕ
 kind_of (record_of.Head it) = 1
-kind_of (record_of.Commodity it) = 2
-kind_of (record_of.Account it) = 3
-kind_of (record_of.Txn it) = 4
-kind_of (record_of.Price it) = 5
-kind_of (record_of.Schedule it) = 6
-kind_of (record_of.Held it) = 7
-kind_of (record_of.Line it) = 8
-kind_of (record_of.Binding it) = 9
-kind_of (record_of.Recon it) = 10
+kind_of (record_of.Thing it) = row_kind (thing_kind it)
 kind_of (record_of.Back it) = 11
 kind_of (record_of.Forth it) = 12
 
 -- The fields of a record as bytes.
 abbrev pub fields_of : Record → List ℕ
 fields_of (record_of.Head it) = head_bytes it
-fields_of (record_of.Commodity it) = commodity_bytes it
-fields_of (record_of.Account it) = account_bytes it
-fields_of (record_of.Txn it) = txn_bytes it
-fields_of (record_of.Price it) = price_bytes it
-fields_of (record_of.Schedule it) = schedule_bytes it
-fields_of (record_of.Held it) = held_bytes it
-fields_of (record_of.Line it) = line_bytes it
-fields_of (record_of.Binding it) = binding_bytes it
-fields_of (record_of.Recon it) = recon_bytes it
+fields_of (record_of.Thing it) = thing_bytes it
 fields_of (record_of.Back it) = edit_bytes it
 fields_of (record_of.Forth it) = edit_bytes it
 
@@ -68,15 +47,7 @@ IsBounded _ = ⊤
 -- A record that has a spelling.
 abbrev pub IsRecord : Record → Type 0
 IsRecord (record_of.Head it) = IsHead it × IsWithin it
-IsRecord (record_of.Commodity it) = IsCommodity it
-IsRecord (record_of.Account it) = IsAccount it
-IsRecord (record_of.Txn it) = IsTxn it
-IsRecord (record_of.Price it) = IsPrice it
-IsRecord (record_of.Schedule it) = IsSchedule it
-IsRecord (record_of.Held it) = IsHeld it
-IsRecord (record_of.Line it) = IsLine it
-IsRecord (record_of.Binding it) = IsBinding it
-IsRecord (record_of.Recon it) = IsRecon it
+IsRecord (record_of.Thing it) = IsThing it
 IsRecord (record_of.Back it) = IsEdit it
 IsRecord (record_of.Forth it) = IsEdit it
 

@@ -1,7 +1,7 @@
 //! The rows of a book as bytes. The head of a book's rows, each of its things, and each edit that leads a step back or
 //! forth is a row: a key and a body. `write_row` gives the body of a record, and `read_row` reads exactly the bodies
-//! that are spelled so; a record has one spelling. `write_edit` gives the body
-//! of an edit that is only borrowed.
+//! that are spelled so; a record has one spelling. `write_thing` and `write_edit` give the body of a thing and of an
+//! edit that are only borrowed.
 #![tactic(auto)]
 
 mod account;
@@ -21,3 +21,4 @@ pub use edit::write_edit;
 pub use head::Head;
 pub use record::{Record, RowError, read_row, write_row};
 pub use rows::Rows;
+pub use thing::{kind_byte, write_thing};

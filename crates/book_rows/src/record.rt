@@ -1,29 +1,17 @@
-ghost use Rattle.std.specs.Prelude.{◌≡◌, ◌∷◌, ◌^◌, ◌<◌, List, ℕ, IfOk, IfErr, OnOk};
+ghost use Rattle.std.specs.Prelude.{◌≡◌, ◌∷◌, IfOk, IfErr};
 ghost use Rattle.std.specs.Bool.{Decides};
-ghost use Rattle.book_rows.specs.Row.{kind_of, body_of, IsRecord, IsBounded, IsKeyOf, IsReadAs, StandsFor};
-ghost use Rattle.book_rows.specs.Row.{IsErrorAt};
-ghost use Rattle.book_rows.specs.Row.{IsSpelledBy};
-ghost use Rattle.book_rows.specs.Row.{IsWithin, error_at};
-ghost use Rattle.book_rows.specs.CommodityBytes.{commodity_bytes, IsCommodity};
-ghost use Rattle.book_rows.specs.AccountBytes.{account_bytes, IsAccount};
-ghost use Rattle.book_rows.specs.TransactionBytes.{txn_bytes, IsTxn};
-ghost use Rattle.book_rows.specs.PriceBytes.{price_bytes, IsPrice};
-ghost use Rattle.book_rows.specs.ScheduleBytes.{schedule_bytes, IsSchedule};
-ghost use Rattle.book_rows.specs.StatementBytes.{held_bytes, IsHeld, line_bytes, IsLine, binding_bytes, IsBinding};
-ghost use Rattle.book_rows.specs.ReconciliationBytes.{recon_bytes, IsRecon};
-ghost use Rattle.book_rows.specs.HeadBytes.{head_bytes, IsHead};
-ghost use Rattle.book_rows.specs.EditBytes.{edit_bytes, IsEdit};
+ghost use Rattle.book_codec.specs.Read.{Gives};
+ghost use Rattle.book_rows.specs.HeadBytes.{IsHead, head_bytes};
+ghost use Rattle.book_rows.specs.Row.{IsBounded, IsErrorAt, IsReadAs, IsRecord, IsSpelledBy};
+ghost use Rattle.book_rows.specs.Row.{IsWithin, StandsFor, body_of, error_at, kind_of};
 
 use crate::edit::{read_edit, write_edit};
+use crate::thing::{read_thing_body, thing_kind_of, write_thing};
 use crate::{Head, Rows};
-use book_accounts::Account;
 use book_codec::{DecodeError, read_whole, write_whole};
-use book_commodity::{Bytes, Commodity, OutOfMemory};
+use book_commodity::{Bytes, OutOfMemory};
 use book_keeper::RowKey;
-use book_prices::Price;
-use book_splits::{Recon, Txn};
-use book_statement::{Binding, Held, Line};
-use book_undo::{Edit, Schedule};
+use book_undo::{Edit, Thing};
 use std::alloc::Global;
 
 /// The bound of ids and of the numbers of a head, 2^62.
@@ -33,15 +21,7 @@ const LIMIT: u64 = 0x4000_0000_0000_0000;
 #[derive(Drop)]
 pub enum Record {
     Head(Head),
-    Commodity(Commodity),
-    Account(Account),
-    Txn(Txn),
-    Price(Price),
-    Schedule(Schedule),
-    Held(Held),
-    Line(Line),
-    Binding(Binding),
-    Recon(Recon),
+    Thing(Thing),
     /// Leads from the book at the position that is the row's id to the book before.
     Back(Edit),
     /// Leads to the book at the position that is the row's id from the book before.
@@ -65,15 +45,7 @@ pub fn write_row(alloc: Global, what: &Record) -> Result<Bytes, OutOfMemory>
 {
     match what {
         Record::Head(it) => write_whole::<Rows, Head>(alloc, it),
-        Record::Commodity(it) => write_whole::<Rows, Commodity>(alloc, it),
-        Record::Account(it) => write_whole::<Rows, Account>(alloc, it),
-        Record::Txn(it) => write_whole::<Rows, Txn>(alloc, it),
-        Record::Price(it) => write_whole::<Rows, Price>(alloc, it),
-        Record::Schedule(it) => write_whole::<Rows, Schedule>(alloc, it),
-        Record::Held(it) => write_whole::<Rows, Held>(alloc, it),
-        Record::Line(it) => write_whole::<Rows, Line>(alloc, it),
-        Record::Binding(it) => write_whole::<Rows, Binding>(alloc, it),
-        Record::Recon(it) => write_whole::<Rows, Recon>(alloc, it),
+        Record::Thing(it) => write_thing(alloc, it),
         Record::Back(it) | Record::Forth(it) => write_edit(alloc, it),
     }
 }
@@ -86,23 +58,33 @@ pub fn read_row(alloc: Global, key: RowKey, body: &[u8]) -> Result<Record, RowEr
     ensures again { (it : Record) → StandsFor key body.now it → IsReadAs result it }
     ensures error { IfErr result (IsErrorAt key) }
 {
-    if key.id >= LIMIT {
+    if key.id >= LIMIT || (key.kind == 1 && key.id != 0) {
         return Err(bad(key));
     }
-    match key.kind {
-        1 => read_head(alloc, key, body),
-        2 => read_commodity(alloc, key, body),
-        3 => read_account(alloc, key, body),
-        4 => read_txn(alloc, key, body),
-        5 => read_price(alloc, key, body),
-        6 => read_schedule(alloc, key, body),
-        7 => read_held(alloc, key, body),
-        8 => read_line(alloc, key, body),
-        9 => read_binding(alloc, key, body),
-        10 => read_recon(alloc, key, body),
-        11 => read_back(alloc, key, body),
-        12 => read_forth(alloc, key, body),
-        _ => Err(bad(key)),
+    match read_body(alloc, key.kind, body) {
+        Ok(it) => Ok(it),
+        Err(error) => Err(row_error(key, error)),
+    }
+}
+
+/// The record whose row has this kind and this body.
+/// Bad: it is the body of none.
+fn read_body(alloc: Global, kind: u8, body: &[u8]) -> Result<Record, DecodeError>
+    ensures kind { IfOk result (λ it. kind_of it ≡ kind) }
+    ensures found { IfOk result (λ it. body.now ≡ body_of it) }
+    ensures fits { IfOk result IsRecord }
+    ensures bounded { IfOk result IsBounded }
+    ensures again { (it : Record) → kind_of it ≡ kind → IsRecord it → body.now ≡ body_of it
+        → Gives (λ x. x) result it }
+{
+    match kind {
+        1 => Ok(Record::Head(read_head(alloc, body)?)),
+        11 => Ok(Record::Back(read_edit(alloc, body)?)),
+        12 => Ok(Record::Forth(read_edit(alloc, body)?)),
+        _ => match thing_kind_of(kind) {
+            Some(kind) => Ok(Record::Thing(read_thing_body(alloc, kind, body)?)),
+            None => Err(DecodeError::Bad),
+        },
     }
 }
 
@@ -116,29 +98,19 @@ fn bad(key: RowKey) -> RowError
     }
 }
 
-/// Reads the head.
-fn read_head(alloc: Global, key: RowKey, body: &[u8]) -> Result<Record, RowError>
-    requires kind { key.kind ≡ 1 }
-    requires id { key.id < 2 ^ 62 }
-    ensures found { IfOk result (λ it. IsSpelledBy key body.now it) }
-    ensures fits { IfOk result IsRecord }
-    ensures again { (it : Head) → IsHead it → IsWithin it → key.id ≡ 0 → body.now ≡ 1 ∷ head_bytes it
-        → IsReadAs result (Record.Head it) }
-    ensures error { IfErr result (IsErrorAt key) }
+/// The head whose body these bytes are.
+/// Bad: they are no head's body, or its numbers are too large for a row.
+fn read_head(alloc: Global, body: &[u8]) -> Result<Head, DecodeError>
+    ensures found { IfOk result (λ it. body.now ≡ 1 ∷ head_bytes it) }
+    ensures fits { IfOk result (λ it. IsHead it × IsWithin it) }
+    ensures again { (it : Head) → IsHead it × IsWithin it → body.now ≡ 1 ∷ head_bytes it
+        → Gives (λ x. x) result it }
 {
-    if key.id != 0 {
-        return Err(bad(key));
+    let head = read_whole::<Rows, Head>(alloc, body)?;
+    if !is_within(&head) {
+        return Err(DecodeError::Bad);
     }
-    match read_whole::<Rows, Head>(alloc, body) {
-        Ok(it) => {
-            if is_within(&it) {
-                Ok(Record::Head(it))
-            } else {
-                Err(bad(key))
-            }
-        }
-        Err(error) => Err(row_error(key, error)),
-    }
+    Ok(head)
 }
 
 /// Whether a row can hold the numbers of the head.
@@ -146,175 +118,6 @@ fn is_within(head: &Head) -> bool
     ensures { Decides result (IsWithin head.now) }
 {
     head.next < LIMIT && head.version < LIMIT && head.position < LIMIT
-}
-
-/// Reads a row of kind 2.
-fn read_commodity(alloc: Global, key: RowKey, body: &[u8]) -> Result<Record, RowError>
-    requires kind { key.kind ≡ 2 }
-    requires id { key.id < 2 ^ 62 }
-    ensures found { IfOk result (λ it. IsSpelledBy key body.now it) }
-    ensures fits { IfOk result IsRecord }
-    ensures again { (it : Commodity) → IsCommodity it → body.now ≡ 1 ∷ commodity_bytes it
-        → IsReadAs result (Record.Commodity it) }
-    ensures error { IfErr result (IsErrorAt key) }
-{
-    match read_whole::<Rows, Commodity>(alloc, body) {
-        Ok(it) => Ok(Record::Commodity(it)),
-        Err(error) => Err(row_error(key, error)),
-    }
-}
-
-/// Reads a row of kind 3.
-fn read_account(alloc: Global, key: RowKey, body: &[u8]) -> Result<Record, RowError>
-    requires kind { key.kind ≡ 3 }
-    requires id { key.id < 2 ^ 62 }
-    ensures found { IfOk result (λ it. IsSpelledBy key body.now it) }
-    ensures fits { IfOk result IsRecord }
-    ensures again { (it : Account) → IsAccount it → body.now ≡ 1 ∷ account_bytes it
-        → IsReadAs result (Record.Account it) }
-    ensures error { IfErr result (IsErrorAt key) }
-{
-    match read_whole::<Rows, Account>(alloc, body) {
-        Ok(it) => Ok(Record::Account(it)),
-        Err(error) => Err(row_error(key, error)),
-    }
-}
-
-/// Reads a row of kind 4.
-fn read_txn(alloc: Global, key: RowKey, body: &[u8]) -> Result<Record, RowError>
-    requires kind { key.kind ≡ 4 }
-    requires id { key.id < 2 ^ 62 }
-    ensures found { IfOk result (λ it. IsSpelledBy key body.now it) }
-    ensures fits { IfOk result IsRecord }
-    ensures again { (it : Txn) → IsTxn it → body.now ≡ 1 ∷ txn_bytes it → IsReadAs result (Record.Txn it) }
-    ensures error { IfErr result (IsErrorAt key) }
-{
-    match read_whole::<Rows, Txn>(alloc, body) {
-        Ok(it) => Ok(Record::Txn(it)),
-        Err(error) => Err(row_error(key, error)),
-    }
-}
-
-/// Reads a row of kind 5.
-fn read_price(alloc: Global, key: RowKey, body: &[u8]) -> Result<Record, RowError>
-    requires kind { key.kind ≡ 5 }
-    requires id { key.id < 2 ^ 62 }
-    ensures found { IfOk result (λ it. IsSpelledBy key body.now it) }
-    ensures fits { IfOk result IsRecord }
-    ensures again { (it : Price) → IsPrice it → body.now ≡ 1 ∷ price_bytes it → IsReadAs result (Record.Price it) }
-    ensures error { IfErr result (IsErrorAt key) }
-{
-    match read_whole::<Rows, Price>(alloc, body) {
-        Ok(it) => Ok(Record::Price(it)),
-        Err(error) => Err(row_error(key, error)),
-    }
-}
-
-/// Reads a row of kind 6.
-fn read_schedule(alloc: Global, key: RowKey, body: &[u8]) -> Result<Record, RowError>
-    requires kind { key.kind ≡ 6 }
-    requires id { key.id < 2 ^ 62 }
-    ensures found { IfOk result (λ it. IsSpelledBy key body.now it) }
-    ensures fits { IfOk result IsRecord }
-    ensures again { (it : Schedule) → IsSchedule it → body.now ≡ 1 ∷ schedule_bytes it
-        → IsReadAs result (Record.Schedule it) }
-    ensures error { IfErr result (IsErrorAt key) }
-{
-    match read_whole::<Rows, Schedule>(alloc, body) {
-        Ok(it) => Ok(Record::Schedule(it)),
-        Err(error) => Err(row_error(key, error)),
-    }
-}
-
-/// Reads a row of kind 7.
-fn read_held(alloc: Global, key: RowKey, body: &[u8]) -> Result<Record, RowError>
-    requires kind { key.kind ≡ 7 }
-    requires id { key.id < 2 ^ 62 }
-    ensures found { IfOk result (λ it. IsSpelledBy key body.now it) }
-    ensures fits { IfOk result IsRecord }
-    ensures again { (it : Held) → IsHeld it → body.now ≡ 1 ∷ held_bytes it → IsReadAs result (Record.Held it) }
-    ensures error { IfErr result (IsErrorAt key) }
-{
-    match read_whole::<Rows, Held>(alloc, body) {
-        Ok(it) => Ok(Record::Held(it)),
-        Err(error) => Err(row_error(key, error)),
-    }
-}
-
-/// Reads a row of kind 8.
-fn read_line(alloc: Global, key: RowKey, body: &[u8]) -> Result<Record, RowError>
-    requires kind { key.kind ≡ 8 }
-    requires id { key.id < 2 ^ 62 }
-    ensures found { IfOk result (λ it. IsSpelledBy key body.now it) }
-    ensures fits { IfOk result IsRecord }
-    ensures again { (it : Line) → IsLine it → body.now ≡ 1 ∷ line_bytes it → IsReadAs result (Record.Line it) }
-    ensures error { IfErr result (IsErrorAt key) }
-{
-    match read_whole::<Rows, Line>(alloc, body) {
-        Ok(it) => Ok(Record::Line(it)),
-        Err(error) => Err(row_error(key, error)),
-    }
-}
-
-/// Reads a row of kind 9.
-fn read_binding(alloc: Global, key: RowKey, body: &[u8]) -> Result<Record, RowError>
-    requires kind { key.kind ≡ 9 }
-    requires id { key.id < 2 ^ 62 }
-    ensures found { IfOk result (λ it. IsSpelledBy key body.now it) }
-    ensures fits { IfOk result IsRecord }
-    ensures again { (it : Binding) → IsBinding it → body.now ≡ 1 ∷ binding_bytes it
-        → IsReadAs result (Record.Binding it) }
-    ensures error { IfErr result (IsErrorAt key) }
-{
-    match read_whole::<Rows, Binding>(alloc, body) {
-        Ok(it) => Ok(Record::Binding(it)),
-        Err(error) => Err(row_error(key, error)),
-    }
-}
-
-/// Reads a row of kind 10.
-fn read_recon(alloc: Global, key: RowKey, body: &[u8]) -> Result<Record, RowError>
-    requires kind { key.kind ≡ 10 }
-    requires id { key.id < 2 ^ 62 }
-    ensures found { IfOk result (λ it. IsSpelledBy key body.now it) }
-    ensures fits { IfOk result IsRecord }
-    ensures again { (it : Recon) → IsRecon it → body.now ≡ 1 ∷ recon_bytes it → IsReadAs result (Record.Recon it) }
-    ensures error { IfErr result (IsErrorAt key) }
-{
-    match read_whole::<Rows, Recon>(alloc, body) {
-        Ok(it) => Ok(Record::Recon(it)),
-        Err(error) => Err(row_error(key, error)),
-    }
-}
-
-/// Reads a row of kind 11.
-fn read_back(alloc: Global, key: RowKey, body: &[u8]) -> Result<Record, RowError>
-    requires kind { key.kind ≡ 11 }
-    requires id { key.id < 2 ^ 62 }
-    ensures found { IfOk result (λ it. IsSpelledBy key body.now it) }
-    ensures fits { IfOk result IsRecord }
-    ensures again { (it : Edit) → IsEdit it → body.now ≡ 1 ∷ edit_bytes it → IsReadAs result (Record.Back it) }
-    ensures error { IfErr result (IsErrorAt key) }
-{
-    match read_edit(alloc, body) {
-        Ok(it) => Ok(Record::Back(it)),
-        Err(error) => Err(row_error(key, error)),
-    }
-}
-
-/// Reads a row of kind 12.
-fn read_forth(alloc: Global, key: RowKey, body: &[u8]) -> Result<Record, RowError>
-    requires kind { key.kind ≡ 12 }
-    requires id { key.id < 2 ^ 62 }
-    ensures found { IfOk result (λ it. IsSpelledBy key body.now it) }
-    ensures fits { IfOk result IsRecord }
-    ensures again { (it : Edit) → IsEdit it → body.now ≡ 1 ∷ edit_bytes it → IsReadAs result (Record.Forth it) }
-    ensures error { IfErr result (IsErrorAt key) }
-{
-    match read_edit(alloc, body) {
-        Ok(it) => Ok(Record::Forth(it)),
-        Err(error) => Err(row_error(key, error)),
-    }
 }
 
 /// Why the row is not read, by why its body is not.

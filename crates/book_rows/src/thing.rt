@@ -1,4 +1,4 @@
-ghost use Rattle.std.specs.Prelude.{◌≡◌, ◌++◌, ◌≤◌, List, ℕ, Some, IfOk, OnOk, IfSome, IfNone};
+ghost use Rattle.std.specs.Prelude.{◌≡◌, ◌∷◌, ◌++◌, ◌≤◌, List, ℕ, Some, IfOk, OnOk, IfSome, IfNone};
 ghost use Rattle.book_codec.specs.Read.{Gives};
 ghost use Rattle.book_undo.specs.Thing.{kind_of, row_kind};
 ghost use Rattle.book_rows.specs.ThingBytes.{IsThing, IsThingKind, thing_bytes, thing_kind_bytes};
@@ -6,7 +6,7 @@ ghost use Rattle.book_rows.specs.ThingBytes.{IsThing, IsThingKind, thing_bytes, 
 use crate::Rows;
 use book_accounts::Account;
 use book_codec::{DecodeError, Field};
-use book_commodity::{Commodity, OutOfMemory};
+use book_commodity::{Bytes, Commodity, OutOfMemory};
 use book_prices::Price;
 use book_splits::{Recon, Txn};
 use book_statement::{Binding, Held, Line};
@@ -20,7 +20,7 @@ impl Field<Rows> for ThingKind {
     ghost spelling = { thing_kind_bytes };
 
     fn spell(&self, out: &mut Vec<u8>) -> Result<(), OutOfMemory> {
-        out.push(byte_of_thing_kind(*self))?;
+        out.push(kind_byte(*self))?;
         Ok(())
     }
 
@@ -35,25 +35,15 @@ impl Field<Rows> for ThingKind {
     }
 }
 
-/// The kind of the rows of a kind of things.
-fn byte_of_thing_kind(variant: ThingKind) -> u8
-    ensures { result ≡ row_kind variant }
+/// The kind of the rows of a kind of things, as a byte.
+pub fn kind_byte(kind: ThingKind) -> u8
+    ensures { result ≡ row_kind kind }
 {
-    match variant {
-        ThingKind::Commodity => 2,
-        ThingKind::Account => 3,
-        ThingKind::Txn => 4,
-        ThingKind::Price => 5,
-        ThingKind::Schedule => 6,
-        ThingKind::Held => 7,
-        ThingKind::Line => 8,
-        ThingKind::Binding => 9,
-        ThingKind::Recon => 10,
-    }
+    kind.row_kind() as u8
 }
 
 /// The kind of things whose rows have this kind; None where it is that of no things.
-fn thing_kind_of(byte: u8) -> Option<ThingKind>
+pub(crate) fn thing_kind_of(byte: u8) -> Option<ThingKind>
     ensures found { IfSome result (λ variant. byte ≡ row_kind variant) }
     ensures none { IfNone result ((variant : ThingKind) → byte ≡ row_kind variant → ⊥) }
     ensures again { (variant : ThingKind) → byte ≡ row_kind variant → result ≡ Some variant }
@@ -88,6 +78,43 @@ pub(crate) fn spell_thing(thing: &Thing, out: &mut Vec<u8>) -> Result<(), OutOfM
         Thing::Binding(it) => Field::<Rows>::spell(it, out),
         Thing::Recon(it) => Field::<Rows>::spell(it, out),
     }
+}
+
+/// The body of the row of a thing.
+pub fn write_thing(alloc: Global, thing: &Thing) -> Result<Bytes, OutOfMemory>
+    ensures body { IfOk result (λ body. body ≡ 1 ∷ thing_bytes thing.now) }
+    ensures fits { IfOk result (λ body. IsThing thing.now) }
+{
+    let mut out = Vec::new(alloc);
+    out.push(1)?;
+    spell_thing(thing, &mut out)?;
+    Ok(Bytes::of(out))
+}
+
+/// The thing of a kind whose body these bytes are.
+/// Bad: they are the body of no such thing.
+pub(crate) fn read_thing_body(
+    alloc: Global,
+    kind: ThingKind,
+    body: &[u8],
+) -> Result<Thing, DecodeError>
+    ensures kind { IfOk result (λ thing. kind_of thing ≡ kind) }
+    ensures found { IfOk result (λ thing. body.now ≡ 1 ∷ thing_bytes thing) }
+    ensures fits { IfOk result IsThing }
+    ensures again { (thing : Thing) → kind_of thing ≡ kind → IsThing thing → body.now ≡ 1 ∷ thing_bytes thing
+        → Gives (λ x. x) result thing }
+{
+    let [1, bytes @ ..] = body else {
+        return Err(DecodeError::Bad);
+    };
+    let (thing, left) = match read_thing(alloc, kind, bytes) {
+        Ok(found) => found,
+        Err(error) => return Err(error),
+    };
+    if !left.is_empty() {
+        return Err(DecodeError::Bad);
+    }
+    Ok(thing)
 }
 
 /// Reads the fields of a thing of the kind at the front of the bytes, and gives the bytes behind them.

@@ -4,7 +4,6 @@ use Rattle.std.proofs.Common.{◌≡◌, ◌≢◌, ℕ, ◌≤◌, length, Some
 use Rattle.book_commodity.specs.Rules.{AllHold}
 use Rattle.book_commodity.specs.Table.{value_of, with_entry, without_entry}
 use Rattle.book_commodity.proofs.DrawnLemmas.{drawn_free, stays_with}
-use Rattle.book_splits.specs.Check.{is_over_limit}
 use Rattle.book_splits.specs.declared.reconciliation.Recon.{Recon}
 use Rattle.book_prices.specs.Rate.{is_same}
 use Rattle.book_prices.specs.declared.price.Price.{Price}
@@ -16,7 +15,7 @@ use Rattle.book_statement.specs.declared.line_state.LineState.TheVariants.{Open}
 use Rattle.book_undo.specs.Book.{Book}
 use Rattle.book_undo.specs.declared.schedule.Schedule.{Schedule}
 use Rattle.book_sound.specs.BindingRules.{is_same_binding, takes_splits}
-use Rattle.book_sound.specs.LineRules.{fits_in_state, has_same_key, shares_split}
+use Rattle.book_sound.specs.LineRules.{fits_in_state, has_same_key, is_over_limit, shares_split}
 use Rattle.book_sound.specs.ReconciliationRules.{reconciliation_rules}
 use Rattle.book_sound.specs.ScheduleRules.{schedule_rules}
 use Rattle.book_sound.specs.Soundness.{IsSoundBook, AreDrawn}

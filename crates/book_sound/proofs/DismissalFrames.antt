@@ -11,7 +11,6 @@ use Rattle.book_commodity.proofs.DrawnLemmas.{value_here}
 use Rattle.book_commodity.proofs.TableLemmas.{rises_with}
 use Rattle.book_accounts.specs.declared.account.Account.{Account}
 use Rattle.book_splits.specs.Balance.{splits_of}
-use Rattle.book_splits.specs.Check.{is_over_limit}
 use Rattle.book_splits.specs.TransactionRules.{is_among, numbers_of, share_numbers}
 use Rattle.book_splits.specs.declared.split.Split.{Split}
 use Rattle.book_splits.specs.declared.transaction.Txn.{Txn}
@@ -22,7 +21,8 @@ use Rattle.book_statement.specs.declared.line_key.LineKey.{LineKey}
 use Rattle.book_statement.specs.declared.line_state.LineState.{LineState}
 use Rattle.book_statement.specs.declared.statement_line.StatementLine.{StatementLine}
 use Rattle.book_sound.specs.Dismissal.{dismissed_if, dismissed_where, is_lost, is_lost_split, lines_after, loses_split}
-use Rattle.book_sound.specs.LineRules.{fits_in_state, has_same_key, is_same_key, key_of_line, line_rules, matched_split}
+use Rattle.book_sound.specs.LineRules.{fits_in_state, has_same_key, is_over_limit, is_same_key, key_of_line}
+use Rattle.book_sound.specs.LineRules.{line_rules, matched_split}
 use Rattle.book_sound.specs.LineRules.{shares_split, split_among, split_at}
 use Rattle.book_sound.specs.Tests.{is_live}
 use Rattle.book_sound.proofs.LineFrames.{SplitSuits, state_still}

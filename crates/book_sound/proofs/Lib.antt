@@ -20,3 +20,4 @@ pub mod TableFrames
 pub mod TransactionFrames
 pub mod WalkLemmas
 pub mod Worked
+pub mod WorkedBook

@@ -14,7 +14,6 @@ use Rattle.book_commodity.proofs.DrawnLemmas.{length_changed}
 use Rattle.book_commodity.proofs.RuleLemmas.{none_before_with}
 use Rattle.book_commodity.proofs.TableLemmas.{rises_with}
 use Rattle.book_accounts.specs.declared.account.Account.{Account}
-use Rattle.book_splits.specs.Check.{is_over_limit}
 use Rattle.book_splits.specs.declared.reconciliation.Recon.{Recon}
 use Rattle.book_splits.specs.declared.transaction.Txn.{Txn}
 use Rattle.book_prices.specs.Rate.{is_same}
@@ -26,7 +25,8 @@ use Rattle.book_statement.specs.declared.line_state.LineState.{LineState}
 use Rattle.book_statement.specs.declared.line_state.LineState.TheVariants.{Open}
 use Rattle.book_undo.specs.declared.schedule.Schedule.{Schedule}
 use Rattle.book_sound.specs.BindingRules.{binding_rules, is_same_binding, takes_splits}
-use Rattle.book_sound.specs.LineRules.{fits_in_state, has_same_key, line_rules, matched_split, shares_split}
+use Rattle.book_sound.specs.LineRules.{fits_in_state, has_same_key, is_over_limit, line_rules, matched_split}
+use Rattle.book_sound.specs.LineRules.{shares_split}
 use Rattle.book_sound.specs.PriceRules.{has_pair, has_ratio, price_rules}
 use Rattle.book_sound.specs.ReconciliationRules.{reconciliation_rules}
 use Rattle.book_sound.specs.ScheduleRules.{schedule_rules}

@@ -14,6 +14,7 @@ use Rattle.book_commodity.specs.declared.commodity.Commodity.{Commodity}
 use Rattle.book_accounts.specs.Soundness.{IsTree}
 use Rattle.book_accounts.specs.Tree.{IsRooted}
 use Rattle.book_accounts.proofs.RootLemmas.{rooted_of, tree_of}
+use Rattle.book_limits.specs.Limits.{largest_split_amount, largest_sum}
 use Rattle.book_splits.specs.Balance.{splits_of, total}
 use Rattle.book_splits.specs.Check as transaction
 use Rattle.book_splits.specs.declared.split.Split.{Split}
@@ -69,14 +70,14 @@ most_of_size : (most : ℕ) (amount : ℤ) → unsigned_abs amount ≤ most → 
 most_of_size most (pos n) small = (omega (arith, ints, small), omega (arith, ints, small))
 most_of_size most (negsuc n) small = (omega (arith, ints, small), omega (arith, ints, small))
 
--- The sum of some amounts of at most 10^12 in size.
+-- The sum of some amounts that are as small as those of splits.
 pub sum_is_small :
-    (amounts : List ℤ) → All (λ (a : ℤ). unsigned_abs a ≤ 10 ^ 12) amounts
-    → IsAtMost (10 ^ 12 * length amounts) (total amounts)
+    (amounts : List ℤ) → All (λ (a : ℤ). unsigned_abs a ≤ largest_split_amount) amounts
+    → IsAtMost (largest_split_amount * length amounts) (total amounts)
 sum_is_small [] small = (omega (arith, ints), omega (arith, ints))
 sum_is_small (a ∷ amounts) small =
-    let Small : ℤ → Type 0 = λ x. unsigned_abs x ≤ 10 ^ 12 in
-    let first = most_of_size (10 ^ 12) a (All-head Small a amounts small) in
+    let Small : ℤ → Type 0 = λ x. unsigned_abs x ≤ largest_split_amount in
+    let first = most_of_size largest_split_amount a (All-head Small a amounts small) in
     let rest = sum_is_small amounts (All-tail Small a amounts small) in
     (omega (arith, ints, first.0, rest.0), omega (arith, ints, first.1, rest.1))
 
@@ -96,13 +97,14 @@ amounts_are_small book is =
     (all_of_each (λ (e : ℕ × Txn). All transaction.HasAmounts e.1.splits) book.transactions is.transactions.rise
     (λ k t there. (transactions_balance book k t is there).amounts))
 
--- So the sum of the quantities of splits that pass a test, as of those on an account, is at most 10^18 in size.
+-- So the sum of the quantities of splits that pass a test, as of those on an account, is at most the largest
+-- sum in size.
 pub sums_are_small :
     (book : Book) (test : Split → Bool) → IsSoundBook book
-    → IsAtMost (10 ^ 18) (total (map (λ (s : Split). s.quantity) (filter test (splits_of book.transactions))))
+    → IsAtMost largest_sum (total (map (λ (s : Split). s.quantity) (filter test (splits_of book.transactions))))
 sums_are_small book test is =
     let splits = splits_of book.transactions in
-    let Small : ℤ → Type 0 = λ a. unsigned_abs a ≤ 10 ^ 12 in
+    let Small : ℤ → Type 0 = λ a. unsigned_abs a ≤ largest_split_amount in
     let quantity : Split → ℤ = λ s. s.quantity in
     let picked = filter test splits in
     let kept = All-filter test transaction.HasAmounts splits (amounts_are_small book is) in

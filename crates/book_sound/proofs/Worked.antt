@@ -1,32 +1,19 @@
 -- The rules, computed on a small book: each kept once, and each broken once. What is named is the places, from 0, of
 -- the rules that are broken.
-use Rattle.std.proofs.Common.{◌≡◌, ℕ, ◌+◌, ℤ, pos, negsuc, Bool, true, false, List, [], ◌∷◌, Option, Some, None, codes}
+use Rattle.std.proofs.Common.{◌≡◌, ℕ, ◌+◌, pos, negsuc, Bool, true, false, List, [], ◌∷◌, Some, None, codes}
 use Rattle.std.proofs.Common.{map, replicate, refl, arith}
 use Rattle.book_commodity.specs.CommodityRules.{commodity_rules}
-use Rattle.book_commodity.specs.declared.commodity.Commodity.{Commodity}
 use Rattle.book_accounts.specs.AccountRules.{account_rules}
 use Rattle.book_accounts.specs.Tree.{nearest_parents}
-use Rattle.book_accounts.specs.declared.account.Account.{Account}
-use Rattle.book_accounts.specs.declared.kind.AccountKind.{AccountKind}
-use Rattle.book_accounts.specs.declared.kind.AccountKind.TheVariants.{Root, Asset, Bank, Expense}
 use Rattle.book_splits.specs.declared.reconciliation.MarkedSplit.{MarkedSplit}
-use Rattle.book_splits.specs.declared.reconciliation.Recon.{Recon}
-use Rattle.book_splits.specs.declared.split.Mark.{Mark}
 use Rattle.book_splits.specs.declared.split.Mark.TheVariants.{New, Cleared, Reconciled}
 use Rattle.book_splits.specs.declared.split.Split.{Split}
 use Rattle.book_splits.specs.declared.transaction.Txn.{Txn}
-use Rattle.book_prices.specs.declared.price.Price.{Price}
-use Rattle.book_schedule.specs.declared.recurrence.Adjust.TheVariants.{Back}
-use Rattle.book_schedule.specs.declared.recurrence.Recurrence.{Recurrence}
-use Rattle.book_schedule.specs.declared.recurrence.RecurrenceKind.TheVariants.{Monthly}
 use Rattle.book_schedule.specs.declared.timing.End.TheVariants.{Until, After}
-use Rattle.book_schedule.specs.declared.timing.Timing.{Timing}
-use Rattle.book_statement.specs.declared.binding.Binding.{Binding}
 use Rattle.book_statement.specs.declared.held.Held.{Held}
 use Rattle.book_statement.specs.declared.line.Line.{Line}
 use Rattle.book_statement.specs.declared.line_state.LineState.{LineState}
 use Rattle.book_statement.specs.declared.line_state.LineState.TheVariants.{Open, Matched, Dismissed}
-use Rattle.book_statement.specs.declared.statement_line.StatementLine.{StatementLine}
 use Rattle.book_undo.specs.Book.{Book, empty_book}
 use Rattle.book_undo.specs.declared.schedule.Schedule.{Schedule}
 use Rattle.book_sound.specs.BindingRules.{binding_rules}
@@ -40,6 +27,9 @@ use Rattle.book_sound.specs.ScheduleRules.{schedule_rules}
 use Rattle.book_sound.specs.Soundness.{IsSoundBook}
 use Rattle.book_sound.specs.StatementRules.{statement_rules}
 use Rattle.book_sound.proofs.WalkLemmas.{each_of}
+use Rattle.book_sound.proofs.WorkedBook.{account, accounts, binding, body, book_with, commodities, line, monthly}
+use Rattle.book_sound.proofs.WorkedBook.{opening, price, prices, reconciliation, reconciliations, rent, schedule}
+use Rattle.book_sound.proofs.WorkedBook.{split, statement, template, timing, transactions, txn}
 
 abbrev broken_from : ℕ → List Bool → List ℕ
 broken_from place [] = []
@@ -49,38 +39,7 @@ broken_from place (false ∷ more) = place ∷ broken_from (place + 1) more
 abbrev broken : List Bool → List ℕ
 broken rules = broken_from 0 rules
 
--- ---- commodities and accounts: the euro and a share; the root, a bank account, the rent, a placeholder
-
-abbrev commodities : List (ℕ × Commodity)
-commodities =
-    (1, record { space = codes "CURRENCY"; name = codes "EUR"; full_name = []; fraction = 100 })
-    ∷ (7, record { space = codes "NYSE"; name = codes "ACME"; full_name = []; fraction = 1 }) ∷ []
-
-abbrev account : List ℕ → AccountKind → Option ℕ → Bool → Account
-account name kind parent placeholder = record {
-  name = name;
-  kind = kind;
-  commodity = 1;
-  parent = parent;
-  code = [];
-  note = [];
-  hidden = false;
-  placeholder = placeholder;
-  basis = None;
-}
-
-abbrev accounts : List (ℕ × Account)
-accounts =
-    (2, account (codes "Root") Root None true) ∷ (3, account (codes "Bank") Bank (Some 5) false)
-    ∷ (4, account (codes "Rent") Expense (Some 2) false) ∷ (5, account (codes "Assets") Asset (Some 2) true) ∷ []
-
 -- ---- prices
-
-abbrev price : Price
-price = record { commodity = 7; currency = 1; day = pos 19723; num = 150; denom = 100 }
-
-abbrev prices : List (ℕ × Price)
-prices = (8, price) ∷ []
 
 price_kept : broken (price_rules commodities prices 8 price) ≡ []
 price_kept = refl
@@ -114,43 +73,7 @@ price_twice = refl
 price_first : broken (price_rules commodities ((8, price) ∷ (9, price) ∷ []) 8 price) ≡ []
 price_first = refl
 
--- ---- transactions: one whose split on the bank account is reconciled, and one whose split there is cleared
-
-abbrev split : ℕ → ℕ → ℤ → Mark → Option ℕ → Split
-split id account value mark recon = record {
-  id = id;
-  account = account;
-  memo = [];
-  action = [];
-  mark = mark;
-  recon = recon;
-  value = value;
-  quantity = value;
-}
-
-abbrev txn : List Split → Txn
-txn splits = record { currency = 1; day = pos 19723; num = []; description = []; splits = splits }
-
-abbrev opening : Txn
-opening = txn (split 11 3 (pos 1000) Reconciled (Some 19) ∷ split 12 4 (negsuc 999) New None ∷ [])
-
-abbrev rent : Txn
-rent = txn (split 14 3 (negsuc 199) Cleared None ∷ split 15 4 (pos 200) New None ∷ [])
-
-abbrev transactions : List (ℕ × Txn)
-transactions = (10, opening) ∷ (13, rent) ∷ []
-
-abbrev reconciliation : Recon
-reconciliation = record {
-  account = 3;
-  day = pos 19753;
-  opening = pos 0;
-  closing = pos 1000;
-  marked = record { split = 11; quantity = pos 1000 } ∷ [];
-}
-
-abbrev reconciliations : List (ℕ × Recon)
-reconciliations = (19, reconciliation) ∷ []
+-- ---- transactions
 
 abbrev of_txn : Txn → List ℕ
 of_txn transaction = broken (marked_transaction_rules commodities accounts reconciliations transactions 13 transaction)
@@ -215,18 +138,6 @@ reconciliation_open = refl
 
 -- ---- schedules
 
-abbrev monthly : Recurrence
-monthly = record { kind = Monthly; every = 1; start = pos 19753; adjust = Back }
-
-abbrev timing : Timing
-timing = record { recurrences = monthly ∷ []; end = After 12; advance = 366; last = None; made = 0 }
-
-abbrev template : Txn
-template = txn (split 0 3 (negsuc 199) New None ∷ split 0 4 (pos 200) New None ∷ [])
-
-abbrev schedule : Timing → Txn → Schedule
-schedule timing template = record { name = codes "Rent"; timing = timing; template = template }
-
 abbrev of_schedule : Schedule → List ℕ
 of_schedule scheduled = broken (schedule_rules commodities accounts 16 scheduled)
 
@@ -274,17 +185,6 @@ schedule_reconciled = refl
 
 -- ---- statements
 
-abbrev statement : Held
-statement = record {
-  account = 3;
-  account_text = codes "NL01BANK0123456789";
-  number = codes "1";
-  opening = Some (pos 0);
-  closing = Some (pos 800);
-  day = pos 19753;
-  ties = Some true;
-}
-
 abbrev of_statement : Held → List ℕ
 of_statement held = broken (statement_rules accounts ((20, statement) ∷ (21, held) ∷ []) 21 held)
 
@@ -320,23 +220,6 @@ statement_that_ties_not : of_statement (record statement { ties = Some false }) 
 statement_that_ties_not = refl
 
 -- ---- lines
-
-abbrev body : ℤ → StatementLine
-body amount = record {
-  day = pos 19727;
-  value_day = pos 19727;
-  amount = amount;
-  kind = codes "NTRF";
-  ref_own = codes "RENT";
-  ref_bank = codes "B77";
-  text = codes "January rent";
-  category = [];
-  parts = [];
-}
-
-abbrev line : ℕ → ℤ → LineState → Line
-line ordinal amount state =
-    record { account = 3; statement = 20; ordinal = ordinal; body = body amount; state = state }
 
 -- the first line is matched with the split 14
 abbrev of_line : Line → List ℕ
@@ -387,9 +270,6 @@ line_on_a_taken_split : of_line (line 1 (negsuc 199) (Matched 14)) ≡ 5 ∷ []
 line_on_a_taken_split = refl
 
 -- ---- bindings
-
-abbrev binding : ℕ → Binding
-binding account = record { text = codes "NL01BANK0123456789"; account = account }
 
 binding_kept : broken (binding_rules accounts ((24, binding 3) ∷ []) 24 (binding 3)) ≡ []
 binding_kept = refl
@@ -455,18 +335,7 @@ another_mark = refl
 -- ---- the whole book is sound
 
 abbrev book : Book
-book = record {
-  commodities = commodities;
-  accounts = accounts;
-  transactions = transactions;
-  prices = prices;
-  schedules = (16, schedule timing template) ∷ [];
-  statements = (20, statement) ∷ [];
-  lines = lines;
-  bindings = (24, binding 3) ∷ [];
-  reconciliations = reconciliations;
-  currency = 1;
-}
+book = book_with lines
 
 sound : IsSoundBook book
 unfolding nearest_parents

@@ -1,15 +1,15 @@
 -- The rules that each statement's line in a book keeps.
-use Rattle.std.specs.Prelude.{ℕ, ◌==◌, nat_eq, not, Bool, true, false, ◌&&◌, List, [], ◌∷◌, Option, Some, None}
-use Rattle.std.specs.Prelude.{find, is_some}
+use Rattle.std.specs.Prelude.{ℕ, ◌==◌, nat_eq, nat_lt, ℤ, unsigned_abs, not, Bool, true, false, ◌&&◌, List, [], ◌∷◌}
+use Rattle.std.specs.Prelude.{Option, Some, None, find, is_some}
 use Rattle.std.specs.Option.{option_eq}
 use Rattle.std.specs.Ordering.{int_eq}
 use Rattle.book_commodity.specs.Rules.{stands_before}
 use Rattle.book_accounts.specs.declared.account.Account.{Account}
 use Rattle.book_splits.specs.Balance.{splits_of}
-use Rattle.book_splits.specs.Check.{is_over_limit}
 use Rattle.book_splits.specs.declared.split.Split.{Split}
 use Rattle.book_splits.specs.declared.transaction.Txn.{Txn}
 use Rattle.book_statement.specs.Keys.{key, same_text}
+use Rattle.book_statement.specs.Numbers.{largest_amount}
 use Rattle.book_statement.specs.declared.held.Held.{Held}
 use Rattle.book_statement.specs.declared.line.Line.{Line}
 use Rattle.book_statement.specs.declared.line_key.LineKey.{LineKey}
@@ -64,6 +64,10 @@ matched_split Dismissed = None
 abbrev pub shares_split : Line → Line → Bool
 shares_split line other =
     is_some (matched_split line.state) && option_eq nat_eq (matched_split other.state) (matched_split line.state)
+
+-- Whether the amount of a line is above 10^12 in size.
+abbrev pub is_over_limit : ℤ → Bool
+is_over_limit amount = nat_lt largest_amount (unsigned_abs amount)
 
 -- The rules of a line: its account and its statement are in the book; its amount is at most 10^12 in size (a limit of
 -- this project); no line before it has its key; where it is matched, a split of the book stands in its account and has

@@ -1,5 +1,5 @@
 -- The rules of a transaction, in the order in which they are asked.
-use Rattle.std.specs.Prelude.{◌≡◌, All, ℕ, ◌+◌, ◌^◌, ◌==◌, nat_lt, ◌≤◌, ℤ, pos, unsigned_abs, Bool, false, ◌&&◌}
+use Rattle.std.specs.Prelude.{◌≡◌, All, ℕ, ◌+◌, ◌==◌, nat_lt, ◌≤◌, ℤ, pos, unsigned_abs, Bool, false, ◌&&◌}
 use Rattle.std.specs.Prelude.{◌||◌, not, List, [], ◌∷◌, ◌++◌, length, Option, Some, None}
 use Rattle.std.specs.Ordering.{int_eq}
 use Rattle.book_commodity.specs.Currency.{is_currency}
@@ -9,6 +9,7 @@ use Rattle.book_commodity.specs.declared.counted.Counted.TheVariants.{Amount}
 use Rattle.book_commodity.specs.declared.kind.Kind.TheVariants as kind
 use Rattle.book_accounts.specs.Group.{is_security}
 use Rattle.book_accounts.specs.declared.account.Account.{Account}
+use Rattle.book_limits.specs.Limits.{largest_split_amount}
 use Rattle.book_splits.specs.Balance.{sum_of_values}
 use Rattle.book_commodity.specs.Rules.{broken_where}
 use Rattle.book_splits.specs.declared.rule.TxnRule.{TxnRule}
@@ -30,13 +31,14 @@ currency_rules currency (Some commodity) = broken_where (not (is_currency commod
 abbrev pub placeholder : Split → Account → Option TxnRule
 placeholder split account = broken_where account.placeholder (Placeholder split.account)
 
--- Whether an amount is above 10^12 in size.
+-- Whether the amount of a split is above 10^13 in size.
 abbrev pub is_over_limit : ℤ → Bool
-is_over_limit amount = nat_lt (10 ^ 12) (unsigned_abs amount)
+is_over_limit amount = nat_lt largest_split_amount (unsigned_abs amount)
 
--- The value and the quantity of a split are at most 10^12 in size (a limit of this project).
+-- The value and the quantity of a split are at most 10^13 in size (a limit of this project).
 abbrev pub amount_limit : Split → Option TxnRule
-amount_limit split = broken_where (is_over_limit split.value || is_over_limit split.quantity) (Limit Amount (10 ^ 12))
+amount_limit split =
+    broken_where (is_over_limit split.value || is_over_limit split.quantity) (Limit Amount largest_split_amount)
 
 -- Whether the basis of an account is the currency.
 abbrev pub is_basis : ℕ → Option ℕ → Bool
@@ -82,9 +84,10 @@ txn_rules commodities accounts txn =
     split_count txn.splits ∷ (currency_rules txn.currency (value_of txn.currency commodities)
     ++ (rules_of_splits accounts txn.currency 0 txn.splits ++ (unbalanced txn.splits ∷ [])))
 
--- The value and the quantity of a split are at most 10^12 in size.
+-- The value and the quantity of a split are at most 10^13 in size.
 abbrev pub HasAmounts : Split → Type 0
-HasAmounts split = (unsigned_abs split.value ≤ 10 ^ 12) × (unsigned_abs split.quantity ≤ 10 ^ 12)
+HasAmounts split =
+    (unsigned_abs split.value ≤ largest_split_amount) × (unsigned_abs split.quantity ≤ largest_split_amount)
 
 -- The splits of a transaction that breaks no rule: their values sum to zero, and they keep the limits.
 pub record IsSound (splits : List Split) : Type 0 where

@@ -9,14 +9,13 @@ ghost use Rattle.book_commodity.specs.Rules.{ReportsFirst};
 use crate::{Split, Txn, TxnRule};
 use book_accounts::Tree;
 use book_commodity::{Commodities, Counted, Kind};
+use book_limits::LARGEST_SPLIT_AMOUNT;
 
 const MAX_SPLITS: usize = 500;
 
-const MAX_AMOUNT: u64 = 1_000_000_000_000;
-
 /// The first rule that the transaction breaks among these commodities and accounts: it has 1 to 500 splits; its
 /// currency is known and a currency; then split by split the account is known and no placeholder, the amounts are at
-/// most 10^12 in size, the basis of a security account is the currency, and on an account in the currency value and
+/// most 10^13 in size, the basis of a security account is the currency, and on an account in the currency value and
 /// quantity are equal; last the values sum to zero. It takes no memory.
 pub fn check_txn(commodities: &Commodities, accounts: &Tree, txn: &Txn) -> Result<(), TxnRule>
     ensures first_rule { ReportsFirst (txn_rules commodities.now.entries accounts.now.entries txn.now) result }
@@ -88,7 +87,7 @@ fn check_split(accounts: &Tree, currency: u64, place: usize, split: &Split) -> R
     if is_over_limit(split.value) || is_over_limit(split.quantity) {
         return Err(TxnRule::Limit {
             which: Counted::Amount,
-            at: MAX_AMOUNT,
+            at: LARGEST_SPLIT_AMOUNT,
         });
     }
     if account.kind.is_security() && account.basis != Some(currency) {
@@ -104,11 +103,11 @@ fn check_split(accounts: &Tree, currency: u64, place: usize, split: &Split) -> R
     Ok(())
 }
 
-/// Whether an amount is above 10^12 in size.
+/// Whether the amount of a split is above 10^13 in size.
 fn is_over_limit(amount: i64) -> bool
     ensures { result ≡ is_over_limit amount }
 {
-    amount.unsigned_abs() > MAX_AMOUNT
+    amount.unsigned_abs() > LARGEST_SPLIT_AMOUNT
 }
 
 /// The values sum to zero.

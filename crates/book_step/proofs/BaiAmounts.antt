@@ -1,13 +1,13 @@
 -- The lines that a BAI2 file says have amounts that a book may hold.
 use Rattle.std.proofs.Common.{◌≡◌, ℕ, nat_le, Bool, true, false, ◌&&◌, ℤ, pos, neg_ℤ, List, [], ◌∷◌, ◌++◌, length, Option}
 use Rattle.std.proofs.Common.{if◌then◌else◌, Some, None, Ok, refl, subst, slice_index, ◌==◌}
-use Rattle.book_splits.specs.Check.{is_over_limit}
 use Rattle.book_commodity.specs.declared.commodity.Commodity.{Commodity}
 use Rattle.book_statement.specs.Checks.{first_fault}
-use Rattle.book_statement.specs.Numbers.{number}
+use Rattle.book_statement.specs.Numbers.{largest_amount, number}
 use Rattle.book_statement.specs.Texts.{lines_of}
 use Rattle.book_statement.specs.declared.statement.Statement.{Statement}
 use Rattle.book_statement.specs.declared.level.Level.TheVariants.{Account}
+use Rattle.book_sound.specs.LineRules.{is_over_limit}
 use Rattle.bai2_read.specs.Amounts.{amount, is_credit, is_debit, is_given, is_signed, line_amount, signed_number}
 use Rattle.bai2_read.specs.Amounts.{without_sign}
 use Rattle.bai2_read.specs.Details.{detail_amount, is_type, lines_of_detail, lines_with}
@@ -38,7 +38,7 @@ amount-within text = go (is_given text) refl
     go : (given : Bool) → is_given text ≡ given
         → is_over_limit (if given then signed_number text else pos 0) ≡ false
     go true is = signed-within (slice_index text 0 == 45) (number (without_sign text))
-        (right_holds (is_signed 15 text) (nat_le (number (without_sign text)) 1_000_000_000_000) is)
+        (right_holds (is_signed 15 text) (nat_le (number (without_sign text)) largest_amount) is)
     go false is = refl
 
 -- so is what a line has of it

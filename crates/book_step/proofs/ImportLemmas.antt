@@ -4,13 +4,13 @@ use Rattle.std.proofs.Common.{unwrap_or, refl, arith}
 use Rattle.std.specs.List.{AllByRecursion}
 use Rattle.std.proofs.Math.ListN.{length-append}
 use Rattle.book_accounts.specs.declared.account.Account.{Account}
-use Rattle.book_splits.specs.Check.{is_over_limit}
 use Rattle.book_statement.specs.Keys.{keys_of}
 use Rattle.book_statement.specs.declared.held.Held.{Held}
 use Rattle.book_statement.specs.declared.line.Line.{Line}
 use Rattle.book_statement.specs.declared.line_key.LineKey.{LineKey}
 use Rattle.book_statement.specs.declared.line_state.LineState.TheVariants.{Open}
 use Rattle.book_statement.specs.declared.statement_line.StatementLine.{StatementLine}
+use Rattle.book_sound.specs.LineRules.{is_over_limit}
 use Rattle.book_sound.specs.Tests.{is_live}
 use Rattle.book_import.specs.Import.{Bound, has_key, held_of, imported, new_line, nothing_added, number_among, with_held}
 use Rattle.book_import.specs.Import.{with_line, with_lines, with_statement, with_statements}

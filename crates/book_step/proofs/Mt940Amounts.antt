@@ -2,7 +2,6 @@
 use Rattle.std.proofs.Common.{◌≡◌, ℕ, Bool, true, false, List, [], ◌∷◌, ◌++◌, if◌then◌else◌, is_some, nat_lt, None}
 use Rattle.std.proofs.Common.{Ok, subst}
 use Rattle.std.specs.List.{AllByRecursion, after_first, before_first}
-use Rattle.book_splits.specs.Check.{is_over_limit}
 use Rattle.book_commodity.specs.declared.commodity.Commodity.{Commodity}
 use Rattle.book_statement.specs.Checks.{check, first_bad, first_fault}
 use Rattle.book_statement.specs.Lists.{each_after, in_front}
@@ -11,6 +10,7 @@ use Rattle.book_statement.specs.Texts.{lines_of}
 use Rattle.book_statement.specs.declared.bad.Bad.TheVariants.{FieldOrder, TooMany}
 use Rattle.book_statement.specs.declared.statement.Statement.{Statement}
 use Rattle.book_statement.specs.declared.statement_line.StatementLine.{StatementLine}
+use Rattle.book_sound.specs.LineRules.{is_over_limit}
 use Rattle.mt940_read.specs.Amounts.{amount, amount_checks, is_comma}
 use Rattle.mt940_read.specs.Entries.{entries, entry, fraction_behind, last_tag, text_behind}
 use Rattle.mt940_read.specs.FileChecks.{checks_of, lines_so_far, text_checks}

@@ -9,7 +9,6 @@ use Rattle.std.proofs.lemmas.List.Elements.{All-cons, All-head, All-nil, All-tai
 use Rattle.book_commodity.specs.Rules.{AllHold, IsSoundTable, stands_before}
 use Rattle.book_commodity.specs.Table.{AllAbove, Rises, value_of}
 use Rattle.book_accounts.specs.declared.account.Account.{Account}
-use Rattle.book_splits.specs.Check.{is_over_limit}
 use Rattle.book_splits.specs.declared.transaction.Txn.{Txn}
 use Rattle.book_statement.specs.declared.held.Held.{Held}
 use Rattle.book_statement.specs.declared.line.Line.{Line}
@@ -17,7 +16,8 @@ use Rattle.book_statement.specs.declared.line_key.LineKey.{LineKey}
 use Rattle.book_statement.specs.declared.line_state.LineState.{LineState}
 use Rattle.book_statement.specs.declared.line_state.LineState.TheVariants.{Open, Matched, Dismissed}
 use Rattle.book_statement.specs.declared.statement_line.StatementLine.{StatementLine}
-use Rattle.book_sound.specs.LineRules.{fits_in_state, fits_line, has_same_key, is_same_key, key_of_line, line_rules}
+use Rattle.book_sound.specs.LineRules.{fits_in_state, fits_line, has_same_key, is_over_limit, is_same_key}
+use Rattle.book_sound.specs.LineRules.{key_of_line, line_rules}
 use Rattle.book_sound.specs.LineRules.{matched_split, shares_split, split_at}
 use Rattle.book_sound.specs.Soundness.{IsSoundBook, AreDrawn}
 use Rattle.book_sound.specs.Tests.{is_live}

@@ -2,7 +2,6 @@
 use Rattle.std.proofs.Common.{◌≡◌, ℕ, ◌==◌, Bool, true, false, pos, List, [], ◌∷◌, ◌++◌, if◌then◌else◌, length}
 use Rattle.std.proofs.Common.{Option, Some, None, is_some, option_map, unwrap_or, Ok, IfSome, refl, subst}
 use Rattle.std.specs.Option.{option_or}
-use Rattle.book_splits.specs.Check.{is_over_limit}
 use Rattle.book_commodity.specs.declared.commodity.Commodity.{Commodity}
 use Rattle.book_statement.specs.Checks.{first_bad, first_fault}
 use Rattle.book_statement.specs.Lists.{each_after}
@@ -11,6 +10,7 @@ use Rattle.book_statement.specs.Texts.{lines_of}
 use Rattle.book_statement.specs.declared.bad.Bad.TheVariants.{AmountForm}
 use Rattle.book_statement.specs.declared.fault.StatementFault.{StatementFault}
 use Rattle.book_statement.specs.declared.statement.Statement.{Statement}
+use Rattle.book_sound.specs.LineRules.{is_over_limit}
 use Rattle.qif_read.specs.Entries.{amount_of, first_of, line_in, place_of}
 use Rattle.qif_read.specs.Qif.{answer_of, entries_places, entry_places, form_of, line_checks, line_places}
 use Rattle.qif_read.specs.Qif.{listing_places, name_behind, places, reading, statements, statements_behind}

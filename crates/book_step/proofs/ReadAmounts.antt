@@ -5,16 +5,16 @@ use Rattle.std.proofs.Common.{if◌then◌else◌, flat_map, Option, Some, None,
 use Rattle.std.specs.List.{AllByRecursion}
 use Rattle.std.specs.Option.{option_or}
 use Rattle.std.proofs.lemmas.Bool.Decides.{nat_tests}
-use Rattle.book_splits.specs.Check.{is_over_limit}
 use Rattle.book_statement.specs.Checks.{Check, Place, check, fault_at, first_bad, first_fault, unless_fault}
 use Rattle.book_statement.specs.Lists.{each_after}
-use Rattle.book_statement.specs.Numbers.{fine_units, unit_checks, units}
+use Rattle.book_statement.specs.Numbers.{fine_units, largest_amount, unit_checks, units}
 use Rattle.book_statement.specs.declared.bad.Bad.{Bad}
 use Rattle.book_statement.specs.declared.bad.Bad.TheVariants.{AmountForm, TooManyDecimals}
 use Rattle.book_statement.specs.declared.fault.StatementFault.{StatementFault}
 use Rattle.book_statement.specs.declared.statement.Statement.{Statement}
 use Rattle.book_statement.specs.declared.statement_line.StatementLine.{StatementLine}
 use Rattle.book_statement.proofs.CheckLemmas.{first_bad-append, first_fault-append}
+use Rattle.book_sound.specs.LineRules.{is_over_limit}
 
 -- These lines have amounts of at most 10^12 in size.
 abbrev pub AreWithin : List StatementLine → Type 0
@@ -50,7 +50,7 @@ each-behind P gives before (x ∷ xs) all =
 
 -- ---- amounts
 
-pub size-within : (size : ℕ) → nat_le size 1_000_000_000_000 ≡ true → is_over_limit (pos size) ≡ false
+pub size-within : (size : ℕ) → nat_le size largest_amount ≡ true → is_over_limit (pos size) ≡ false
 size-within size small = grind (arith, nat_tests, small)
 
 pub minus-within : (amount : ℤ) → is_over_limit amount ≡ false → is_over_limit (neg_ℤ amount) ≡ false
@@ -59,7 +59,7 @@ minus-within (pos (suc n)) within = within
 minus-within (negsuc n) within = within
 
 pub signed-within :
-    (negative : Bool) (size : ℕ) → nat_le size 1_000_000_000_000 ≡ true
+    (negative : Bool) (size : ℕ) → nat_le size largest_amount ≡ true
     → is_over_limit (if negative then neg_ℤ (pos size) else pos size) ≡ false
 signed-within true size small = minus-within (pos size) (size-within size small)
 signed-within false size small = size-within size small
@@ -84,10 +84,10 @@ check-head false bad cs none = absurd cc
 -- an amount that passes its checks is at most 10^12 smallest units
 pub units-small :
     (whole decimals : List ℕ) (fraction : ℕ) → first_bad (unit_checks whole decimals fraction) ≡ None
-    → nat_le (units whole decimals fraction) 1_000_000_000_000 ≡ true
+    → nat_le (units whole decimals fraction) largest_amount ≡ true
 unfolding unit_checks
 units-small whole decimals fraction holds =
-    let small = nat_le (units whole decimals fraction) 1_000_000_000_000 in
+    let small = nat_le (units whole decimals fraction) largest_amount in
     let rest = check-head (fine_units whole decimals fraction % 10 ^ length decimals == 0) TooManyDecimals
     (check small AmountForm ∷ []) holds in
     (check-head small AmountForm [] rest.1).0

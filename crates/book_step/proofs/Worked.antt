@@ -101,8 +101,13 @@ salary = refl
 unbalanced_post : last two_accounts (paid (pos 100) (negsuc 98)) ≡ Refused (Unbalanced (pos 1))
 unbalanced_post = refl
 
-amount_limit : last two_accounts (paid (pos 1000000000001) (negsuc 1000000000000))
-    ≡ Refused (Limit Amount 1000000000000)
+largest_amounts :
+    last two_accounts (paid (pos 10000000000000) (negsuc 9999999999999))
+    ≡ Answered (answer.Post 5 (6 ∷ 7 ∷ []) (pos 10000000000000 ∷ negsuc 9999999999999 ∷ [])) 3
+largest_amounts = refl
+
+amount_limit : last two_accounts (paid (pos 10000000000001) (negsuc 10000000000000))
+    ≡ Refused (Limit Amount 10000000000000)
 amount_limit = refl
 
 abbrev acme : Update

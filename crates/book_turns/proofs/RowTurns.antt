@@ -28,11 +28,11 @@ use Rattle.book_opening.proofs.KeptSteps.{are_counted}
 use Rattle.book_opening.proofs.StateRecords.{TablesRise, with_book}
 use Rattle.book_turns.specs.Whole.{IsWhole}
 use Rattle.book_turns.specs.Standing.{StandFor}
-use Rattle.book_turns.specs.Turned.{CanTurn, HaveSpellings, IsTurnFor, changes_to, is_moving, step_changes, turned}
+use Rattle.book_turns.specs.Turned.{CanTurn, HaveSpellings, IsTurnFor, changes_to, step_changes, turned}
 use Rattle.book_turns.specs.Turned.{turned_by}
 use Rattle.book_turns.specs.declared.turn.Turn.{Turn}
 use Rattle.book_turns.specs.declared.turn.Way.{Way}
-use Rattle.book_turns.specs.declared.turn.Way.TheVariants.{Stay, Change as ToNew, Undo, Redo}
+use Rattle.book_turns.specs.declared.turn.Way.TheVariants.{Change as ToNew, Undo, Redo}
 use Rattle.book_turns.proofs.SmallLemmas.{allowed_in_order, can_be_rows, small_leaves}
 
 -- ---- the steps of a state that an engine keeps are those that its head counts
@@ -104,7 +104,6 @@ new_rise false position later inverse few next = (
 steps_rise :
     (way : Way) (state : State) (inverse : Edit) → Bounds way state
     → AreRisingFrom (11 * 2 ^ 64) (map step_change (step_changes way state inverse))
-steps_rise Stay state inverse bounds = tt
 steps_rise ToNew state inverse bounds =
     new_rise (state.past == 256) state.position state.later inverse bounds.now bounds.next
 steps_rise Undo state inverse bounds =
@@ -127,7 +126,6 @@ new_small false position later inverse few next = (next, gone_small (position + 
 steps_small :
     (way : Way) (state : State) (inverse : Edit) → Bounds way state
     → AllByRecursion IsSmallStep (step_changes way state inverse)
-steps_small Stay state inverse bounds = tt
 steps_small ToNew state inverse bounds =
     new_small (state.past == 256) state.position state.later inverse bounds.now bounds.next
 steps_small Undo state inverse bounds =
@@ -151,17 +149,16 @@ new_with false position later inverse s =
 
 -- With the changes of steps made, the records behind the head are those of the state after the turn.
 steps_are :
-    (state : State) (saved : Bool) (turn : Turn) → IsWhole state saved → IsTrue (is_moving turn.way)
+    (state : State) (saved : Bool) (turn : Turn) → IsWhole state saved
     → behind_head (turned turn state)
     ≡ behind_head
     (with_steps (step_changes turn.way state turn.inverse) (with_book (edited turn.edit state.book) state))
-steps_are state saved turn whole moving = by_way turn.way moving
+steps_are state saved turn whole = by_way turn.way
   where
-    by_way : (way : Way) → IsTrue (is_moving way)
+    by_way : (way : Way)
         → behind_head (turned_by way turn state)
         ≡ behind_head (with_steps (step_changes way state turn.inverse) (with_book (edited turn.edit state.book) state))
-    by_way Stay moves = absurd cc
-    by_way ToNew moves =
+    by_way ToNew =
         let middle = with_book (edited turn.edit state.book) state in
         let gone : without_all (numbers_from (state.position + 1) state.later) state.forth ≡ [] =
         ap (λ (n : ℕ). without_all (numbers_from (state.position + 1) n) state.forth) (sym whole.history.forth_count)
@@ -171,26 +168,25 @@ steps_are state saved turn whole moving = by_way turn.way moving
         things_of (edited turn.edit state.book)
         ++ (back_records (back_after_change state.position state.past turn.inverse state.back) ++ forth_records forth))
         gone)
-    by_way Undo moves = refl
-    by_way Redo moves = refl
+    by_way Undo = refl
+    by_way Redo = refl
 
 next_position :
     (state : State) (saved : Bool) (turn : Turn) → IsWhole state saved → IsWhole (turned turn state) true
     → IsTurnFor state saved turn → state.position + 1 < 2 ^ 62
-next_position state saved turn whole after is = by_way turn.way is.moving after
+next_position state saved turn whole after is = by_way turn.way after
   where
-    by_way : (way : Way) → IsTrue (is_moving way) → IsWhole (turned_by way turn state) true
+    by_way : (way : Way) → IsWhole (turned_by way turn state) true
         → state.position + 1 < 2 ^ 62
-    by_way Stay moves next = absurd cc
-    by_way ToNew moves next =
+    by_way ToNew next =
         let reached = whole.reached in
         let version = next.sound.version in
         omega (arith, reached, version)
-    by_way Undo moves next =
+    by_way Undo next =
         let reached = whole.reached in
         let version = next.sound.version in
         omega (arith, reached, version)
-    by_way Redo moves next =
+    by_way Redo next =
         let reached = whole.reached in
         let version = next.sound.version in
         omega (arith, reached, version)
@@ -208,16 +204,14 @@ bounds_of state saved turn whole after is =
 
 -- The book after a turn is the edited one.
 next_after :
-    (state : State) (turn : Turn) → IsTrue (is_moving turn.way)
-    → (turned turn state).book ≡ edited turn.edit state.book
-next_after state turn moving = by_way turn.way moving
+    (state : State) (turn : Turn) → (turned turn state).book ≡ edited turn.edit state.book
+next_after state turn = by_way turn.way
   where
-    by_way : (way : Way) → IsTrue (is_moving way)
+    by_way : (way : Way)
         → (turned_by way turn state).book ≡ edited turn.edit state.book
-    by_way Stay moves = absurd cc
-    by_way ToNew moves = refl
-    by_way Undo moves = refl
-    by_way Redo moves = refl
+    by_way ToNew = refl
+    by_way Undo = refl
+    by_way Redo = refl
 
 turn_small :
     (state : State) (saved : Bool) (turn : Turn) → IsWhole state saved → IsWhole (turned turn state) true
@@ -227,7 +221,7 @@ turn_small state saved turn whole after is allowed =
     let less = after.sound.next in
     small_leaves state.book turn.edit state.next (turned turn state).next (tables_rise state.book whole.sound.book)
     whole.sound.drawn
-    (subst (λ (b : Book). AreDrawn b (turned turn state).next) (next_after state turn is.moving) after.sound.drawn)
+    (subst (λ (b : Book). AreDrawn b (turned turn state).next) (next_after state turn) after.sound.drawn)
     (omega (arith, small)) (omega (arith, less)) allowed
 
 -- The changes of a turn rise.
@@ -251,7 +245,7 @@ pub turn_stands :
     → OpenAs (after_changes (changes_to saved state turn) rows) (turned turn state)
 turn_stands state true turn rows whole after is allowed fit stand =
     opens_after rows state (turned turn state) turn.edit (step_changes turn.way state turn.inverse) stand
-    (steps_are state true turn whole is.moving) (turn_small state true turn whole after is allowed) fit.1
+    (steps_are state true turn whole) (turn_small state true turn whole after is allowed) fit.1
     (steps_small turn.way state turn.inverse (bounds_of state true turn whole after is))
     fit.2 fit.0 (whole_counted (turned turn state) true after)
 turn_stands state false turn rows whole after is allowed fit none =

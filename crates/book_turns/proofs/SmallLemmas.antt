@@ -26,14 +26,15 @@ use Rattle.book_undo.proofs.InverseLaws.{above_untouched, missing_first, rises_f
 use Rattle.book_undo.proofs.ThreeRules.{three_kept}
 use Rattle.book_rows.specs.Row.{IsRecord, kind_of}
 use Rattle.book_rows.specs.declared.record.Record.{Record}
+use Rattle.book_rows.specs.declared.record.Record.TheVariants as kept
 use Rattle.book_history.specs.History.{AreNumberedFrom}
-use Rattle.book_opening.specs.BookRows.{back_records, behind_head, forth_records, record_of, records_in, records_of}
+use Rattle.book_opening.specs.BookRows.{back_records, behind_head, forth_records, records_in, records_of}
 use Rattle.book_opening.specs.BookRows.{tables_of, things_of}
 use Rattle.book_opening.specs.Changes.{AreRecords, IsSmallLeaf}
 use Rattle.book_opening.specs.Opening.{CanBeRow}
 use Rattle.book_opening.specs.State.{State}
-use Rattle.book_opening.proofs.ChangeLaws.{record_least}
-use Rattle.book_opening.proofs.Ranked.{all_both, all_first, all_last, joined}
+use Rattle.book_opening.proofs.Ranked.{all_both, all_first, all_last, beside, joined}
+use Rattle.book_opening.proofs.ThingRecords.{kind_least}
 use Rattle.book_sound.specs.Soundness.{AreDrawn}
 use Rattle.book_turns.specs.Whole.{IsWhole}
 
@@ -126,7 +127,7 @@ small_leaves book edit next later rise are after small less allowed =
 
 -- ---- the rows of a book
 abbrev IsThing : ℕ × Record → Type 0
-IsThing entry = (entry.0 < 2 ^ 62) × ((t : Thing) × (entry.1 ≡ record_of t))
+IsThing entry = (entry.0 < 2 ^ 62) × ((t : Thing) × (entry.1 ≡ kept.Thing t))
 
 table_things :
     {T : Type 0} (of : T → Thing) (next : ℕ) (es : List (ℕ × T)) → next < 2 ^ 62 → All (λ (e : ℕ × T). e.0 < next) es
@@ -146,38 +147,21 @@ all_joined P (s ∷ ss) h = all_both P s (joined ss) h.0 (all_joined P ss h.1)
 book_things : (book : Book) (next : ℕ) → AreDrawn book next → next < 2 ^ 62 → AllByRecursion IsThing (things_of book)
 unfolding things_of
 book_things book next are small =
-    all_joined IsThing (tables_of book) (
-      table_things (λ it. thing.Commodity it) next book.commodities small are.commodities,
-      (
-        table_things (λ it. thing.Account it) next book.accounts small are.accounts,
-        (
-          table_things (λ it. thing.Txn it) next book.transactions small are.transactions,
-          (
-            table_things (λ it. thing.Price it) next book.prices small are.prices,
-            (
-              table_things (λ it. thing.Schedule it) next book.schedules small are.schedules,
-              (
-                table_things (λ it. thing.Held it) next book.statements small are.statements,
-                (
-                  table_things (λ it. thing.Line it) next book.lines small are.lines,
-                  (
-                    table_things (λ it. thing.Binding it) next book.bindings small are.bindings,
-                    (
-                      table_things (λ it. thing.Recon it) next book.reconciliations small are.reconciliations,
-                      tt,
-                    ),
-                  ),
-                ),
-              ),
-            ),
-          ),
-        ),
-      ),
-    )
+    all_joined IsThing (tables_of book)
+    (beside (table_things (λ it. thing.Commodity it) next book.commodities small are.commodities)
+    (beside (table_things (λ it. thing.Account it) next book.accounts small are.accounts)
+    (beside (table_things (λ it. thing.Txn it) next book.transactions small are.transactions)
+    (beside (table_things (λ it. thing.Price it) next book.prices small are.prices)
+    (beside (table_things (λ it. thing.Schedule it) next book.schedules small are.schedules)
+    (beside (table_things (λ it. thing.Held it) next book.statements small are.statements)
+    (beside (table_things (λ it. thing.Line it) next book.lines small are.lines)
+    (beside (table_things (λ it. thing.Binding it) next book.bindings small are.bindings)
+    (beside (table_things (λ it. thing.Recon it) next book.reconciliations small are.reconciliations)
+    tt)))))))))
 
 thing_row : (e : ℕ × Record) → IsThing e → IsRecord e.1 → CanBeRow e
 thing_row e is record_is =
-    let least : 2 ≤ kind_of e.1 = subst (λ (r : Record). 2 ≤ kind_of r) (sym is.1.1) (record_least is.1.0) in
+    let least : 2 ≤ kind_of e.1 = subst (λ (r : Record). 2 ≤ kind_of r) (sym is.1.1) (kind_least (thing_kind is.1.0)) in
     ((refl, is.0, λ one. absurd (omega (arith, least, one))), record_is, refl)
 
 all_rows :

@@ -1,5 +1,5 @@
 -- What a turn makes of a state that an engine keeps: a state of which all that holds of such states holds again.
-use Rattle.std.proofs.Common.{◌≡◌, ℕ, ◌+◌, ◌<◌, ◌^◌, nat_lt, not, Bool, true, false, ◌||◌, None, refl, ap, ◌∙◌}
+use Rattle.std.proofs.Common.{◌≡◌, ℕ, ◌+◌, ◌<◌, ◌^◌, nat_lt, not, Bool, true, false, ◌||◌, None, refl, ap}
 use Rattle.std.proofs.Common.{arith}
 use Rattle.std.proofs.lemmas.Bool.Decides.{nat_tests}
 use Rattle.book_commodity.specs.Rules.{broken_where}
@@ -12,21 +12,18 @@ use Rattle.book_history.proofs.TurnLaws.{changed_history, redone_history, redo_l
 use Rattle.book_history.proofs.TurnLaws.{undo_sound, undone_history}
 use Rattle.book_step.specs.Outcome.{numbers}
 use Rattle.book_opening.specs.State.{State}
+use Rattle.book_rows.specs.declared.head.Head.{Head}
 use Rattle.book_turns.specs.Whole.{IsWhole, step_state}
-use Rattle.book_turns.specs.Turned.{CanTurn, IsChangeTo, IsKeptStep, turned}
+use Rattle.book_turns.specs.Turned.{CanTurn, HasBounds, HasNextHead, IsChangeTo, IsKeptStep, turn_of, turned}
 use Rattle.book_turns.specs.declared.turn.Turn.{Turn}
 use Rattle.book_turns.specs.declared.turn.Way.{Way}
-use Rattle.book_turns.specs.declared.turn.Way.TheVariants.{Stay, Change as ToNew, Undo, Redo}
-
--- A turn by these edits.
-abbrev pub turn_of : Way → Edit → Edit → ℕ → Turn
-turn_of way edit inverse next = record { way = way; edit = edit; inverse = inverse; next = next }
+use Rattle.book_turns.specs.declared.turn.Way.TheVariants.{Change as ToNew, Undo, Redo}
 
 -- ---- a change of the book
 pub changed_whole :
     (state : State) (saved : Bool) (edit inverse : Edit) (next : ℕ) → IsWhole state saved
     → IsChangeTo state edit next → LeadsBack state.book edit inverse
-    → IsWhole (turned (turn_of ToNew edit inverse next) state) true
+    → IsWhole (turned (turn_of state ToNew edit inverse next) state) true
 changed_whole state saved edit inverse next whole change leads =
     let reached = whole.reached in
     let version = change.sound.version in
@@ -44,7 +41,6 @@ changed_whole state saved edit inverse next whole change leads =
 pub kept_can :
     (state : State) (saved : Bool) (way : Way) (edit : Edit) → IsWhole state saved → IsKeptStep way state edit
     → CanTurn way state × IsSoundStep state.next state.book edit
-kept_can state saved Stay edit whole kept = absurd kept
 kept_can state saved ToNew edit whole kept = absurd kept
 kept_can state saved Undo edit whole kept = (
   undo_past state.next state.book state.position state.past state.later state.back state.forth whole.history edit kept,
@@ -60,7 +56,6 @@ pub kept_saved :
     (state : State) (saved : Bool) (way : Way) (edit : Edit) → IsWhole state saved → IsKeptStep way state edit
     → saved ≡ true
 kept_saved state true way edit whole kept = refl
-kept_saved state false Stay edit whole kept = absurd kept
 kept_saved state false ToNew edit whole kept = absurd kept
 kept_saved state false Undo edit whole kept =
     let some = (kept_can state false Undo edit whole kept).0 in
@@ -92,20 +87,11 @@ numbers_within state next version =
     grind (arith, nat_tests, next, version) in
     ap (λ (b : Bool). broken_where b (Limit Numbers (2 ^ 62))) both
 
-pub turn_is :
-    (turn : Turn) (way : Way) (edit : Edit) (next : ℕ)
-    → (turn.way ≡ way) × (turn.edit ≡ edit) × (turn.next ≡ next) → turn ≡ turn_of way edit turn.inverse next
-turn_is turn way edit next is =
-    ap (λ (w : Way). turn_of w turn.edit turn.inverse turn.next) is.0
-    ∙ ap (λ (e : Edit). turn_of way e turn.inverse turn.next) is.1
-    ∙ ap (λ (n : ℕ). turn_of way edit turn.inverse n) is.2
-
 -- After a kept step is taken, all holds of an engine again.
 pub kept_whole :
     (state : State) (saved : Bool) (way : Way) (edit inverse : Edit) → IsWhole state saved
     → IsKeptStep way state edit → LeadsBack state.book edit inverse → numbers (step_state state) 0 ≡ None
-    → IsWhole (turned (turn_of way edit inverse state.next) state) true
-kept_whole state saved Stay edit inverse whole kept leads none = absurd kept
+    → IsWhole (turned (turn_of state way edit inverse state.next) state) true
 kept_whole state saved ToNew edit inverse whole kept leads none = absurd kept
 kept_whole state saved Undo edit inverse whole kept leads none =
     let some = (kept_can state saved Undo edit whole kept).0 in
@@ -136,3 +122,20 @@ kept_whole state saved Redo edit inverse whole kept leads none =
           whole.history whole.sound.book whole.sound.drawn edit inverse kept leads;
       fresh = λ e. absurd cc;
     }
+
+-- ---- how a turn is made
+-- The numbers of a state that an engine keeps stay within the bounds.
+pub whole_bounds : (state : State) (saved : Bool) → IsWhole state saved → HasBounds state
+whole_bounds state saved whole =
+    let few = whole.few in
+    record {
+      reached = whole.history.reached;
+      small = omega (arith, few);
+      most = whole.history.most;
+      version = whole.sound.version;
+    }
+
+-- The version of its head is that of the state after it.
+pub head_version :
+    (state : State) (turn : Turn) → HasNextHead state turn → turn.head.version ≡ (turned turn state).version
+head_version state turn head = ap (λ (h : Head). h.version) head

@@ -1,13 +1,12 @@
-ghost use Rattle.std.specs.Prelude.{◌≡◌, ◌∷◌, ◌+◌, ◌^◌, ◌<◌, ◌≤◌, ◌++◌, true, false, [], IfOk, OnOk, flat_map, map};
+ghost use Rattle.std.specs.Prelude.{◌≡◌, ◌∷◌, ◌+◌, ◌^◌, ◌<◌, ◌≤◌, ◌++◌, true, false, [], IfOk, OnOk, map};
 ghost use Rattle.std.specs.List.{AllByRecursion};
 ghost use Rattle.book_undo.specs.Book.{book_of};
-ghost use Rattle.book_undo.specs.Edit.{depth, edited, leaves};
+ghost use Rattle.book_undo.specs.Edit.{depth, edited};
 ghost use Rattle.book_opening.specs.Changes.{GoneBack, GoneForth, PutBack, PutForth, StepFits, step_change};
-ghost use Rattle.book_opening.specs.State.{head_of, state_of};
+ghost use Rattle.book_opening.specs.State.{state_of};
 ghost use Rattle.book_history.specs.Numbers.{numbers_from};
-ghost use Rattle.book_turns.specs.Changes.{currency_after};
 ghost use Rattle.book_turns.specs.Whole.{IsWhole, fresh_state};
-ghost use Rattle.book_turns.specs.Turned.{CanTurn, HaveSpellings, IsTurnFor, changes_to, step_changes, turned};
+ghost use Rattle.book_turns.specs.Turned.{HasNextHead, HaveSpellings, IsTurnFor, changes_to, step_changes, turned};
 ghost use Rattle.book_turns.specs.declared.turn.Way.TheVariants.{Change as ToNew};
 
 use crate::fresh::fresh_book;
@@ -15,7 +14,6 @@ use crate::turn::{STEPS_LIMIT, Turn, Way};
 use book_commodity::{Many, OutOfMemory, Table};
 use book_keeper::Change;
 use book_opening::{Saved, all_rows, back_gone, back_put, changes_of, forth_gone, forth_put};
-use book_rows::Head;
 use book_undo::{Edit, Plain};
 use std::alloc::Global;
 
@@ -45,59 +43,14 @@ pub fn row_changes(
 fn later_changes(alloc: Global, state: &Saved, turn: &Turn) -> Result<Many<Change>, OutOfMemory>
     requires whole { IsWhole (state_of state.now) true }
     requires after { IsWhole (turned turn.now (state_of state.now)) true }
-    requires can { CanTurn turn.now.way (state_of state.now) }
+    requires head { HasNextHead (state_of state.now) turn.now }
     requires back { depth turn.now.inverse ≤ 8 }
     ensures changes { IfOk result (λ changes. changes ≡ changes_to true (state_of state.now) turn.now) }
     ensures fit { IfOk result (λ changes. HaveSpellings true (state_of state.now) turn.now) }
 {
-    let mut changes = changes_of(alloc, head_after(state, turn), &turn.edit)?;
+    let mut changes = changes_of(alloc, turn.head, &turn.edit)?;
     add_steps(alloc, state, turn, &mut changes)?;
     Ok(changes)
-}
-
-/// The head of the state after a turn.
-fn head_after(state: &Saved, turn: &Turn) -> Head
-    requires whole { IsWhole (state_of state.now) true }
-    requires can { CanTurn turn.now.way (state_of state.now) }
-    ensures { result ≡ head_of (turned turn.now (state_of state.now)) }
-{
-    let now = Head {
-        next: state.next,
-        version: state.version,
-        position: state.position,
-        past: state.past,
-        later: state.later,
-        currency: state.plain.currency,
-    };
-    let version = state.version + 1;
-    let currency = currency_after(&turn.edit, state.plain.currency);
-    match turn.way {
-        Way::Stay => now,
-        Way::Change => Head {
-            next: turn.next,
-            version,
-            position: state.position + 1,
-            past: (state.past + 1).min(STEPS_LIMIT),
-            later: 0,
-            currency,
-        },
-        Way::Undo => Head {
-            version,
-            position: state.position - 1,
-            past: state.past - 1,
-            later: state.later + 1,
-            currency,
-            ..now
-        },
-        Way::Redo => Head {
-            version,
-            position: state.position + 1,
-            past: state.past + 1,
-            later: state.later - 1,
-            currency,
-            ..now
-        },
-    }
 }
 
 /// Adds the changes of the kept steps that a turn comes to.
@@ -115,7 +68,6 @@ fn add_steps(
         (AllByRecursion StepFits (step_changes turn.now.way (state_of state.now) turn.now.inverse)) }
 {
     match turn.way {
-        Way::Stay => Ok(()),
         Way::Change => add_change(alloc, state, &turn.inverse, changes),
         Way::Undo => add_undo(alloc, state.position, &turn.inverse, changes),
         Way::Redo => add_redo(alloc, state.position + 1, &turn.inverse, changes),
@@ -187,31 +139,6 @@ fn add_forth_gone(first: u64, count: u64, changes: &mut Many<Change>) -> Result<
     Ok(())
 }
 
-/// The currency of a book after an edit.
-#[cycle(currency)]
-#[tactic(auto, using(book_undo::proofs::PartLaws::leaves_of_all))]
-fn currency_after(edit: &Edit, currency: u64) -> u64
-    ensures { result ≡ currency_after (leaves edit.now) currency }
-{
-    match edit {
-        Edit::Currency(new) => *new,
-        Edit::All(parts) => currency_after_all(parts.as_slice(), currency),
-        Edit::Put(_, _) | Edit::Gone(_, _) => currency,
-    }
-}
-
-/// The currency of a book after edits, one after another.
-#[cycle(currency)]
-fn currency_after_all(parts: &[Edit], currency: u64) -> u64
-    ensures { result ≡ currency_after (flat_map leaves parts.now) currency }
-{
-    let mut now = currency;
-    for part in parts {
-        now = currency_after(part, now);
-    }
-    now
-}
-
 /// The changes of rows of a change from the fresh state, before a keeper was given rows: all rows of the state after
 /// it.
 fn first_changes(alloc: Global, turn: &Turn) -> Result<Many<Change>, OutOfMemory>
@@ -220,10 +147,7 @@ fn first_changes(alloc: Global, turn: &Turn) -> Result<Many<Change>, OutOfMemory
     ensures changes { IfOk result (λ changes. changes ≡ changes_to false fresh_state turn.now) }
     ensures fit { IfOk result (λ changes. HaveSpellings false fresh_state turn.now) }
 {
-    let state = match first_state(alloc, turn) {
-        Ok(state) => state,
-        Err(error) => return Err(error),
-    };
+    let state = first_state(alloc, turn)?;
     all_rows(alloc, &state)
 }
 
@@ -232,26 +156,19 @@ fn first_state(alloc: Global, turn: &Turn) -> Result<Saved, OutOfMemory>
     requires { IsTurnFor fresh_state false turn.now }
     ensures { IfOk result (λ state. state_of state ≡ turned turn.now fresh_state) }
 {
-    let mut plain = match fresh_book(alloc) {
-        Ok(plain) => plain,
-        Err(error) => return Err(error),
-    };
-    if let Err(error) = apply_copy(alloc, &mut plain, &turn.edit) {
-        return Err(error);
-    }
-    match first_back(alloc, &turn.inverse) {
-        Ok(back) => Ok(Saved {
-            plain,
-            next: turn.next,
-            version: 1,
-            position: 1,
-            past: 1,
-            later: 0,
-            back,
-            forth: Table::new(alloc),
-        }),
-        Err(error) => Err(error),
-    }
+    let mut plain = fresh_book(alloc)?;
+    apply_copy(alloc, &mut plain, &turn.edit)?;
+    let back = first_back(alloc, &turn.inverse)?;
+    Ok(Saved {
+        plain,
+        next: turn.head.next,
+        version: turn.head.version,
+        position: turn.head.position,
+        past: turn.head.past,
+        later: turn.head.later,
+        back,
+        forth: Table::new(alloc),
+    })
 }
 
 /// The steps back after the first change.

@@ -11,12 +11,13 @@ use book_commodity::{Many, OutOfMemory};
 pub(crate) const MAX_DEPTH: u32 = 8;
 
 impl Plain {
-    /// Takes the memory that the edit needs; the book stays as it is. Out of memory only where a table is full into
-    /// which the edit puts things.
+    /// Takes the memory that the edit needs; the book stays as it is, and no table has less room than before. Out of
+    /// memory only where a table is full into which the edit puts things.
     pub fn reserve_for(&mut self, edit: &Edit) -> Result<(), OutOfMemory>
         ensures room { OnOk result (HasRoom self.new edit.now) }
         ensures full { OnErr result (IsFullFor self.old edit.now) }
         ensures book { book_of self.new ≡ book_of self.old }
+        ensures spare { (kind : _) → spare_of kind self.old ≤ spare_of kind self.new }
     {
         let mut needs = Needs::none();
         needs.count(edit)?;

@@ -1,4 +1,4 @@
-ghost use Rattle.std.specs.Prelude.{◌≡◌, [], IfOk, OnErr, OnOk};
+ghost use Rattle.std.specs.Prelude.{◌≡◌, ◌↔◌, [], IfOk, IsTrue, OnErr, OnOk};
 ghost use Rattle.book_keeper.specs.Rows.{after_change, with_row, without_row};
 ghost use Rattle.book_keeper.specs.declared.row.RowKey.{RowKey};
 
@@ -145,11 +145,28 @@ fn change(alloc: Global, keeper: &mut MemKeeper, change: Change) -> io::Result<(
 }
 
 /// Whether the rows are the same.
-pub fn are_same(rows: &[Row], others: &[Row]) -> bool {
-    rows.len() == others.len()
-        && rows.iter().zip(others).all(|(row, other)| {
-            row.key == other.key && row.body.as_slice() == other.body.as_slice()
-        })
+pub fn are_same(rows: &[Row], others: &[Row]) -> bool
+    ensures { IsTrue result ↔ (rows.now ≡ others.now) }
+{
+    let (mut left, mut right) = (rows, others);
+    'rows: while let Some((row, more)) = left.split_first() {
+        let Some((other, rest)) = right.split_first() else {
+            return false;
+        };
+        if !is_same(row, other) {
+            return false;
+        }
+        left = more;
+        right = rest;
+    }
+    right.is_empty()
+}
+
+/// Whether the two rows are the same.
+fn is_same(row: &Row, other: &Row) -> bool
+    ensures { IsTrue result ↔ (row.now ≡ other.now) }
+{
+    row.key == other.key && row.body.as_slice() == other.body.as_slice()
 }
 
 /// The rows that a keeper gives one after another. None where it fails.

@@ -1,4 +1,5 @@
-ghost use Rattle.std.specs.Prelude.{◌≡◌, [], false, IfOk, None, Ok};
+ghost use Rattle.std.specs.Prelude.{◌≡◌, ◌≤◌, ◌+◌, ℕ, List, [], ◌∷◌, false, IfOk, None, Some, Ok, length, take};
+ghost use Rattle.std.specs.Prelude.{slice_get, slice_range};
 ghost use Rattle.std.specs.List.{list_any};
 ghost use Rattle.gate_rows.specs.Faults.{is_keeper_fault};
 
@@ -86,13 +87,21 @@ impl Run {
     }
 
     /// The bytes of the input proper: those before the first link.
-    pub fn read_input(&self) -> &[u8] {
+    pub fn read_input(&self) -> &[u8]
+        ensures whole { self.now.links.items ≡ [] → result.now ≡ self.now.input.items }
+        ensures first { (first : ℕ) (more : List ℕ) → self.now.links.items ≡ first ∷ more
+            → first ≤ length self.now.input.items → result.now ≡ take first self.now.input.items }
+    {
         let end = self.links.first().copied().unwrap_or(self.input.len());
         self.input.get(..end).unwrap_or(&[])
     }
 
     /// The bytes of the link at a place of the links.
-    pub fn link(&self, place: usize) -> &[u8] {
+    pub fn link(&self, place: usize) -> &[u8]
+        ensures { (first next : ℕ) → slice_get self.now.links.items place ≡ Some first
+            → slice_get self.now.links.items (place + 1) ≡ Some next → first ≤ next
+            → next ≤ length self.now.input.items → result.now ≡ slice_range self.now.input.items first next }
+    {
         let first = self.links.get(place).copied().unwrap_or(self.input.len());
         let next = self.links.get(place.saturating_add(1)).copied();
         self.input

@@ -1,4 +1,4 @@
-use Rattle.std.proofs.Common.{◌≡◌, ◌==◌, ◌^◌, ℤ, ◌+ℤ◌, ◌-ℤ◌, ◌++◌, ◌∷◌, [], FitsSigned, sym, ap, subst, ◌∙◌, rules}
+use Rattle.std.proofs.Common.{◌≡◌, ◌==◌, ℤ, ◌+ℤ◌, ◌-ℤ◌, ◌++◌, ◌∷◌, [], FitsSigned, sym, ap, subst, ◌∙◌, rules}
 use Rattle.std.specs.Option.{option_copied}
 use mir.Syntax.{w128}
 use Rattle.std.proofs.lemmas.Int.{to_z-of_z}
@@ -7,7 +7,8 @@ use Rattle.book_sound.proofs.SoundFacts.{IsAtMost, sums_are_small, tables_rise}
 use Rattle.book_splits.specs.Balance.{quantity_on, splits_of}
 use Rattle.book_splits.specs.declared.split.Split.{Split}
 use Rattle.book_undo.specs.Book.{book_of}
-use Rattle.book_balances.specs.Balances.{given}
+use Rattle.book_limits.specs.Limits.{largest_sum}
+use Rattle.book_balances.specs.Balances.{given, largest_move}
 use Rattle.book_balances.proofs.MoveLemmas.{balance_moved, balances_more, form_small, given_small, old_form}
 use Rattle.book_balances.proofs.balances.balances_after.Goals as goal
 
@@ -20,7 +21,7 @@ moved_balance-requires-clause-balance c =
     let book = book_of c.args.plain.now in
     let account = c.split-item.result.account in
     let fits : FitsSigned w128 c.balance-balance.result = search rules in
-    subst (λ (z : ℤ). IsAtMost (10 ^ 18) z)
+    subst (λ (z : ℤ). IsAtMost largest_sum z)
     (sym (to_z-of_z w128 c.balance-balance.result fits ∙ c.balance-balance.ensures book c.requires.kept))
     (sums_are_small book (λ (s : Split). s.account == account) c.requires.sound)
 
@@ -30,7 +31,7 @@ moved_balance-requires-clause-lost c =
     let account = c.split-item.result.account in
     let old = option_copied c.find.result in
     let fits : FitsSigned w128 c.to.result = search rules in
-    subst (λ (z : ℤ). IsAtMost (10 ^ 15) z)
+    subst (λ (z : ℤ). IsAtMost largest_move z)
     (sym (to_z-of_z w128 c.to.result fits ∙ c.to.ensures ∙ c.in_ok-lost.ensures account))
     (form_small account old (old_form book c.args.number old c.requires.sound c.find.ensures))
 
@@ -38,7 +39,7 @@ pub moved_balance-requires-clause-gained : goal.moved_balance-requires-clause-ga
 moved_balance-requires-clause-gained c =
     let account = c.split-item.result.account in
     let fits : FitsSigned w128 c.to-in-loop-split.result = search rules in
-    subst (λ (z : ℤ). IsAtMost (10 ^ 15) z)
+    subst (λ (z : ℤ). IsAtMost largest_move z)
     (sym (to_z-of_z w128 c.to-in-loop-split.result fits ∙ c.to-in-loop-split.ensures ∙ c.in_ok-gained.ensures account
     ∙ ap (quantity_on account) c.as_slice-splits.ensures))
     (given_small account c.args.transaction.now.splits c.requires.form.amounts c.requires.form.few)

@@ -6,6 +6,7 @@ use Rattle.book_step.specs.State.{State as StepState, fresh_book}
 use Rattle.book_step.proofs.SoundStep.{fresh-sound}
 use Rattle.book_opening.specs.State.{State}
 use Rattle.book_turns.specs.Whole.{IsWhole}
+use Rattle.book_engine.proofs.BoundLemmas.{new_bounded}
 use Rattle.book_engine.proofs.WholeLemmas.{fresh_whole}
 use Rattle.book_engine.proofs.opening.begin.Goals as goal
 
@@ -28,6 +29,7 @@ invariant_of-result c =
           ∙ ap (Of fresh_book []) c.new-2.ensures))
           fresh_whole;
       registers = c.in-Ok-kept_of.ensures.registers;
+      bounded = new_bounded _ c.in-Ok-kept_of.ensures.new;
       free = c.in-Ok-kept_of.ensures.free;
     }
 

@@ -5,27 +5,20 @@ use Rattle.book_turns.specs.Whole.{IsWhole}
 use Rattle.book_turns.specs.Turned.{IsTurnFor, turned}
 use Rattle.book_turns.specs.declared.turn.Turn.{Turn}
 use Rattle.book_engine.proofs.PlanLemmas.{kept_turn_for}
-use Rattle.book_turns.proofs.TurnLemmas.{kept_can, kept_whole, numbers_within, turn_is}
+use Rattle.book_turns.proofs.TurnLemmas.{kept_whole, numbers_within}
 use Rattle.book_engine.proofs.planning.plan_kept.Goals as goal
-
-pub kept_turn-requires : goal.kept_turn-requires
-kept_turn-requires c =
-    let state = state_of c.args.state.now in
-    (kept_can state c.args.saved c.args.way c.args.edit.now c.requires.whole c.requires.kept).1.allowed
 
 pub plan_turn-requires-clause-after : goal.plan_turn-requires-clause-after
 plan_turn-requires-clause-after c =
     let state = state_of c.args.state.now in
     let test = c.if-state-ge-NUMBERS_LIMIT.false in
-    let is = turn_is c.in-Ok.turn c.args.way c.args.edit.now state.next c.in-Ok.ensures.turn in
-    subst (λ (t : Turn). IsWhole (turned t state) true) (sym is)
+    subst (λ (t : Turn). IsWhole (turned t state) true) (sym c.in-Ok.ensures.turn)
     (kept_whole state c.args.saved c.args.way c.args.edit.now c.in-Ok.turn.inverse c.requires.whole c.requires.kept
     c.in-Ok.ensures.back (numbers_within state c.requires.whole.sound.next (grind (arith, nat_tests, test))))
 
 pub plan_turn-requires-clause-turn : goal.plan_turn-requires-clause-turn
 plan_turn-requires-clause-turn c =
     let state = state_of c.args.state.now in
-    let is = turn_is c.in-Ok.turn c.args.way c.args.edit.now state.next c.in-Ok.ensures.turn in
-    subst (λ (t : Turn). IsTurnFor state c.args.saved t) (sym is)
+    subst (λ (t : Turn). IsTurnFor state c.args.saved t) (sym c.in-Ok.ensures.turn)
     (kept_turn_for state c.args.saved c.args.way c.args.edit.now c.in-Ok.turn.inverse c.requires.whole c.requires.kept
     c.in-Ok.ensures.back)

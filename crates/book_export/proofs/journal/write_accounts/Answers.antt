@@ -1,4 +1,5 @@
 use Rattle.std.proofs.Common.{ℕ, Err, subst, ◌∙◌, arith}
+use Rattle.std.proofs.lemmas.Result.{err_from_is_err_and}
 use Rattle.book_export.specs.Export.{account_line}
 use Rattle.book_export.proofs.SoundLemmas.{entry_at}
 use Rattle.book_export.specs.Export.{HasFault}
@@ -16,23 +17,28 @@ loop-place-preserved g c = record {
       (entry_at c.args.book.now.accounts.entries c.loop-place.place _ _
       (c.number_at-number.result, c.value_at-account.result.now)
       c.number_at-number.ensures c.value_at-account.ensures) c.loop-place.invariant.fed
-      (c.in-Ok.ensures.written _ c.account_line.ensures);
-  quiet = c.in-Ok.ensures.faults ∙ c.loop-place.invariant.quiet;
+      (c.in_ok-write_piece.ensures.written _ c.account_line.ensures);
+  quiet = c.in_ok-write_piece.ensures.faults ∙ c.loop-place.invariant.quiet;
 }
 
-pub returns-in-Err-clause-written : goal.returns-in-Err-clause-written
-returns-in-Err-clause-written g c =
-    cut_piece (account_line c.args.book.now.accounts.entries) c.args.book.now.accounts.entries c.loop-place.place
+pub returns-in_err-write_piece-clause-written : goal.returns-in_err-write_piece-clause-written
+returns-in_err-write_piece-clause-written g c =
+    let p = err_from_is_err_and c.from_residual.result c.from_residual.ensures.1 in
+    rw (p.1, p.2)
+    (cut_piece (account_line c.args.book.now.accounts.entries) c.args.book.now.accounts.entries c.loop-place.place
     (c.number_at-number.result, c.value_at-account.result.now)
     (c.number_at-number.result, c.value_at-account.result.now)
     (g.O.Sink.written c.args.output.now) (g.O.Sink.written c.loop-place.output)
-    (g.O.Sink.written c.write_piece.new.output) c.in-Err.error (omega (arith, c.len-place-end.ensures.len))
+    (g.O.Sink.written c.write_piece.new.output) c.in_err-write_piece.field-0.0
+    (omega (arith, c.len-place-end.ensures.len))
     (entry_at c.args.book.now.accounts.entries c.loop-place.place _ _
     (c.number_at-number.result, c.value_at-account.result.now)
     c.number_at-number.ensures c.value_at-account.ensures) c.loop-place.invariant.fed
-    (c.in-Err.ensures.written _ c.account_line.ensures)
+    (c.in_err-write_piece.ensures.written _ c.account_line.ensures))
 
-pub returns-in-Err-clause-faults : goal.returns-in-Err-clause-faults
-returns-in-Err-clause-faults g c =
-    subst (λ (n : ℕ). HasFault n (g.O.Sink.faults c.write_piece.new.output) (Err c.in-Err.error))
-    c.loop-place.invariant.quiet c.in-Err.ensures.faults
+pub returns-in_err-write_piece-clause-faults : goal.returns-in_err-write_piece-clause-faults
+returns-in_err-write_piece-clause-faults g c =
+    let p = err_from_is_err_and c.from_residual.result c.from_residual.ensures.1 in
+    rw (p.1, p.2)
+    (subst (λ (n : ℕ). HasFault n (g.O.Sink.faults c.write_piece.new.output) (Err c.in_err-write_piece.field-0.0))
+    c.loop-place.invariant.quiet c.in_err-write_piece.ensures.faults)

@@ -1,4 +1,5 @@
 use Rattle.std.proofs.Common.{◌≡◌, ℕ, Err, List, get_or, refl, subst, ◌∙◌, sym, arith}
+use Rattle.std.proofs.lemmas.Result.{err_from_is_err_and}
 use Rattle.book_keeper.specs.Stream.{Wrote}
 use Rattle.book_prices.specs.declared.price.Price.{Price}
 use Rattle.book_export.specs.Export.{HasFault, HasWritten}
@@ -26,12 +27,13 @@ loop-place-preserved g c =
           next_piece (λ (e : ℕ × Price). line e.1) prices c.loop-place.place entry (0, price)
           (g.O.Sink.written c.args.output.now) mid now (omega (arith, c.len-place-end.ensures.len)) refl
           c.loop-place.invariant.fed
-          (subst (λ (p : Price). Wrote mid now (line p)) (sym there) (c.in-Ok.ensures.written _ c.price_line.ensures));
-      quiet = c.in-Ok.ensures.faults ∙ c.loop-place.invariant.quiet;
+          (subst (λ (p : Price). Wrote mid now (line p)) (sym there)
+          (c.in_ok-write_piece.ensures.written _ c.price_line.ensures));
+      quiet = c.in_ok-write_piece.ensures.faults ∙ c.loop-place.invariant.quiet;
     }
 
-pub returns-in-Err-clause-written : goal.returns-in-Err-clause-written
-returns-in-Err-clause-written g c =
+pub returns-in_err-write_piece-clause-written : goal.returns-in_err-write_piece-clause-written
+returns-in_err-write_piece-clause-written g c =
     let prices = c.args.book.now.prices.entries in
     let price = c.value_at-price.result.now in
     let line : Price → List ℕ = price_line c.args.book.now.commodities.entries in
@@ -39,13 +41,18 @@ returns-in-Err-clause-written g c =
     let mid = g.O.Sink.written c.loop-place.output in
     let now = g.O.Sink.written c.write_piece.new.output in
     let there : entry.1 ≡ price = value_there prices c.loop-place.place price (0, price) c.value_at-price.ensures in
-    cut_piece (λ (e : ℕ × Price). line e.1) prices c.loop-place.place entry (0, price)
-    (g.O.Sink.written c.args.output.now) mid now c.in-Err.error (omega (arith, c.len-place-end.ensures.len)) refl
+    let p = err_from_is_err_and c.from_residual.result c.from_residual.ensures.1 in
+    rw (p.1, p.2)
+    (cut_piece (λ (e : ℕ × Price). line e.1) prices c.loop-place.place entry (0, price)
+    (g.O.Sink.written c.args.output.now) mid now c.in_err-write_piece.field-0.0
+    (omega (arith, c.len-place-end.ensures.len)) refl
     c.loop-place.invariant.fed
-    (subst (λ (p : Price). HasWritten mid now (line p) (Err c.in-Err.error)) (sym there)
-    (c.in-Err.ensures.written _ c.price_line.ensures))
+    (subst (λ (p : Price). HasWritten mid now (line p) (Err c.in_err-write_piece.field-0.0)) (sym there)
+    (c.in_err-write_piece.ensures.written _ c.price_line.ensures)))
 
-pub returns-in-Err-clause-faults : goal.returns-in-Err-clause-faults
-returns-in-Err-clause-faults g c =
-    subst (λ (n : ℕ). HasFault n (g.O.Sink.faults c.write_piece.new.output) (Err c.in-Err.error))
-    c.loop-place.invariant.quiet c.in-Err.ensures.faults
+pub returns-in_err-write_piece-clause-faults : goal.returns-in_err-write_piece-clause-faults
+returns-in_err-write_piece-clause-faults g c =
+    let p = err_from_is_err_and c.from_residual.result c.from_residual.ensures.1 in
+    rw (p.1, p.2)
+    (subst (λ (n : ℕ). HasFault n (g.O.Sink.faults c.write_piece.new.output) (Err c.in_err-write_piece.field-0.0))
+    c.loop-place.invariant.quiet c.in_err-write_piece.ensures.faults)

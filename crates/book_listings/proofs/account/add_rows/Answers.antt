@@ -1,7 +1,8 @@
-use Rattle.std.proofs.Common.{FitsSigned, w64, ℕ, ◌+◌, ◌^◌, List, [], ◌++◌, take, ap, ◌∙◌, rules, arith}
+use Rattle.std.proofs.Common.{FitsSigned, w64, ℕ, ◌+◌, List, [], ◌++◌, take, ap, ◌∙◌, rules, arith}
 use Rattle.std.proofs.lemmas.Int.{ints}
 use Rattle.book_register.specs.Register.{balance}
 use Rattle.book_register.specs.declared.entry.Entry.{Entry}
+use Rattle.book_limits.specs.Limits.{largest_sum}
 use Rattle.book_reports.specs.Measure.{fraction_of}
 use Rattle.book_reports.proofs.LineLemmas.{within}
 use Rattle.book_reports.proofs.RowLemmas.{balance_next, balance_small, first_can_be_summed}
@@ -29,8 +30,9 @@ loop-place-preserved c =
     let can = c.register-register.ensures.summed in
     let fits : FitsSigned w64 c.row-row.result.quantity = search rules in
     let next = balance_next rows i c.row-row.result c.row-row.ensures.row in
-    let before = within (10 ^ 18) (balance (take i rows)) (balance_small (take i rows) (first_can_be_summed rows i can)) in
-    let after = within (10 ^ 18) (balance (take (i + 1) rows))
+    let before = within largest_sum (balance (take i rows))
+    (balance_small (take i rows) (first_can_be_summed rows i can)) in
+    let after = within largest_sum (balance (take (i + 1) rows))
     (balance_small (take (i + 1) rows) (first_can_be_summed rows (i + 1) can)) in (
       rows_next c.args.book.now c.line_of-line.result c.in_ok-lines.lines.items c.fraction-fraction.result rows i
           c.row-row.result _ _ _ _ _

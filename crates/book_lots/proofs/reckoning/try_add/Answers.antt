@@ -1,5 +1,6 @@
-use Rattle.std.proofs.Common.{◌≤◌, ◌<ℤ◌, pos, ◌^◌, sym, subst, arith}
+use Rattle.std.proofs.Common.{◌≤◌, ◌<ℤ◌, pos, sym, subst, arith}
 use Rattle.std.proofs.lemmas.Int.{ints}
+use Rattle.book_limits.specs.Limits.{largest_sum}
 use Rattle.book_lots.specs.Lots.{units_of}
 use Rattle.book_lots.specs.Sides.{Paired}
 use Rattle.book_lots.proofs.EntryLemmas.{bought_units, sold_units}
@@ -8,12 +9,12 @@ use Rattle.book_lots.proofs.reckoning.try_add.Goals as goal
 
 pub push-requires-clause-few : goal.push-requires-clause-few
 push-requires-clause-few c =
-    subst (λ (v : Paired). units_of v.stretches ≤ 10 ^ 18) (sym c.requires.sides.bought_is)
+    subst (λ (v : Paired). units_of v.stretches ≤ largest_sum) (sym c.requires.sides.bought_is)
     (bought_units c.args.entries.now c.requires.sides.small c.requires.sides.few)
 
 pub push-requires-then-entry-lt0-clause-few : goal.push-requires-then-entry-lt0-clause-few
 push-requires-then-entry-lt0-clause-few c =
-    subst (λ (v : Paired). units_of v.stretches ≤ 10 ^ 18) (sym c.requires.sides.sold_is)
+    subst (λ (v : Paired). units_of v.stretches ≤ largest_sum) (sym c.requires.sides.sold_is)
     (sold_units c.args.entries.now c.requires.sides.small c.requires.sides.few)
 
 pub returns-then-entry-gt0-clause-sides : goal.returns-then-entry-gt0-clause-sides

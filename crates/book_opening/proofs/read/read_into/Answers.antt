@@ -3,9 +3,7 @@ use Rattle.std.proofs.Common.{sym, ◌∙◌, refl, arith}
 use Rattle.book_keeper.specs.Rows.{rank}
 use Rattle.book_opening.specs.State.{head_of, state_of}
 use Rattle.book_opening.proofs.ReadLaws.{bad_thing, begins_as, last_rows, next_bad, next_head, next_read, next_rows}
-use Rattle.book_opening.proofs.ReadLaws.{read_more}
-use Rattle.book_opening.proofs.ReadLaws.{read_none, start_rows, unread_bad, unread_known, where_bad, whole_bad_for, whole_counted}
-use Rattle.book_opening.proofs.ReadLaws.{whole_head, whole_read, whole_rows}
+use Rattle.book_opening.proofs.ReadLaws.{read_more, read_none, start_rows, unread_bad, unread_known, where_bad}
 use Rattle.book_opening.proofs.read.read_into.Goals as goal
 
 pub rows-init : goal.rows-init
@@ -25,12 +23,12 @@ pub rows-preserved : goal.rows-preserved
 rows-preserved g c =
     let row = c.in-Ok-Some.row in
     let before = state_of c.rows.saved in
-    let after = state_of c.put.new.saved in
+    let after = state_of c.put.new.self in
     let above = rw c.in-Ok-Some.field-0-is at c.in-Ok-Some.ensures.above in
     record {
-      read = next_read before after row.key.id c.in-Ok.item c.in-Ok-put.ensures c.in-Ok.ensures.read
-          c.rows.invariant.read;
-      head = next_head before after row.key.id c.in-Ok.item (head_of (state_of c.args.saved.now)) c.in-Ok-put.ensures
+      read = next_read before after row.key.id c.in-Ok.it c.in-Ok.ensures.behind c.in-Ok-put.ensures
+          c.in-Ok.ensures.read c.rows.invariant.read;
+      head = next_head before after row.key.id c.in-Ok.it (head_of (state_of c.args.saved.now)) c.in-Ok-put.ensures
           c.rows.invariant.head;
       last = (let past = c.rows.invariant.last in omega (arith, past, above));
       keeper = read_more g.K.Keeper c.args.keeper.now c.rows.keeper c.next_row.new.self c.rows.invariant.keeper
@@ -47,7 +45,7 @@ rows-preserved g c =
       rows = λ known rows held begins.
           let still = c.in-Ok-Some.ensures.sure known in
           let now = c.rows.invariant.keeper.same_rows still rows held in
-          next_rows rows (rank c.rows.last) row before after row.key.id c.in-Ok.item
+          next_rows rows (rank c.rows.last) row before after row.key.id c.in-Ok.it c.in-Ok.ensures.behind
           (g.met.K.Keeper.rising c.args.keeper.now rows held)
           (sym (c.in-Ok-Some.ensures.found known rows now) ∙ c.in-Ok-Some.field-0-is)
           (c.rows.invariant.rows still rows held begins) c.in-Ok.ensures.found c.in-Ok-put.ensures

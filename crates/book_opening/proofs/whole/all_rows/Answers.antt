@@ -8,6 +8,7 @@ use Rattle.book_rows.specs.declared.head.Head.{Head}
 use Rattle.book_rows.specs.declared.record.Record.TheVariants as kept
 use Rattle.book_opening.specs.BookRows.{back_records, forth_records, row_of, things_of}
 use Rattle.book_opening.specs.State.{head_of, state_of}
+use Rattle.book_opening.proofs.Ranked.{beside}
 use Rattle.book_opening.proofs.TableLaws.{all-things, all_fit, all_put_steps, all_put_whole}
 use Rattle.book_opening.proofs.whole.all_rows.Goals as goal
 
@@ -30,32 +31,16 @@ pub returns-clause-fit : goal.returns-clause-fit
 returns-clause-fit c = (
   subst (λ (h : Head). IsRecord (kept.Head h)) c.head_of.ensures c.in_ok-head_row.ensures.fits,
   let state = state_of c.args.saved.now in
-      all_fit (things_of state.book) (back_records state.back) (forth_records state.forth) (all-things state.book (
-        c.in_ok-add_ledger.ensures.commodities,
-        (
-          c.in_ok-add_ledger.ensures.accounts,
-          (
-            c.in_ok-add_ledger.ensures.transactions,
-            (
-              c.in_ok-add_plans.ensures.prices,
-              (
-                c.in_ok-add_plans.ensures.schedules,
-                (
-                  c.in_ok-add_plans.ensures.statements,
-                  (
-                    c.in_ok-add_bank.ensures.lines,
-                    (
-                      c.in_ok-add_bank.ensures.bindings,
-                      (
-                        c.in_ok-add_bank.ensures.reconciliations,
-                        tt,
-                      ),
-                    ),
-                  ),
-                ),
-              ),
-            ),
-          ),
-        ),
-      )) c.in_ok-add_steps.ensures.back c.in_ok-add_steps.ensures.forth,
+      all_fit (things_of state.book) (back_records state.back) (forth_records state.forth)
+      (all-things state.book
+      (beside c.in_ok-add_ledger.ensures.commodities
+      (beside c.in_ok-add_ledger.ensures.accounts
+      (beside c.in_ok-add_ledger.ensures.transactions
+      (beside c.in_ok-add_plans.ensures.prices
+      (beside c.in_ok-add_plans.ensures.schedules
+      (beside c.in_ok-add_plans.ensures.statements
+      (beside c.in_ok-add_bank.ensures.lines
+      (beside c.in_ok-add_bank.ensures.bindings
+      (beside c.in_ok-add_bank.ensures.reconciliations
+      tt)))))))))) c.in_ok-add_steps.ensures.back c.in_ok-add_steps.ensures.forth,
 )

@@ -1,7 +1,8 @@
-use Rattle.std.proofs.Common.{FitsSigned, w64, ℕ, ◌+◌, ◌^◌, List, [], ◌++◌, string_bytes, take, ap, ◌∙◌, rules, arith}
+use Rattle.std.proofs.Common.{FitsSigned, w64, ℕ, ◌+◌, List, [], ◌++◌, string_bytes, take, ap, ◌∙◌, rules, arith}
 use Rattle.std.proofs.lemmas.Int.{ints}
 use Rattle.book_register.specs.Register.{balance}
 use Rattle.book_register.specs.declared.entry.Entry.{Entry}
+use Rattle.book_limits.specs.Limits.{largest_sum}
 use Rattle.book_reports.specs.Measure.{fraction_of}
 use Rattle.book_reports.specs.RegisterText.{rows_after}
 use Rattle.book_reports.proofs.LineLemmas.{within}
@@ -26,8 +27,9 @@ loop-place-preserved c =
     let can = c.register-register.ensures.summed in
     let fits : FitsSigned w64 c.row-row.result.quantity = search rules in
     let next = balance_next rows i c.row-row.result c.row-row.ensures.row in
-    let before = within (10 ^ 18) (balance (take i rows)) (balance_small (take i rows) (first_can_be_summed rows i can)) in
-    let after = within (10 ^ 18) (balance (take (i + 1) rows))
+    let before = within largest_sum (balance (take i rows))
+    (balance_small (take i rows) (first_can_be_summed rows i can)) in
+    let after = within largest_sum (balance (take (i + 1) rows))
     (balance_small (take (i + 1) rows) (first_can_be_summed rows (i + 1) can)) in (
       rows_next c.args.form c.args.view.now c.fraction-fraction.result c.args.period.now rows i c.row-row.result _
           (string_bytes c.loop-place.out) (string_bytes c.add_row.new.out) _ c.row-row.ensures.row c.in_ok-add_row.ensures

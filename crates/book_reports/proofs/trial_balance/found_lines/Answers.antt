@@ -1,5 +1,6 @@
-use Rattle.std.proofs.Common.{◌^◌, ◌≤◌, List, [], ◌∷◌, ◌++◌, take, Option, unsigned_abs, subst, sym, ap, ◌∙◌, append-nil}
+use Rattle.std.proofs.Common.{◌≤◌, List, [], ◌∷◌, ◌++◌, take, Option, unsigned_abs, subst, sym, ap, ◌∙◌, append-nil}
 use Rattle.std.specs.List.{cons_option, filter_map}
+use Rattle.book_limits.specs.Limits.{largest_sum}
 use Rattle.book_reports.specs.Sums.{line_by, sum_at}
 use Rattle.book_reports.specs.declared.sums.AccountSums.{AccountSums}
 use Rattle.book_reports.specs.declared.trial_balance.TrialLine.{TrialLine}
@@ -10,7 +11,7 @@ use Rattle.book_reports.proofs.trial_balance.found_lines.Goals.{in-Some+in_ok-pu
 pub line_of-requires-clause-small : goal.line_of-requires-clause-small
 line_of-requires-clause-small c =
     let summed = c.requires c.loop-account.account-index c.account-item.result c.loop-account-test.true in
-    subst (λ (s : AccountSums). unsigned_abs (sum_at c.args.currency s.by_currency.entries) ≤ 10 ^ 18)
+    subst (λ (s : AccountSums). unsigned_abs (sum_at c.args.currency s.by_currency.entries) ≤ largest_sum)
     (sym c.account-item.is) (summed.small c.args.currency)
 
 pub loop-account-preserved : goal.loop-account-preserved

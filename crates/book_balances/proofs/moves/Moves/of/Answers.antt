@@ -1,11 +1,11 @@
-use Rattle.std.proofs.Common.{◌+◌, ℤ, ◌^◌, take, sym, ap, subst, ◌∙◌, arith, rules}
+use Rattle.std.proofs.Common.{◌+◌, ℤ, take, sym, ap, subst, ◌∙◌, arith, rules}
 use Rattle.std.proofs.lemmas.List.{length-take-le, take_all}
 use Rattle.std.proofs.lemmas.List.Elements.{All-take}
 use Rattle.book_commodity.proofs.ListLemmas.{take-item}
 use Rattle.book_sound.proofs.SoundFacts.{IsAtMost}
 use Rattle.book_splits.specs.Balance.{quantity_on}
 use Rattle.book_splits.specs.Check.{HasAmounts}
-use Rattle.book_balances.specs.Balances.{IsMoved}
+use Rattle.book_balances.specs.Balances.{IsMoved, largest_move}
 use Rattle.book_balances.proofs.MoveLemmas.{given_small, moved_more}
 use Rattle.book_balances.proofs.moves.Moves.of.Goals as goal
 
@@ -14,7 +14,7 @@ add-requires c =
     let splits = c.args.splits.now in
     let i = c.loop-split.split-index in
     let account = c.split-item.result.account in
-    subst (λ (z : ℤ). IsAtMost (10 ^ 15) z) (sym (c.loop-split.invariant account))
+    subst (λ (z : ℤ). IsAtMost largest_move z) (sym (c.loop-split.invariant account))
     (given_small account (take i splits) (All-take HasAmounts i splits c.requires.small)
     (omega (arith, length-take-le i splits (omega (arith, c.loop-split-test.true)), c.requires.few, c.loop-split-test.true)))
 

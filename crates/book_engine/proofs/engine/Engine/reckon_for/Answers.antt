@@ -7,7 +7,9 @@ use Rattle.book_reports.proofs.RowLemmas.{can_be_summed}
 use Rattle.book_report_answers.specs.LotsAsked.{lots_asked}
 use Rattle.book_engine.specs.Changed.{AreKeptUp, AreReckoned}
 use Rattle.book_engine.specs.Kept.{Kept, kept_by}
+use Rattle.book_engine.specs.Planned.{HasNoLessRoom}
 use Rattle.book_engine.proofs.LotsLemmas.{are_reckoned, kept_up, small_rows, where_done}
+use Rattle.book_engine.proofs.RoomLemmas.{room_brought_up, same_room}
 use Rattle.book_engine.proofs.engine.Engine.reckon_for.Goals as goal
 
 pub reckon-requires-clause-few : goal.reckon-requires-clause-few
@@ -55,3 +57,16 @@ returns-in-Some-clause-reckoned c =
     (are_reckoned old new c.in-Some.account (lots_asked old.state.book.accounts c.args.what.now) asks
     c.self.invariant.registers
     (subst (λ (t : Bool). IsBroughtUp c.in-Some.account t old.registers new.registers) done c.reckon.ensures)))
+
+pub returns-in-Some-clause-spare : goal.returns-in-Some-clause-spare
+returns-in-Some-clause-spare c =
+    let old = kept_by c.self.inside in
+    let new = kept_by (record {
+      alloc = c.self.inside.alloc;
+      state = c.self.inside.state;
+      registers = c.reckon.new.self;
+      free = c.self.inside.free;
+      saved = c.self.inside.saved;
+    }) in
+    subst (λ (k : Kept). HasNoLessRoom k new) c.self.view_is
+    (room_brought_up old new c.in-Some.account (is_ok c.reckon.result) c.reckon.ensures (same_room old))

@@ -1,4 +1,5 @@
-use Rattle.std.proofs.Common.{◌^◌, ◌≤◌, sym, subst, arith}
+use Rattle.std.proofs.Common.{◌≤◌, sym, subst, arith}
+use Rattle.book_limits.specs.Limits.{largest_sum}
 use Rattle.book_lots.specs.Lots.{units_of}
 use Rattle.book_lots.specs.Sides.{Paired}
 use Rattle.book_lots.proofs.SideLemmas.{side_push}
@@ -6,8 +7,8 @@ use Rattle.book_lots.proofs.side.Side.push.Goals as goal
 
 pub invariant_of-self-2 : goal.invariant_of-self-2
 invariant_of-self-2 c =
-    let few : units_of c.self.inside.stretches.items ≤ 10 ^ 18 =
-    subst (λ (v : Paired). units_of v.stretches ≤ 10 ^ 18) (sym c.self.view_is) c.requires.few in
+    let few : units_of c.self.inside.stretches.items ≤ largest_sum =
+    subst (λ (v : Paired). units_of v.stretches ≤ largest_sum) (sym c.self.view_is) c.requires.few in
     rw (
       c.in-Ok-push.ensures.items,
       c.reserve.ensures.items,
