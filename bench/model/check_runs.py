@@ -1,6 +1,8 @@
 """Runs the cases of files of runs over the model, and compares answers and rows: python3 check_runs.py FILE.runs ..
-Cases with calls that fail (but for commits), databases, damaged rows and the sample are passed over, and counted."""
+Cases with calls that fail (but for commits), databases, links, damaged rows and the sample are passed over, and
+counted. Rows of format 1 are written anew in format 2 by the first commit of a run, and stay where it fails."""
 import re, sys
+from formats import all_in_second
 from model import dumps
 from rows import rows, opened
 
@@ -37,9 +39,11 @@ class Run:
     def __init__(self):
         self.data, self.wants, self.rows_want, self.count = b'', [], [], None
         self.fail_commits, self.fails_first_write, self.words, self.ends = set(), False, None, 'done'
+        self.unread = None
 
 
-def answers_of(machine, run):
+def answers_of(machine, run, commits):
+    """The answers of a run before whose first line so many commits were made."""
     if run.words and not run.words.startswith('run'):
         words = re.findall(r'"[^"]*"|\S+', run.words)
         if words[0] != 'import':
@@ -49,7 +53,7 @@ def answers_of(machine, run):
         lines = run.data.split(b'\n')
         if lines[-1] == b'':
             lines.pop()
-    out, commits = [], 0
+    out = []
     for x in lines:
         keep = (machine.book, list(machine.past), list(machine.later), machine.next, machine.version, machine.position)
         if x is None:
@@ -72,8 +76,18 @@ def check(path, name, number, lines, fill):
     def finish():
         nonlocal have, run, runs
         runs += 1
+        is_first = have.get((1, 0), b'').startswith(b'\1')
+        fails = is_first and 1 in run.fail_commits
+        if run.ends == 'keeper fault' or run.unread is not None:
+            if not fails:
+                raise Skip()
+        if fails and (run.ends != 'keeper fault' or run.unread not in (None, len(run.data))):
+            fill.append((path, name, number, 'the first commit fails, and nothing is read'))
+        if is_first and not fails:
+            have = all_in_second(have)
         machine = opened(have)
-        got = answers_of(machine, run)
+        version = machine.version
+        got = [] if fails else answers_of(machine, run, 1 if is_first else 0)
         wants = run.wants
         if len(got) != len(wants):
             fill.append((path, name, number, f'{len(got)} answers, wanted {len(wants)}: {got[len(wants):][:1]}'))
@@ -81,7 +95,12 @@ def check(path, name, number, lines, fill):
             if not test(g):
                 fill.append((path, name, n, f'got {g[:300]}\n      want {text[:300]}'))
                 break
-        have = rows(machine) if machine.version else have
+        if machine.version != version:
+            have = rows(machine)
+        elif machine.version:
+            again = rows(machine, have[1, 0][0])
+            if any(have[key] != again[key] for key in again if key[0] <= 10):
+                fill.append((path, name, number, 'a thing that is read is written otherwise'))
         if run.count is not None and run.count != len(have):
             fill.append((path, name, number, f'{len(have)} rows, wanted {run.count}'))
         for n, key, body in run.rows_want:
@@ -98,7 +117,7 @@ def check(path, name, number, lines, fill):
         elif mark == 'gone':
             kind, i = rest.split(' ')
             del have[int(kind), int(i)]
-        elif mark in ('sql', 'copy', 'empty', 'same', 'absent', 'each'):
+        elif mark in ('sql', 'copy', 'empty', 'same', 'absent', 'link', 'each'):
             if mark != 'each':
                 raise Skip()
         elif mark in ('over', 'piece', 'killed'):
@@ -138,10 +157,11 @@ def check(path, name, number, lines, fill):
             for k in range(int(count)):
                 run.wants.append((n, (lambda g, r=expand(text, k): g == r) if text else (lambda g: True), expand(text, k)))
         elif mark == 'ends':
-            if rest != 'done' and not (rest == 'output fault' and run.fails_first_write):
+            run.ends = rest
+            if rest not in ('done', 'keeper fault') and not (rest == 'output fault' and run.fails_first_write):
                 raise Skip()
         elif mark == 'unread':
-            raise Skip()
+            run.unread = int(rest)
         elif mark == 'rows':
             run.count = int(rest)
         elif mark == 'row':

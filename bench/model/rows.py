@@ -1,4 +1,6 @@
-"""The rows of a book: their bytes, written from the tables of the formats, and a machine read from rows."""
+"""The rows of a book: their bytes, written from the tables of the formats, and a machine read from rows.
+Rows have two formats, 1 and 2, and the first byte of a body is its format. In format 2 a transaction ends with the byte
+0: what is kept of a voided one is absent."""
 import datetime as dt
 from model import Book, KINDS, MAPS, RECURRENCES, Machine
 
@@ -23,28 +25,29 @@ def split(x, template=False):
         s(x['value']) + s(x['quantity'])
 
 
-def txn(x, template=False):
-    return u(x['currency']) + d(x['day']) + t(x['num']) + t(x['description']) + many(x['splits'], lambda y: split(y, template))
+def txn(x, form, template=False):
+    front = u(x['currency']) + d(x['day']) + t(x['num']) + t(x['description'])
+    return front + many(x['splits'], lambda y: split(y, template)) + (b'\0' if form == 2 else b'')
 
 
 def end(x):
     return b'\1' if x is None else b'\2' + d(x[1]) if x[0] == 'until' else b'\3' + u(x[1])
 
 
-def fields(kind, x):
+def fields(kind, x, form):
     if kind == 2:
         return t(x['space']) + t(x['name']) + t(x['full_name']) + u(x['fraction'])
     if kind == 3:
         return t(x['name']) + e(KINDS.index(x['kind'])) + u(x['commodity']) + opt(x['parent'], u) + t(x['code']) + t(x['note']) + \
             b(x['hidden']) + b(x['placeholder']) + opt(x['basis'], u)
     if kind == 4:
-        return txn(x)
+        return txn(x, form)
     if kind == 5:
         return u(x['commodity']) + u(x['currency']) + d(x['day']) + u(x['num']) + u(x['denom'])
     if kind == 6:
         recurrence = lambda r: e(RECURRENCES.index(r['kind'])) + u(r['every']) + d(r['start']) + e(ADJUST.index(r['adjust']))
         return t(x['name']) + many(x['recurrences'], recurrence) + end(x['end']) + u(x['advance']) + opt(x['last'], d) + \
-            u(x['made']) + txn(x['template'], True)
+            u(x['made']) + txn(x['template'], form, True)
     if kind == 7:
         return u(x['account']) + t(x['account_text']) + t(x['number']) + opt(x['opening'], s) + opt(x['closing'], s) + d(x['day']) + \
             opt(x['ties'], b)
@@ -62,7 +65,7 @@ def things(book):
     return {(KIND_OF[m], n): v for m in MAPS for n, v in getattr(book, m).items()}
 
 
-def edit(source, target):
+def edit(source, target, form):
     """The edit that leads from one book to the other."""
     leaves = []
     if source.currency != target.currency:
@@ -74,28 +77,31 @@ def edit(source, target):
             keys |= {(KIND_OF[m], n) for n in set(one) | set(other) if one.get(n) != other.get(n)}
     have = things(target)
     for k, n in sorted(keys):
-        leaves.append(b'\1' + bytes([k]) + u(n) + fields(k, have[k, n]) if (k, n) in have else b'\2' + bytes([k]) + u(n))
+        at = bytes([k]) + u(n)
+        leaves.append(b'\1' + at + fields(k, have[k, n], form) if (k, n) in have else b'\2' + at)
     return leaves[0] if len(leaves) == 1 else b'\0' + u(len(leaves)) + b''.join(leaves)
 
 
-def rows(m):
-    """All rows of a machine by key. A fresh one has none."""
+def rows(m, form=2):
+    """All rows of a machine by key, in a format. A fresh one has none."""
     if m.version == 0:
         return {}
-    out = {(1, 0): b'\1' + b''.join(u(x) for x in (m.next, m.version, m.position, len(m.past), len(m.later), m.book.currency))}
-    out |= {key: b'\1' + fields(key[0], v) for key, v in things(m.book).items()}
+    first = bytes([form])
+    head = (m.next, m.version, m.position, len(m.past), len(m.later), m.book.currency)
+    out = {(1, 0): first + b''.join(map(u, head))}
+    out |= {key: first + fields(key[0], v, form) for key, v in things(m.book).items()}
     books = m.past + [m.book]
     for i in range(len(m.past)):
-        out[11, m.position - len(m.past) + 1 + i] = b'\1' + edit(books[i + 1], books[i])
+        out[11, m.position - len(m.past) + 1 + i] = first + edit(books[i + 1], books[i], form)
     books = [m.book] + list(reversed(m.later))
     for i in range(len(m.later)):
-        out[12, m.position + 1 + i] = b'\1' + edit(books[i], books[i + 1])
+        out[12, m.position + 1 + i] = first + edit(books[i], books[i + 1], form)
     return out
 
 
 class Reader:
-    def __init__(self, data):
-        self.data, self.at = data, 0
+    def __init__(self, data, form):
+        self.data, self.at, self.form = data, 0, form
 
     def take(self, n):
         assert self.at + n <= len(self.data)
@@ -125,6 +131,8 @@ class Reader:
         x['splits'] = self.many(lambda: self.split(template))
         if not template:
             x['splits'] = tuple(x['splits'])
+        if self.form == 2 and self.take(1) != b'\0':
+            raise ValueError('what is kept of a voided transaction')
         return x
 
     def end(self):
@@ -171,12 +179,14 @@ class Reader:
 
 
 def opened(have):
-    """The machine that rows open as; the rows have to be those of a sound book."""
+    """The machine that rows of either format open as; the rows have to be those of a sound book."""
     m = Machine()
     m.position = 0
     if not have:
         return m
-    head = Reader(have[1, 0][1:])
+    form = have[1, 0][0]
+    assert form in (1, 2) and all(body[0] == form for body in have.values())
+    head = Reader(have[1, 0][1:], form)
     m.next, m.version, m.position, past, later, currency = (head.u() for _ in range(6))
     book = Book()
     for name in MAPS:
@@ -184,15 +194,15 @@ def opened(have):
     book.currency = currency
     for (kind, n), body in sorted(have.items()):
         if 2 <= kind <= 10:
-            getattr(book, MAPS[kind - 2])[n] = Reader(body[1:]).thing(kind)
+            getattr(book, MAPS[kind - 2])[n] = Reader(body[1:], form).thing(kind)
     m.book = at = book
     for i in range(past):
         at = at.copy()
-        Reader(have[11, m.position - i][1:]).apply(at)
+        Reader(have[11, m.position - i][1:], form).apply(at)
         m.past.insert(0, at)
     at = book
     for i in range(later):
         at = at.copy()
-        Reader(have[12, m.position + 1 + i][1:]).apply(at)
+        Reader(have[12, m.position + 1 + i][1:], form).apply(at)
         m.later.insert(0, at)
     return m

@@ -6,7 +6,7 @@ use Rattle.book_engine.specs.Machine.{Machine, fresh}
 use Rattle.book_engine.specs.Opens.{Opens, OpensTo}
 
 no_state : (state : State) → OpenAs [] state → ⊥
-no_state state h = let none = h.are in cc
+no_state state h = let none = h.1.are in cc
 
 -- no rows open as the fresh machine alone
 pub opened_fresh : (machine : Machine) → OpensTo [] (Opens machine) → machine ≡ fresh

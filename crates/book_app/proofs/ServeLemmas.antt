@@ -1,6 +1,6 @@
 -- From what holds of links that were served to what holds when the program's work has ended.
 use Rattle.std.proofs.Common.{◌≡◌, ℕ, List, [], ◌∷◌, Option, Some, None, inl, inr, refl, ap}
-use Rattle.std.proofs.Common.{subst}
+use Rattle.std.proofs.Common.{subst, Err}
 use Rattle.std.specs.Prelude.{IfSome}
 use Rattle.book_lines.specs.RunClause.{at}
 use Rattle.book_engine.specs.Books.{machine_kept}
@@ -14,7 +14,7 @@ use Rattle.book_serve.specs.declared.serve_end.ServeEnd.TheVariants as end
 use Rattle.book_app.specs.Numbers.{status_served, status_unopened}
 use Rattle.book_app.specs.Respond.{kept_answers}
 use Rattle.book_app.specs.ServeClause.{HasServedBook, NoneAccepted, PortsSeen, ServeClause}
-use Rattle.book_app.specs.StatusClause.{HasLed, HoldsAsBefore, Keeping, MayOpenTo, NowOpensTo, OpenedTo}
+use Rattle.book_app.specs.StatusClause.{HasLed, Keeping, MayOpenTo, NowOpensTo, OpenedTo, RowsByAnswer}
 use Rattle.book_app.specs.StatusClause.{ServedRows}
 use Rattle.book_app.specs.Words.{named_number, named_serve}
 use Rattle.book_app.specs.declared.status.Status.TheVariants.{PortFault}
@@ -68,7 +68,7 @@ module _ {L : Type 0} (serve : ServeWords) (keeping : Keeping) (of : LinkReports
 
   -- where no book was opened, no link was accepted, and the rows are as they were
   pub unopened_links :
-      (why : OpenError) → NoneAccepted ports → HoldsAsBefore keeping
+      (why : OpenError) → NoneAccepted ports → RowsByAnswer {T = Kept} keeping (Err why)
       → ServeClause serve keeping of ports (status_unopened why)
   unopened_links error.Keeper none held = none
   unopened_links (error.BadRows kind id) none held = none

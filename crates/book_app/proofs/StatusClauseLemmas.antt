@@ -1,6 +1,6 @@
 -- From what holds at a run's end to what holds when the program's work has ended.
-use Rattle.std.proofs.Common.{◌≡◌, ◌≢◌, ℕ, Bool, List, [], Option, Some, None, IsTrue, inl, inr}
-use Rattle.std.proofs.Common.{Result, Ok, Err, IfOk, IfSome, refl, sym, subst, ◌∙◌, arith}
+use Rattle.std.proofs.Common.{◌≡◌, ◌≢◌, ℕ, List, [], Option, Some, None, IsTrue, inl, inr}
+use Rattle.std.proofs.Common.{Result, Ok, Err, IfOk, IfSome, OnErr, refl, sym, subst, ◌∙◌, arith}
 use Rattle.book_keeper.proofs.StreamLemmas.{Are-some, Wrote-nil}
 use Rattle.book_keeper.specs.declared.keeper.Keeper.{Ghosts}
 use Rattle.book_keeper.specs.declared.row.Row.{Row}
@@ -8,13 +8,15 @@ use Rattle.book_lines.specs.RunClause.{at, RunClause}
 use Rattle.book_lines.specs.declared.running.RunEnd.{RunEnd}
 use Rattle.book_lines.specs.declared.running.RunEnd.TheVariants as end
 use Rattle.book_opening.specs.Opening.{StaysSure, WasRead}
+use Rattle.book_engine.specs.Opening.{AreAnew, KeepsRows, WasOpened, WhereRefused}
 use Rattle.book_engine.specs.Books.{machine_kept}
 use Rattle.book_engine.specs.Kept.{Kept}
 use Rattle.book_engine.specs.Machine.{Machine}
 use Rattle.book_engine.specs.Opening.{Opened, WhereOpened}
 use Rattle.book_engine.specs.Opening.{row_key}
 use Rattle.book_engine.specs.Opens.{Bad, Opening, Opens, Unsound}
-use Rattle.book_engine.specs.Standing.{Stands}
+use Rattle.book_engine.specs.Standing.{StandForKept, Stands}
+use Rattle.book_engine.proofs.StandLemmas.{kept_format}
 use Rattle.book_engine.specs.declared.fault.OpenError.{OpenError}
 use Rattle.book_engine.specs.declared.fault.OpenError.TheVariants as error
 use Rattle.book_lines.specs.WholeClause.{WholeClause}
@@ -25,7 +27,8 @@ use Rattle.book_serve.specs.declared.serve_end.ServeEnd.{ServeEnd}
 use Rattle.book_app.specs.ServeClause.{HasServedBook, PortsSeen, ServeClause}
 use Rattle.book_app.specs.StatusClause.{IsBookRun, IsLineRun, IsSession, IsUntouched, Keeping, MayOpenTo, NowOpensTo}
 use Rattle.book_app.specs.StatusClause.{OpenedTo}
-use Rattle.book_app.specs.StatusClause.{HasBookPath, HoldsAsBefore, ImportClause, IsImported, IsImportRun, IsShownAs}
+use Rattle.book_app.specs.StatusClause.{HasBookPath, HoldsAsBefore, HoldsOpened, HoldsUnopened, IsUnopened, LeavesSameOrAnew, RowsByAnswer}
+use Rattle.book_app.specs.StatusClause.{ImportClause, IsImported, IsImportRun, IsShownAs}
 use Rattle.book_app.specs.StatusClause.{HasLed, IsStreamRun, SampleClause, ServedRows, StatusClause, WorkClause, over}
 use Rattle.book_app.specs.Words.{Work, Lines, Import, Serve, Sample, named_number, work_named}
 use Rattle.book_app.specs.declared.words.ImportWords.{ImportWords}
@@ -86,16 +89,16 @@ run_of_lines keeping first last faults input_before input_after output_before ou
           (session_clause keeping output_before output_after run.bytes run.read run.left run.text run.ended session);
     }
 
--- a keeper that was not asked after its book was opened holds the rows that it held before
+-- a keeper that was not asked after its book was opened holds the rows that it held then
 pub same_rows :
-    {K : Type 0} (of : Ghosts K) (old mid new : K) → new ≡ mid → HoldsAsBefore (over of old mid)
-    → HoldsAsBefore (over of old new)
-same_rows of old mid new same before = subst (λ k. HoldsAsBefore (over of old k)) (sym same) before
+    {K : Type 0} (of : Ghosts K) (old mid new : K) → new ≡ mid → HoldsOpened (over of old mid)
+    → HoldsOpened (over of old new)
+same_rows of old mid new same before = subst (λ k. HoldsOpened (over of old k)) (sym same) before
 
 import_clause :
     (words : ImportWords) (keeping : Keeping) (before after : List ℕ → Type 0) (read left text : List ℕ)
     (ended : RunEnd) (status : Status) → status ≡ status_of ended
-    → (status ≡ InputLimit → HoldsAsBefore keeping) → (status ≡ InputFault → HoldsAsBefore keeping)
+    → (status ≡ InputLimit → HoldsOpened keeping) → (status ≡ InputFault → HoldsOpened keeping)
     → IsImported words keeping before after read left text ended
     → ImportClause words keeping before after read left text (status_of ended)
 import_clause words keeping before after read left text end.Done status is limit fault h = h
@@ -109,7 +112,7 @@ pub run_of_import :
     (input_before input_after : Option (List ℕ)) (output_before output_after : List ℕ → Type 0) (status : Status)
     → faults ≡ keeping.faults_before → OpenedTo keeping (Opens first) → NowOpensTo keeping last
     → MayOpenTo keeping last
-    → (status ≡ InputLimit → HoldsAsBefore keeping) → (status ≡ InputFault → HoldsAsBefore keeping)
+    → (status ≡ InputLimit → HoldsOpened keeping) → (status ≡ InputFault → HoldsOpened keeping)
     → IsImportRun words (at first output_before faults) input_before input_after
     (at last output_after keeping.faults_after) status
     → IsBookRun (Import words) keeping input_before input_after output_before output_after status
@@ -166,6 +169,13 @@ run_of_nothing work keeping input output status holds = let bytes = Are-some inp
 pub untouched : (keeping : Keeping) → HoldsAsBefore keeping → IsUntouched keeping [] []
 untouched keeping rows = record { input = refl; output = refl; rows = rows }
 
+pub unopened : (keeping : Keeping) → HoldsUnopened keeping → IsUnopened keeping [] []
+unopened keeping rows = record { input = refl; output = refl; rows = rows }
+
+-- a keeper whose rows are as before holds them where no book was opened
+pub still_unopened : (keeping : Keeping) → HoldsAsBefore keeping → HoldsUnopened keeping
+still_unopened keeping rows = record { rows = rows.rows; left = λ honest old may. inl (rows.left honest old may) }
+
 -- a keeper that was not asked is as it was
 pub not_asked : {K : Type 0} (of : Ghosts K) (keeper : K) → HoldsAsBefore (over of keeper keeper)
 not_asked of keeper = record { rows = λ still rows held. held; left = λ honest rows left. left }
@@ -173,24 +183,24 @@ not_asked of keeper = record { rows = λ still rows held. held; left = λ honest
 -- where no book was opened
 pub unopened_clause :
     (keeping : Keeping) (output : List ℕ → Type 0) (bytes : List ℕ) (why : OpenError)
-    → HoldsAsBefore keeping
+    → RowsByAnswer {T = Kept} keeping (Err why)
     → (IsTrue keeping.honest → (rows : List Row) → keeping.held rows → Opened rows (Err why))
     → StatusClause keeping output output bytes [] bytes [] (status_unopened why)
-unopened_clause keeping output bytes error.Keeper rows opened = untouched keeping rows
+unopened_clause keeping output bytes error.Keeper rows opened = unopened keeping rows
 unopened_clause keeping output bytes (error.BadRows kind id) rows opened = (untouched keeping rows, opened)
 unopened_clause keeping output bytes (error.UnsoundBook kind id) rows opened = (untouched keeping rows, opened)
-unopened_clause keeping output bytes error.OutOfMemory rows opened = untouched keeping rows
+unopened_clause keeping output bytes error.OutOfMemory rows opened = unopened keeping rows
 
 -- where no book was opened for an import
 pub unopened_import :
     (words : ImportWords) (keeping : Keeping) (output : List ℕ → Type 0) (bytes : List ℕ) (why : OpenError)
-    → HoldsAsBefore keeping
+    → RowsByAnswer {T = Kept} keeping (Err why)
     → (IsTrue keeping.honest → (rows : List Row) → keeping.held rows → Opened rows (Err why))
     → ImportClause words keeping output output [] bytes [] (status_unopened why)
-unopened_import words keeping output bytes error.Keeper rows opened = untouched keeping rows
+unopened_import words keeping output bytes error.Keeper rows opened = unopened keeping rows
 unopened_import words keeping output bytes (error.BadRows kind id) rows opened = (untouched keeping rows, opened)
 unopened_import words keeping output bytes (error.UnsoundBook kind id) rows opened = (untouched keeping rows, opened)
-unopened_import words keeping output bytes error.OutOfMemory rows opened = untouched keeping rows
+unopened_import words keeping output bytes error.OutOfMemory rows opened = unopened keeping rows
 
 -- where the words could not be read
 pub run_without_words :
@@ -201,7 +211,7 @@ run_without_words keeping input output Usage rows is =
     run_of_nothing Lines keeping input output Usage (λ bytes. untouched keeping rows)
 run_without_words keeping input output other rows is =
     subst (λ (s : Status). IsBookRun Lines keeping input input output output s) (sym (is (λ same. cc)))
-    (run_of_nothing Lines keeping input output Memory (λ bytes. untouched keeping rows))
+    (run_of_nothing Lines keeping input output Memory (λ bytes. unopened keeping (still_unopened keeping rows)))
 
 shown_clause :
     (number : ℕ) (text : List ℕ) (end : SampleEnd) → ShownClause answers fresh (sample_text number) text end
@@ -282,7 +292,7 @@ no_port_fault (Some words) keeping input_before input_after before after status 
 
 -- where no link was served
 pub unopened_rows :
-    (keeping : Keeping) (why : OpenError) → HoldsAsBefore keeping
+    (keeping : Keeping) (why : OpenError) → RowsByAnswer {T = Kept} keeping (Err why)
     → (IsTrue keeping.honest → (rows : List Row) → keeping.held rows → Opened rows (Err why))
     → ServedRows keeping (status_unopened why)
 unopened_rows keeping error.Keeper rows opened = rows
@@ -318,7 +328,7 @@ no_serving keeping status other rows never is = never (subst (λ (s : Status). S
 
 -- What is answered of the rows that an honest keeper held before it was opened, and of what it may leave.
 module _ {K : Type 0} (of : Ghosts K) (old mid new : K) (known : IsTrue (of.honest mid) → IsTrue (of.sure mid))
-    (read : WasRead of mid new) where
+    (read : WasOpened of mid new) where
   pub opened_honest :
       (result : Result Kept OpenError) → (IsTrue (of.sure mid) → (rows : List Row) → of.holds old rows → of.holds mid rows)
       → WhereOpened result (StaysSure of mid new)
@@ -336,22 +346,85 @@ module _ {K : Type 0} (of : Ghosts K) (old mid new : K) (known : IsTrue (of.hone
   opened_honest (Err error.Keeper) kept still opened = λ honest rows held. tt
   opened_honest (Err error.OutOfMemory) kept still opened = λ honest rows held. tt
 
-  -- The rows that the keeper held as an engine was opened from it stand for that engine.
+  -- The rows that the keeper holds as an engine was opened stand for that engine.
   pub stands_opened :
       (result : Result Kept OpenError) → (IsTrue (of.sure mid) → (rows : List Row) × of.holds mid rows)
       → (IsTrue (of.sure mid) → (rows : List Row) → of.may_leave mid rows → of.holds mid rows)
       → WhereOpened result (StaysSure of mid new)
       → (IsTrue (of.sure new) → (rows : List Row) → of.holds mid rows → Opened rows result)
+      → IfOk result (λ kept. IsTrue (of.sure new) → (rows : List Row) × of.holds new rows × StandForKept kept rows)
       → IfOk result (Stands of new)
-  stands_opened (Ok engine) told settled still opened = record {
-    rows = λ sure.
-        let held = told (read.still_sure sure) in
-        (held.0, read.same_rows sure held.0 held.1, opened sure held.0 held.1);
+  stands_opened (Ok engine) told settled still opened stand = record {
+    rows = stand;
     left = λ honest rows left.
         let before = known (read.still_honest honest) in
-        inl (opened (still honest before) rows (settled before rows (read.leaves honest rows left))).0;
+        let now = still honest before in
+        inl (elim (read.leaves honest rows left) [
+          | inl earlier ↦ opened now rows (settled before rows earlier)
+          | inr anew ↦
+              let held = told before in
+              (anew.1 held.0 held.1).same (machine_kept engine) (opened now held.0 held.1)
+        ]);
   }
-  stands_opened (Err why) told settled still opened = tt
+  stands_opened (Err why) told settled still opened stand = tt
+
+  leaves_same :
+      (IsTrue (of.sure mid) → (rows : List Row) × of.holds mid rows)
+      → ((rows other : List Row) → of.holds mid rows → of.holds mid other → rows ≡ other)
+      → (IsTrue (of.sure mid) → (rows : List Row) → of.holds old rows → of.holds mid rows)
+      → (IsTrue (of.honest mid) → (rows : List Row) → of.may_leave mid rows → of.may_leave old rows)
+      → LeavesSameOrAnew (over of old new)
+  leaves_same told one kept left honest rows may =
+      elim (read.leaves honest rows may) [
+        | inl earlier ↦ inl (left (read.still_honest honest) rows earlier)
+        | inr anew ↦
+            let held = told anew.0 in
+            inr (
+              held.0,
+              anew.1 held.0 held.1,
+              λ other is. one held.0 other held.1 (kept anew.0 other is),
+            )
+      ]
+
+  -- What became of the rows.
+  pub rows_opened :
+      (result : Result Kept OpenError) → (IsTrue (of.sure mid) → (rows : List Row) × of.holds mid rows)
+      → ((rows other : List Row) → of.holds mid rows → of.holds mid other → rows ≡ other)
+      → ((rows other : List Row) → of.holds new rows → of.holds new other → rows ≡ other)
+      → (IsTrue (of.sure mid) → (rows : List Row) → of.holds old rows → of.holds mid rows)
+      → (IsTrue (of.honest mid) → (rows : List Row) → of.may_leave mid rows → of.may_leave old rows)
+      → IfOk result (λ kept. IsTrue (of.sure new) → (rows : List Row) × of.holds new rows × StandForKept kept rows)
+      → OnErr result (KeepsRows of mid new) → WhereRefused result (WasRead of mid new)
+      → RowsByAnswer (over of old new) result
+  rows_opened (Ok engine) told one only kept left stand unchanged refused = record {
+    rows = λ sure rows held.
+        let stood = stand sure in (
+          stood.0,
+          stood.1,
+          kept_format engine stood.0 stood.2,
+          elim (read.rows sure rows (kept (read.still_sure sure) rows held)) [
+            | inl same ↦ inl (only stood.0 rows stood.1 same)
+            | inr anew ↦ inr (subst (AreAnew rows) (only anew.0 stood.0 anew.2 stood.1) anew.1)
+          ],
+        );
+    left = leaves_same told one kept left;
+  }
+  rows_opened (Err (error.BadRows kind id)) told one only kept left stand unchanged refused = record {
+    rows = λ sure rows held. unchanged sure rows (kept (read.still_sure sure) rows held);
+    left = λ honest rows may. left (refused.still_honest honest) rows (refused.leaves honest rows may);
+  }
+  rows_opened (Err (error.UnsoundBook kind id)) told one only kept left stand unchanged refused = record {
+    rows = λ sure rows held. unchanged sure rows (kept (read.still_sure sure) rows held);
+    left = λ honest rows may. left (refused.still_honest honest) rows (refused.leaves honest rows may);
+  }
+  rows_opened (Err error.Keeper) told one only kept left stand unchanged refused = record {
+    rows = λ sure rows held. unchanged sure rows (kept (read.still_sure sure) rows held);
+    left = leaves_same told one kept left;
+  }
+  rows_opened (Err error.OutOfMemory) told one only kept left stand unchanged refused = record {
+    rows = λ sure rows held. unchanged sure rows (kept (read.still_sure sure) rows held);
+    left = leaves_same told one kept left;
+  }
 
 -- a run, seen with other rows that the keeper held before, if it held these
 abbrev pub with_held : Keeping → (List Row → Type 0) → (List Row → Type 0) → Keeping
@@ -369,6 +442,28 @@ module _ (keeping : Keeping) (held might : List Row → Type 0)
     rows = λ still rows h. same.rows still rows (holds (trusted still) rows h);
     left = λ honest rows left. leaves honest rows (same.left honest rows left);
   }
+
+  left_held : LeavesSameOrAnew keeping → LeavesSameOrAnew (with_held keeping held might)
+  left_held same honest rows left =
+      elim (same honest rows left) [
+        | inl earlier ↦ inl (leaves honest rows earlier)
+        | inr anew ↦ inr (anew.0, anew.1, λ other h. anew.2 other (holds honest other h))
+      ]
+
+  rows_unopened_held : HoldsUnopened keeping → HoldsUnopened (with_held keeping held might)
+  rows_unopened_held same = record {
+    rows = λ still rows h. same.rows still rows (holds (trusted still) rows h);
+    left = left_held same.left;
+  }
+
+  rows_opened_held : HoldsOpened keeping → HoldsOpened (with_held keeping held might)
+  rows_opened_held same = record {
+    rows = λ still rows h. same.rows still rows (holds (trusted still) rows h);
+    left = left_held same.left;
+  }
+
+  unopened_held : (read text : List ℕ) → IsUnopened keeping read text → IsUnopened (with_held keeping held might) read text
+  unopened_held read text it = record { input = it.input; output = it.output; rows = rows_unopened_held it.rows }
 
   untouched_held : (read text : List ℕ) → IsUntouched keeping read text → IsUntouched (with_held keeping held might) read text
   untouched_held read text it = record {
@@ -402,8 +497,8 @@ module _ (keeping : Keeping) (held might : List Row → Type 0)
   status_held before after bytes read left text OutputFault h =
       session_held before after bytes read left text end.OutputFault h
   status_held before after bytes read left text Usage h = untouched_held read text h
-  status_held before after bytes read left text Memory h = untouched_held read text h
-  status_held before after bytes read left text KeeperFault h = untouched_held read text h
+  status_held before after bytes read left text Memory h = unopened_held read text h
+  status_held before after bytes read left text KeeperFault h = unopened_held read text h
   status_held before after bytes read left text (BadRows kind id) h =
       (untouched_held read text h.0, opened_held (Bad (row_key kind id)) h.1)
   status_held before after bytes read left text (UnsoundBook kind id) h =
@@ -431,12 +526,12 @@ module _ (keeping : Keeping) (held might : List Row → Type 0)
   import_held words before after read left text OutputFault h =
       imported_held words before after read left text end.OutputFault h
   import_held words before after read left text InputLimit h =
-      (imported_held words before after read left text end.InputLimit h.0, rows_held h.1)
+      (imported_held words before after read left text end.InputLimit h.0, rows_opened_held h.1)
   import_held words before after read left text InputFault h =
-      (imported_held words before after read left text end.InputFault h.0, rows_held h.1)
+      (imported_held words before after read left text end.InputFault h.0, rows_opened_held h.1)
   import_held words before after read left text Usage h = untouched_held read text h
-  import_held words before after read left text Memory h = untouched_held read text h
-  import_held words before after read left text KeeperFault h = untouched_held read text h
+  import_held words before after read left text Memory h = unopened_held read text h
+  import_held words before after read left text KeeperFault h = unopened_held read text h
   import_held words before after read left text (BadRows kind id) h =
       (untouched_held read text h.0, opened_held (Bad (row_key kind id)) h.1)
   import_held words before after read left text (UnsoundBook kind id) h =
@@ -456,10 +551,10 @@ module _ (keeping : Keeping) (held might : List Row → Type 0)
   served_held : (status : Status) → ServedRows keeping status → ServedRows (with_held keeping held might) status
   served_held Done h = led_held h
   served_held PortFault h = led_held h
-  served_held Memory (inl h) = inl (rows_held h)
+  served_held Memory (inl h) = inl (rows_unopened_held h)
   served_held Memory (inr h) = inr (led_held h)
   served_held Usage h = rows_held h
-  served_held KeeperFault h = rows_held h
+  served_held KeeperFault h = rows_unopened_held h
   served_held (BadRows kind id) h = (rows_held h.0, opened_held (Bad (row_key kind id)) h.1)
   served_held (UnsoundBook kind id) h = (rows_held h.0, opened_held (Unsound (row_key kind id)) h.1)
   served_held InputFault h = absurd h
@@ -524,7 +619,7 @@ module _ (keeping : Keeping) (held might : List Row → Type 0)
       → ServeClause serve keeping of ports status → ServeClause serve (with_held keeping held might) of ports status
   serve_held serve of ports Done h = book_held serve of ports _ h
   serve_held serve of ports PortFault h = book_held serve of ports _ h
-  serve_held serve of ports Memory (inl h) = inl (h.0, rows_held h.1)
+  serve_held serve of ports Memory (inl h) = inl (h.0, rows_unopened_held h.1)
   serve_held serve of ports Memory (inr h) = inr (book_held serve of ports _ h)
   serve_held serve of ports Usage h = h
   serve_held serve of ports KeeperFault h = h

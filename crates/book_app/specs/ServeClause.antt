@@ -7,7 +7,7 @@ use Rattle.book_serve.specs.Served.{IsServing, LinkReports, server_state}
 use Rattle.book_serve.specs.declared.serve_end.ServeEnd.{ServeEnd}
 use Rattle.book_serve.specs.declared.serve_end.ServeEnd.TheVariants as end
 use Rattle.book_app.specs.Respond.{kept_answers}
-use Rattle.book_app.specs.StatusClause.{HoldsAsBefore, Keeping, MayOpenTo, NowOpensTo, OpenedTo}
+use Rattle.book_app.specs.StatusClause.{HoldsUnopened, Keeping, MayOpenTo, NowOpensTo, OpenedTo}
 use Rattle.book_app.specs.declared.status.Status.{Status}
 use Rattle.book_app.specs.declared.status.Status.TheVariants.{Done, Usage, Memory, InputFault, OutputFault, KeeperFault}
 use Rattle.book_app.specs.declared.status.Status.TheVariants.{BadRows, UnsoundBook, PortFault, InputLimit}
@@ -67,7 +67,7 @@ abbrev pub ServeClause : {L : Type 0} → ServeWords → Keeping → LinkReports
 ServeClause serve keeping of ports Done = HasServedBook serve keeping of ports end.Done
 ServeClause serve keeping of ports PortFault = HasServedBook serve keeping of ports end.PortFault
 ServeClause serve keeping of ports Memory =
-    (NoneAccepted ports × HoldsAsBefore keeping) ⊎ HasServedBook serve keeping of ports end.OutOfMemory
+    (NoneAccepted ports × HoldsUnopened keeping) ⊎ HasServedBook serve keeping of ports end.OutOfMemory
 ServeClause serve keeping of ports Usage = NoneAccepted ports
 ServeClause serve keeping of ports KeeperFault = NoneAccepted ports
 ServeClause serve keeping of ports (BadRows kind id) = NoneAccepted ports

@@ -10,7 +10,9 @@ use Rattle.book_lines.specs.WholeClause.{IsWhole, WholeClause}
 use Rattle.book_lines.specs.declared.running.RunEnd.{RunEnd}
 use Rattle.book_lines.specs.declared.running.RunEnd.TheVariants as end
 use Rattle.book_engine.specs.Machine.{Machine, fresh}
-use Rattle.book_engine.specs.Opening.{row_key}
+use Rattle.book_rows.specs.declared.format.RowFormat.TheVariants.{Two}
+use Rattle.book_opening.specs.BookRows.{rows_format}
+use Rattle.book_engine.specs.Opening.{AreAnew, row_key}
 use Rattle.book_engine.specs.declared.fault.OpenError.{OpenError}
 use Rattle.book_engine.specs.declared.fault.OpenError.TheVariants as error
 use Rattle.book_engine.specs.Opens.{Bad, Opening, Opens, OpensTo, Unsound}
@@ -54,9 +56,11 @@ over of before after = record {
 abbrev pub OpenedTo : Keeping → Opening → Type 0
 OpenedTo keeping opening = IsTrue keeping.honest → (rows : List Row) → keeping.held rows → OpensTo rows opening
 
--- A keeper that still knows its rows holds rows that open as this machine.
+-- A keeper that still knows its rows holds rows that open as this machine; there are none, or they have format 2.
 abbrev pub NowOpensTo : Keeping → Machine → Type 0
-NowOpensTo keeping machine = IsTrue keeping.sure → (rows : List Row) × keeping.holds rows × OpensTo rows (Opens machine)
+NowOpensTo keeping machine =
+    IsTrue keeping.sure
+    → (rows : List Row) × keeping.holds rows × OpensTo rows (Opens machine) × (rows_format rows ≡ Two)
 
 -- As long as the keeper is honest, what the next one may find opens as this machine, or as the one that one command
 -- more makes of it.
@@ -70,6 +74,33 @@ MayOpenTo keeping machine =
 pub record HoldsAsBefore (keeping : Keeping) : Type 0 where
   pub rows : IsTrue keeping.sure → (rows : List Row) → keeping.held rows → keeping.holds rows
   pub left : IsTrue keeping.honest → (rows : List Row) → keeping.may_leave rows → keeping.might_leave rows
+
+-- As long as the keeper is honest, the next one may find no rows that it could not find before, but the rows that were
+-- held, and no others, written anew in format 2.
+abbrev pub LeavesSameOrAnew : Keeping → Type 0
+LeavesSameOrAnew keeping =
+    IsTrue keeping.honest → (rows : List Row) → keeping.may_leave rows
+    → keeping.might_leave rows
+    ⊎ ((old : List Row) × AreAnew old rows × ((other : List Row) → keeping.held other → old ≡ other))
+
+-- The book was not opened. A keeper that still knows its rows holds those that it held before; a commit that failed to
+-- write them anew may leave either.
+pub record HoldsUnopened (keeping : Keeping) : Type 0 where
+  pub rows : IsTrue keeping.sure → (rows : List Row) → keeping.held rows → keeping.holds rows
+  pub left : LeavesSameOrAnew keeping
+
+-- The book was opened, and no command was done. A keeper that still knows its rows holds those that it held before, or
+-- these written anew; there are none, or they have format 2.
+pub record HoldsOpened (keeping : Keeping) : Type 0 where
+  pub rows : IsTrue keeping.sure → (rows : List Row) → keeping.held rows
+      → (new : List Row) × keeping.holds new × (rows_format new ≡ Two) × ((new ≡ rows) ⊎ AreAnew rows new)
+  pub left : LeavesSameOrAnew keeping
+
+-- Nothing was read, nothing written, and the book was not opened.
+pub record IsUnopened (keeping : Keeping) (read text : List ℕ) : Type 0 where
+  pub input : read ≡ []
+  pub output : text ≡ []
+  pub rows : HoldsUnopened keeping
 
 -- Nothing was read, nothing written, and the keeper's rows are as they were.
 pub record IsUntouched (keeping : Keeping) (read text : List ℕ) : Type 0 where
@@ -101,8 +132,8 @@ StatusClause keeping before after bytes read left text InputFault =
 StatusClause keeping before after bytes read left text OutputFault =
     IsSession keeping before after bytes read left text end.OutputFault
 StatusClause keeping before after bytes read left text Usage = IsUntouched keeping read text
-StatusClause keeping before after bytes read left text Memory = IsUntouched keeping read text
-StatusClause keeping before after bytes read left text KeeperFault = IsUntouched keeping read text
+StatusClause keeping before after bytes read left text Memory = IsUnopened keeping read text
+StatusClause keeping before after bytes read left text KeeperFault = IsUnopened keeping read text
 StatusClause keeping before after bytes read left text (BadRows kind id) =
     IsUntouched keeping read text × OpenedTo keeping (Bad (row_key kind id))
 StatusClause keeping before after bytes read left text (UnsoundBook kind id) =
@@ -127,8 +158,9 @@ pub record IsImported (import : ImportWords) (keeping : Keeping) (output_before 
   pub leaves : MayOpenTo keeping last
 
 -- With the words of `import`, by the status: at Done `text` is the one answer to the whole input, of at most 8 MiB; at
--- OutputFault a front part of it and not all. At each other status nothing was written, and the keeper's rows are as
--- they were; at InputLimit one byte past 8 MiB was read.
+-- OutputFault a front part of it and not all. At each other status nothing was written; at InputLimit and InputFault
+-- the book was opened and the rows are the same book's, and one byte past 8 MiB was read at InputLimit; at Usage,
+-- BadRows and UnsoundBook the keeper's rows are as they were; at Memory and KeeperFault the book was not opened.
 abbrev pub ImportClause :
     ImportWords → Keeping → (List ℕ → Type 0) → (List ℕ → Type 0) → List ℕ → List ℕ → List ℕ → Status → Type 0
 ImportClause import keeping before after read left text Done =
@@ -136,12 +168,12 @@ ImportClause import keeping before after read left text Done =
 ImportClause import keeping before after read left text OutputFault =
     IsImported import keeping before after read left text end.OutputFault
 ImportClause import keeping before after read left text InputLimit =
-    IsImported import keeping before after read left text end.InputLimit × HoldsAsBefore keeping
+    IsImported import keeping before after read left text end.InputLimit × HoldsOpened keeping
 ImportClause import keeping before after read left text InputFault =
-    IsImported import keeping before after read left text end.InputFault × HoldsAsBefore keeping
+    IsImported import keeping before after read left text end.InputFault × HoldsOpened keeping
 ImportClause import keeping before after read left text Usage = IsUntouched keeping read text
-ImportClause import keeping before after read left text Memory = IsUntouched keeping read text
-ImportClause import keeping before after read left text KeeperFault = IsUntouched keeping read text
+ImportClause import keeping before after read left text Memory = IsUnopened keeping read text
+ImportClause import keeping before after read left text KeeperFault = IsUnopened keeping read text
 ImportClause import keeping before after read left text (BadRows kind id) =
     IsUntouched keeping read text × OpenedTo keeping (Bad (row_key kind id))
 ImportClause import keeping before after read left text (UnsoundBook kind id) =
@@ -179,14 +211,15 @@ pub record HasLed (keeping : Keeping) : Type 0 where
   pub kept : NowOpensTo keeping last
   pub leaves : MayOpenTo keeping last
 
--- With the words of `serve`, what became of the keeper's rows, by the status: they are as they were, and where the book
--- was opened, commands may have led from the machine that they opened as to that as which they open now.
+-- With the words of `serve`, what became of the keeper's rows, by the status: where the book was opened, commands led
+-- from the machine that they opened as to that as which they open now. At Usage, BadRows and UnsoundBook they are as
+-- they were; at KeeperFault, and at Memory before the first link, the book was not opened.
 abbrev pub ServedRows : Keeping → Status → Type 0
 ServedRows keeping Done = HasLed keeping
 ServedRows keeping PortFault = HasLed keeping
-ServedRows keeping Memory = HoldsAsBefore keeping ⊎ HasLed keeping
+ServedRows keeping Memory = HoldsUnopened keeping ⊎ HasLed keeping
 ServedRows keeping Usage = HoldsAsBefore keeping
-ServedRows keeping KeeperFault = HoldsAsBefore keeping
+ServedRows keeping KeeperFault = HoldsUnopened keeping
 ServedRows keeping (BadRows kind id) = HoldsAsBefore keeping × OpenedTo keeping (Bad (row_key kind id))
 ServedRows keeping (UnsoundBook kind id) = HoldsAsBefore keeping × OpenedTo keeping (Unsound (row_key kind id))
 ServedRows keeping InputFault = ⊥
@@ -262,6 +295,14 @@ pub record IsImportRun
   pub ended : RunEnd
   pub status_is : status ≡ status_of ended
   pub whole : IsWhole (import_answers import) input_before input_after before after ended
+
+-- What became of the keeper's rows as the book was opened, by what is answered.
+abbrev pub RowsByAnswer : {T : Type 0} → Keeping → Result T OpenError → Type 0
+RowsByAnswer keeping (Ok engine) = HoldsOpened keeping
+RowsByAnswer keeping (Err (error.BadRows kind id)) = HoldsAsBefore keeping
+RowsByAnswer keeping (Err (error.UnsoundBook kind id)) = HoldsAsBefore keeping
+RowsByAnswer keeping (Err error.Keeper) = HoldsUnopened keeping
+RowsByAnswer keeping (Err error.OutOfMemory) = HoldsUnopened keeping
 
 -- The keeper's path is the book that the words name, once it was opened: at each status but these three, where the
 -- words are not those of a sample.

@@ -157,7 +157,8 @@ fn run_with_book<K: Keeper, S: Source, O: Sink, P: Ports>(
 }
 
 /// Does what the words ask. `run BOOK` opens the keeper at BOOK and answers the lines of the input, from the state as
-/// which its rows open on. `import BOOK FORMAT ACCOUNT CURRENCY` opens it too, and answers the whole input, of at most
+/// which its rows open on. Before the first line, the file or the first link the rows of a book of format 1 are written
+/// anew in format 2. `import BOOK FORMAT ACCOUNT CURRENCY` opens it too, and answers the whole input, of at most
 /// 8 MiB, as the import of one statement file. `serve BOOK PORT LINKS` opens it too, and answers the requests of LINKS
 /// links that come to PORT, one link after the other; it leaves the input and the output as they were. `sample NUMBER`
 /// writes the last two answers to the lines of the sample of NUMBER, from a new book in memory on; it leaves the keeper

@@ -4,7 +4,7 @@ ghost use Rattle.book_keeper.specs.declared.row.Row.{Row};
 ghost use Rattle.book_lines.specs.Room.{seen};
 ghost use Rattle.book_engine.specs.Opening.{HasOpenCause, Opened};
 ghost use Rattle.book_engine.specs.Standing.{Stands};
-ghost use Rattle.book_app.specs.StatusClause.{HoldsAsBefore, IsOpenedAt, over};
+ghost use Rattle.book_app.specs.StatusClause.{IsOpenedAt, RowsByAnswer, over};
 
 use book_commodity::{OutOfMemory, Text};
 use book_engine::{Engine, OpenError};
@@ -14,12 +14,12 @@ use book_lines::LineRoom;
 use book_words::part;
 use std::alloc::Global;
 
-/// The engine with the book that the keeper has at this path.
+/// The engine with the book that the keeper has at this path. Its rows are then of format 2, or there are none.
 /// Keeper: the keeper failed, and its count of faults rose. The others are those of `Engine::open`.
 pub fn open_book<K: Keeper>(alloc: Global, keeper: &mut K, book: &str) -> Result<Engine, OpenError>
     ensures honest { IsTrue (K.honest keeper.new) → IsTrue (K.honest keeper.old) }
     ensures sure { IsTrue (K.sure keeper.new) → IsTrue (K.sure keeper.old) }
-    ensures before { HoldsAsBefore (over K.Keeper keeper.old keeper.new) }
+    ensures before { RowsByAnswer (over K.Keeper keeper.old keeper.new) result }
     ensures opened { IsTrue (K.honest keeper.new) → (rows : List Row) → K.holds keeper.old rows → Opened rows result }
     ensures stands { IfOk result (Stands K.Keeper keeper.new) }
     ensures path { IsOpenedAt book.now (K.path_given keeper.new) result }

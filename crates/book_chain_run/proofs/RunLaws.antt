@@ -15,10 +15,10 @@ use Rattle.book_engine.specs.Machine.{Broken, Done, Machine, Reply, fresh, step}
 use Rattle.book_engine.specs.Opens.{Opens, OpensTo}
 use Rattle.book_wire.specs.Asked.{Asked, Asks, NotCommand, NotJson}
 use Rattle.book_texts.specs.RefusedText.{too_long_bytes}
-use Rattle.book_app.specs.Machine.{AreDone, IsOutcome, IsReply, Leads, Replies, answers, import_answers}
+use Rattle.book_app.specs.Machine.{AreDone, IsOutcome, IsReply, Replies, answers, import_answers}
 use Rattle.book_app.specs.Machine.{import_command}
 use Rattle.book_app.specs.StatusClause.{IsBookRun, IsImportRun, IsImported, IsLineRun, IsSession, Keeping}
-use Rattle.book_app.specs.StatusClause.{HasLed, HoldsAsBefore, ImportClause, NowOpensTo, OpenedTo, ServedRows, StatusClause}
+use Rattle.book_app.specs.StatusClause.{HasLed, ImportClause, NowOpensTo, OpenedTo, ServedRows, StatusClause}
 use Rattle.book_app.specs.StatusClause.{WorkClause}
 use Rattle.book_app.specs.Words.{Import, Lines, Sample, Serve, Work}
 use Rattle.book_app.specs.declared.status.Status.{Status}
@@ -200,8 +200,8 @@ rows-chained rows machine made opens = made-chained machine (first-made rows mac
 
 as-before :
     (keeping : Keeping) (rows : List Row) → Knows keeping → keeping.held rows → OpensMade rows
-    → HoldsAsBefore keeping → HoldsMade keeping
-as-before keeping rows known held made same = (rows, same.rows known.sure rows held, made)
+    → (IsTrue keeping.sure → (rows : List Row) → keeping.held rows → keeping.holds rows) → HoldsMade keeping
+as-before keeping rows known held made same = (rows, same known.sure rows held, made)
 
 session-made :
     (keeping : Keeping) (rows : List Row) (before after : List ℕ → Type 0) (bytes read left text : List ℕ)
@@ -239,15 +239,15 @@ lines_status-made keeping rows before after bytes read left text status.InputFau
 lines_status-made keeping rows before after bytes read left text status.OutputFault known held made clause =
     session-made keeping rows before after bytes read left text end.OutputFault known held made clause
 lines_status-made keeping rows before after bytes read left text status.Usage known held made clause =
-    as-before keeping rows known held made clause.rows
+    as-before keeping rows known held made clause.rows.rows
 lines_status-made keeping rows before after bytes read left text status.Memory known held made clause =
-    as-before keeping rows known held made clause.rows
+    as-before keeping rows known held made clause.rows.rows
 lines_status-made keeping rows before after bytes read left text status.KeeperFault known held made clause =
-    as-before keeping rows known held made clause.rows
+    as-before keeping rows known held made clause.rows.rows
 lines_status-made keeping rows before after bytes read left text (status.BadRows kind id) known held made clause =
-    as-before keeping rows known held made clause.0.rows
+    as-before keeping rows known held made clause.0.rows.rows
 lines_status-made keeping rows before after bytes read left text (status.UnsoundBook kind id) known held made clause =
-    as-before keeping rows known held made clause.0.rows
+    as-before keeping rows known held made clause.0.rows.rows
 lines_status-made keeping rows before after bytes read left text status.PortFault known held made clause = absurd clause
 
 -- And by that of an import.
@@ -260,19 +260,19 @@ import_status-made words keeping rows before after read left text status.Done kn
 import_status-made words keeping rows before after read left text status.OutputFault known held made clause =
     imported-made words keeping rows before after read left text end.OutputFault known held made clause
 import_status-made words keeping rows before after read left text status.InputLimit known held made clause =
-    as-before keeping rows known held made clause.1
+    imported-made words keeping rows before after read left text end.InputLimit known held made clause.0
 import_status-made words keeping rows before after read left text status.InputFault known held made clause =
-    as-before keeping rows known held made clause.1
+    imported-made words keeping rows before after read left text end.InputFault known held made clause.0
 import_status-made words keeping rows before after read left text status.Usage known held made clause =
-    as-before keeping rows known held made clause.rows
+    as-before keeping rows known held made clause.rows.rows
 import_status-made words keeping rows before after read left text status.Memory known held made clause =
-    as-before keeping rows known held made clause.rows
+    as-before keeping rows known held made clause.rows.rows
 import_status-made words keeping rows before after read left text status.KeeperFault known held made clause =
-    as-before keeping rows known held made clause.rows
+    as-before keeping rows known held made clause.rows.rows
 import_status-made words keeping rows before after read left text (status.BadRows kind id) known held made clause =
-    as-before keeping rows known held made clause.0.rows
+    as-before keeping rows known held made clause.0.rows.rows
 import_status-made words keeping rows before after read left text (status.UnsoundBook kind id) known held made clause =
-    as-before keeping rows known held made clause.0.rows
+    as-before keeping rows known held made clause.0.rows.rows
 import_status-made words keeping rows before after read left text status.PortFault known held made clause = absurd clause
 
 led-made :
@@ -289,14 +289,14 @@ serve_status-made :
     → ServedRows keeping ended → HoldsMade keeping
 serve_status-made keeping rows status.Done known held made led = led-made keeping rows known held made led
 serve_status-made keeping rows status.PortFault known held made led = led-made keeping rows known held made led
-serve_status-made keeping rows status.Memory known held made (inl same) = as-before keeping rows known held made same
+serve_status-made keeping rows status.Memory known held made (inl same) = as-before keeping rows known held made same.rows
 serve_status-made keeping rows status.Memory known held made (inr led) = led-made keeping rows known held made led
-serve_status-made keeping rows status.Usage known held made same = as-before keeping rows known held made same
-serve_status-made keeping rows status.KeeperFault known held made same = as-before keeping rows known held made same
+serve_status-made keeping rows status.Usage known held made same = as-before keeping rows known held made same.rows
+serve_status-made keeping rows status.KeeperFault known held made same = as-before keeping rows known held made same.rows
 serve_status-made keeping rows (status.BadRows kind id) known held made clause =
-    as-before keeping rows known held made clause.0
+    as-before keeping rows known held made clause.0.rows
 serve_status-made keeping rows (status.UnsoundBook kind id) known held made clause =
-    as-before keeping rows known held made clause.0
+    as-before keeping rows known held made clause.0.rows
 serve_status-made keeping rows status.InputFault known held made clause = absurd clause
 serve_status-made keeping rows status.OutputFault known held made clause = absurd clause
 serve_status-made keeping rows status.InputLimit known held made clause = absurd clause
@@ -312,7 +312,7 @@ work-made (Import words) keeping rows before after bytes read left text ended kn
 work-made (Serve serve) keeping rows before after bytes read left text ended known held made clause =
     serve_status-made keeping rows ended known held made clause.2
 work-made (Sample number) keeping rows before after bytes read left text ended known held made clause =
-    as-before keeping rows known held made clause.0.rows
+    as-before keeping rows known held made clause.0.rows.rows
 
 -- A run of the program, whatever its words and its status are: where its keeper held rows of a book that the program
 -- makes from nothing, and still knows its rows, it holds such rows at the end.

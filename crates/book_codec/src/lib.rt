@@ -1,7 +1,7 @@
 //! Values as bytes. `Field` has the two directions, spelling a value and reading it back, and says of both what the
 //! bytes of a value are; each word of the rows of a book has it here: numbers, truth values, texts, days, what may be
-//! absent, lists and pairs. `write_whole` and `read_whole` are for a body: the format byte, one value, and nothing
-//! behind it.
+//! absent, lists and pairs. `write_whole` and `read_whole` are for a body: the byte of its format, one value, and
+//! nothing behind it.
 #![tactic(auto)]
 
 mod day;
@@ -17,4 +17,4 @@ mod whole;
 
 pub use error::DecodeError;
 pub use field::Field;
-pub use whole::{read_whole, write_whole};
+pub use whole::{behind_format, read_whole, write_whole};

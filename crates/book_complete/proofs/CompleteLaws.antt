@@ -20,7 +20,7 @@ use Rattle.book_sample.specs.Shown.{AreLastAnswers}
 use Rattle.book_app.specs.Machine.{answers}
 use Rattle.book_app.specs.Respond.{kept_answers}
 use Rattle.book_app.specs.ServeClause.{HasServedBook, PortsSeen, ServeClause}
-use Rattle.book_app.specs.StatusClause.{HasLed, HoldsAsBefore, ImportClause, IsBookRun, IsLeft, Keeping, OpenedTo}
+use Rattle.book_app.specs.StatusClause.{HasLed, HoldsUnopened, ImportClause, IsBookRun, IsLeft, Keeping, OpenedTo}
 use Rattle.book_app.specs.StatusClause.{SampleClause, ServedRows, StatusClause, WorkClause}
 use Rattle.book_app.specs.Words.{Import, Lines, Sample, Serve, Work}
 use Rattle.book_app.specs.declared.status.Status.{Status}
@@ -128,7 +128,7 @@ serve-status :
     → BookOpens keeping → DidNotRise keeping.faults_before keeping.faults_after
     → DidNotRise faults.ports_before faults.ports_after → HasCauses words keeping faults ended
     → ServedRows keeping ended
-    → DoneOrMemory ended (HasLed keeping) (HoldsAsBefore keeping ⊎ HasLed keeping)
+    → DoneOrMemory ended (HasLed keeping) (HoldsUnopened keeping ⊎ HasLed keeping)
 serve-status words keeping faults status.Done are book kept ports causes clause =
     inl (refl, clause)
 serve-status words keeping faults status.Memory are book kept ports causes clause =

@@ -16,7 +16,7 @@ use Rattle.book_sample.specs.Sample.{sample_text}
 use Rattle.book_sample.specs.Shown.{AreLastAnswers}
 use Rattle.book_lines.specs.Marks.{mark_of}
 use Rattle.book_app.specs.declared.words.ImportWords.{ImportWords}
-use Rattle.book_app.specs.StatusClause.{IsBookRun, IsLeft, IsUntouched, Keeping}
+use Rattle.book_app.specs.StatusClause.{IsBookRun, IsLeft, IsUnopened, Keeping}
 use Rattle.book_app.specs.Words.{Import, Lines, Sample, Work, is_book, named_book, work_of}
 use Rattle.book_app.specs.declared.status.Status.{Status}
 use Rattle.book_complete.specs.Complete.{AreAllTold, DoneOrMemory, IsCompleteRun, IsImportTold}
@@ -107,7 +107,7 @@ module _ (machine : Machine) (room : ℕ) (input_before input_after : BytesLeft)
   as-before :
       (bytes read left text : List ℕ) → input_before.left ≡ bytes → input_after.left ≡ left → bytes ≡ read ++ left
       → kept_after ≡ take room (kept_before ++ text)
-      → IsUntouched (sure_keeping keeper_before keeper_after) read text
+      → IsUnopened (sure_keeping keeper_before keeper_after) read text
       → IsAsBefore input_before input_after keeper_before keeper_after kept_before kept_after
   as-before bytes read left text are left_are parts kept same =
       let rows = same.rows.rows (told_where keeper_after.rows rises) keeper_before.rows (refl, rise) in
@@ -133,7 +133,7 @@ module _ (machine : Machine) (room : ℕ) (input_before input_after : BytesLeft)
           → DoneOrMemory ended
           (AreAllTold (sure_keeping keeper_before keeper_after) (may_be_given room kept_before)
           (may_be_given room kept_after) run.bytes run.read run.left run.text)
-          (IsUntouched (sure_keeping keeper_before keeper_after) run.read run.text)
+          (IsUnopened (sure_keeping keeper_before keeper_after) run.read run.text)
           → IsSureRun machine room input_before input_after keeper_before keeper_after kept_before kept_after ended
       by ended (inl done) =
           inl (done.0, answered run.bytes run.read run.left run.text run.bytes_are run.left_are kept done.1)
@@ -188,7 +188,7 @@ module _ (machine : Machine) (room : ℕ) (input_before input_after : BytesLeft)
           → DoneOrMemory ended
           (IsImportTold import (sure_keeping keeper_before keeper_after) (may_be_given room kept_before)
           (may_be_given room kept_after) run.read run.left run.text)
-          (IsUntouched (sure_keeping keeper_before keeper_after) run.read run.text)
+          (IsUnopened (sure_keeping keeper_before keeper_after) run.read run.text)
           → IsSureImport import machine room input_before input_after keeper_before keeper_after kept_before kept_after
           ended
       by ended (inl done) =

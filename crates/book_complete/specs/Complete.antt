@@ -13,7 +13,7 @@ use Rattle.book_serve.specs.declared.serve_end.ServeEnd.{ServeEnd}
 use Rattle.book_serve.specs.declared.serve_end.ServeEnd.TheVariants as close
 use Rattle.book_app.specs.Machine.{answers}
 use Rattle.book_app.specs.ServeClause.{HasServedBook, NoneAccepted, PortsSeen}
-use Rattle.book_app.specs.StatusClause.{HasLed, HoldsAsBefore, IsImported, IsLeft, IsSession, IsUntouched, Keeping}
+use Rattle.book_app.specs.StatusClause.{HasLed, HoldsUnopened, IsImported, IsLeft, IsSession, IsUnopened, Keeping}
 use Rattle.book_app.specs.Words.{Import, Lines, Sample, Serve, Work}
 use Rattle.book_app.specs.declared.status.Status.{Status}
 use Rattle.book_app.specs.declared.status.Status.TheVariants.{Done, Memory}
@@ -53,12 +53,12 @@ DoneClause (Serve serve) keeping before after bytes read left text = (read ≡ [
 DoneClause (Sample number) keeping before after bytes read left text =
     IsLeft keeping read × AreLastAnswers answers fresh (sample_text number) text
 
--- What holds at Memory: nothing was read and nothing written. `run` and `import` leave the rows; the links that were
--- served before the memory was spent may have changed them.
+-- What holds at Memory: nothing was read and nothing written. `run` and `import` did not open the book; the links that
+-- were served before the memory was spent may have changed its rows.
 abbrev pub MemoryClause : Work → Keeping → List ℕ → List ℕ → Type 0
-MemoryClause Lines keeping read text = IsUntouched keeping read text
-MemoryClause (Import import) keeping read text = IsUntouched keeping read text
-MemoryClause (Serve serve) keeping read text = (read ≡ []) × (text ≡ []) × (HoldsAsBefore keeping ⊎ HasLed keeping)
+MemoryClause Lines keeping read text = IsUnopened keeping read text
+MemoryClause (Import import) keeping read text = IsUnopened keeping read text
+MemoryClause (Serve serve) keeping read text = (read ≡ []) × (text ≡ []) × (HoldsUnopened keeping ⊎ HasLed keeping)
 MemoryClause (Sample number) keeping read text = IsLeft keeping read × (text ≡ [])
 
 -- A run of the program that is complete: what was read and what is left of the input, and what was written, as far as
@@ -101,4 +101,4 @@ pub record HasServedWell {L : Type 0} (serve : ServeWords) (keeping : Keeping) (
 abbrev pub LinksComplete : {L : Type 0} → ServeWords → Keeping → LinkReports L → PortsSeen L → Status → Type 0
 LinksComplete serve keeping of ports status =
     DoneOrMemory status (HasServedWell serve keeping of ports close.Done)
-    ((NoneAccepted ports × HoldsAsBefore keeping) ⊎ HasServedWell serve keeping of ports close.OutOfMemory)
+    ((NoneAccepted ports × HoldsUnopened keeping) ⊎ HasServedWell serve keeping of ports close.OutOfMemory)

@@ -4,6 +4,7 @@ pub mod ChangedLemmas
 pub mod DueLemmas
 pub mod LotsLemmas
 pub mod MachineLemmas
+pub mod MigrationLemmas
 pub mod PlanLemmas
 pub mod RoomLemmas
 pub mod StandLemmas

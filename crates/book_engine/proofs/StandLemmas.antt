@@ -1,18 +1,20 @@
 -- Rows that stood for what an engine kept stand for what it keeps.
 use Rattle.std.proofs.Common.{◌≡◌, ◌≢◌, ◌↔◌, ◌⊎◌, Bool, true, false, ◌||◌, IsTrue, List, [], inl, inr}
-use Rattle.std.proofs.Common.{Option, Some, None, is_some, Result, Ok, Err, OnErr, refl, sym, ◌∙◌, subst}
+use Rattle.std.proofs.Common.{Option, Some, None, is_some, Result, Ok, Err, refl, sym, ap, ◌∙◌, subst}
 use Rattle.book_command.specs.declared.command.Command.{Command}
-use Rattle.book_keeper.specs.Rows.{after_changes}
+use Rattle.book_keeper.specs.Rows.{after_changes, first_row}
 use Rattle.book_keeper.specs.declared.keeper.Keeper.{Ghosts}
 use Rattle.book_keeper.specs.declared.row.Change.{Change}
 use Rattle.book_keeper.specs.declared.row.Row.{Row}
-use Rattle.book_opening.specs.Opening.{OpenAs, WhereBad}
-use Rattle.book_opening.specs.State.{State}
+use Rattle.book_rows.specs.declared.format.RowFormat.TheVariants.{Two}
+use Rattle.book_opening.specs.Opening.{OpenIn, WhereBad}
+use Rattle.book_opening.specs.BookRows.{rows_format}
+use Rattle.book_opening.specs.State.{State, head_of}
+use Rattle.book_opening.proofs.StepLaws.{begins_format}
 use Rattle.book_opening.specs.declared.fault.OpenFault.{OpenFault}
 use Rattle.book_opening.specs.declared.fault.OpenFault.TheVariants as fault
 use Rattle.book_turns.specs.Standing.{StandFor}
 use Rattle.book_turns.specs.Turned.{changes_to}
-use Rattle.book_turns.specs.Whole.{IsWhole}
 use Rattle.book_turns.specs.declared.turn.Turn.{Turn}
 use Rattle.book_engine.specs.Acting.{IsUnchanged}
 use Rattle.book_engine.specs.Kept.{Kept}
@@ -89,7 +91,7 @@ left_unchanged before now plan none made = record {
 plan_stands :
     (state : State) (saved : Bool) (changes : List Change) (turn : Option Turn) (rows : List Row)
     → IsPlanTurn state saved changes turn → IsTrue (is_some turn) → StandFor saved state rows
-    → OpenAs (after_changes changes rows) (after_turn turn state)
+    → OpenIn Two (after_changes changes rows) (after_turn turn state)
 plan_stands state saved changes None rows is some stood = absurd cc
 plan_stands state saved changes (Some turn) rows is some stood = is.stand rows stood
 
@@ -101,7 +103,7 @@ step_opens :
 step_opens before command plan rows is some stood =
     inr (
       after before.state plan,
-      plan_stands before.state before.saved plan.changes plan.turn rows is.turn_is some stood.1,
+      (Two, plan_stands before.state before.saved plan.changes plan.turn rows is.turn_is some stood.1),
       whole_sound (after before.state plan) (before.saved || commits plan) is.whole,
       refl,
     )
@@ -231,3 +233,11 @@ leaves_step of old new before command plan left is some stands = λ honest rows 
                 (sym (made.1 stood.0 stood.1)) (step_opens before command plan stood.0 is some stood.2);
           })
     ]
+
+-- Rows that stand for an engine have format 2, or there are none.
+pub kept_format : (kept : Kept) (rows : List Row) → StandForKept kept rows → rows_format rows ≡ Two
+kept_format kept rows stand = by kept.saved kept.state stand.1
+  where
+    by : (saved : Bool) (state : State) → StandFor saved state rows → rows_format rows ≡ Two
+    by true state opens = begins_format Two rows (head_of state) (ap first_row opens.are)
+    by false state none = ap rows_format none

@@ -21,7 +21,8 @@ use Rattle.book_command.specs.declared.answer.Answer.{Answer}
 use Rattle.book_command.specs.declared.command.Command.{Command}
 use Rattle.book_command.specs.declared.refusal.Refusal.{Refusal}
 use Rattle.book_command.specs.declared.refusal.Refusal.TheVariants as refusal
-use Rattle.book_opening.specs.Opening.{OpenAs}
+use Rattle.book_rows.specs.declared.format.RowFormat.TheVariants.{Two}
+use Rattle.book_opening.specs.Opening.{OpenIn}
 use Rattle.book_opening.specs.State.{State}
 use Rattle.book_turns.specs.Standing.{StandFor}
 use Rattle.book_turns.specs.Turned.{CanTurn, HasNextHead, HaveSpellings, changes_to, turn_of, turned}
@@ -100,7 +101,8 @@ pub record IsTurnWith (state : State) (saved : Bool) (changes : List Change) (tu
   pub back : LeadsBack state.book turn.edit turn.inverse
   pub form : outline turn.inverse ≡ outline turn.edit
   pub changes_are : changes ≡ changes_to saved state turn
-  pub stand : (rows : List Row) → StandFor saved state rows → OpenAs (after_changes changes rows) (turned turn state)
+  pub stand : (rows : List Row) → StandFor saved state rows
+      → OpenIn Two (after_changes changes rows) (turned turn state)
 
 -- The turn of a plan, if there is one, comes to its changes of rows; a plan without a turn has none.
 abbrev pub IsPlanTurn : State → Bool → List Change → Option Turn → Type 0

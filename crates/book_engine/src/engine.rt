@@ -1,5 +1,5 @@
 ghost use Rattle.std.specs.Prelude.{◌≡◌, ◌<◌, ◌^◌, ◌⊎◌, ◌||◌, List, IfOk, IfErr, OnOk, OnErr, IsTrue};
-ghost use Rattle.std.specs.Prelude.{option_map, true};
+ghost use Rattle.std.specs.Prelude.{option_map, true, None};
 ghost use Rattle.std.specs.Option.{option_copied};
 ghost use Rattle.book_free.specs.FreeSplits.{free_splits};
 ghost use Rattle.book_free.specs.Kept.{Keeps as KeepsFree};
@@ -21,12 +21,14 @@ ghost use Rattle.book_engine.specs.Changed.{live_changes, live_lots};
 ghost use Rattle.book_engine.specs.Books.{machine_of};
 ghost use Rattle.book_engine.specs.Kept.{IsNew};
 ghost use Rattle.book_engine.specs.Machine.{Done, step as step_from};
-ghost use Rattle.book_engine.specs.Opening.{HasOpenCause, IsOpenedAs, Opened, WhereOpened};
+ghost use Rattle.book_engine.specs.Opening.{HasOpenCause, IsOpenedAs, KeepsRows, Opened, WasOpened, WhereOpened};
+ghost use Rattle.book_engine.specs.Opening.{WhereRefused};
 ghost use Rattle.book_engine.specs.Planned.{after, AreMovesOf, commits, HasMoves, HasNoLessRoom, HasRoomFor};
 ghost use Rattle.book_engine.specs.Planned.{HasRoomForTurn, IsPlanFor, IsPlanned, IsPlanOf, IsRefusal, IsTurnNow};
 ghost use Rattle.book_engine.specs.Planned.{with_moves};
-ghost use Rattle.book_engine.specs.Standing.{OpensToReply, Stands};
+ghost use Rattle.book_engine.specs.Standing.{OpensToReply, StandForKept, Stands};
 
+use crate::migration::migrate;
 use crate::opening::{begin, checked, open_error};
 use crate::planning::plan_of;
 use crate::{OpenError, Plan};
@@ -74,25 +76,34 @@ impl Model for Engine {
 
 impl Engine {
     /// The engine with the state as which the rows of the keeper open. Without rows it is the fresh state, whose rows
-    /// the first change writes. The keeper's rows stay, and stand for the engine's state. What is kept beside the book
-    /// is made from it: the changes of a register are the number of its rows, and no lot is reckoned.
+    /// the first change writes. Rows of format 1 are written anew in format 2, as one commit, once all memory is taken;
+    /// others stay. The keeper's rows then stand for the engine's state. What is kept beside the book is made from it:
+    /// the changes of a register are the number of its rows, and no lot is reckoned. At an error a keeper that still
+    /// knows its rows has those of before; where the commit failed, the next one may find them in format 2.
     /// Keeper: the keeper failed, and its count of faults rose in this call.
     /// BadRows: the least key whose body is no spelling, that is needed and missing, or that is of a step which the
     /// head doesn't count.
     /// UnsoundBook: where all rows are spellings, the first key at which the rule of its kind is broken.
     pub fn open<K: Keeper>(alloc: Global, keeper: &mut K) -> Result<Engine, OpenError>
-        ensures keeper { WasRead K.Keeper keeper.old keeper.new }
+        ensures keeper { WasOpened K.Keeper keeper.old keeper.new }
+        ensures unchanged { OnErr result (KeepsRows K.Keeper keeper.old keeper.new) }
+        ensures refused_unchanged { WhereRefused result (WasRead K.Keeper keeper.old keeper.new) }
         ensures opened { IsTrue (K.sure keeper.new) → (rows : List HeldRow) → K.holds keeper.old rows
             → Opened rows result }
         ensures again { IsTrue (K.sure keeper.new) → (rows : List HeldRow) → K.holds keeper.old rows
             → (state : State) → OpenAs rows state → IsOpenedAs state result }
+        ensures stand { IfOk result (λ engine. IsTrue (K.sure keeper.new)
+            → (rows : List HeldRow) × K.holds keeper.new rows × StandForKept engine rows) }
         ensures known { WhereOpened result (StaysSure K.Keeper keeper.old keeper.new) }
         ensures sound { IfOk result (λ engine. IsSound (step_state engine.state)) }
         ensures new { IfOk result IsNew }
         ensures cause { HasOpenCause (K.faults keeper.old) (K.faults keeper.new) result }
     {
         match read_rows(alloc, keeper) {
-            Ok(Some(state)) => checked(alloc, state),
+            Ok(Some((format, state))) => match checked(alloc, state) {
+                Ok(engine) => migrate(alloc, keeper, format, engine),
+                Err(error) => Err(error),
+            },
             Ok(None) => begin(alloc),
             Err(fault) => Err(open_error(fault)),
         }
@@ -160,7 +171,7 @@ impl Engine {
         ensures room { IfOk result (HasRoomFor self.new) }
         ensures refused { IfErr result (IsRefusal (step_from (machine_of self.old.state) command)) }
         ensures spare { HasNoLessRoom self.old self.new }
-        ensures still { (earlier : _) → HasRoomFor self.old earlier → HasRoomFor self.new earlier }
+        ensures earlier_room { (earlier : _) → HasRoomFor self.old earlier → HasRoomFor self.new earlier }
         ensures unchanged { IsUnchanged self.old self.new }
         ensures kept_up { AreKeptUp self.old self.new (lots_asked self.old.state.book.accounts command.what) }
         ensures reckoned { OnOk result
@@ -264,7 +275,8 @@ impl Engine {
     /// Finishes what was prepared and hands out its answer: where the plan commits, the keeper makes its changes of
     /// rows, and then the state is changed, which can't fail and takes no memory: in each register only the rows that
     /// differ are taken out and put in, and in the index only the splits that are free before it or after it alone. An
-    /// error is that of the commit, and then all is as before, the keeper's rows too.
+    /// error is that of the commit, and then all is as before, the keeper's rows and the room of other plans too. A
+    /// plan without a turn takes no room.
     pub fn finish<K: Keeper>(&mut self, keeper: &mut K, plan: Plan) -> Result<Answer, KeepError>
         requires made { IsPlanFor self.old.state self.old.saved plan }
         requires room { HasRoomFor self.old plan }
@@ -275,6 +287,8 @@ impl Engine {
         ensures unchanged { OnErr result (IsUnchanged self.old self.new) }
         ensures left { OnErr result (AreLeft self.old self.new) }
         ensures commits { OnErr result (IsTrue (commits plan)) }
+        ensures spare { OnErr result (HasNoLessRoom self.old self.new) }
+        ensures asked { plan.turn ≡ None → HasNoLessRoom self.old self.new }
         ensures sound { IsSound (step_state self.new.state) }
         ensures path { K.path_given keeper.new ≡ K.path_given keeper.old }
         ensures honest { IsTrue (K.honest keeper.new) → IsTrue (K.honest keeper.old) }
@@ -298,7 +312,7 @@ impl Engine {
     }
 
     /// What holds of every engine holds of this one.
-    fn known(&self)
+    pub(crate) fn known(&self)
         ensures whole { IsWhole self.now.state self.now.saved }
         ensures registers { Keeps self.now.registers self.now.state.book }
         ensures free { KeepsFree self.now.free self.now.state.book }
@@ -317,6 +331,7 @@ impl Engine {
         ensures saved { self.new.saved ≡ (self.old.saved || commits plan) }
         ensures answer { result ≡ plan.answer }
         ensures changes { AreChanged self.old self.new }
+        ensures asked { plan.turn ≡ None → HasNoLessRoom self.old self.new }
         ensures whole { IsWhole self.new.state self.new.saved }
     {
         self.known();
@@ -362,6 +377,7 @@ impl Engine {
         ensures kept_up { OnErr result
             (AreKeptUp self.old self.new (lots_asked self.old.state.book.accounts command.what)) }
         ensures unchanged { OnErr result (IsUnchanged self.old self.new) }
+        ensures spare { OnErr result (HasNoLessRoom self.old self.new) }
         ensures sound { IsSound (step_state self.new.state) }
         ensures path { K.path_given keeper.new ≡ K.path_given keeper.old }
         ensures honest { IsTrue (K.honest keeper.new) → IsTrue (K.honest keeper.old) }

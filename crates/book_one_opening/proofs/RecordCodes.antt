@@ -56,6 +56,9 @@ use Rattle.book_rows.specs.StatementBytes.{line_state_bytes, part_bytes, part_ma
 use Rattle.book_rows.specs.StatementBytes.{statement_line_made}
 use Rattle.book_rows.specs.ThingBytes.{IsThing, thing_bytes}
 use Rattle.book_rows.specs.TransactionBytes.{IsSplit, IsTxn, place_of_mark, split_bytes, split_made, txn_bytes}
+use Rattle.book_rows.specs.TransactionBytes.{txn_fields}
+use Rattle.book_rows.specs.declared.format.RowFormat.{RowFormat}
+use Rattle.book_rows.specs.declared.format.RowFormat.TheVariants as format
 use Rattle.book_rows.specs.TransactionBytes.{txn_made}
 use Rattle.book_rows.specs.Values.{IsNumber, IsShort, IsString}
 use Rattle.book_rows.specs.declared.head.Head.{Head}
@@ -185,11 +188,21 @@ split-code =
     (λ (x : Split). (x.id, (x.account, (x.memo, (x.action, (x.mark, (x.recon, (x.value, x.quantity))))))))
     split_made (λ x. refl) code
 
-txn-code : IsCode IsTxn txn_bytes
-txn-code =
+fields-code : IsCode IsTxn txn_fields
+fields-code =
     let code =
     pair-code number-code (pair-code day-code (pair-code text-code (pair-code text-code (listed-code split-code)))) in
     made-code (λ (x : Txn). (x.currency, (x.day, (x.num, (x.description, x.splits))))) txn_made (λ x. refl) code
+
+-- A transaction in format 2 is followed by one byte.
+txn-code : (m : RowFormat) → IsCode IsTxn (txn_bytes m)
+txn-code format.One = fields-code
+txn-code format.Two = record {
+  only = λ a b r s fit less e.
+      let same = fields-code.only a b (0 ∷ r) (0 ∷ s) fit less
+      (sym (append_assoc (txn_fields a) (0 ∷ []) r) ∙ e ∙ append_assoc (txn_fields b) (0 ∷ []) s) in
+      (same.0, behind _ _ _ _ same.1);
+}
 
 price-code : IsCode IsPrice price_bytes
 price-code =
@@ -219,9 +232,9 @@ timing-code =
     (pair-code (optional-code day-code) number-code))) in
     made-code (λ (x : Timing). (x.recurrences, (x.end, (x.advance, (x.last, x.made))))) timing_made (λ x. refl) code
 
-schedule-code : IsCode IsSchedule schedule_bytes
-schedule-code =
-    let code = pair-code text-code (pair-code timing-code txn-code) in
+schedule-code : (m : RowFormat) → IsCode IsSchedule (schedule_bytes m)
+schedule-code m =
+    let code = pair-code text-code (pair-code timing-code (txn-code m)) in
     made-code (λ (x : Schedule). (x.name, (x.timing, x.template))) schedule_made (λ x. refl) code
 
 held-code : IsCode IsHeld held_bytes
@@ -291,61 +304,61 @@ head-code =
 
 -- Things of one kind.
 only-thing :
-    (a b : Thing) (r s : List ℕ) → row_kind (thing_kind_of a) ≡ row_kind (thing_kind_of b) → IsThing a → IsThing b
-    → thing_bytes a ++ r ≡ thing_bytes b ++ s → (a ≡ b) × (r ≡ s)
-only-thing (thing.Commodity a) (thing.Commodity b) r s kinds fit less e =
+    (m : RowFormat) (a b : Thing) (r s : List ℕ) → row_kind (thing_kind_of a) ≡ row_kind (thing_kind_of b) → IsThing a → IsThing b
+    → thing_bytes m a ++ r ≡ thing_bytes m b ++ s → (a ≡ b) × (r ≡ s)
+only-thing m (thing.Commodity a) (thing.Commodity b) r s kinds fit less e =
     let same = commodity-code.only a b r s fit less e in (ap thing.Commodity same.0, same.1)
-only-thing (thing.Account a) (thing.Account b) r s kinds fit less e =
+only-thing m (thing.Account a) (thing.Account b) r s kinds fit less e =
     let same = account-code.only a b r s fit less e in (ap thing.Account same.0, same.1)
-only-thing (thing.Txn a) (thing.Txn b) r s kinds fit less e =
-    let same = txn-code.only a b r s fit less e in (ap thing.Txn same.0, same.1)
-only-thing (thing.Price a) (thing.Price b) r s kinds fit less e =
+only-thing m (thing.Txn a) (thing.Txn b) r s kinds fit less e =
+    let same = (txn-code m).only a b r s fit less e in (ap thing.Txn same.0, same.1)
+only-thing m (thing.Price a) (thing.Price b) r s kinds fit less e =
     let same = price-code.only a b r s fit less e in (ap thing.Price same.0, same.1)
-only-thing (thing.Schedule a) (thing.Schedule b) r s kinds fit less e =
-    let same = schedule-code.only a b r s fit less e in (ap thing.Schedule same.0, same.1)
-only-thing (thing.Held a) (thing.Held b) r s kinds fit less e =
+only-thing m (thing.Schedule a) (thing.Schedule b) r s kinds fit less e =
+    let same = (schedule-code m).only a b r s fit less e in (ap thing.Schedule same.0, same.1)
+only-thing m (thing.Held a) (thing.Held b) r s kinds fit less e =
     let same = held-code.only a b r s fit less e in (ap thing.Held same.0, same.1)
-only-thing (thing.Line a) (thing.Line b) r s kinds fit less e =
+only-thing m (thing.Line a) (thing.Line b) r s kinds fit less e =
     let same = line-code.only a b r s fit less e in (ap thing.Line same.0, same.1)
-only-thing (thing.Binding a) (thing.Binding b) r s kinds fit less e =
+only-thing m (thing.Binding a) (thing.Binding b) r s kinds fit less e =
     let same = binding-code.only a b r s fit less e in (ap thing.Binding same.0, same.1)
-only-thing (thing.Recon a) (thing.Recon b) r s kinds fit less e =
+only-thing m (thing.Recon a) (thing.Recon b) r s kinds fit less e =
     let same = recon-code.only a b r s fit less e in (ap thing.Recon same.0, same.1)
-only-thing a b r s kinds fit less e = absurd (omega (arith, kinds))
+only-thing m a b r s kinds fit less e = absurd (omega (arith, kinds))
 
 -- The lists of edits at one depth less are spelled apart.
-abbrev AreLess : ℕ → Type 0
-AreLess most = (less : ℕ) → most ≡ less + 1 → IsCode (IsEditWithin less) edit_bytes
+abbrev AreLess : RowFormat → ℕ → Type 0
+AreLess m most = (less : ℕ) → most ≡ less + 1 → IsCode (IsEditWithin less) (edit_bytes m)
 
 only-list :
-    (most : ℕ) (a b : Edit) (bytes r s : List ℕ) → AreLess most → HasParts most a bytes r → HasParts most b bytes s
+    (m : RowFormat) (most : ℕ) (a b : Edit) (bytes r s : List ℕ) → AreLess m most → HasParts m most a bytes r → HasParts m most b bytes s
     → (a ≡ b) × (r ≡ s)
-only-list most a b bytes r s codes one other =
+only-list m most a b bytes r s codes one other =
     let deep = one.deep in
     let less : ℕ = most - 1 in
     let is : most ≡ less + 1 = omega (arith, deep) in
     let size = number-code.only (length one.list.parts) (length other.list.parts)
-    (flat_map edit_bytes one.list.parts ++ r) (flat_map edit_bytes other.list.parts ++ s) one.few other.few
+    (flat_map (edit_bytes m) one.list.parts ++ r) (flat_map (edit_bytes m) other.list.parts ++ s) one.few other.few
     (sym one.list.spelled ∙ other.list.spelled) in
-    let same = only-items (IsEditWithin less) edit_bytes (codes less is) one.list.parts other.list.parts r s size.0
+    let same = only-items (IsEditWithin less) (edit_bytes m) (codes less is) one.list.parts other.list.parts r s size.0
     (one.within less is) (other.within less is) size.1 in
     (one.list.is ∙ ap All same.0 ∙ sym other.list.is, same.1)
 
 only-put :
-    (n : ℕ) (a : Thing) (b : Edit) (bytes r s : List ℕ) → IsNumber n → IsThing a → HasValues b
-    → bytes ≡ row_kind (thing_kind_of a) ∷ number n ++ (thing_bytes a ++ r) → IsPut b bytes s → (Put n a ≡ b) × (r ≡ s)
-only-put n a b bytes r s few fit fits spelled put =
+    (m : RowFormat) (n : ℕ) (a : Thing) (b : Edit) (bytes r s : List ℕ) → IsNumber n → IsThing a → HasValues b
+    → bytes ≡ row_kind (thing_kind_of a) ∷ number n ++ (thing_bytes m a ++ r) → IsPut m b bytes s → (Put n a ≡ b) × (r ≡ s)
+only-put m n a b bytes r s few fit fits spelled put =
     let less = subst HasValues put.is fits in
     let both = sym spelled ∙ put.spelled in
-    let size = number-code.only n put.it (thing_bytes a ++ r) (thing_bytes put.thing ++ s) few less.0
+    let size = number-code.only n put.it (thing_bytes m a ++ r) (thing_bytes m put.thing ++ s) few less.0
     (behind _ _ _ _ both) in
-    let same = only-thing a put.thing r s (first-byte _ _ _ _ both) fit less.1 size.1 in
+    let same = only-thing m a put.thing r s (first-byte _ _ _ _ both) fit less.1 size.1 in
     (ap (λ (k : ℕ). Put k a) size.0 ∙ ap (λ (x : Thing). Put put.it x) same.0 ∙ sym put.is, same.1)
 
 only-gone :
-    (of : ThingKind) (n : ℕ) (b : Edit) (bytes r s : List ℕ) → IsNumber n → HasValues b
+    (m : RowFormat) (of : ThingKind) (n : ℕ) (b : Edit) (bytes r s : List ℕ) → IsNumber n → HasValues b
     → bytes ≡ row_kind of ∷ number n ++ r → IsGone b bytes s → (Gone of n ≡ b) × (r ≡ s)
-only-gone of n b bytes r s few fits spelled gone =
+only-gone m of n b bytes r s few fits spelled gone =
     let less = subst HasValues gone.is fits in
     let both = sym spelled ∙ gone.spelled in
     let size = number-code.only n gone.it r s few less (behind _ _ _ _ both) in
@@ -353,74 +366,74 @@ only-gone of n b bytes r s few fits spelled gone =
     (ap (λ (k : ThingKind). Gone k n) kinds ∙ ap (λ (k : ℕ). Gone gone.kind k) size.0 ∙ sym gone.is, size.1)
 
 only-currency :
-    (n : ℕ) (b : Edit) (bytes r s : List ℕ) → IsNumber n → HasValues b → bytes ≡ number n ++ r
+    (m : RowFormat) (n : ℕ) (b : Edit) (bytes r s : List ℕ) → IsNumber n → HasValues b → bytes ≡ number n ++ r
     → IsCurrency b bytes s → (Currency n ≡ b) × (r ≡ s)
-only-currency n b bytes r s few fits spelled currency =
+only-currency m n b bytes r s few fits spelled currency =
     let less = subst HasValues currency.is fits in
     let size = number-code.only n currency.it r s few less (sym spelled ∙ currency.spelled) in
     (ap Currency size.0 ∙ sym currency.is, size.1)
 
 only-edit :
-    (most : ℕ) (a b : Edit) (r s : List ℕ) → AreLess most → IsEditWithin most a → IsEditWithin most b
-    → edit_bytes a ++ r ≡ edit_bytes b ++ s → (a ≡ b) × (r ≡ s)
+    (m : RowFormat) (most : ℕ) (a b : Edit) (r s : List ℕ) → AreLess m most → IsEditWithin most a → IsEditWithin most b
+    → edit_bytes m a ++ r ≡ edit_bytes m b ++ s → (a ≡ b) × (r ≡ s)
 unfolding edit_bytes
-only-edit most (Currency n) b r s codes fit less e =
-    only-currency n b (number n ++ r) r s fit.0 less.0 refl (currency_at b (number n ++ r) s e)
-only-edit most (Put n a) b r s codes fit less e =
-    let bytes = row_kind (thing_kind_of a) ∷ (number n ++ thing_bytes a) ++ r in
-    only-put n a b bytes r s fit.0.0 fit.0.1 less.0
-    (ap (λ (l : List ℕ). row_kind (thing_kind_of a) ∷ l) (append_assoc (number n) (thing_bytes a) r))
-    (put_at b bytes s e)
-only-edit most (Gone of n) b r s codes fit less e =
+only-edit m most (Currency n) b r s codes fit less e =
+    only-currency m n b (number n ++ r) r s fit.0 less.0 refl (currency_at m b (number n ++ r) s e)
+only-edit m most (Put n a) b r s codes fit less e =
+    let bytes = row_kind (thing_kind_of a) ∷ (number n ++ thing_bytes m a) ++ r in
+    only-put m n a b bytes r s fit.0.0 fit.0.1 less.0
+    (ap (λ (l : List ℕ). row_kind (thing_kind_of a) ∷ l) (append_assoc (number n) (thing_bytes m a) r))
+    (put_at m b bytes s e)
+only-edit m most (Gone of n) b r s codes fit less e =
     let bytes = row_kind of ∷ number n ++ r in
-    only-gone of n b bytes r s fit.0 less.0 refl (gone_at b bytes s e)
-only-edit most (All' shape parts) b r s codes fit less e =
-    let bytes = (number (row_length parts) ++ row_bytes parts) ++ r in
-    only-list most (All' shape parts) b bytes r s codes (parts_at most (All' shape parts) bytes r fit refl)
-    (parts_at most b bytes s less e)
+    only-gone m of n b bytes r s fit.0 less.0 refl (gone_at m b bytes s e)
+only-edit m most (All' shape parts) b r s codes fit less e =
+    let bytes = (number (row_length parts) ++ row_bytes m parts) ++ r in
+    only-list m most (All' shape parts) b bytes r s codes (parts_at m most (All' shape parts) bytes r fit refl)
+    (parts_at m most b bytes s less e)
 
-edit-code : (most : ℕ) → IsCode (IsEditWithin most) edit_bytes
-edit-code zero = record {
+edit-code : (m : RowFormat) (most : ℕ) → IsCode (IsEditWithin most) (edit_bytes m)
+edit-code m zero = record {
   only = λ a b r s fit less e.
-      only-edit zero a b r s (λ fewer is. absurd (omega (arith, is))) fit less e;
+      only-edit m zero a b r s (λ fewer is. absurd (omega (arith, is))) fit less e;
 }
-edit-code (suc most) = record {
+edit-code m (suc most) = record {
   only = λ a b r s fit less e.
-      only-edit (suc most) a b r s
+      only-edit m (suc most) a b r s
       (λ fewer is.
       let same : most ≡ fewer = omega (arith, is) in
-      subst (λ (n : ℕ). IsCode (IsEditWithin n) edit_bytes) same (edit-code most)) fit less e;
+      subst (λ (n : ℕ). IsCode (IsEditWithin n) (edit_bytes m)) same (edit-code m most)) fit less e;
 }
 
 -- ---- rows
 
 -- Records of one kind.
 only-fields :
-    (a b : Record) → kind_of a ≡ kind_of b → IsRecord a → IsRecord b → fields_of a ≡ fields_of b → a ≡ b
-only-fields (record_of.Head a) (record_of.Head b) kinds fit less e =
+    (m : RowFormat) (a b : Record) → kind_of a ≡ kind_of b → IsRecord a → IsRecord b → fields_of m a ≡ fields_of m b → a ≡ b
+only-fields m (record_of.Head a) (record_of.Head b) kinds fit less e =
     ap record_of.Head (whole-code head-code a b fit.0 less.0 e)
-only-fields (record_of.Thing a) (record_of.Thing b) kinds fit less e =
-    ap record_of.Thing (only-thing a b [] [] kinds fit less (ap (λ (l : List ℕ). l ++ []) e)).0
-only-fields (record_of.Back a) (record_of.Back b) kinds fit less e =
-    ap record_of.Back (whole-code (edit-code 8) a b fit less e)
-only-fields (record_of.Forth a) (record_of.Forth b) kinds fit less e =
-    ap record_of.Forth (whole-code (edit-code 8) a b fit less e)
-only-fields (record_of.Thing a) (record_of.Head b) kinds fit less e =
+only-fields m (record_of.Thing a) (record_of.Thing b) kinds fit less e =
+    ap record_of.Thing (only-thing m a b [] [] kinds fit less (ap (λ (l : List ℕ). l ++ []) e)).0
+only-fields m (record_of.Back a) (record_of.Back b) kinds fit less e =
+    ap record_of.Back (whole-code (edit-code m 8) a b fit less e)
+only-fields m (record_of.Forth a) (record_of.Forth b) kinds fit less e =
+    ap record_of.Forth (whole-code (edit-code m 8) a b fit less e)
+only-fields m (record_of.Thing a) (record_of.Head b) kinds fit less e =
     let least = kind_least (thing_kind_of a) in absurd (omega (arith, kinds, least))
-only-fields (record_of.Head a) (record_of.Thing b) kinds fit less e =
+only-fields m (record_of.Head a) (record_of.Thing b) kinds fit less e =
     let least = kind_least (thing_kind_of b) in absurd (omega (arith, kinds, least))
-only-fields (record_of.Thing a) (record_of.Back b) kinds fit less e =
+only-fields m (record_of.Thing a) (record_of.Back b) kinds fit less e =
     let most = kind_most (thing_kind_of a) in absurd (omega (arith, kinds, most))
-only-fields (record_of.Back a) (record_of.Thing b) kinds fit less e =
+only-fields m (record_of.Back a) (record_of.Thing b) kinds fit less e =
     let most = kind_most (thing_kind_of b) in absurd (omega (arith, kinds, most))
-only-fields (record_of.Thing a) (record_of.Forth b) kinds fit less e =
+only-fields m (record_of.Thing a) (record_of.Forth b) kinds fit less e =
     let most = kind_most (thing_kind_of a) in absurd (omega (arith, kinds, most))
-only-fields (record_of.Forth a) (record_of.Thing b) kinds fit less e =
+only-fields m (record_of.Forth a) (record_of.Thing b) kinds fit less e =
     let most = kind_most (thing_kind_of b) in absurd (omega (arith, kinds, most))
-only-fields a b kinds fit less e = absurd (omega (arith, kinds))
+only-fields m a b kinds fit less e = absurd (omega (arith, kinds))
 
 -- A row stands for one record at most.
 pub only-record :
-    (key : RowKey) (body : List ℕ) (a b : Record) → StandsFor key body a → StandsFor key body b → a ≡ b
-only-record key body a b one other =
-    only-fields a b (one.0.0 ∙ sym other.0.0) one.1 other.1 (behind _ _ _ _ (sym one.2 ∙ other.2))
+    (m : RowFormat) (key : RowKey) (body : List ℕ) (a b : Record) → StandsFor m key body a → StandsFor m key body b → a ≡ b
+only-record m key body a b one other =
+    only-fields m a b (one.0.0 ∙ sym other.0.0) one.1 other.1 (behind _ _ _ _ (sym one.2 ∙ other.2))

@@ -16,7 +16,6 @@ use Rattle.book_undo.specs.Edit.{Leaf, OfCurrency, OfPut, OfGone, leaves, edited
 use Rattle.book_undo.specs.EditRules.{is_above, first_unordered, out_of_order}
 use Rattle.book_undo.specs.Thing.{row_kind, kind_of as thing_kind}
 use Rattle.book_undo.specs.declared.edit.Edit.{Edit}
-use Rattle.book_undo.specs.declared.thing.Thing.{Thing}
 use Rattle.book_undo.proofs.EditLaws.{after_leaves, edited-leaves}
 use Rattle.book_rows.specs.Row.{IsRecord, kind_of}
 use Rattle.book_rows.specs.declared.head.Head.{Head}
@@ -26,7 +25,7 @@ use Rattle.book_opening.specs.BookRows.{behind_head, row_of, things_of}
 use Rattle.book_opening.specs.Changes.{GoneBack, GoneForth, PutBack, PutForth, StepChange, StepFits, step_change}
 use Rattle.book_opening.specs.Changes.{step_number, with_step, with_steps}
 use Rattle.book_opening.specs.Changes.{LeafFits, IsSmallLeaf, changes_of, leaf_changes}
-use Rattle.book_opening.specs.Opening.{CanBeRow, OpenAs}
+use Rattle.book_opening.specs.Opening.{CanBeRow, OpenIn}
 use Rattle.book_opening.specs.Reading.{with_record}
 use Rattle.book_opening.specs.State.{State, head_of}
 use Rattle.book_opening.specs.Steps.{AreCounted}
@@ -35,24 +34,26 @@ use Rattle.book_opening.proofs.StateRecords.{put_record, steps_of, take_back}
 use Rattle.book_opening.proofs.StateRecords.{take_forth, take_thing}
 use Rattle.book_opening.proofs.StateRecords.{with_book, without_back, without_forth}
 use Rattle.book_opening.proofs.ThingRecords.{rank_of, IsSmall, kind_least, kind_most}
+use Rattle.book_rows.specs.declared.format.RowFormat.{RowFormat}
+use Rattle.book_rows.specs.declared.format.RowFormat.TheVariants.{Two}
 
 -- ---- rows of records
 mapped_put :
-    (e : ℕ × Record) (es : List (ℕ × Record)) → with_row (row_of e) (map row_of es) ≡ map row_of (put_in rank_of e es)
-mapped_put e [] = refl
-mapped_put e (y ∷ ys) =
-    pushed row_of (nat_lt (rank_of e) (rank_of y)) (rank_of e == rank_of y) (e ∷ y ∷ ys) (e ∷ ys)
-    (y ∷ put_in rank_of e ys) (row_of y ∷ with_row (row_of e) (map row_of ys))
-    (ap (λ (l : List Row). row_of y ∷ l) (mapped_put e ys))
+    (m : RowFormat) (e : ℕ × Record) (es : List (ℕ × Record)) → with_row (row_of m e) (map (row_of m) es) ≡ map (row_of m) (put_in rank_of e es)
+mapped_put m e [] = refl
+mapped_put m e (y ∷ ys) =
+    pushed (row_of m) (nat_lt (rank_of e) (rank_of y)) (rank_of e == rank_of y) (e ∷ y ∷ ys) (e ∷ ys)
+    (y ∷ put_in rank_of e ys) (row_of m y ∷ with_row (row_of m e) (map (row_of m) ys))
+    (ap (λ (l : List Row). row_of m y ∷ l) (mapped_put m e ys))
 
 mapped_take :
-    (key : RowKey) (es : List (ℕ × Record))
-    → without_row key (map row_of es) ≡ map row_of (take_out rank_of (rank key) es)
-mapped_take key [] = refl
-mapped_take key (y ∷ ys) =
-    pushed_one row_of (rank key == rank_of y) ys (y ∷ take_out rank_of (rank key) ys)
-    (row_of y ∷ without_row key (map row_of ys))
-    (ap (λ (l : List Row). row_of y ∷ l) (mapped_take key ys))
+    (m : RowFormat) (key : RowKey) (es : List (ℕ × Record))
+    → without_row key (map (row_of m) es) ≡ map (row_of m) (take_out rank_of (rank key) es)
+mapped_take m key [] = refl
+mapped_take m key (y ∷ ys) =
+    pushed_one (row_of m) (rank key == rank_of y) ys (y ∷ take_out rank_of (rank key) ys)
+    (row_of m y ∷ without_row key (map (row_of m) ys))
+    (ap (λ (l : List Row). row_of m y ∷ l) (mapped_take m key ys))
 
 behind_first :
     (row first : Row) (rows : List Row) → rank first.key < rank row.key
@@ -67,29 +68,29 @@ left_first key first rows lt = grind (arith, nat_tests)
 past_head : (k n : ℕ) → 2 ≤ k → 1 * 2 ^ 64 + 0 < k * 2 ^ 64 + n
 past_head k n least = omega arith
 
--- The rows of a state under a head.
-abbrev pub rows_under : Head → State → List Row
-rows_under head s = map row_of ((0, kept.Head head) ∷ behind_head s)
+-- The rows of a state under a head, in a format.
+abbrev pub rows_under : RowFormat → Head → State → List Row
+rows_under m head s = map (row_of m) ((0, kept.Head head) ∷ behind_head s)
 
 -- The rows with one more are those of the state with what it stands for.
 pub put_row :
-    (head : Head) (n : ℕ) (it : Record) (s : State) → 2 ≤ kind_of it → n < 2 ^ 62
+    (m : RowFormat) (head : Head) (n : ℕ) (it : Record) (s : State) → 2 ≤ kind_of it → n < 2 ^ 62
     → AllByRecursion IsSmall (behind_head s)
-    → with_row (row_of (n, it)) (rows_under head s) ≡ rows_under head (with_record n it s)
-put_row head n it s least small all =
-    behind_first (row_of (n, it)) (row_of (0, kept.Head head)) (map row_of (behind_head s))
+    → with_row (row_of m (n, it)) (rows_under m head s) ≡ rows_under m head (with_record n it s)
+put_row m head n it s least small all =
+    behind_first (row_of m (n, it)) (row_of m (0, kept.Head head)) (map (row_of m) (behind_head s))
     (past_head (kind_of it) n least)
-    ∙ ap (λ (l : List Row). row_of (0, kept.Head head) ∷ l)
-    (mapped_put (n, it) (behind_head s) ∙ ap (map row_of) (put_record n it s least small all))
+    ∙ ap (λ (l : List Row). row_of m (0, kept.Head head) ∷ l)
+    (mapped_put m (n, it) (behind_head s) ∙ ap (map (row_of m)) (put_record n it s least small all))
 
 gone_row :
-    (head : Head) (key : RowKey) (s t : State) → 2 ≤ key.kind
+    (m : RowFormat) (head : Head) (key : RowKey) (s t : State) → 2 ≤ key.kind
     → take_out rank_of (rank key) (behind_head s) ≡ behind_head t
-    → without_row key (rows_under head s) ≡ rows_under head t
-gone_row head key s t least taken =
-    left_first key (row_of (0, kept.Head head)) (map row_of (behind_head s)) (past_head key.kind key.id least)
-    ∙ ap (λ (l : List Row). row_of (0, kept.Head head) ∷ l)
-    (mapped_take key (behind_head s) ∙ ap (map row_of) taken)
+    → without_row key (rows_under m head s) ≡ rows_under m head t
+gone_row m head key s t least taken =
+    left_first key (row_of m (0, kept.Head head)) (map (row_of m) (behind_head s)) (past_head key.kind key.id least)
+    ∙ ap (λ (l : List Row). row_of m (0, kept.Head head) ∷ l)
+    (mapped_take m key (behind_head s) ∙ ap (map (row_of m)) taken)
 
 -- What holds of all records still does with one more.
 pub all_with :
@@ -115,29 +116,29 @@ same_behind c s = ap (λ (l : List (ℕ × Record)). l ++ steps_of s) (sym (same
 -- ---- leaves
 rows_after_leaves :
     (ls : List Leaf) (head : Head) (s : State) → AllByRecursion IsSmall (behind_head s) → AllByRecursion IsSmallLeaf ls
-    → after_changes (flat_map leaf_changes ls) (rows_under head s)
-    ≡ rows_under head (with_book (after_leaves ls s.book) s)
+    → after_changes (flat_map leaf_changes ls) (rows_under Two head s)
+    ≡ rows_under Two head (with_book (after_leaves ls s.book) s)
 rows_after_leaves [] head s all small = refl
 rows_after_leaves (OfCurrency c ∷ ls) head s all small =
     let same = same_behind c s in
     ap
-    (λ (es : List (ℕ × Record)). after_changes (flat_map leaf_changes ls) (map row_of ((0, kept.Head head) ∷ es)))
+    (λ (es : List (ℕ × Record)). after_changes (flat_map leaf_changes ls) (map (row_of Two) ((0, kept.Head head) ∷ es)))
     same
     ∙ rows_after_leaves ls head (with_book (with_currency c s.book) s) (subst (AllByRecursion IsSmall) same all) small.1
 rows_after_leaves (OfPut n t ∷ ls) head s all small =
     let least = kind_least (thing_kind t) in
-    ap (after_changes (flat_map leaf_changes ls)) (put_row head n (kept.Thing t) s least small.0 all)
+    ap (after_changes (flat_map leaf_changes ls)) (put_row Two head n (kept.Thing t) s least small.0 all)
     ∙ rows_after_leaves ls head (with_record n (kept.Thing t) s)
     (all_with IsSmall n (kept.Thing t) s least small.0 all small.0 all) small.1
 rows_after_leaves (OfGone k n ∷ ls) head s all small =
     let next = with_book (without_thing k n s.book) s in
     let taken = take_thing k n s small.0 all in
     ap (after_changes (flat_map leaf_changes ls))
-    (gone_row head (record { kind = row_kind k; id = n }) s next (kind_least k) taken)
+    (gone_row Two head (record { kind = row_kind k; id = n }) s next (kind_least k) taken)
     ∙ rows_after_leaves ls head next (all_gone IsSmall (row_kind k * 2 ^ 64 + n) s next taken all) small.1
 
 can_be : (n : ℕ) (it : Record) → 2 ≤ kind_of it → n < 2 ^ 62 → IsRecord it → CanBeRow (n, it)
-can_be n it least small fits = ((refl, small, (λ one. absurd (omega (arith, one, least)))), fits, refl)
+can_be n it least small fits = ((refl, small, (λ one. absurd (omega (arith, one, least)))), fits)
 
 -- The numbers of records that can be rows are small.
 pub small_numbers : (es : List (ℕ × Record)) → AllByRecursion CanBeRow es → AllByRecursion IsSmall es
@@ -169,13 +170,13 @@ IsSmallStep step = step_number step < 2 ^ 62
 
 step_row :
     (step : StepChange) (head : Head) (s : State) → IsSmallStep step → AllByRecursion IsSmall (behind_head s)
-    → after_change (step_change step) (rows_under head s) ≡ rows_under head (with_step step s)
-step_row (PutBack n e) head s small all = put_row head n (kept.Back e) s (omega arith) small all
+    → after_change (step_change step) (rows_under Two head s) ≡ rows_under Two head (with_step step s)
+step_row (PutBack n e) head s small all = put_row Two head n (kept.Back e) s (omega arith) small all
 step_row (GoneBack n) head s small all =
-    gone_row head (record { kind = 11; id = n }) s (without_back n s) (omega arith) (take_back n s small all)
-step_row (PutForth n e) head s small all = put_row head n (kept.Forth e) s (omega arith) small all
+    gone_row Two head (record { kind = 11; id = n }) s (without_back n s) (omega arith) (take_back n s small all)
+step_row (PutForth n e) head s small all = put_row Two head n (kept.Forth e) s (omega arith) small all
 step_row (GoneForth n) head s small all =
-    gone_row head (record { kind = 12; id = n }) s (without_forth n s) (omega arith) (take_forth n s all)
+    gone_row Two head (record { kind = 12; id = n }) s (without_forth n s) (omega arith) (take_forth n s all)
 
 step_all :
     (P : ℕ × Record → Type 0) (step : StepChange) (s : State) → IsSmallStep step
@@ -194,7 +195,7 @@ step_all P (GoneForth n) s small all here fits h =
 rows_after_steps :
     (steps : List StepChange) (head : Head) (s : State) → AllByRecursion IsSmallStep steps
     → AllByRecursion StepFits steps → AllByRecursion IsSmall (behind_head s)
-    → after_changes (map step_change steps) (rows_under head s) ≡ rows_under head (with_steps steps s)
+    → after_changes (map step_change steps) (rows_under Two head s) ≡ rows_under Two head (with_steps steps s)
 rows_after_steps [] head s small fit all = refl
 rows_after_steps (step ∷ steps) head s small fit all =
     ap (after_changes (map step_change steps)) (step_row step head s small.0 all)
@@ -218,12 +219,12 @@ after_both (x ∷ xs) ys rows = after_both xs ys (after_change x rows)
 -- With the changes of an edit and of steps made, the rows that opened as the state before them open as the state after
 -- them, where its steps are those that its head counts.
 pub opens_after :
-    (rows : List Row) (s t : State) (edit : Edit) (steps : List StepChange) → OpenAs rows s
+    (rows : List Row) (s t : State) (edit : Edit) (steps : List StepChange) → OpenIn Two rows s
     → behind_head t ≡ behind_head (with_steps steps (with_book (edited edit s.book) s))
     → AllByRecursion IsSmallLeaf (leaves edit) → AllByRecursion LeafFits (leaves edit)
     → AllByRecursion IsSmallStep steps → AllByRecursion StepFits steps
     → IsRecord (kept.Head (head_of t)) → AreCounted t
-    → OpenAs (after_changes (changes_of (head_of t) edit ++ map step_change steps) rows) t
+    → OpenIn Two (after_changes (changes_of (head_of t) edit ++ map step_change steps) rows) t
 opens_after rows s t edit steps open_as is small fit small_steps fit_steps head_fits counted =
     let head = head_of t in
     let can = open_as.spelled.1 in
@@ -238,11 +239,11 @@ opens_after rows s t edit steps open_as is small fit small_steps fit_steps head_
           ∙ ap (λ (l : List Row). after_changes (map step_change steps) (after_changes (changes_of head edit) l))
           open_as.are
           ∙ ap (after_changes (map step_change steps)) (rows_after_leaves (leaves edit) head s all small)
-          ∙ ap (λ (b : Book). after_changes (map step_change steps) (rows_under head (with_book b s))) book
+          ∙ ap (λ (b : Book). after_changes (map step_change steps) (rows_under Two head (with_book b s))) book
           ∙ rows_after_steps steps head middle small_steps fit_steps (small_numbers (behind_head middle) can_middle)
-          ∙ ap (λ (es : List (ℕ × Record)). map row_of ((0, kept.Head head) ∷ es)) (sym is);
+          ∙ ap (λ (es : List (ℕ × Record)). map (row_of Two) ((0, kept.Head head) ∷ es)) (sym is);
       spelled = (
-        ((refl, omega arith, (λ one. refl)), head_fits, refl),
+        ((refl, omega arith, (λ one. refl)), head_fits),
         subst (AllByRecursion CanBeRow) (sym is) (spelled_steps steps middle small_steps fit_steps can_middle),
       );
       counted = counted;

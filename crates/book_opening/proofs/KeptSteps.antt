@@ -2,6 +2,7 @@
 use Rattle.std.proofs.Common.{◌≡◌, ℕ, ◌==◌, ◌&&◌, ◌||◌, Bool, is_some, ap, ◌∙◌}
 use Rattle.std.specs.List.{AllByRecursion}
 use Rattle.book_commodity.specs.Table.{value_of}
+use Rattle.book_rows.specs.declared.format.RowFormat.{RowFormat}
 use Rattle.book_opening.specs.BookRows.{records_of}
 use Rattle.book_opening.specs.Opening.{CanBeRow, IsOnlyRecord}
 use Rattle.book_opening.specs.State.{State, head_of}
@@ -17,5 +18,7 @@ are_counted s back forth fits key step =
     ∙ ap (λ (b : Bool). ((key.kind == 11) && is_back (head_of s) key.id) || ((key.kind == 12) && b)) (forth key.id)
 
 -- Records that are the only ones of their rows can be rows.
-pub only_can : (s : State) → AllByRecursion IsOnlyRecord (records_of s) → AllByRecursion CanBeRow (records_of s)
-only_can s only = all_weak IsOnlyRecord CanBeRow (λ e h. h.0) (records_of s) only
+pub only_can :
+    (m : RowFormat) (s : State) → AllByRecursion (IsOnlyRecord m) (records_of s)
+    → AllByRecursion CanBeRow (records_of s)
+only_can m s only = all_weak (IsOnlyRecord m) CanBeRow (λ e h. h.0) (records_of s) only

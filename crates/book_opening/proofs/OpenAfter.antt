@@ -11,7 +11,8 @@ use Rattle.book_rows.specs.declared.record.Record.TheVariants as kept
 use Rattle.book_opening.specs.BookRows.{back_records, behind_head, forth_records, things_of}
 use Rattle.book_opening.specs.Changes.{GoneBack, GoneForth, IsSmallLeaf, LeafFits, PutBack, PutForth, StepChange}
 use Rattle.book_opening.specs.Changes.{StepFits, changes_of, step_change, with_step, with_steps}
-use Rattle.book_opening.specs.Opening.{OpenAs}
+use Rattle.book_rows.specs.declared.format.RowFormat.TheVariants.{Two}
+use Rattle.book_opening.specs.Opening.{OpenIn}
 use Rattle.book_opening.specs.State.{State, head_of}
 use Rattle.book_opening.specs.Steps.{AreCounted}
 use Rattle.book_opening.proofs.ChangeLaws.{IsSmallStep, opens_after}
@@ -38,12 +39,12 @@ same_parts s t book back forth =
 -- Rows that open as a state, with the changes of an edit, of a new head and of steps made, open as the state that has
 -- the edited book, the changed steps and that head, where these are the steps that the head counts.
 pub opens_with :
-    (rows : List Row) (s t : State) (edit : Edit) (steps : List StepChange) → OpenAs rows s
+    (rows : List Row) (s t : State) (edit : Edit) (steps : List StepChange) → OpenIn Two rows s
     → t.book ≡ edited edit s.book → t.back ≡ (with_steps steps s).back → t.forth ≡ (with_steps steps s).forth
     → AllByRecursion IsSmallLeaf (leaves edit) → AllByRecursion LeafFits (leaves edit)
     → AllByRecursion IsSmallStep steps → AllByRecursion StepFits steps
     → IsRecord (kept.Head (head_of t)) → AreCounted t
-    → OpenAs (after_changes (changes_of (head_of t) edit ++ map step_change steps) rows) t
+    → OpenIn Two (after_changes (changes_of (head_of t) edit ++ map step_change steps) rows) t
 opens_with rows s t edit steps opens book back forth small fit small_steps fit_steps head_fits counted =
     let b : Book = edited edit s.book in
     let after : State = with_steps steps (with_book b s) in

@@ -16,7 +16,7 @@ use Rattle.book_rows.specs.declared.record.Record.TheVariants as kept
 use Rattle.book_opening.specs.BookRows.{back_records, behind_head, forth_records, records_of, row_of, rows_of}
 use Rattle.book_opening.specs.BookRows.{things_of}
 use Rattle.book_opening.specs.Opening.{Begins, IsBadFor, IsBadHead, IsBadThing, IsLeastBad, IsNoRecord}
-use Rattle.book_opening.specs.Opening.{IsOnlyRecord, IsOpened, OpenAs, StaysSure, WasRead, WhereBad, WhereRead}
+use Rattle.book_opening.specs.Opening.{IsOnlyRecord, IsOpened, OpenIn, StaysSure, WasRead, WhereBad, WhereRead}
 use Rattle.book_opening.specs.Opening.{head_key}
 use Rattle.book_opening.specs.Reading.{IsBegun, IsFirstBad, IsWhole, bad_key, with_record}
 use Rattle.book_opening.specs.State.{State, head_of, state_of}
@@ -29,9 +29,12 @@ use Rattle.book_opening.proofs.ThingRecords.{IsSmall}
 use Rattle.book_opening.proofs.ChangeLaws.{all_with, put_row, rows_under}
 use Rattle.book_opening.proofs.StepLaws.{part_bad, whole_bad, whole_opens}
 use Rattle.book_opening.proofs.UpTo.{up_to, up_to_next, up_to_end, up_to_first, bad_first, bad_head}
+use Rattle.book_rows.specs.Format.{format_in}
+use Rattle.book_rows.specs.declared.format.RowFormat.{RowFormat}
+use Rattle.book_opening.specs.BookRows.{rows_format}
 
-small_records : (es : List (ℕ × Record)) → AllByRecursion IsOnlyRecord es → AllByRecursion IsSmall es
-small_records es h = all_weak IsOnlyRecord IsSmall (λ e only. only.0.0.1) es h
+small_records : (m : RowFormat) (es : List (ℕ × Record)) → AllByRecursion (IsOnlyRecord m) es → AllByRecursion IsSmall es
+small_records m es h = all_weak (IsOnlyRecord m) IsSmall (λ e only. only.0.0.1) es h
 
 -- The head stays with one more.
 pub head_with : (n : ℕ) (it : Record) (s : State) → head_of (with_record n it s) ≡ head_of s
@@ -55,31 +58,31 @@ pub next_head :
 next_head s t n it head is same = ap head_of is ∙ head_with n it s ∙ same
 
 pub next_read :
-    (s t : State) (n : ℕ) (it : Record) → 2 ≤ kind_of it → t ≡ with_record n it s → IsOnlyRecord (n, it)
-    → AllByRecursion IsOnlyRecord (records_of s) → AllByRecursion IsOnlyRecord (records_of t)
-next_read s t n it least is here h =
-    subst (λ (x : State). AllByRecursion IsOnlyRecord (records_of x)) (sym is) (
-      subst (λ (x : Head). IsOnlyRecord (0, kept.Head x)) (sym (head_with n it s)) h.0,
-      all_with IsOnlyRecord n it s least here.0.0.1 (small_records (behind_head s) h.1) here h.1,
+    (m : RowFormat) (s t : State) (n : ℕ) (it : Record) → 2 ≤ kind_of it → t ≡ with_record n it s → IsOnlyRecord m (n, it)
+    → AllByRecursion (IsOnlyRecord m) (records_of s) → AllByRecursion (IsOnlyRecord m) (records_of t)
+next_read m s t n it least is here h =
+    subst (λ (x : State). AllByRecursion (IsOnlyRecord m) (records_of x)) (sym is) (
+      subst (λ (x : Head). IsOnlyRecord m (0, kept.Head x)) (sym (head_with n it s)) h.0,
+      all_with (IsOnlyRecord m) n it s least here.0.0.1 (small_records m (behind_head s) h.1) here h.1,
     )
 
 pub next_rows :
-    (rows : List Row) (last : ℕ) (row : Row) (s t : State) (n : ℕ) (it : Record) → 2 ≤ kind_of it → Rises rows
-    → first_above last rows ≡ Some row → up_to last rows ≡ rows_of s → row ≡ row_of (n, it)
-    → t ≡ with_record n it s → IsOnlyRecord (n, it) → AllByRecursion IsOnlyRecord (records_of s)
-    → up_to (rank row.key) rows ≡ rows_of t
-next_rows rows last row s t n it least rise next so_far row_is is here h =
+    (m : RowFormat) (rows : List Row) (last : ℕ) (row : Row) (s t : State) (n : ℕ) (it : Record) → 2 ≤ kind_of it → Rises rows
+    → first_above last rows ≡ Some row → up_to last rows ≡ rows_of m s → row ≡ row_of m (n, it)
+    → t ≡ with_record n it s → IsOnlyRecord m (n, it) → AllByRecursion (IsOnlyRecord m) (records_of s)
+    → up_to (rank row.key) rows ≡ rows_of m t
+next_rows m rows last row s t n it least rise next so_far row_is is here h =
     up_to_next last rows row rise next
     ∙ ap (with_row row) so_far
-    ∙ ap (λ (r : Row). with_row r (rows_of s)) row_is
-    ∙ put_row (head_of s) n it s least here.0.0.1 (small_records (behind_head s) h.1)
-    ∙ ap (λ (h : Head). rows_under h (with_record n it s)) (sym (head_with n it s))
-    ∙ ap rows_of (sym is)
+    ∙ ap (λ (r : Row). with_row r (rows_of m s)) row_is
+    ∙ put_row m (head_of s) n it s least here.0.0.1 (small_records m (behind_head s) h.1)
+    ∙ ap (λ (h : Head). rows_under m h (with_record n it s)) (sym (head_with n it s))
+    ∙ ap (rows_of m) (sym is)
 
 pub last_rows :
-    (rows : List Row) (last : ℕ) (s : State) → first_above last rows ≡ None → up_to last rows ≡ rows_of s
-    → rows ≡ rows_of s
-last_rows rows last s none so_far = sym (up_to_end last rows none) ∙ so_far
+    (m : RowFormat) (rows : List Row) (last : ℕ) (s : State) → first_above last rows ≡ None → up_to last rows ≡ rows_of m s
+    → rows ≡ rows_of m s
+last_rows m rows last s none so_far = sym (up_to_end last rows none) ∙ so_far
 
 -- a keeper that was read once more was read
 pub read_more :
@@ -156,11 +159,17 @@ least_for rows fault.Keeper key is least = absurd cc
 least_for rows fault.OutOfMemory key is least = absurd cc
 
 -- that the row of a bad thing stands for nothing
-pub bad_thing : (row : Row) (error : OpenFault) (kind id : ℕ) → error ≡ fault.BadRows kind id → IsBadThing row error
-    → IsNoRecord row
-bad_thing row (fault.BadRows kind id) k i is bad = bad.2
-bad_thing row fault.Keeper k i is bad = absurd bad
-bad_thing row fault.OutOfMemory k i is bad = absurd cc
+pub bad_thing : (m : RowFormat) (row : Row) (error : OpenFault) (kind id : ℕ) → error ≡ fault.BadRows kind id → IsBadThing m row error
+    → IsNoRecord m row
+bad_thing m row (fault.BadRows kind id) k i is bad = bad.2
+bad_thing m row fault.Keeper k i is bad = absurd bad
+bad_thing m row fault.OutOfMemory k i is bad = absurd cc
+
+-- the format of rows is that of their first row
+first_format :
+    (rows : List Row) (row : Row) → first_row rows ≡ Some row → format_in row.body ≡ rows_format rows
+first_format [] row first = absurd cc
+first_format (r ∷ rows) row first = let same : row ≡ r = cc in ap (λ (x : Row). format_in x.body) same
 
 -- and so is a first row that is no head
 pub bad_start :
@@ -175,7 +184,8 @@ bad_start rows row (fault.BadRows kind id) rise first (inr h) =
     let key : row.key ≡ record { kind = kind; id = id } =
     ap (λ (k : ℕ). key_of k row.key.id) (sym h.1)
     ∙ ap (λ (i : ℕ). key_of kind i) (sym h.2) in
-    subst (λ (k : RowKey). IsLeastBad rows k) key (bad_first rows row rise first h.0 h.3)
+    subst (λ (k : RowKey). IsLeastBad rows k) key
+    (bad_first rows row rise first h.0 (subst (λ (k : RowFormat). IsNoRecord k row) (first_format rows row first) h.3))
 bad_start rows row fault.Keeper rise first bad = absurd bad
 bad_start rows row fault.OutOfMemory rise first bad = tt
 
@@ -215,24 +225,24 @@ begun_state head b back forth is no_back no_forth = record {
 }
 
 pub start_read :
-    (s : State) (head : Head) → IsBegun head s → IsOnlyRecord (0, kept.Head head)
-    → AllByRecursion IsOnlyRecord (records_of s)
-start_read s head begun only = (
-  subst (λ (h : Head). IsOnlyRecord (0, kept.Head h)) (sym begun.head_is) only,
-  subst (AllByRecursion IsOnlyRecord) (sym begun.nothing) tt,
+    (m : RowFormat) (s : State) (head : Head) → IsBegun head s → IsOnlyRecord m (0, kept.Head head)
+    → AllByRecursion (IsOnlyRecord m) (records_of s)
+start_read m s head begun only = (
+  subst (λ (h : Head). IsOnlyRecord m (0, kept.Head h)) (sym begun.head_is) only,
+  subst (AllByRecursion (IsOnlyRecord m)) (sym begun.nothing) tt,
 )
 
 pub start_rows :
-    (rows : List Row) (s : State) → IsBegun (head_of s) s → Rises rows → Begins rows (head_of s)
-    → up_to (rank head_key) rows ≡ rows_of s
-start_rows rows s begun rise begins =
-    up_to_first rows (row_of (0, kept.Head (head_of s))) rise begins
-    ∙ ap (λ (es : List (ℕ × Record)). row_of (0, kept.Head (head_of s)) ∷ map row_of es) (sym begun.nothing)
+    (m : RowFormat) (rows : List Row) (s : State) → IsBegun (head_of s) s → Rises rows → Begins m rows (head_of s)
+    → up_to (rank head_key) rows ≡ rows_of m s
+start_rows m rows s begun rise begins =
+    up_to_first rows (row_of m (0, kept.Head (head_of s))) rise begins
+    ∙ ap (λ (es : List (ℕ × Record)). row_of m (0, kept.Head (head_of s)) ∷ map (row_of m) es) (sym begun.nothing)
 
 -- rows that begin with a head begin with that of a state with this head
 pub begins_as :
-    (rows : List Row) (s : State) (head : Head) → head_of s ≡ head → Begins rows head → Begins rows (head_of s)
-begins_as rows s head same begins = subst (Begins rows) (sym same) begins
+    (m : RowFormat) (rows : List Row) (s : State) (head : Head) → head_of s ≡ head → Begins m rows head → Begins m rows (head_of s)
+begins_as m rows s head same begins = subst (Begins m rows) (sym same) begins
 
 -- ---- all rows were read
 pub whole_head :
@@ -242,11 +252,11 @@ whole_head s (Ok saved) head whole same = ap head_of whole.0 ∙ same
 whole_head s (Err error) head whole same = tt
 
 pub whole_read :
-    (s : State) (result : Result Saved OpenFault) → IsWhole s result → AllByRecursion IsOnlyRecord (records_of s)
-    → IfOk result (λ saved. AllByRecursion IsOnlyRecord (records_of (state_of saved)))
-whole_read s (Ok saved) whole only =
-    subst (λ (x : State). AllByRecursion IsOnlyRecord (records_of x)) (sym whole.0) only
-whole_read s (Err error) whole only = tt
+    (m : RowFormat) (s : State) (result : Result Saved OpenFault) → IsWhole s result → AllByRecursion (IsOnlyRecord m) (records_of s)
+    → IfOk result (λ saved. AllByRecursion (IsOnlyRecord m) (records_of (state_of saved)))
+whole_read m s (Ok saved) whole only =
+    subst (λ (x : State). AllByRecursion (IsOnlyRecord m) (records_of x)) (sym whole.0) only
+whole_read m s (Err error) whole only = tt
 
 pub whole_counted :
     (s : State) (result : Result Saved OpenFault) → IsWhole s result
@@ -256,35 +266,35 @@ whole_counted s (Err error) whole = tt
 
 -- Where they are those of the state, they open as it.
 pub whole_rows :
-    {Known : Type 0} (Held : List Row → Type 0) (s : State) (result : Result Saved OpenFault) (head : Head)
-    → IsWhole s result → AllByRecursion IsOnlyRecord (records_of s)
-    → (Known → (rows : List Row) → Held rows → Begins rows head → rows ≡ rows_of s)
-    → IfOk result (λ saved. Known → (rows : List Row) → Held rows → Begins rows head → OpenAs rows (state_of saved))
-whole_rows Held s (Ok saved) head whole only are = λ known rows held begins.
-    subst (OpenAs rows) (sym whole.0) (whole_opens rows s (are known rows held begins) only whole.1)
-whole_rows Held s (Err error) head whole only are = tt
+    (m : RowFormat) {Known : Type 0} (Held : List Row → Type 0) (s : State) (result : Result Saved OpenFault) (head : Head)
+    → IsWhole s result → AllByRecursion (IsOnlyRecord m) (records_of s)
+    → (Known → (rows : List Row) → Held rows → Begins m rows head → rows ≡ rows_of m s)
+    → IfOk result (λ saved. Known → (rows : List Row) → Held rows → Begins m rows head → OpenIn m rows (state_of saved))
+whole_rows m Held s (Ok saved) head whole only are = λ known rows held begins.
+    subst (OpenIn m rows) (sym whole.0) (whole_opens m rows s (are known rows held begins) only whole.1)
+whole_rows m Held s (Err error) head whole only are = tt
 
 -- Or else the first step that is missing, or that the head doesn't count, is the least bad key.
 pub whole_bad_for :
-    {Known : Type 0} (Held : List Row → Type 0) (s : State) (result : Result Saved OpenFault) (head : Head)
-    → IsWhole s result → head_of s ≡ head → AllByRecursion IsOnlyRecord (records_of s)
+    (m : RowFormat) {Known : Type 0} (Held : List Row → Type 0) (s : State) (result : Result Saved OpenFault) (head : Head)
+    → IsWhole s result → head_of s ≡ head → AllByRecursion (IsOnlyRecord m) (records_of s)
     → ((rows : List Row) → Held rows → Rises rows)
-    → (Known → (rows : List Row) → Held rows → Begins rows head → rows ≡ rows_of s)
-    → IfErr result (λ error. Known → (rows : List Row) → Held rows → Begins rows head → IsBadFor rows error)
-whole_bad_for Held s (Ok saved) head whole same only rise are = tt
-whole_bad_for Held s (Err error) head whole same only rise are = λ known rows held begins.
+    → (Known → (rows : List Row) → Held rows → Begins m rows head → rows ≡ rows_of m s)
+    → IfErr result (λ error. Known → (rows : List Row) → Held rows → Begins m rows head → IsBadFor rows error)
+whole_bad_for m Held s (Ok saved) head whole same only rise are = tt
+whole_bad_for m Held s (Err error) head whole same only rise are = λ known rows held begins.
     least_for rows error whole.0 whole.1
-    (whole_bad rows s whole.0 (rise rows held) (begins_as rows s head same begins) (are known rows held begins) only
+    (whole_bad m rows s whole.0 (rise rows held) (begins_as m rows s head same begins) (are known rows held begins) only
     whole.2)
 
 -- ---- the next row is bad
 pub next_bad :
-    (rows : List Row) (last : ℕ) (row : Row) (s : State) (first : RowKey) (error : OpenFault) → Rises rows
-    → first_above last rows ≡ Some row → up_to last rows ≡ rows_of s → AllByRecursion IsOnlyRecord (records_of s)
-    → Begins rows (head_of s) → IsNoRecord row → IsFirstBad s row.key first
+    (m : RowFormat) (rows : List Row) (last : ℕ) (row : Row) (s : State) (first : RowKey) (error : OpenFault) → Rises rows
+    → first_above last rows ≡ Some row → up_to last rows ≡ rows_of m s → AllByRecursion (IsOnlyRecord m) (records_of s)
+    → Begins m rows (head_of s) → IsNoRecord m row → IsFirstBad s row.key first
     → error ≡ fault.BadRows first.kind first.id → IsBadFor rows error
-next_bad rows last row s first error rise next so_far only begins none is same =
-    subst (IsBadFor rows) (sym same) (part_bad rows last row s first rise next so_far only begins none is)
+next_bad m rows last row s first error rise next so_far only begins none is same =
+    subst (IsBadFor rows) (sym same) (part_bad m rows last row s first rise next so_far only begins none is)
 
 past_head_kind : (k n : ℕ) → 1 * 2 ^ 64 + 0 < k * 2 ^ 64 + n → n < 2 ^ 62 → (k ≡ 1 → n ≡ 0) → 2 ≤ k
 past_head_kind zero n past small one = absurd (omega (arith, past, small))
@@ -293,8 +303,8 @@ past_head_kind (suc (suc k)) n past small one = omega arith
 
 -- What a row behind the head stands for is no head.
 pub behind_kind :
-    (key : RowKey) (body : List ℕ) (it : Record) → rank head_key < rank key → IsSpelledBy key body it
+    (m : RowFormat) (key : RowKey) (body : List ℕ) (it : Record) → rank head_key < rank key → IsSpelledBy m key body it
     → 2 ≤ kind_of it
-behind_kind key body it past is =
+behind_kind m key body it past is =
     let least = past_head_kind key.kind key.id past is.0.1 is.0.2 in
     let same = is.0.0 in omega (arith, least, same)

@@ -17,6 +17,7 @@ use Rattle.book_opening.specs.BookRows.{things_of}
 use Rattle.book_opening.specs.Changes.{AreRecords, entry_put, puts_of}
 use Rattle.book_opening.proofs.Ranked.{all_both, joined}
 use Rattle.book_commodity.proofs.ListLemmas.{drop_at, mapped_some}
+use Rattle.book_rows.specs.declared.format.RowFormat.TheVariants.{Two}
 
 -- one entry more is put
 pub entry_added :
@@ -48,17 +49,17 @@ entry_at {T} es i n v number value =
 -- the changes that put a table's entries are those of its records
 pub table_puts :
     {T : Type 0} (kind : ℕ) (bytes : T → List ℕ) (of : T → Thing) → ((x : T) → kind_of (kept.Thing (of x)) ≡ kind)
-    → ((x : T) → fields_of (kept.Thing (of x)) ≡ bytes x) → (es : List (ℕ × T))
+    → ((x : T) → fields_of Two (kept.Thing (of x)) ≡ bytes x) → (es : List (ℕ × T))
     → map (entry_put kind bytes) es ≡ puts_of (records_in of es)
 table_puts kind bytes of same spelled [] = refl
 table_puts {T} kind bytes of same spelled (e ∷ es) =
     ap (λ (l : List Change). entry_put kind bytes e ∷ l) (table_puts kind bytes of same spelled es)
-    ∙ ap (λ (k : ℕ). change.Put (record { key = record { kind = k; id = e.0 }; body = 1 ∷ bytes e.1 })
+    ∙ ap (λ (k : ℕ). change.Put (record { key = record { kind = k; id = e.0 }; body = 2 ∷ bytes e.1 })
     ∷ puts_of (records_in of es)) (sym (same e.1))
     ∙ ap
     (λ (b : List ℕ). change.Put (record {
       key = record { kind = kind_of (kept.Thing (of e.1)); id = e.0 };
-      body = 1 ∷ b;
+      body = 2 ∷ b;
     })
     ∷ puts_of (records_in of es)) (sym (spelled e.1))
 
@@ -70,7 +71,7 @@ table_fit P of fits (e ∷ es) h = (fits e.1 h.0, table_fit P of fits es h.1)
 
 puts-both : (xs ys : List (ℕ × Record)) → puts_of (xs ++ ys) ≡ puts_of xs ++ puts_of ys
 puts-both [] ys = refl
-puts-both (x ∷ xs) ys = ap (λ (l : List Change). change.Put (row_of x) ∷ l) (puts-both xs ys)
+puts-both (x ∷ xs) ys = ap (λ (l : List Change). change.Put (row_of Two x) ∷ l) (puts-both xs ys)
 
 puts-joined : (ss : List (List (ℕ × Record))) → puts_of (joined ss) ≡ joined (map puts_of ss)
 puts-joined [] = refl
@@ -99,7 +100,7 @@ nine_behind z a b c d e f g h i = simp (append_assoc, append-nil)
 -- a table is put behind what was there
 pub table_added :
     {T : Type 0} (kind : ℕ) (bytes : T → List ℕ) (of : T → Thing) → ((x : T) → kind_of (kept.Thing (of x)) ≡ kind)
-    → ((x : T) → fields_of (kept.Thing (of x)) ≡ bytes x) → (es slice : List (ℕ × T)) (old new : List Change)
+    → ((x : T) → fields_of Two (kept.Thing (of x)) ≡ bytes x) → (es slice : List (ℕ × T)) (old new : List Change)
     → slice ≡ es → new ≡ old ++ map (entry_put kind bytes) slice → new ≡ old ++ puts_of (records_in of es)
 table_added kind bytes of same spelled es slice old new is added =
     added ∙ ap (λ l. old ++ map (entry_put kind bytes) l) is
@@ -154,13 +155,13 @@ all_put_whole b head one two three four o p q r =
 
 -- ---- steps
 -- The changes that put the entries of a table of steps are those of its records.
-pub back_puts : (es : List (ℕ × Edit)) → map (entry_put 11 edit_bytes) es ≡ puts_of (back_records es)
+pub back_puts : (es : List (ℕ × Edit)) → map (entry_put 11 (edit_bytes Two)) es ≡ puts_of (back_records es)
 back_puts [] = refl
-back_puts (e ∷ es) = ap (λ (l : List Change). entry_put 11 edit_bytes e ∷ l) (back_puts es)
+back_puts (e ∷ es) = ap (λ (l : List Change). entry_put 11 (edit_bytes Two) e ∷ l) (back_puts es)
 
-pub forth_puts : (es : List (ℕ × Edit)) → map (entry_put 12 edit_bytes) es ≡ puts_of (forth_records es)
+pub forth_puts : (es : List (ℕ × Edit)) → map (entry_put 12 (edit_bytes Two)) es ≡ puts_of (forth_records es)
 forth_puts [] = refl
-forth_puts (e ∷ es) = ap (λ (l : List Change). entry_put 12 edit_bytes e ∷ l) (forth_puts es)
+forth_puts (e ∷ es) = ap (λ (l : List Change). entry_put 12 (edit_bytes Two) e ∷ l) (forth_puts es)
 
 pub back_fit : (es : List (ℕ × Edit)) → AllByRecursion (λ e. IsEdit e.1) es → AreRecords (back_records es)
 back_fit [] h = tt
@@ -173,15 +174,15 @@ forth_fit (e ∷ es) h = (h.0, forth_fit es h.1)
 -- both tables of steps, one behind the other
 pub steps_added :
     (back forth back_slice forth_slice : List (ℕ × Edit)) (old middle new : List Change) → back_slice ≡ back
-    → forth_slice ≡ forth → middle ≡ old ++ map (entry_put 11 edit_bytes) back_slice
-    → new ≡ middle ++ map (entry_put 12 edit_bytes) forth_slice
+    → forth_slice ≡ forth → middle ≡ old ++ map (entry_put 11 (edit_bytes Two)) back_slice
+    → new ≡ middle ++ map (entry_put 12 (edit_bytes Two)) forth_slice
     → new ≡ old ++ puts_of (back_records back) ++ puts_of (forth_records forth)
 steps_added back forth back_slice forth_slice old middle new p q first second =
     second
-    ∙ ap (λ l. middle ++ map (entry_put 12 edit_bytes) l) q
+    ∙ ap (λ l. middle ++ map (entry_put 12 (edit_bytes Two)) l) q
     ∙ ap (λ (l : List Change). middle ++ l) (forth_puts forth)
     ∙ ap (λ (l : List Change). l ++ puts_of (forth_records forth))
-    (first ∙ ap (λ l. old ++ map (entry_put 11 edit_bytes) l) p ∙ ap (λ (l : List Change). old ++ l) (back_puts back))
+    (first ∙ ap (λ l. old ++ map (entry_put 11 (edit_bytes Two)) l) p ∙ ap (λ (l : List Change). old ++ l) (back_puts back))
 
 -- the tables of steps behind the things
 pub all_put_steps :

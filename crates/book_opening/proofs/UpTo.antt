@@ -9,7 +9,8 @@ use Rattle.book_keeper.specs.Rows.{AllAbove, Rises, rank, with_row, first_above,
 use Rattle.book_keeper.proofs.RowLemmas.{first_is_above}
 use Rattle.book_rows.specs.Row.{StandsFor}
 use Rattle.book_rows.specs.declared.record.Record.{Record}
-use Rattle.book_opening.specs.BookRows.{row_of}
+use Rattle.book_opening.specs.BookRows.{row_of, rows_format}
+use Rattle.book_rows.specs.declared.format.RowFormat.{RowFormat}
 use Rattle.book_opening.specs.Opening.{CanBeRow, IsBad, IsLeastBad, IsNoRecord, IsOnlyRecord, LacksHead, head_key}
 use Rattle.book_opening.specs.Steps.{IsOdd, SomeRow, is_step, stands_at}
 
@@ -105,43 +106,43 @@ stands_up_to n key (r ∷ rows) row rise e low =
     (λ f. stands_up_to n key rows row rise.1 f low)
 
 -- ---- bad rows
--- A row that can be opened.
-abbrev pub IsGood : Row → Type 0
-IsGood row = (it : Record) × StandsFor row.key row.body it
+-- A row that can be opened in a format.
+abbrev pub IsGood : RowFormat → Row → Type 0
+IsGood m row = (it : Record) × StandsFor m row.key row.body it
 
--- That the row of a key can't be opened.
-abbrev pub IsBadAt : RowKey → Row → Type 0
-IsBadAt key row = (row.key ≡ key) × IsNoRecord row
+-- That the row of a key can't be opened in a format.
+abbrev pub IsBadAt : RowFormat → RowKey → Row → Type 0
+IsBadAt m key row = (row.key ≡ key) × IsNoRecord m row
 
 bad_above :
-    (n : ℕ) (key : RowKey) (rows : List Row) → AllAbove n rows → SomeRow (IsBadAt key) rows → n < rank key
-bad_above n key [] a some = absurd some
-bad_above n key (r ∷ rows) a (inl h) = subst (λ (k : RowKey). n < rank k) h.0 a.0
-bad_above n key (r ∷ rows) a (inr h) = bad_above n key rows a.1 h
+    (m : RowFormat) (n : ℕ) (key : RowKey) (rows : List Row) → AllAbove n rows → SomeRow (IsBadAt m key) rows → n < rank key
+bad_above m n key [] a some = absurd some
+bad_above m n key (r ∷ rows) a (inl h) = subst (λ (k : RowKey). n < rank k) h.0 a.0
+bad_above m n key (r ∷ rows) a (inr h) = bad_above m n key rows a.1 h
 
 least_by :
-    (n : ℕ) (r : Row) (rows : List Row) (row : Row) (t : Bool) (key : RowKey) → Rises (r ∷ rows)
-    → (if t then Some r else first_above n rows) ≡ Some row → AllByRecursion IsGood (if t then [] else r ∷ up_to n rows)
-    → (first_above n rows ≡ Some row → AllByRecursion IsGood (up_to n rows) → SomeRow (IsBadAt key) rows
-    → rank row.key ≤ rank key) → SomeRow (IsBadAt key) (r ∷ rows) → rank row.key ≤ rank key
-least_by n r rows row true key rise e good more (inl h) =
+    (m : RowFormat) (n : ℕ) (r : Row) (rows : List Row) (row : Row) (t : Bool) (key : RowKey) → Rises (r ∷ rows)
+    → (if t then Some r else first_above n rows) ≡ Some row → AllByRecursion (IsGood m) (if t then [] else r ∷ up_to n rows)
+    → (first_above n rows ≡ Some row → AllByRecursion (IsGood m) (up_to n rows) → SomeRow (IsBadAt m key) rows
+    → rank row.key ≤ rank key) → SomeRow (IsBadAt m key) (r ∷ rows) → rank row.key ≤ rank key
+least_by m n r rows row true key rise e good more (inl h) =
     let same : r ≡ row = cc in
     subst (λ (x : Row). rank x.key ≤ rank key) same (subst (λ (k : RowKey). rank r.key ≤ rank k) h.0 (omega arith))
-least_by n r rows row true key rise e good more (inr h) =
+least_by m n r rows row true key rise e good more (inr h) =
     let same : r ≡ row = cc in
-    let above = bad_above (rank r.key) key rows rise.0 h in
+    let above = bad_above m (rank r.key) key rows rise.0 h in
     subst (λ (x : Row). rank x.key ≤ rank key) same (omega (arith, above))
-least_by n r rows row false key rise e good more (inl h) = absurd (h.1 good.0.0 good.0.1)
-least_by n r rows row false key rise e good more (inr h) = more e good.1 h
+least_by m n r rows row false key rise e good more (inl h) = absurd (h.1 good.0.0 good.0.1)
+least_by m n r rows row false key rise e good more (inr h) = more e good.1 h
 
 -- where the rows up to a rank are good, the first bad row is the next one or behind it
 pub least_next :
-    (n : ℕ) (rows : List Row) (row : Row) (key : RowKey) → Rises rows → first_above n rows ≡ Some row
-    → AllByRecursion IsGood (up_to n rows) → SomeRow (IsBadAt key) rows → rank row.key ≤ rank key
-least_next n [] row key rise e good some = absurd some
-least_next n (r ∷ rows) row key rise e good some =
-    least_by n r rows row (nat_lt n (rank r.key)) key rise e good
-    (λ f g h. least_next n rows row key rise.1 f g h) some
+    (m : RowFormat) (n : ℕ) (rows : List Row) (row : Row) (key : RowKey) → Rises rows → first_above n rows ≡ Some row
+    → AllByRecursion (IsGood m) (up_to n rows) → SomeRow (IsBadAt m key) rows → rank row.key ≤ rank key
+least_next m n [] row key rise e good some = absurd some
+least_next m n (r ∷ rows) row key rise e good some =
+    least_by m n r rows row (nat_lt n (rank r.key)) key rise e good
+    (λ f g h. least_next m n rows row key rise.1 f g h) some
 
 among_by :
     (P : Row → Type 0) (n : ℕ) (r : Row) (rows : List Row) (row : Row) (t : Bool)
@@ -173,12 +174,12 @@ no_lack rows has lacks = lacks.1 (first_among (λ r. r.key ≡ head_key) rows ha
 -- missing or not counted.
 pub bad_next :
     (n : ℕ) (rows : List Row) (row : Row) → Rises rows → first_above n rows ≡ Some row
-    → AllByRecursion IsGood (up_to n rows) → HasHead rows → IsNoRecord row
+    → AllByRecursion (IsGood (rows_format rows)) (up_to n rows) → HasHead rows → IsNoRecord (rows_format rows) row
     → ((other : RowKey) → IsOdd rows other → rank row.key ≤ rank other) → IsLeastBad rows row.key
 bad_next n rows row rise e good has none odd = record {
-  bad = inl (next_among (IsBadAt row.key) n rows row e (refl, none));
+  bad = inl (next_among (IsBadAt (rows_format rows) row.key) n rows row e (refl, none));
   least = λ other bad. elim bad as (λ _. rank row.key ≤ rank other) [
-    | inl some ↦ least_next n rows row other rise e good some
+    | inl some ↦ least_next (rows_format rows) n rows row other rise e good some
     | inr more ↦ elim more as (λ _. rank row.key ≤ rank other) [
       | inl lacks ↦ absurd (no_lack rows has lacks.1)
       | inr step ↦ odd other step
@@ -189,12 +190,12 @@ bad_next n rows row rise e good has none odd = record {
 -- A step that is missing or not counted is the least bad key, where it is below the next row, and none is below it.
 pub bad_step_before :
     (n : ℕ) (rows : List Row) (row : Row) (key : RowKey) → Rises rows → first_above n rows ≡ Some row
-    → AllByRecursion IsGood (up_to n rows) → HasHead rows → rank key < rank row.key → IsOdd rows key
+    → AllByRecursion (IsGood (rows_format rows)) (up_to n rows) → HasHead rows → rank key < rank row.key → IsOdd rows key
     → ((other : RowKey) → IsOdd rows other → rank key ≤ rank other) → IsLeastBad rows key
 bad_step_before n rows row key rise e good has low here odd = record {
   bad = inr (inr here);
   least = λ other bad. elim bad as (λ _. rank key ≤ rank other) [
-    | inl some ↦ (let past = least_next n rows row other rise e good some in omega (arith, past, low))
+    | inl some ↦ (let past = least_next (rows_format rows) n rows row other rise e good some in omega (arith, past, low))
     | inr more ↦ elim more as (λ _. rank key ≤ rank other) [
       | inl lacks ↦ absurd (no_lack rows has lacks.1)
       | inr step ↦ odd other step
@@ -202,19 +203,19 @@ bad_step_before n rows row key rise e good has low here odd = record {
   ];
 }
 
-none_bad : (key : RowKey) (rows : List Row) → AllByRecursion IsGood rows → SomeRow (IsBadAt key) rows → ⊥
-none_bad key [] good some = some
-none_bad key (r ∷ rows) good (inl h) = h.1 good.0.0 good.0.1
-none_bad key (r ∷ rows) good (inr h) = none_bad key rows good.1 h
+none_bad : (m : RowFormat) (key : RowKey) (rows : List Row) → AllByRecursion (IsGood m) rows → SomeRow (IsBadAt m key) rows → ⊥
+none_bad m key [] good some = some
+none_bad m key (r ∷ rows) good (inl h) = h.1 good.0.0 good.0.1
+none_bad m key (r ∷ rows) good (inr h) = none_bad m key rows good.1 h
 
 -- And it is where all rows are good.
 pub bad_step :
-    (rows : List Row) (key : RowKey) → AllByRecursion IsGood rows → HasHead rows → IsOdd rows key
+    (rows : List Row) (key : RowKey) → AllByRecursion (IsGood (rows_format rows)) rows → HasHead rows → IsOdd rows key
     → ((other : RowKey) → IsOdd rows other → rank key ≤ rank other) → IsLeastBad rows key
 bad_step rows key good has here odd = record {
   bad = inr (inr here);
   least = λ other bad. elim bad as (λ _. rank key ≤ rank other) [
-    | inl some ↦ absurd (none_bad other rows good some)
+    | inl some ↦ absurd (none_bad (rows_format rows) other rows good some)
     | inr more ↦ elim more as (λ _. rank key ≤ rank other) [
       | inl lacks ↦ absurd (no_lack rows has lacks.1)
       | inr step ↦ odd other step
@@ -224,9 +225,9 @@ bad_step rows key good has here odd = record {
 
 -- Good rows with a head and without such a step are not bad.
 pub not_bad :
-    (rows : List Row) (key : RowKey) → AllByRecursion IsGood rows → HasHead rows → (IsOdd rows key → ⊥)
+    (rows : List Row) (key : RowKey) → AllByRecursion (IsGood (rows_format rows)) rows → HasHead rows → (IsOdd rows key → ⊥)
     → IsBad rows key → ⊥
-not_bad rows key good has even (inl some) = none_bad key rows good some
+not_bad rows key good has even (inl some) = none_bad (rows_format rows) key rows good some
 not_bad rows key good has even (inr (inl lacks)) = no_lack rows has lacks.1
 not_bad rows key good has even (inr (inr odd)) = even odd
 
@@ -236,15 +237,15 @@ keys_above n key (r ∷ rows) a (inl h) = subst (λ (k : RowKey). n < rank k) h 
 keys_above n key (r ∷ rows) a (inr h) = keys_above n key rows a.1 h
 
 first_least :
-    (rows : List Row) (row : Row) (key : RowKey) → Rises rows → first_row rows ≡ Some row
-    → SomeRow (IsBadAt key) rows → rank row.key ≤ rank key
-first_least [] row key rise e some = absurd some
-first_least (r ∷ rows) row key rise e (inl h) =
+    (m : RowFormat) (rows : List Row) (row : Row) (key : RowKey) → Rises rows → first_row rows ≡ Some row
+    → SomeRow (IsBadAt m key) rows → rank row.key ≤ rank key
+first_least m [] row key rise e some = absurd some
+first_least m (r ∷ rows) row key rise e (inl h) =
     let same : r ≡ row = cc in
     subst (λ (x : Row). rank x.key ≤ rank key) same (subst (λ (k : RowKey). rank r.key ≤ rank k) h.0 (omega arith))
-first_least (r ∷ rows) row key rise e (inr h) =
+first_least m (r ∷ rows) row key rise e (inr h) =
     let same : r ≡ row = cc in
-    let above = bad_above (rank r.key) key rows rise.0 h in
+    let above = bad_above m (rank r.key) key rows rise.0 h in
     subst (λ (x : Row). rank x.key ≤ rank key) same (omega (arith, above))
 
 step_behind : (key : RowKey) → is_step key ≡ true → rank head_key < rank key
@@ -253,11 +254,11 @@ step_behind key step = grind (arith, nat_tests)
 -- a first row that can't be opened is the least bad one, where it is not behind the place of the head
 pub bad_first :
     (rows : List Row) (row : Row) → Rises rows → first_row rows ≡ Some row → rank row.key ≤ rank head_key
-    → IsNoRecord row → IsLeastBad rows row.key
+    → IsNoRecord (rows_format rows) row → IsLeastBad rows row.key
 bad_first rows row rise e low none = record {
-  bad = inl (first_among (IsBadAt row.key) rows row e (refl, none));
+  bad = inl (first_among (IsBadAt (rows_format rows) row.key) rows row e (refl, none));
   least = λ other bad. elim bad as (λ _. rank row.key ≤ rank other) [
-    | inl some ↦ first_least rows row other rise e some
+    | inl some ↦ first_least (rows_format rows) rows row other rise e some
     | inr more ↦ elim more as (λ _. rank row.key ≤ rank other) [
       | inl lacks ↦ subst (λ (k : RowKey). rank row.key ≤ rank k) (sym lacks.0) low
       | inr odd ↦ (let past = step_behind other odd.step in omega (arith, low, past))
@@ -287,7 +288,7 @@ pub bad_head :
 bad_head rows row rise e past = record {
   bad = inr (inl (refl, lacks_head rows row rise e past));
   least = λ other bad. elim bad as (λ _. rank head_key ≤ rank other) [
-    | inl some ↦ (let low = first_least rows row other rise e some in omega (arith, low, past))
+    | inl some ↦ (let low = first_least (rows_format rows) rows row other rise e some in omega (arith, low, past))
     | inr more ↦ elim more as (λ _. rank head_key ≤ rank other) [
       | inl lacks ↦ subst (λ (k : RowKey). rank head_key ≤ rank k) (sym lacks.0) (omega arith)
       | inr odd ↦ (let behind = step_behind other odd.step in omega (arith, behind))
@@ -296,27 +297,34 @@ bad_head rows row rise e past = record {
 }
 
 -- ---- the records of rows
+-- A record that can be a row is what its row stands for.
+pub stands_in :
+    (m : RowFormat) (e : ℕ × Record) → CanBeRow e → StandsFor m (row_of m e).key (row_of m e).body e.1
+stands_in m e can = (can.0, can.1, refl)
+
 pub good_rows :
-    (es : List (ℕ × Record)) → AllByRecursion IsOnlyRecord es → AllByRecursion IsGood (map row_of es)
-good_rows [] h = tt
-good_rows (e ∷ es) h = ((e.1, h.0.0), good_rows es h.1)
+    (m : RowFormat) (es : List (ℕ × Record)) → AllByRecursion (IsOnlyRecord m) es
+    → AllByRecursion (IsGood m) (map (row_of m) es)
+good_rows m [] h = tt
+good_rows m (e ∷ es) h = ((e.1, stands_in m e h.0.0), good_rows m es h.1)
 
 only_by :
-    (e f : ℕ × Record) → row_of e ≡ row_of f → IsOnlyRecord e → CanBeRow f → f ≡ e
-only_by e f same only can =
-    let record_same : f.1 ≡ e.1 = only.1 f.1 (subst (λ (r : Row). StandsFor r.key r.body f.1) (sym same) can) in
+    (m : RowFormat) (e f : ℕ × Record) → row_of m e ≡ row_of m f → IsOnlyRecord m e → CanBeRow f → f ≡ e
+only_by m e f same only can =
+    let record_same : f.1 ≡ e.1 =
+    only.1 f.1 (subst (λ (r : Row). StandsFor m r.key r.body f.1) (sym same) (stands_in m f can)) in
     let number_same : f.0 ≡ e.0 = ap (λ (r : Row). r.key.id) (sym same) in
     ap (λ (n : ℕ). (n, f.1)) number_same ∙ ap (λ (it : Record). (e.0, it)) record_same
 
--- rows have only one list of records
+-- rows of a format have only one list of records
 pub only_records :
-    (es fs : List (ℕ × Record)) → map row_of es ≡ map row_of fs → AllByRecursion IsOnlyRecord es
-    → AllByRecursion CanBeRow fs → fs ≡ es
-only_records [] [] same only can = refl
-only_records [] (f ∷ fs) same only can = absurd cc
-only_records (e ∷ es) [] same only can = absurd cc
-only_records (e ∷ es) (f ∷ fs) same only can =
-    let first : row_of e ≡ row_of f = cc in
-    let more : map row_of es ≡ map row_of fs = cc in
-    ap (λ (x : ℕ × Record). x ∷ fs) (only_by e f first only.0 can.0)
-    ∙ ap (λ (l : List (ℕ × Record)). e ∷ l) (only_records es fs more only.1 can.1)
+    (m : RowFormat) (es fs : List (ℕ × Record)) → map (row_of m) es ≡ map (row_of m) fs
+    → AllByRecursion (IsOnlyRecord m) es → AllByRecursion CanBeRow fs → fs ≡ es
+only_records m [] [] same only can = refl
+only_records m [] (f ∷ fs) same only can = absurd cc
+only_records m (e ∷ es) [] same only can = absurd cc
+only_records m (e ∷ es) (f ∷ fs) same only can =
+    let first : row_of m e ≡ row_of m f = cc in
+    let more : map (row_of m) es ≡ map (row_of m) fs = cc in
+    ap (λ (x : ℕ × Record). x ∷ fs) (only_by m e f first only.0 can.0)
+    ∙ ap (λ (l : List (ℕ × Record)). e ∷ l) (only_records m es fs more only.1 can.1)

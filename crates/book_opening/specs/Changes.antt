@@ -1,4 +1,4 @@
--- What an edit of a book changes in its rows.
+-- What an edit of a book changes in its rows, which are written in format 2.
 use Rattle.std.specs.Prelude.{ℕ, ◌^◌, ◌<◌, ◌≤◌, ⊤, List, [], ◌∷◌, flat_map, map}
 use Rattle.std.specs.List.{AllByRecursion}
 use Rattle.book_commodity.specs.Table.{with_entry, without_entry}
@@ -8,6 +8,7 @@ use Rattle.book_undo.specs.Edit.{Leaf, OfCurrency, OfPut, OfGone, depth, leaves}
 use Rattle.book_undo.specs.Thing.{row_kind}
 use Rattle.book_undo.specs.declared.edit.Edit.{Edit}
 use Rattle.book_rows.specs.Row.{IsRecord}
+use Rattle.book_rows.specs.declared.format.RowFormat.TheVariants.{Two}
 use Rattle.book_rows.specs.declared.head.Head.{Head}
 use Rattle.book_rows.specs.declared.record.Record.{Record}
 use Rattle.book_rows.specs.declared.record.Record.TheVariants as kept
@@ -18,12 +19,12 @@ use Rattle.book_opening.specs.State.{State}
 -- more. The currency stands in the head.
 abbrev pub leaf_changes : Leaf → List Change
 leaf_changes (OfCurrency currency) = []
-leaf_changes (OfPut number thing) = change.Put (row_of (number, kept.Thing thing)) ∷ []
+leaf_changes (OfPut number thing) = change.Put (row_of Two (number, kept.Thing thing)) ∷ []
 leaf_changes (OfGone kind number) = change.Gone (record { kind = row_kind kind; id = number }) ∷ []
 
 -- The changes of rows that an edit and a new head come to: the head is written, and then what each leaf changes.
 abbrev pub changes_of : Head → Edit → List Change
-changes_of head edit = change.Put (row_of (0, kept.Head head)) ∷ flat_map leaf_changes (leaves edit)
+changes_of head edit = change.Put (row_of Two (0, kept.Head head)) ∷ flat_map leaf_changes (leaves edit)
 
 -- What a leaf writes has a spelling.
 abbrev pub LeafFits : Leaf → Type 0
@@ -37,19 +38,20 @@ IsSmallLeaf (OfCurrency currency) = ⊤
 IsSmallLeaf (OfPut number thing) = number < 2 ^ 62
 IsSmallLeaf (OfGone kind number) = number < 2 ^ 62
 
--- The changes by which rows come to be where there were none: each row of a state is written.
+-- The changes by which rows come to be where there were none, or those of format 1 come to be those of format 2: each
+-- row of a state is written.
 abbrev pub all_put : State → List Change
-all_put state = map (λ row. change.Put row) (rows_of state)
+all_put state = map (λ row. change.Put row) (rows_of Two state)
 
 -- Each of these records is written.
 abbrev pub puts_of : List (ℕ × Record) → List Change
-puts_of entries = map (λ row. change.Put row) (map row_of entries)
+puts_of entries = map (λ row. change.Put row) (map (row_of Two) entries)
 
 -- The change that writes an entry of a table whose rows have a kind, by the bytes of its values.
 abbrev pub entry_put : {T : Type 0} → ℕ → (T → List ℕ) → ℕ × T → Change
 entry_put kind bytes entry = change.Put (record {
   key = record { kind = kind; id = entry.0 };
-  body = 1 ∷ bytes entry.1;
+  body = 2 ∷ bytes entry.1;
 })
 
 -- Of a step at most eight lists stand in one another.
@@ -69,9 +71,9 @@ pub data StepChange : Type 0 where
 
 -- The change of rows that it comes to.
 abbrev pub step_change : StepChange → Change
-step_change (PutBack number edit) = change.Put (row_of (number, kept.Back edit))
+step_change (PutBack number edit) = change.Put (row_of Two (number, kept.Back edit))
 step_change (GoneBack number) = change.Gone (record { kind = 11; id = number })
-step_change (PutForth number edit) = change.Put (row_of (number, kept.Forth edit))
+step_change (PutForth number edit) = change.Put (row_of Two (number, kept.Forth edit))
 step_change (GoneForth number) = change.Gone (record { kind = 12; id = number })
 
 -- The state after it.

@@ -7,20 +7,22 @@ use Rattle.book_keeper.specs.Rows.{rank, first_row}
 use Rattle.book_keeper.specs.declared.keeper.Keeper.{Ghosts}
 use Rattle.book_keeper.specs.declared.row.Row.{Row}
 use Rattle.book_keeper.specs.declared.row.RowKey.{RowKey}
-use Rattle.book_rows.specs.Row.{StandsFor}
+use Rattle.book_rows.specs.Format.{format_in}
+use Rattle.book_rows.specs.Row.{IsKeyOf, IsRecord, StandsFor, kind_of}
+use Rattle.book_rows.specs.declared.format.RowFormat.{RowFormat}
 use Rattle.book_rows.specs.declared.head.Head.{Head}
 use Rattle.book_rows.specs.declared.record.Record.{Record}
 use Rattle.book_rows.specs.declared.record.Record.TheVariants as kept
-use Rattle.book_opening.specs.BookRows.{records_of, row_of, rows_of}
+use Rattle.book_opening.specs.BookRows.{records_of, row_of, rows_format, rows_of}
 use Rattle.book_opening.specs.State.{State, state_of}
 use Rattle.book_opening.specs.Steps.{AreCounted, IsOdd, SomeRow}
 use Rattle.book_opening.specs.declared.fault.OpenFault.{OpenFault}
 use Rattle.book_opening.specs.declared.fault.OpenFault.TheVariants as fault
 use Rattle.book_opening.specs.declared.saved.Saved.{Saved}
 
--- A row can't be opened as any record.
-abbrev pub IsNoRecord : Row → Type 0
-IsNoRecord row = (it : Record) → StandsFor row.key row.body it → ⊥
+-- A row can't be opened as any record of a format.
+abbrev pub IsNoRecord : RowFormat → Row → Type 0
+IsNoRecord format row = (it : Record) → StandsFor format row.key row.body it → ⊥
 
 -- The key of the head.
 abbrev pub head_key : RowKey
@@ -30,11 +32,12 @@ head_key = record { kind = 1; id = 0 }
 abbrev pub LacksHead : List Row → Type 0
 LacksHead rows = (rows ≡ [] → ⊥) × (SomeRow (λ row. row.key ≡ head_key) rows → ⊥)
 
--- Rows are bad at a key: the row there can't be opened; or it is the head and missing; or it is a step that is missing
--- or that the head doesn't count.
+-- Rows are bad at a key: the row there can't be opened in the format of the rows; or it is the head and missing; or it
+-- is a step that is missing or that the head doesn't count.
 abbrev pub IsBad : List Row → RowKey → Type 0
 IsBad rows key =
-    SomeRow (λ row. (row.key ≡ key) × IsNoRecord row) rows ⊎ (((key ≡ head_key) × LacksHead rows) ⊎ IsOdd rows key)
+    SomeRow (λ row. (row.key ≡ key) × IsNoRecord (rows_format rows) row) rows
+    ⊎ (((key ≡ head_key) × LacksHead rows) ⊎ IsOdd rows key)
 
 -- The least key at which rows are bad.
 pub record IsLeastBad (rows : List Row) (key : RowKey) : Type 0 where
@@ -43,32 +46,37 @@ pub record IsLeastBad (rows : List Row) (key : RowKey) : Type 0 where
 
 -- A record under a number can be a row.
 abbrev pub CanBeRow : ℕ × Record → Type 0
-CanBeRow entry = StandsFor (row_of entry).key (row_of entry).body entry.1
+CanBeRow entry = IsKeyOf (record { kind = kind_of entry.1; id = entry.0 }) entry.1 × IsRecord entry.1
 
--- A record under a number is the one as which its row opens.
-abbrev pub IsOnlyRecord : ℕ × Record → Type 0
-IsOnlyRecord entry =
-    CanBeRow entry × ((it : Record) → StandsFor (row_of entry).key (row_of entry).body it → it ≡ entry.1)
+-- A record under a number is the one as which its row of a format opens.
+abbrev pub IsOnlyRecord : RowFormat → ℕ × Record → Type 0
+IsOnlyRecord format entry =
+    CanBeRow entry
+    × ((it : Record) → StandsFor format (row_of format entry).key (row_of format entry).body it → it ≡ entry.1)
 
--- Rows open as a state: they are its rows, each of its records can be a row, and its steps are those that its head
--- counts.
-pub record OpenAs (rows : List Row) (state : State) : Type 0 where
-  pub are : rows ≡ rows_of state
+-- Rows of a format open as a state: they are its rows, each of its records can be a row, and its steps are those that
+-- its head counts.
+pub record OpenIn (format : RowFormat) (rows : List Row) (state : State) : Type 0 where
+  pub are : rows ≡ rows_of format state
   pub spelled : AllByRecursion CanBeRow (records_of state)
   pub counted : AreCounted state
 
--- What is answered of rows: that there are none; the state that they open as; or the least key at which they are bad.
--- That the keeper failed, or the program is out of memory, says nothing of them.
-abbrev pub Answers : List Row → Result (Option Saved) OpenFault → Type 0
+-- Rows open as a state, in the one format or in the other.
+abbrev pub OpenAs : List Row → State → Type 0
+OpenAs rows state = (format : RowFormat) × OpenIn format rows state
+
+-- What is answered of rows: that there are none; their format, and the state that they open as; or the least key at
+-- which they are bad. That the keeper failed, or the program is out of memory, says nothing of them.
+abbrev pub Answers : List Row → Result (Option (RowFormat × Saved)) OpenFault → Type 0
 Answers rows (Ok None) = rows ≡ []
-Answers rows (Ok (Some saved)) = OpenAs rows (state_of saved)
+Answers rows (Ok (Some found)) = OpenIn found.0 rows (state_of found.1)
 Answers rows (Err (fault.BadRows kind id)) = IsLeastBad rows (record { kind = kind; id = id })
 Answers rows (Err fault.Keeper) = ⊤
 Answers rows (Err fault.OutOfMemory) = ⊤
 
--- The rows begin with that of a head.
-abbrev pub Begins : List Row → Head → Type 0
-Begins rows head = first_row rows ≡ Some (row_of (0, kept.Head head))
+-- The rows begin with that of a head, in a format.
+abbrev pub Begins : RowFormat → List Row → Head → Type 0
+Begins format rows head = first_row rows ≡ Some (row_of format (0, kept.Head head))
 
 -- If rows are answered to be bad, it is at the least key.
 abbrev pub IsBadFor : List Row → OpenFault → Type 0
@@ -76,18 +84,20 @@ IsBadFor rows (fault.BadRows kind id) = IsLeastBad rows (record { kind = kind; i
 IsBadFor rows fault.Keeper = ⊤
 IsBadFor rows fault.OutOfMemory = ⊤
 
--- A row behind the head is answered to be bad: it can't be opened.
-abbrev pub IsBadThing : Row → OpenFault → Type 0
-IsBadThing row (fault.BadRows kind id) = (kind ≡ row.key.kind) × (id ≡ row.key.id) × IsNoRecord row
-IsBadThing row fault.Keeper = ⊥
-IsBadThing row fault.OutOfMemory = ⊤
+-- A row behind the head is answered to be bad: it can't be opened in the format.
+abbrev pub IsBadThing : RowFormat → Row → OpenFault → Type 0
+IsBadThing format row (fault.BadRows kind id) =
+    (kind ≡ row.key.kind) × (id ≡ row.key.id) × IsNoRecord format row
+IsBadThing format row fault.Keeper = ⊥
+IsBadThing format row fault.OutOfMemory = ⊤
 
 -- The first row is answered to be bad: it stands behind the place of the head, which is missing; or it can't be
--- opened.
+-- opened in its own format.
 abbrev pub IsBadHead : Row → OpenFault → Type 0
 IsBadHead row (fault.BadRows kind id) =
     ((rank head_key < rank row.key) × (kind ≡ 1) × (id ≡ 0))
-    ⊎ ((rank row.key ≤ rank head_key) × (kind ≡ row.key.kind) × (id ≡ row.key.id) × IsNoRecord row)
+    ⊎ ((rank row.key ≤ rank head_key) × (kind ≡ row.key.kind) × (id ≡ row.key.id)
+    × IsNoRecord (format_in row.body) row)
 IsBadHead row fault.Keeper = ⊥
 IsBadHead row fault.OutOfMemory = ⊤
 
@@ -118,9 +128,9 @@ WhereRead (Ok it) Holds = Holds
 WhereRead (Err why) Holds = WhereBad why Holds
 
 -- The answer is this state, unless the keeper failed or the program is out of memory.
-abbrev pub IsOpened : State → Result (Option Saved) OpenFault → Type 0
+abbrev pub IsOpened : State → Result (Option (RowFormat × Saved)) OpenFault → Type 0
 IsOpened state (Ok None) = ⊥
-IsOpened state (Ok (Some saved)) = state_of saved ≡ state
+IsOpened state (Ok (Some found)) = state_of found.1 ≡ state
 IsOpened state (Err (fault.BadRows kind id)) = ⊥
 IsOpened state (Err fault.Keeper) = ⊤
 IsOpened state (Err fault.OutOfMemory) = ⊤

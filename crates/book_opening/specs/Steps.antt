@@ -8,6 +8,7 @@ use Rattle.book_keeper.specs.declared.row.RowKey.{RowKey}
 use Rattle.book_rows.specs.Row.{StandsFor}
 use Rattle.book_rows.specs.declared.head.Head.{Head}
 use Rattle.book_rows.specs.declared.record.Record.TheVariants as kept
+use Rattle.book_opening.specs.BookRows.{rows_format}
 use Rattle.book_opening.specs.State.{State, head_of}
 
 -- One of the rows is such a one.
@@ -44,7 +45,7 @@ is_step key = (key.kind == 11) || (key.kind == 12)
 -- fit, no step is missing or one too many.
 pub record IsOdd (rows : List Row) (key : RowKey) : Type 0 where
   pub head : Head
-  pub has : SomeRow (λ row. StandsFor row.key row.body (kept.Head head)) rows
+  pub has : SomeRow (λ row. StandsFor (rows_format rows) row.key row.body (kept.Head head)) rows
   pub fits : counts_fit head ≡ true
   pub step : is_step key ≡ true
   pub differs : stands_at key rows ≢ counts head key

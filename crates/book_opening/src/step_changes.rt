@@ -1,5 +1,6 @@
 ghost use Rattle.std.specs.Prelude.{◌≡◌, ◌≤◌, IfOk};
 ghost use Rattle.book_undo.specs.Edit.{depth};
+ghost use Rattle.book_rows.specs.declared.format.RowFormat.TheVariants.{Two};
 ghost use Rattle.book_rows.specs.EditBytes.{edit_bytes, IsEdit};
 ghost use Rattle.book_opening.specs.Changes.{PutBack, GoneBack, PutForth, GoneForth, StepFits, entry_put, step_change};
 
@@ -56,7 +57,7 @@ pub(crate) fn step_put(
     edit: &Edit,
 ) -> Result<Change, OutOfMemory>
     requires { depth edit.now ≤ 8 }
-    ensures change { IfOk result (λ change. change ≡ entry_put kind edit_bytes (number, edit.now)) }
+    ensures change { IfOk result (λ change. change ≡ entry_put kind (edit_bytes Two) (number, edit.now)) }
     ensures fits { IfOk result (λ change. IsEdit edit.now) }
 {
     let body = write_edit(alloc, edit)?;

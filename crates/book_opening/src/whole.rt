@@ -6,6 +6,7 @@ ghost use Rattle.book_rows.specs.AccountBytes.{account_bytes, IsAccount};
 ghost use Rattle.book_rows.specs.EditBytes.{edit_bytes, IsEdit};
 ghost use Rattle.book_rows.specs.PriceBytes.{price_bytes, IsPrice};
 ghost use Rattle.book_rows.specs.Row.{IsWithin};
+ghost use Rattle.book_rows.specs.declared.format.RowFormat.TheVariants.{Two};
 ghost use Rattle.book_opening.specs.BookRows.{back_records, forth_records, records_in, records_of};
 ghost use Rattle.book_opening.specs.Changes.{AreRecords, IsShallow, all_put, entry_put, puts_of};
 ghost use Rattle.book_opening.specs.State.{head_of, state_of};
@@ -19,13 +20,14 @@ use book_codec::{Field, write_whole};
 use book_commodity::{Commodity, Many, OutOfMemory};
 use book_keeper::{Change, Row, RowKey};
 use book_prices::{Price, Prices};
-use book_rows::{Head, Rows, kind_byte};
+use book_rows::{Head, Rows, WRITTEN_FORMAT, kind_byte};
 use book_splits::{Recon, Txn};
 use book_statement::{Binding, Held, Line};
 use book_undo::{Edit, Plain, Schedule, ThingKind};
 use std::alloc::Global;
 
-/// The changes by which the rows of a state come to be where there were none: each of its rows is put.
+/// The changes by which the rows of a state come to be where there were none, or those of format 1 come to be those of
+/// format 2: each of its rows is put.
 pub fn all_rows(alloc: Global, saved: &Saved) -> Result<Many<Change>, OutOfMemory>
     requires within { IsWithin (head_of (state_of saved.now)) }
     requires back { AllByRecursion IsShallow saved.now.back.entries }
@@ -157,7 +159,7 @@ fn put_steps(
     changes: &mut Many<Change>,
 ) -> Result<(), OutOfMemory>
     requires { AllByRecursion IsShallow steps.now }
-    ensures added { OnOk result (changes.new ≡ changes.old ++ map (entry_put kind edit_bytes) steps.now) }
+    ensures added { OnOk result (changes.new ≡ changes.old ++ map (entry_put kind (edit_bytes Two)) steps.now) }
     ensures fit { OnOk result (AllByRecursion (λ step. IsEdit step.1) steps.now) }
 {
     for step in steps {
@@ -176,7 +178,7 @@ fn value_put<T: Field<Rows>>(
     ensures change { IfOk result (λ change. change ≡ entry_put (row_kind kind) T.spelling (number, value.now)) }
     ensures fits { IfOk result (λ change. T.fits value.now) }
 {
-    let body = write_whole::<Rows, T>(alloc, value)?;
+    let body = write_whole::<Rows, T>(alloc, WRITTEN_FORMAT, value)?;
     Ok(Change::Put(Row {
         key: RowKey {
             kind: kind_byte(kind),

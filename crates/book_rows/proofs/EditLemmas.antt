@@ -1,10 +1,10 @@
 -- Edits by their first byte, and lists of edits by their parts as plain lists.
-use Rattle.std.proofs.Common.{◌≡◌, ℕ, ◌+◌, ◌^◌, ◌<◌, ◌≤◌, max, List, [], ◌∷◌, ◌++◌, length, flat_map}
+use Rattle.std.proofs.Common.{◌≡◌, ℕ, ◌+◌, ◌^◌, ◌<◌, ◌≤◌, List, [], ◌∷◌, ◌++◌, length, flat_map}
 use Rattle.std.proofs.Common.{get_or, Result, Ok, Err, OnOk, refl, sym, ap, ◌∙◌, subst, append_assoc, arith}
 use Rattle.std.specs.List.{AllByRecursion}
 use mathlib.Core.Former.{Count}
 use Rattle.book_codec.specs.Words.{number, listed}
-use Rattle.book_undo.specs.Edit.{depth, deepest}
+use Rattle.book_undo.specs.Edit.{deepest}
 use Rattle.book_undo.specs.Thing.{kind_of, row_kind}
 use Rattle.book_undo.specs.declared.edit.Edit.{Edit, Currency, Put, Gone, All, All', Row_of-Edit, end_of-Edit}
 use Rattle.book_undo.specs.declared.edit.Edit.{more_of-Edit, items-the_row-Edit, items_hidden-the_row-Edit-0}
@@ -15,6 +15,7 @@ use Rattle.book_undo.specs.declared.thing.ThingKind.{ThingKind}
 use Rattle.book_undo.proofs.PartLaws.{depth_of_all}
 use Rattle.book_rows.specs.EditBytes.{row_length, edit_bytes, row_bytes, HasValues, PartsHaveValues, IsEditWithin}
 use Rattle.book_rows.specs.ThingBytes.{thing_bytes}
+use Rattle.book_rows.specs.declared.format.RowFormat.{RowFormat}
 use Rattle.book_rows.specs.Values.{AreItems}
 
 -- ---- a list's row of parts
@@ -26,10 +27,10 @@ length_of_row : (n : _) (row : Row_of-Edit n) → row_length row ≡ length (ite
 length_of_row n end_of-Edit = refl
 length_of_row n (more_of-Edit part more) = omega (arith, length_of_row _ more)
 
-bytes_of_row : (n : _) (row : Row_of-Edit n) → row_bytes row ≡ flat_map edit_bytes (items-the_row-Edit n row)
+bytes_of_row : (f : RowFormat) (n : _) (row : Row_of-Edit n) → row_bytes f row ≡ flat_map (edit_bytes f) (items-the_row-Edit n row)
 unfolding row_bytes
-bytes_of_row n end_of-Edit = refl
-bytes_of_row n (more_of-Edit part more) = ap (λ b. edit_bytes part ++ b) (bytes_of_row _ more)
+bytes_of_row f n end_of-Edit = refl
+bytes_of_row f n (more_of-Edit part more) = ap (λ b. edit_bytes f part ++ b) (bytes_of_row f _ more)
 
 values_of_row :
     (n : _) (row : Row_of-Edit n) → PartsHaveValues row → AllByRecursion HasValues (items-the_row-Edit n row)
@@ -42,13 +43,13 @@ row_of_values n end_of-Edit all = tt
 row_of_values n (more_of-Edit part more) all = (all.0, row_of_values _ more all.1)
 
 -- The bytes of a list are the byte 0, the number of its parts and its parts.
-pub bytes_of_all : (parts : List Edit) → edit_bytes (All parts) ≡ 0 ∷ listed edit_bytes parts
+pub bytes_of_all : (f : RowFormat) (parts : List Edit) → edit_bytes f (All parts) ≡ 0 ∷ listed (edit_bytes f) parts
 unfolding edit_bytes listed
-bytes_of_all parts =
+bytes_of_all f parts =
     let row = row_of (All parts) in
     let items = items_hidden-the_row-Edit-0 parts in
-    ap (λ n. 0 ∷ number n ++ row_bytes row.1) (length_of_row row.0 row.1 ∙ ap length items)
-    ∙ ap (λ b. 0 ∷ number (length parts) ++ b) (bytes_of_row row.0 row.1 ∙ ap (flat_map edit_bytes) items)
+    ap (λ n. 0 ∷ number n ++ row_bytes f row.1) (length_of_row row.0 row.1 ∙ ap length items)
+    ∙ ap (λ b. 0 ∷ number (length parts) ++ b) (bytes_of_row f row.0 row.1 ∙ ap (flat_map (edit_bytes f)) items)
 
 pub values_of_all : (parts : List Edit) → HasValues (All parts) → AreItems HasValues parts
 values_of_all parts has =
@@ -106,40 +107,40 @@ tails : (a b : ℕ) (xs ys : List ℕ) → ◌≡◌ {A = List ℕ} (a ∷ xs) (
 tails a b xs ys e = cc
 
 -- An edit is a list, and the bytes are the number of its parts, its parts and then the rest.
-pub record IsList (edit : Edit) (bytes rest : List ℕ) : Type 0 where
+pub record IsList (f : RowFormat) (edit : Edit) (bytes rest : List ℕ) : Type 0 where
   pub parts : List Edit
   pub is : edit ≡ All parts
-  pub spelled : bytes ≡ number (length parts) ++ (flat_map edit_bytes parts ++ rest)
+  pub spelled : bytes ≡ number (length parts) ++ (flat_map (edit_bytes f) parts ++ rest)
 
 list_bytes :
-    (parts : List Edit) (bytes rest : List ℕ) → 0 ∷ bytes ≡ edit_bytes (All parts) ++ rest
-    → bytes ≡ number (length parts) ++ (flat_map edit_bytes parts ++ rest)
+    (f : RowFormat) (parts : List Edit) (bytes rest : List ℕ) → 0 ∷ bytes ≡ edit_bytes f (All parts) ++ rest
+    → bytes ≡ number (length parts) ++ (flat_map (edit_bytes f) parts ++ rest)
 unfolding listed
-list_bytes parts bytes rest e =
-    tails _ _ _ _ (e ∙ ap (λ (b : List ℕ). b ++ rest) (bytes_of_all parts))
-    ∙ append_assoc (number (length parts)) (flat_map edit_bytes parts) rest
+list_bytes f parts bytes rest e =
+    tails _ _ _ _ (e ∙ ap (λ (b : List ℕ). b ++ rest) (bytes_of_all f parts))
+    ∙ append_assoc (number (length parts)) (flat_map (edit_bytes f) parts) rest
 
 -- The byte 0, the number of parts and their bytes are those of a list.
 pub list_spelled :
-    (parts : List Edit) (count : ℕ) (bytes behind rest : List ℕ) → bytes ≡ number count ++ behind
-    → behind ≡ flat_map edit_bytes parts ++ rest → length parts ≡ count → 0 ∷ bytes ≡ edit_bytes (All parts) ++ rest
+    (f : RowFormat) (parts : List Edit) (count : ℕ) (bytes behind rest : List ℕ) → bytes ≡ number count ++ behind
+    → behind ≡ flat_map (edit_bytes f) parts ++ rest → length parts ≡ count → 0 ∷ bytes ≡ edit_bytes f (All parts) ++ rest
 unfolding listed
-list_spelled parts count bytes behind rest first next few =
+list_spelled f parts count bytes behind rest first next few =
     ap (λ (b : List ℕ). 0 ∷ b)
     (first ∙ ap (λ (n : ℕ). number n ++ behind) (sym few) ∙ ap (λ (b : List ℕ). number (length parts) ++ b) next
-    ∙ sym (append_assoc (number (length parts)) (flat_map edit_bytes parts) rest))
-    ∙ ap (λ (b : List ℕ). b ++ rest) (sym (bytes_of_all parts))
+    ∙ sym (append_assoc (number (length parts)) (flat_map (edit_bytes f) parts) rest))
+    ∙ ap (λ (b : List ℕ). b ++ rest) (sym (bytes_of_all f parts))
 
 -- The byte 0, the number of parts and the parts that were written are the list.
 pub list_written :
-    (edit : Edit) (parts slice : List Edit) (count : ℕ) (old pushed counted new : List ℕ) → edit ≡ All parts
+    (f : RowFormat) (edit : Edit) (parts slice : List Edit) (count : ℕ) (old pushed counted new : List ℕ) → edit ≡ All parts
     → slice ≡ parts → count ≡ length parts → pushed ≡ old ++ 0 ∷ [] → counted ≡ pushed ++ number count
-    → new ≡ counted ++ flat_map edit_bytes slice → new ≡ old ++ edit_bytes edit
+    → new ≡ counted ++ flat_map (edit_bytes f) slice → new ≡ old ++ edit_bytes f edit
 unfolding listed
-list_written edit parts slice count old pushed counted new is same few push spell rest =
-    let behind = flat_map edit_bytes parts in
-    let whole : edit_bytes edit ≡ 0 ∷ number (length parts) ++ behind = ap edit_bytes is ∙ bytes_of_all parts in
-    rest ∙ ap (λ (l : List Edit). counted ++ flat_map edit_bytes l) same
+list_written f edit parts slice count old pushed counted new is same few push spell rest =
+    let behind = flat_map (edit_bytes f) parts in
+    let whole : edit_bytes f edit ≡ 0 ∷ number (length parts) ++ behind = ap (edit_bytes f) is ∙ bytes_of_all f parts in
+    rest ∙ ap (λ (l : List Edit). counted ++ flat_map (edit_bytes f) l) same
     ∙ ap (λ (b : List ℕ). b ++ behind)
     (spell ∙ ap (λ (b : List ℕ). b ++ number count) push ∙ append_assoc old (0 ∷ []) (number count))
     ∙ append_assoc old (0 ∷ number count) behind
@@ -148,31 +149,31 @@ list_written edit parts slice count old pushed counted new is same few push spel
 
 -- The byte 0 begins a list.
 pub list_at :
-    (edit : Edit) (bytes rest : List ℕ) → 0 ∷ bytes ≡ edit_bytes edit ++ rest → IsList edit bytes rest
+    (f : RowFormat) (edit : Edit) (bytes rest : List ℕ) → 0 ∷ bytes ≡ edit_bytes f edit ++ rest → IsList f edit bytes rest
 unfolding roll-Edit denote.Hole.Carrier.roll edit_bytes
-list_at edit bytes rest e =
-    subst (λ (it : Edit). (0 ∷ bytes ≡ edit_bytes it ++ rest) → IsList it bytes rest) (roll-out-Edit edit)
+list_at f edit bytes rest e =
+    subst (λ (it : Edit). (0 ∷ bytes ≡ edit_bytes f it ++ rest) → IsList f it bytes rest) (roll-out-Edit edit)
     (of_layer (out-Edit edit)) e
   where
-    of_layer : (it : Edit-F Edit) → (0 ∷ bytes ≡ edit_bytes (roll-Edit it) ++ rest) → IsList (roll-Edit it) bytes rest
+    of_layer : (it : Edit-F Edit) → (0 ∷ bytes ≡ edit_bytes f (roll-Edit it) ++ rest) → IsList f (roll-Edit it) bytes rest
     of_layer (layer.Currency currency) e = absurd (omega (arith, heads _ _ _ _ e))
     of_layer (layer.Put it thing) e = absurd (omega (arith, heads _ _ _ _ e))
     of_layer (layer.Gone kind it) e = absurd (omega (arith, heads _ _ _ _ e))
     of_layer (layer.All parts) e =
-        record { parts = parts; is = refl; spelled = list_bytes parts bytes rest e }
+        record { parts = parts; is = refl; spelled = list_bytes f parts bytes rest e }
 
 -- An edit is a list of fewer than 2^64 parts that have a spelling at one depth less.
-pub record HasParts (most : ℕ) (edit : Edit) (bytes rest : List ℕ) : Type 0 where
-  pub list : IsList edit bytes rest
+pub record HasParts (f : RowFormat) (most : ℕ) (edit : Edit) (bytes rest : List ℕ) : Type 0 where
+  pub list : IsList f edit bytes rest
   pub few : length list.parts < 2 ^ 64
   pub deep : 1 ≤ most
   pub within : (less : ℕ) → most ≡ less + 1 → AllByRecursion (IsEditWithin less) list.parts
 
 pub parts_at :
-    (most : ℕ) (edit : Edit) (bytes rest : List ℕ) → IsEditWithin most edit → 0 ∷ bytes ≡ edit_bytes edit ++ rest
-    → HasParts most edit bytes rest
-parts_at most edit bytes rest fits e =
-    let list = list_at edit bytes rest e in
+    (f : RowFormat) (most : ℕ) (edit : Edit) (bytes rest : List ℕ) → IsEditWithin most edit → 0 ∷ bytes ≡ edit_bytes f edit ++ rest
+    → HasParts f most edit bytes rest
+parts_at f most edit bytes rest fits e =
+    let list = list_at f edit bytes rest e in
     let all = subst (IsEditWithin most) list.is fits in
     record {
       list = list;
@@ -182,26 +183,26 @@ parts_at most edit bytes rest fits e =
     }
 
 -- An edit puts a thing, and the bytes are its kind, its number, its fields and then the rest.
-pub record IsPut (edit : Edit) (bytes rest : List ℕ) : Type 0 where
+pub record IsPut (f : RowFormat) (edit : Edit) (bytes rest : List ℕ) : Type 0 where
   pub it : ℕ
   pub thing : Thing
   pub is : edit ≡ Put it thing
-  pub spelled : bytes ≡ row_kind (kind_of thing) ∷ number it ++ (thing_bytes thing ++ rest)
+  pub spelled : bytes ≡ row_kind (kind_of thing) ∷ number it ++ (thing_bytes f thing ++ rest)
 
 -- The byte 1 begins a thing that is put.
 pub put_at :
-    (edit : Edit) (bytes rest : List ℕ) → 1 ∷ bytes ≡ edit_bytes edit ++ rest → IsPut edit bytes rest
+    (f : RowFormat) (edit : Edit) (bytes rest : List ℕ) → 1 ∷ bytes ≡ edit_bytes f edit ++ rest → IsPut f edit bytes rest
 unfolding edit_bytes
-put_at (Currency currency) bytes rest e = absurd (omega (arith, heads _ _ _ _ e))
-put_at (Put it thing) bytes rest e = record {
+put_at f (Currency currency) bytes rest e = absurd (omega (arith, heads _ _ _ _ e))
+put_at f (Put it thing) bytes rest e = record {
   it = it;
   thing = thing;
   is = refl;
   spelled = tails _ _ _ _ e
-      ∙ ap (λ b. row_kind (kind_of thing) ∷ b) (append_assoc (number it) (thing_bytes thing) rest);
+      ∙ ap (λ b. row_kind (kind_of thing) ∷ b) (append_assoc (number it) (thing_bytes f thing) rest);
 }
-put_at (Gone kind it) bytes rest e = absurd (omega (arith, heads _ _ _ _ e))
-put_at (All' shape parts) bytes rest e = absurd (omega (arith, heads _ _ _ _ e))
+put_at f (Gone kind it) bytes rest e = absurd (omega (arith, heads _ _ _ _ e))
+put_at f (All' shape parts) bytes rest e = absurd (omega (arith, heads _ _ _ _ e))
 
 -- An edit deletes a thing, and the bytes are its kind, its number and then the rest.
 pub record IsGone (edit : Edit) (bytes rest : List ℕ) : Type 0 where
@@ -212,12 +213,12 @@ pub record IsGone (edit : Edit) (bytes rest : List ℕ) : Type 0 where
 
 -- The byte 2 begins a thing that is deleted.
 pub gone_at :
-    (edit : Edit) (bytes rest : List ℕ) → 2 ∷ bytes ≡ edit_bytes edit ++ rest → IsGone edit bytes rest
+    (f : RowFormat) (edit : Edit) (bytes rest : List ℕ) → 2 ∷ bytes ≡ edit_bytes f edit ++ rest → IsGone edit bytes rest
 unfolding edit_bytes
-gone_at (Currency currency) bytes rest e = absurd (omega (arith, heads _ _ _ _ e))
-gone_at (Put it thing) bytes rest e = absurd (omega (arith, heads _ _ _ _ e))
-gone_at (Gone kind it) bytes rest e = record { kind = kind; it = it; is = refl; spelled = tails _ _ _ _ e }
-gone_at (All' shape parts) bytes rest e = absurd (omega (arith, heads _ _ _ _ e))
+gone_at f (Currency currency) bytes rest e = absurd (omega (arith, heads _ _ _ _ e))
+gone_at f (Put it thing) bytes rest e = absurd (omega (arith, heads _ _ _ _ e))
+gone_at f (Gone kind it) bytes rest e = record { kind = kind; it = it; is = refl; spelled = tails _ _ _ _ e }
+gone_at f (All' shape parts) bytes rest e = absurd (omega (arith, heads _ _ _ _ e))
 
 -- An edit sets the currency, and the bytes are its number and then the rest.
 pub record IsCurrency (edit : Edit) (bytes rest : List ℕ) : Type 0 where
@@ -227,27 +228,27 @@ pub record IsCurrency (edit : Edit) (bytes rest : List ℕ) : Type 0 where
 
 -- The byte 3 begins a currency.
 pub currency_at :
-    (edit : Edit) (bytes rest : List ℕ) → 3 ∷ bytes ≡ edit_bytes edit ++ rest → IsCurrency edit bytes rest
+    (f : RowFormat) (edit : Edit) (bytes rest : List ℕ) → 3 ∷ bytes ≡ edit_bytes f edit ++ rest → IsCurrency edit bytes rest
 unfolding edit_bytes
-currency_at (Currency it) bytes rest e = record { it = it; is = refl; spelled = tails _ _ _ _ e }
-currency_at (Put it thing) bytes rest e = absurd (omega (arith, heads _ _ _ _ e))
-currency_at (Gone kind it) bytes rest e = absurd (omega (arith, heads _ _ _ _ e))
-currency_at (All' shape parts) bytes rest e = absurd (omega (arith, heads _ _ _ _ e))
+currency_at f (Currency it) bytes rest e = record { it = it; is = refl; spelled = tails _ _ _ _ e }
+currency_at f (Put it thing) bytes rest e = absurd (omega (arith, heads _ _ _ _ e))
+currency_at f (Gone kind it) bytes rest e = absurd (omega (arith, heads _ _ _ _ e))
+currency_at f (All' shape parts) bytes rest e = absurd (omega (arith, heads _ _ _ _ e))
 
 -- An edit has a first byte, which is 0 to 3.
-pub begins : (edit : Edit) (rest : List ℕ) → 1 ≤ length (edit_bytes edit ++ rest)
+pub begins : (f : RowFormat) (edit : Edit) (rest : List ℕ) → 1 ≤ length (edit_bytes f edit ++ rest)
 unfolding edit_bytes
-begins (Currency it) rest = omega arith
-begins (Put it thing) rest = omega arith
-begins (Gone kind it) rest = omega arith
-begins (All' shape parts) rest = omega arith
+begins f (Currency it) rest = omega arith
+begins f (Put it thing) rest = omega arith
+begins f (Gone kind it) rest = omega arith
+begins f (All' shape parts) rest = omega arith
 
-pub first_byte : (edit : Edit) (rest : List ℕ) → get_or (edit_bytes edit ++ rest) 0 0 ≤ 3
+pub first_byte : (f : RowFormat) (edit : Edit) (rest : List ℕ) → get_or (edit_bytes f edit ++ rest) 0 0 ≤ 3
 unfolding edit_bytes
-first_byte (Currency it) rest = omega arith
-first_byte (Put it thing) rest = omega arith
-first_byte (Gone kind it) rest = omega arith
-first_byte (All' shape parts) rest = omega arith
+first_byte f (Currency it) rest = omega arith
+first_byte f (Put it thing) rest = omega arith
+first_byte f (Gone kind it) rest = omega arith
+first_byte f (All' shape parts) rest = omega arith
 
 -- What is made of equal fields is the edit.
 pub made_edit :

@@ -1,6 +1,7 @@
 pub mod AccountBytes
 pub mod CommodityBytes
 pub mod EditBytes
+pub mod Format
 pub mod HeadBytes
 pub mod PriceBytes
 pub mod ReconciliationBytes

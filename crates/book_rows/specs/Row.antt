@@ -8,6 +8,8 @@ use Rattle.book_rows.specs.declared.head.Head.{Head}
 use Rattle.book_codec.specs.declared.error.DecodeError.{DecodeError}
 use Rattle.book_codec.specs.declared.error.DecodeError.TheVariants as decode_error
 use Rattle.book_keeper.specs.declared.row.RowKey.{RowKey}
+use Rattle.book_rows.specs.declared.format.RowFormat.{RowFormat}
+use Rattle.book_rows.specs.Format.{format_byte}
 use Rattle.book_rows.specs.HeadBytes.{head_bytes, IsHead}
 use Rattle.book_rows.specs.EditBytes.{edit_bytes, IsEdit}
 use Rattle.book_rows.specs.ThingBytes.{thing_bytes, IsThing}
@@ -21,16 +23,16 @@ kind_of (record_of.Thing it) = row_kind (thing_kind it)
 kind_of (record_of.Back it) = 11
 kind_of (record_of.Forth it) = 12
 
--- The fields of a record as bytes.
-abbrev pub fields_of : Record → List ℕ
-fields_of (record_of.Head it) = head_bytes it
-fields_of (record_of.Thing it) = thing_bytes it
-fields_of (record_of.Back it) = edit_bytes it
-fields_of (record_of.Forth it) = edit_bytes it
+-- The fields of a record as bytes of a format.
+abbrev pub fields_of : RowFormat → Record → List ℕ
+fields_of format (record_of.Head it) = head_bytes it
+fields_of format (record_of.Thing it) = thing_bytes format it
+fields_of format (record_of.Back it) = edit_bytes format it
+fields_of format (record_of.Forth it) = edit_bytes format it
 
--- The body of a record: the format byte 1 and then its fields.
-abbrev pub body_of : Record → List ℕ
-body_of it = 1 ∷ fields_of it
+-- The body of a record in a format: the byte of the format and then the fields.
+abbrev pub body_of : RowFormat → Record → List ℕ
+body_of format it = format_byte format ∷ fields_of format it
 
 -- The numbers of a head that a row can hold.
 abbrev pub IsWithin : Head → Type 0
@@ -55,13 +57,13 @@ IsRecord (record_of.Forth it) = IsEdit it
 abbrev pub IsKeyOf : RowKey → Record → Type 0
 IsKeyOf key it = (kind_of it ≡ key.kind) × (key.id < 2 ^ 62) × (key.kind ≡ 1 → key.id ≡ 0)
 
--- The row with this key and this body stands for the record.
-abbrev pub StandsFor : RowKey → List ℕ → Record → Type 0
-StandsFor key body it = IsKeyOf key it × IsRecord it × (body ≡ body_of it)
+-- In this format the row with this key and this body stands for the record.
+abbrev pub StandsFor : RowFormat → RowKey → List ℕ → Record → Type 0
+StandsFor format key body it = IsKeyOf key it × IsRecord it × (body ≡ body_of format it)
 
--- The key and the body are those of the record.
-abbrev pub IsSpelledBy : RowKey → List ℕ → Record → Type 0
-IsSpelledBy key body it = IsKeyOf key it × IsBounded it × (body ≡ body_of it)
+-- The key and the body are those of the record in this format.
+abbrev pub IsSpelledBy : RowFormat → RowKey → List ℕ → Record → Type 0
+IsSpelledBy format key body it = IsKeyOf key it × IsBounded it × (body ≡ body_of format it)
 
 -- The row is read as this record unless the program is out of memory. In no case is it bad.
 abbrev pub IsReadAs : Result Record RowError → Record → Type 0

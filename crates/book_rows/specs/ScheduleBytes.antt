@@ -16,6 +16,7 @@ use Rattle.book_schedule.specs.declared.timing.Timing.{Timing}
 use Rattle.book_undo.specs.declared.schedule.Schedule.{Schedule}
 use Rattle.book_splits.specs.declared.transaction.Txn.{Txn}
 use Rattle.book_rows.specs.TransactionBytes.{txn_bytes, IsTxn}
+use Rattle.book_rows.specs.declared.format.RowFormat.{RowFormat}
 
 -- The place of a kind of recurrence in the list of them, from 1.
 abbrev pub place_of_recurrence_kind : RecurrenceKind → ℕ
@@ -101,10 +102,10 @@ timing_made fields =
       made = fields.1.1.1.1;
     }
 
--- A schedule: its name, its timing, and its template as a transaction.
-abbrev pub schedule_bytes : Schedule → List ℕ
-schedule_bytes it =
-    string it.name ++ (timing_bytes it.timing ++ txn_bytes it.template)
+-- A schedule: its name, its timing, and its template as a transaction of the format.
+abbrev pub schedule_bytes : RowFormat → Schedule → List ℕ
+schedule_bytes format it =
+    string it.name ++ (timing_bytes it.timing ++ txn_bytes format it.template)
 
 -- A schedule that has a spelling: its name is UTF-8, and its timing and its template have a spelling.
 abbrev pub IsSchedule : Schedule → Type 0

@@ -4,6 +4,7 @@ use Rattle.book_undo.specs.Thing.{row_kind}
 use Rattle.book_undo.specs.declared.thing.Thing.{Thing}
 use Rattle.book_undo.specs.declared.thing.Thing.TheVariants as thing
 use Rattle.book_undo.specs.declared.thing.ThingKind.{ThingKind}
+use Rattle.book_rows.specs.declared.format.RowFormat.{RowFormat}
 use Rattle.book_rows.specs.CommodityBytes.{commodity_bytes, IsCommodity}
 use Rattle.book_rows.specs.AccountBytes.{account_bytes, IsAccount}
 use Rattle.book_rows.specs.TransactionBytes.{txn_bytes, IsTxn}
@@ -20,17 +21,17 @@ thing_kind_bytes variant = row_kind variant ∷ []
 abbrev pub IsThingKind : ThingKind → Type 0
 IsThingKind variant = Unit {0}
 
--- The fields of a thing as bytes, by its kind.
-abbrev pub thing_bytes : Thing → List ℕ
-thing_bytes (thing.Commodity it) = commodity_bytes it
-thing_bytes (thing.Account it) = account_bytes it
-thing_bytes (thing.Txn it) = txn_bytes it
-thing_bytes (thing.Price it) = price_bytes it
-thing_bytes (thing.Schedule it) = schedule_bytes it
-thing_bytes (thing.Held it) = held_bytes it
-thing_bytes (thing.Line it) = line_bytes it
-thing_bytes (thing.Binding it) = binding_bytes it
-thing_bytes (thing.Recon it) = recon_bytes it
+-- The fields of a thing as bytes of a format, by its kind.
+abbrev pub thing_bytes : RowFormat → Thing → List ℕ
+thing_bytes format (thing.Commodity it) = commodity_bytes it
+thing_bytes format (thing.Account it) = account_bytes it
+thing_bytes format (thing.Txn it) = txn_bytes format it
+thing_bytes format (thing.Price it) = price_bytes it
+thing_bytes format (thing.Schedule it) = schedule_bytes format it
+thing_bytes format (thing.Held it) = held_bytes it
+thing_bytes format (thing.Line it) = line_bytes it
+thing_bytes format (thing.Binding it) = binding_bytes it
+thing_bytes format (thing.Recon it) = recon_bytes it
 
 -- A thing whose fields have a spelling.
 abbrev pub IsThing : Thing → Type 0

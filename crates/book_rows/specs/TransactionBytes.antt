@@ -7,6 +7,8 @@ use Rattle.book_splits.specs.declared.split.Mark.{Mark}
 use Rattle.book_splits.specs.declared.split.Mark.TheVariants.{New, Cleared, Reconciled}
 use Rattle.book_splits.specs.declared.split.Split.{Split}
 use Rattle.book_splits.specs.declared.transaction.Txn.{Txn}
+use Rattle.book_rows.specs.declared.format.RowFormat.{RowFormat}
+use Rattle.book_rows.specs.declared.format.RowFormat.TheVariants.{One, Two}
 
 -- The place of a mark in the list of them, from 1.
 abbrev pub place_of_mark : Mark → ℕ
@@ -57,9 +59,14 @@ split_made fields =
     }
 
 -- A transaction: its currency, its day, its number text, its description and its splits.
-abbrev pub txn_bytes : Txn → List ℕ
-txn_bytes it =
+abbrev pub txn_fields : Txn → List ℕ
+txn_fields it =
     number it.currency ++ (signed it.day ++ (string it.num ++ (string it.description ++ listed split_bytes it.splits)))
+
+-- A transaction in a format. In format 2 there follows what is kept of a voided one: the byte 0, as none is voided.
+abbrev pub txn_bytes : RowFormat → Txn → List ℕ
+txn_bytes One it = txn_fields it
+txn_bytes Two it = txn_fields it ++ 0 ∷ []
 
 -- A transaction that has a spelling: its texts are UTF-8, its day is one of 1900 to 2199, its currency is a number of
 -- 64 bits, and its splits have a spelling.

@@ -1,12 +1,14 @@
 //! The rows of a book as bytes. The head of a book's rows, each of its things, and each edit that leads a step back or
-//! forth is a row: a key and a body. `write_row` gives the body of a record, and `read_row` reads exactly the bodies
-//! that are spelled so; a record has one spelling. `write_thing` and `write_edit` give the body of a thing and of an
-//! edit that are only borrowed.
+//! forth is a row: a key and a body. There are two formats, 1 and 2, which the first byte of each body tells.
+//! `write_row` gives the body of a record in format 2, and `read_row` reads exactly the bodies that a format has; a
+//! record has one spelling in each. `write_thing` and `write_edit` give the body of a thing and of an edit that are
+//! only borrowed.
 #![tactic(auto)]
 
 mod account;
 mod commodity;
 mod edit;
+mod format;
 mod head;
 mod price;
 mod reconciliation;
@@ -18,6 +20,7 @@ mod thing;
 mod transaction;
 
 pub use edit::write_edit;
+pub use format::{RowFormat, WRITTEN_FORMAT, format_in};
 pub use head::Head;
 pub use record::{Record, RowError, read_row, write_row};
 pub use rows::Rows;

@@ -1,12 +1,16 @@
-ghost use Rattle.std.specs.Prelude.{◌≡◌, ◌++◌, Some, OnOk, IfSome, IfNone};
+ghost use Rattle.std.specs.Prelude.{◌≡◌, ◌++◌, List, ℕ, Some, IfOk, OnOk, IfSome, IfNone};
+ghost use Rattle.book_codec.specs.Read.{Gives};
+ghost use Rattle.book_rows.specs.declared.format.RowFormat.TheVariants.{Two};
 ghost use Rattle.book_rows.specs.ScheduleBytes.{IsRecurrenceKind, recurrence_kind_bytes, IsAdjust};
 ghost use Rattle.book_rows.specs.ScheduleBytes.{adjust_bytes, IsEnd, end_bytes};
 ghost use Rattle.book_rows.specs.ScheduleBytes.{IsRecurrence, recurrence_bytes, IsTiming, timing_bytes};
 ghost use Rattle.book_rows.specs.ScheduleBytes.{IsSchedule, schedule_bytes};
 ghost use Rattle.book_rows.specs.ScheduleBytes.{recurrence_made, timing_made, schedule_made};
 ghost use Rattle.book_rows.specs.ScheduleBytes.{place_of_recurrence_kind, place_of_adjust};
+ghost use Rattle.book_rows.specs.TransactionBytes.{txn_made};
 
-use crate::Rows;
+use crate::transaction::{TxnFields, txn_of};
+use crate::{RowFormat, Rows};
 use book_codec::{DecodeError, Field};
 use book_commodity::{Day, Many, OutOfMemory, Text};
 use book_schedule::{Adjust, End, Recurrence, RecurrenceKind, Timing};
@@ -238,11 +242,14 @@ fn timing_of(fields: TimingFields) -> Timing
 /// The fields of a schedule, in the order of their bytes.
 type ScheduleFields = (Text, (Timing, Txn));
 
-/// A schedule: its name, its timing, and its template as a transaction.
+/// The fields of a schedule in format 1.
+type FormatOneFields = (Text, (Timing, TxnFields));
+
+/// A schedule in format 2: its name, its timing, and its template as a transaction.
 impl Field<Rows> for Schedule {
     ghost fits = { IsSchedule };
 
-    ghost spelling = { schedule_bytes };
+    ghost spelling = { schedule_bytes Two };
 
     fn spell(&self, out: &mut Vec<u8>) -> Result<(), OutOfMemory> {
         Field::<Rows>::spell(&self.name, out)?;
@@ -256,6 +263,39 @@ impl Field<Rows> for Schedule {
             Err(error) => return Err(error),
         };
         Ok((schedule_of(fields), rest))
+    }
+}
+
+/// Reads a schedule of the format at the front of the bytes, and gives the bytes behind it.
+/// Bad: the bytes begin with none.
+pub(crate) fn read_schedule(
+    alloc: Global,
+    format: RowFormat,
+    bytes: &[u8],
+) -> Result<(Schedule, &[u8]), DecodeError>
+    ensures found { IfOk result (λ found. bytes.now ≡ schedule_bytes format found.0 ++ found.1.now) }
+    ensures fits { IfOk result (λ found. IsSchedule found.0) }
+    ensures again { (it : Schedule) (rest : List ℕ) → IsSchedule it → bytes.now ≡ schedule_bytes format it ++ rest
+        → Gives {Y = Schedule × List ℕ} (λ found. (found.0, found.1.now)) result (it, rest) }
+{
+    match format {
+        RowFormat::One => match <FormatOneFields as Field<Rows>>::read(alloc, bytes) {
+            Ok((fields, rest)) => Ok((schedule_in_format_one(fields), rest)),
+            Err(error) => Err(error),
+        },
+        RowFormat::Two => <Schedule as Field<Rows>>::read(alloc, bytes),
+    }
+}
+
+/// The schedule whose fields in format 1 these are.
+fn schedule_in_format_one(fields: FormatOneFields) -> Schedule
+    ensures { result ≡ schedule_made (fields.0, (fields.1.0, txn_made fields.1.1)) }
+{
+    let (name, (timing, template)) = fields;
+    Schedule {
+        name,
+        timing,
+        template: txn_of(template),
     }
 }
 

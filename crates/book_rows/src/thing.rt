@@ -1,11 +1,15 @@
 ghost use Rattle.std.specs.Prelude.{◌≡◌, ◌∷◌, ◌++◌, ◌≤◌, List, ℕ, Some, IfOk, OnOk, IfSome, IfNone};
 ghost use Rattle.book_codec.specs.Read.{Gives};
 ghost use Rattle.book_undo.specs.Thing.{kind_of, row_kind};
+ghost use Rattle.book_rows.specs.Format.{format_byte};
 ghost use Rattle.book_rows.specs.ThingBytes.{IsThing, IsThingKind, thing_bytes, thing_kind_bytes};
 
-use crate::Rows;
+use crate::format::{WRITTEN_FORMAT, format_byte};
+use crate::schedule::read_schedule;
+use crate::transaction::read_txn;
+use crate::{RowFormat, Rows};
 use book_accounts::Account;
-use book_codec::{DecodeError, Field};
+use book_codec::{DecodeError, Field, behind_format};
 use book_commodity::{Bytes, Commodity, OutOfMemory};
 use book_prices::Price;
 use book_splits::{Recon, Txn};
@@ -62,9 +66,9 @@ pub(crate) fn thing_kind_of(byte: u8) -> Option<ThingKind>
     }
 }
 
-/// Writes the fields of the thing behind the bytes.
+/// Writes the fields of the thing, in format 2, behind the bytes.
 pub(crate) fn spell_thing(thing: &Thing, out: &mut Vec<u8>) -> Result<(), OutOfMemory>
-    ensures spelled { OnOk result (out.new.items ≡ out.old.items ++ thing_bytes thing.now) }
+    ensures spelled { OnOk result (out.new.items ≡ out.old.items ++ thing_bytes RowFormat.Two thing.now) }
     ensures fits { OnOk result (IsThing thing.now) }
 {
     match thing {
@@ -80,34 +84,35 @@ pub(crate) fn spell_thing(thing: &Thing, out: &mut Vec<u8>) -> Result<(), OutOfM
     }
 }
 
-/// The body of the row of a thing.
+/// The body of the row of a thing, in format 2.
 pub fn write_thing(alloc: Global, thing: &Thing) -> Result<Bytes, OutOfMemory>
-    ensures body { IfOk result (λ body. body ≡ 1 ∷ thing_bytes thing.now) }
+    ensures body { IfOk result (λ body. body ≡ 2 ∷ thing_bytes RowFormat.Two thing.now) }
     ensures fits { IfOk result (λ body. IsThing thing.now) }
 {
     let mut out = Vec::new(alloc);
-    out.push(1)?;
+    out.push(WRITTEN_FORMAT)?;
     spell_thing(thing, &mut out)?;
     Ok(Bytes::of(out))
 }
 
-/// The thing of a kind whose body these bytes are.
+/// The thing of a kind whose body in the format these bytes are.
 /// Bad: they are the body of no such thing.
 pub(crate) fn read_thing_body(
     alloc: Global,
+    format: RowFormat,
     kind: ThingKind,
     body: &[u8],
 ) -> Result<Thing, DecodeError>
     ensures kind { IfOk result (λ thing. kind_of thing ≡ kind) }
-    ensures found { IfOk result (λ thing. body.now ≡ 1 ∷ thing_bytes thing) }
+    ensures found { IfOk result (λ thing. body.now ≡ format_byte format ∷ thing_bytes format thing) }
     ensures fits { IfOk result IsThing }
-    ensures again { (thing : Thing) → kind_of thing ≡ kind → IsThing thing → body.now ≡ 1 ∷ thing_bytes thing
-        → Gives (λ x. x) result thing }
+    ensures again { (thing : Thing) → kind_of thing ≡ kind → IsThing thing
+        → body.now ≡ format_byte format ∷ thing_bytes format thing → Gives (λ x. x) result thing }
 {
-    let [1, bytes @ ..] = body else {
+    let Some(bytes) = behind_format(format_byte(format), body) else {
         return Err(DecodeError::Bad);
     };
-    let (thing, left) = match read_thing(alloc, kind, bytes) {
+    let (thing, left) = match read_thing(alloc, format, kind, bytes) {
         Ok(found) => found,
         Err(error) => return Err(error),
     };
@@ -117,18 +122,19 @@ pub(crate) fn read_thing_body(
     Ok(thing)
 }
 
-/// Reads the fields of a thing of the kind at the front of the bytes, and gives the bytes behind them.
+/// Reads the fields of a thing of the kind, in the format, at the front of the bytes, and gives the bytes behind them.
 /// Bad: the bytes begin with no fields of such a thing.
 pub(crate) fn read_thing(
     alloc: Global,
+    format: RowFormat,
     kind: ThingKind,
     bytes: &[u8],
 ) -> Result<(Thing, &[u8]), DecodeError>
     ensures kind { IfOk result (λ found. kind_of found.0 ≡ kind) }
-    ensures found { IfOk result (λ found. bytes.now ≡ thing_bytes found.0 ++ found.1.now) }
+    ensures found { IfOk result (λ found. bytes.now ≡ thing_bytes format found.0 ++ found.1.now) }
     ensures fits { IfOk result (λ found. IsThing found.0) }
     ensures again { (thing : Thing) (rest : List ℕ) → kind_of thing ≡ kind → IsThing thing
-        → bytes.now ≡ thing_bytes thing ++ rest
+        → bytes.now ≡ thing_bytes format thing ++ rest
         → Gives {Y = Thing × List ℕ} (λ found. (found.0, found.1.now)) result (thing, rest) }
 {
     match kind {
@@ -140,7 +146,7 @@ pub(crate) fn read_thing(
             Ok((it, rest)) => Ok((Thing::Account(it), rest)),
             Err(error) => Err(error),
         },
-        ThingKind::Txn => match <Txn as Field<Rows>>::read(alloc, bytes) {
+        ThingKind::Txn => match read_txn(alloc, format, bytes) {
             Ok((it, rest)) => Ok((Thing::Txn(it), rest)),
             Err(error) => Err(error),
         },
@@ -148,7 +154,7 @@ pub(crate) fn read_thing(
             Ok((it, rest)) => Ok((Thing::Price(it), rest)),
             Err(error) => Err(error),
         },
-        ThingKind::Schedule => match <Schedule as Field<Rows>>::read(alloc, bytes) {
+        ThingKind::Schedule => match read_schedule(alloc, format, bytes) {
             Ok((it, rest)) => Ok((Thing::Schedule(it), rest)),
             Err(error) => Err(error),
         },
@@ -158,7 +164,7 @@ pub(crate) fn read_thing(
     }
 }
 
-/// The same for the kinds that come with statements.
+/// The same for the kinds that come with statements, which are the same in both formats.
 fn read_bank_thing(
     alloc: Global,
     kind: ThingKind,
@@ -166,10 +172,11 @@ fn read_bank_thing(
 ) -> Result<(Thing, &[u8]), DecodeError>
     requires { 7 ≤ row_kind kind }
     ensures kind { IfOk result (λ found. kind_of found.0 ≡ kind) }
-    ensures found { IfOk result (λ found. bytes.now ≡ thing_bytes found.0 ++ found.1.now) }
+    ensures found { (format : RowFormat) → IfOk result (λ found.
+        bytes.now ≡ thing_bytes format found.0 ++ found.1.now) }
     ensures fits { IfOk result (λ found. IsThing found.0) }
-    ensures again { (thing : Thing) (rest : List ℕ) → kind_of thing ≡ kind → IsThing thing
-        → bytes.now ≡ thing_bytes thing ++ rest
+    ensures again { (format : RowFormat) (thing : Thing) (rest : List ℕ) → kind_of thing ≡ kind → IsThing thing
+        → bytes.now ≡ thing_bytes format thing ++ rest
         → Gives {Y = Thing × List ℕ} (λ found. (found.0, found.1.now)) result (thing, rest) }
 {
     match kind {

@@ -1,9 +1,11 @@
-ghost use Rattle.std.specs.Prelude.{◌≡◌, ◌++◌, Some, OnOk, IfSome, IfNone};
+ghost use Rattle.std.specs.Prelude.{◌≡◌, ◌∷◌, ◌++◌, [], ⊤, List, ℕ, Some, IfOk, OnOk, IfSome, IfNone};
+ghost use Rattle.book_codec.specs.Read.{Gives};
+ghost use Rattle.book_rows.specs.declared.format.RowFormat.TheVariants.{Two};
 ghost use Rattle.book_rows.specs.TransactionBytes.{IsMark, mark_bytes, IsSplit, split_bytes, IsTxn, txn_bytes};
 ghost use Rattle.book_rows.specs.TransactionBytes.{split_made, txn_made, place_of_mark};
 ghost use Rattle.book_rows.specs.TransactionBytes.{split_rest, IsSplitRest};
 
-use crate::Rows;
+use crate::{RowFormat, Rows};
 use book_codec::{DecodeError, Field};
 use book_commodity::{Day, Many, OutOfMemory, Text};
 use book_splits::{Mark, Split, Txn};
@@ -113,25 +115,52 @@ fn split_of(fields: SplitFields) -> Split
     }
 }
 
-/// The fields of a transaction, in the order of their bytes.
-type TxnFields = (u64, (Day, (Text, (Text, Many<Split>))));
+/// The fields of a transaction that both formats have, in the order of their bytes.
+pub(crate) type TxnFields = (u64, (Day, (Text, (Text, Many<Split>))));
 
-/// A transaction: its currency, its day, its number text, its description and its splits.
+/// What format 2 keeps of a transaction that is voided. None is.
+#[derive(Clone, Copy)]
+struct NotVoided;
+
+/// What is kept of a voided transaction is absent: the byte 0.
+impl Field<Rows> for NotVoided {
+    ghost fits = { λ absent. ⊤ };
+
+    ghost spelling = { λ absent. 0 ∷ [] };
+
+    fn spell(&self, out: &mut Vec<u8>) -> Result<(), OutOfMemory> {
+        out.push(0)?;
+        Ok(())
+    }
+
+    fn read(_alloc: Global, bytes: &[u8]) -> Result<(NotVoided, &[u8]), DecodeError> {
+        match bytes {
+            [0, rest @ ..] => Ok((NotVoided, rest)),
+            _ => Err(DecodeError::Bad),
+        }
+    }
+}
+
+/// A transaction in format 2: its currency, its day, its number text, its description and its splits, and what is kept
+/// of a voided one.
 impl Field<Rows> for Txn {
     ghost fits = { IsTxn };
 
-    ghost spelling = { txn_bytes };
+    ghost spelling = { txn_bytes Two };
 
     fn spell(&self, out: &mut Vec<u8>) -> Result<(), OutOfMemory> {
         Field::<Rows>::spell(&self.currency, out)?;
         Field::<Rows>::spell(&self.day, out)?;
         Field::<Rows>::spell(&self.num, out)?;
         Field::<Rows>::spell(&self.description, out)?;
-        Field::<Rows>::spell(&self.splits, out)
+        Field::<Rows>::spell(&self.splits, out)?;
+        Field::<Rows>::spell(&NotVoided, out)
     }
 
     fn read(alloc: Global, bytes: &[u8]) -> Result<(Txn, &[u8]), DecodeError> {
-        let (fields, rest) = match <TxnFields as Field<Rows>>::read(alloc, bytes) {
+        let ((fields, _), rest) = match <(TxnFields, NotVoided) as Field<Rows>>::read(
+            alloc, bytes,
+        ) {
             Ok(found) => found,
             Err(error) => return Err(error),
         };
@@ -139,8 +168,29 @@ impl Field<Rows> for Txn {
     }
 }
 
+/// Reads a transaction of the format at the front of the bytes, and gives the bytes behind it.
+/// Bad: the bytes begin with none.
+pub(crate) fn read_txn(
+    alloc: Global,
+    format: RowFormat,
+    bytes: &[u8],
+) -> Result<(Txn, &[u8]), DecodeError>
+    ensures found { IfOk result (λ found. bytes.now ≡ txn_bytes format found.0 ++ found.1.now) }
+    ensures fits { IfOk result (λ found. IsTxn found.0) }
+    ensures again { (it : Txn) (rest : List ℕ) → IsTxn it → bytes.now ≡ txn_bytes format it ++ rest
+        → Gives {Y = Txn × List ℕ} (λ found. (found.0, found.1.now)) result (it, rest) }
+{
+    match format {
+        RowFormat::One => match <TxnFields as Field<Rows>>::read(alloc, bytes) {
+            Ok((fields, rest)) => Ok((txn_of(fields), rest)),
+            Err(error) => Err(error),
+        },
+        RowFormat::Two => <Txn as Field<Rows>>::read(alloc, bytes),
+    }
+}
+
 /// The transaction whose fields these are.
-fn txn_of(fields: TxnFields) -> Txn
+pub(crate) fn txn_of(fields: TxnFields) -> Txn
     ensures { result ≡ txn_made fields }
 {
     let (currency, (day, (num, (description, splits)))) = fields;

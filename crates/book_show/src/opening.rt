@@ -46,7 +46,7 @@ pub fn open_book<K: Keeper>(alloc: Global, keeper: &mut K) -> Result<Opened, Boo
     ensures cause { HasBookCause (K.faults keeper.old) (K.faults keeper.new) result }
 {
     match read_rows(alloc, keeper) {
-        Ok(Some(state)) => checked(alloc, state),
+        Ok(Some((_format, state))) => checked(alloc, state),
         Ok(None) => begin(alloc),
         Err(fault) => Err(book_error(fault)),
     }

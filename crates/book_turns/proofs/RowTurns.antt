@@ -19,7 +19,7 @@ use Rattle.book_history.proofs.TurnLaws.{back_counted, forth_counted}
 use Rattle.book_opening.specs.BookRows.{back_records, behind_head, forth_records, things_of}
 use Rattle.book_opening.specs.Changes.{GoneBack, GoneForth, IsSmallLeaf, PutBack}
 use Rattle.book_opening.specs.Changes.{all_put, step_change, with_steps}
-use Rattle.book_opening.specs.Opening.{OpenAs}
+use Rattle.book_opening.specs.Opening.{OpenIn}
 use Rattle.book_opening.specs.State.{State, head_of}
 use Rattle.book_opening.specs.Steps.{AreCounted}
 use Rattle.book_opening.proofs.AllRowLaws.{all_put_rise, opens_from_none}
@@ -34,6 +34,7 @@ use Rattle.book_turns.specs.declared.turn.Turn.{Turn}
 use Rattle.book_turns.specs.declared.turn.Way.{Way}
 use Rattle.book_turns.specs.declared.turn.Way.TheVariants.{Change as ToNew, Undo, Redo}
 use Rattle.book_turns.proofs.SmallLemmas.{allowed_in_order, can_be_rows, small_leaves}
+use Rattle.book_rows.specs.declared.format.RowFormat.TheVariants.{Two}
 
 -- ---- the steps of a state that an engine keeps are those that its head counts
 -- The steps of such a state are those that its head counts.
@@ -242,7 +243,7 @@ pub turn_stands :
     (state : State) (saved : Bool) (turn : Turn) (rows : List Row) → IsWhole state saved
     → IsWhole (turned turn state) true → IsTurnFor state saved turn → IsAllowed state.book turn.edit
     → HaveSpellings saved state turn → StandFor saved state rows
-    → OpenAs (after_changes (changes_to saved state turn) rows) (turned turn state)
+    → OpenIn Two (after_changes (changes_to saved state turn) rows) (turned turn state)
 turn_stands state true turn rows whole after is allowed fit stand =
     opens_after rows state (turned turn state) turn.edit (step_changes turn.way state turn.inverse) stand
     (steps_are state true turn whole) (turn_small state true turn whole after is allowed) fit.1
@@ -250,6 +251,6 @@ turn_stands state true turn rows whole after is allowed fit stand =
     fit.2 fit.0 (whole_counted (turned turn state) true after)
 turn_stands state false turn rows whole after is allowed fit none =
     let next = turned turn state in
-    subst (λ (l : List Row). OpenAs (after_changes (all_put next) l) next) (sym none)
+    subst (λ (l : List Row). OpenIn Two (after_changes (all_put next) l) next) (sym none)
     (opens_from_none next (whole_tables next true after) (can_be_rows next true after fit)
     (whole_counted next true after))

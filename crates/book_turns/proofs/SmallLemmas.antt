@@ -162,7 +162,7 @@ book_things book next are small =
 thing_row : (e : ℕ × Record) → IsThing e → IsRecord e.1 → CanBeRow e
 thing_row e is record_is =
     let least : 2 ≤ kind_of e.1 = subst (λ (r : Record). 2 ≤ kind_of r) (sym is.1.1) (kind_least (thing_kind is.1.0)) in
-    ((refl, is.0, λ one. absurd (omega (arith, least, one))), record_is, refl)
+    ((refl, is.0, λ one. absurd (omega (arith, least, one))), record_is)
 
 all_rows :
     (es : List (ℕ × Record)) → AllByRecursion IsThing es → AreRecords es → AllByRecursion CanBeRow es
@@ -175,7 +175,7 @@ back_can :
 back_can from [] numbers few fit = tt
 back_can from (step ∷ steps) numbers few fit =
     let here = numbers.0 in (
-      ((refl, omega (arith, here, few), λ one. absurd cc), fit.0, refl),
+      ((refl, omega (arith, here, few), λ one. absurd cc), fit.0),
       back_can (suc from) steps numbers.1 (omega (arith, few)) fit.1,
     )
 
@@ -185,7 +185,7 @@ forth_can :
 forth_can from [] numbers few fit = tt
 forth_can from (step ∷ steps) numbers few fit =
     let here = numbers.0 in (
-      ((refl, omega (arith, here, few), λ one. absurd cc), fit.0, refl),
+      ((refl, omega (arith, here, few), λ one. absurd cc), fit.0),
       forth_can (suc from) steps numbers.1 (omega (arith, few)) fit.1,
     )
 
@@ -214,4 +214,4 @@ can_be_rows state saved whole fit =
     (all_first (λ (e : ℕ × Record). IsRecord e.1) back forth steps))
     (forth_can (state.position + 1) state.forth h.forth_numbers (omega (arith, later, few))
     (all_last (λ (e : ℕ × Record). IsRecord e.1) back forth steps))) in
-    (((refl, omega arith, λ one. refl), fit.0, refl), can)
+    (((refl, omega arith, λ one. refl), fit.0), can)

@@ -5,23 +5,26 @@ use std::io;
 
 /// The rows of a book in euros: the euro, the root, a bank and an income.
 const FRONT: [&str; 4] = [
-    "2 1 01000000000000000843555252454e4359000000000000000345555200000000000000000000000000000064",
-    "3 2 010000000000000004526f6f740100000000000000010000000000000000000000000000000000000100",
-    "3 3 01000000000000000442616e6b03000000000000000101000000000000000200000000000000000000000000000000000000",
-    "3 4 01000000000000000653616c6172790b000000000000000101000000000000000200000000000000000000000000000000000000",
+    "2 1 02000000000000000843555252454e4359000000000000000345555200000000000000000000000000000064",
+    "3 2 020000000000000004526f6f740100000000000000010000000000000000000000000000000000000100",
+    "3 3 02000000000000000442616e6b03000000000000000101000000000000000200000000000000000000000000000000000000",
+    "3 4 02000000000000000653616c6172790b000000000000000101000000000000000200000000000000000000000000000000000000",
 ];
 
 /// The body of a transaction before its first split: the euro, a day, no number, a description, two splits.
 const PAY: &str =
-    "0100000000000000010000000000004d0f000000000000000000000000000000035061790000000000000002";
+    "0200000000000000010000000000004d0f000000000000000000000000000000035061790000000000000002";
 
 /// What stands between the account of a split and its value: no memo, no action, the mark new, no reconciliation.
 const UNMARKED: &str = "000000000000000000000000000000000100";
 
+/// What a transaction ends with: what is kept of a voided one is absent.
+const NOT_VOIDED: &str = "00";
+
 /// Puts the head of a book whose next number this is, and to which so many changes were made.
 fn put_head(alloc: Global, keeper: &mut MemKeeper, next: u64, changes: u64) -> io::Result<()> {
     let numbers = format!(in alloc; "{next:016x}{changes:016x}{changes:016x}")?;
-    let line = format!(in alloc; "1 0 01{numbers}{:016x}{:016x}{:016x}", 0u64, 0u64, 1u64)?;
+    let line = format!(in alloc; "1 0 02{numbers}{:016x}{:016x}{:016x}", 0u64, 0u64, 1u64)?;
     put_all(alloc, keeper, line.as_str())
 }
 
@@ -38,7 +41,7 @@ fn put_salary(alloc: Global, keeper: &mut MemKeeper, number: u64) -> io::Result<
         "{second:016x}{:016x}{UNMARKED}fffffffffffc2f70fffffffffffc2f70",
         4u64
     )?;
-    let line = format!(in alloc; "4 {number} {PAY}{gets}{gives}")?;
+    let line = format!(in alloc; "4 {number} {PAY}{gets}{gives}{NOT_VOIDED}")?;
     put_all(alloc, keeper, line.as_str())
 }
 

@@ -8,23 +8,26 @@ use book_statement::{Binding, Held, Line, LineState, Part, StatementLine};
 use std::alloc::Global;
 use std::test::Fail;
 
+/// The format in which rows are written.
+const FORMAT: u8 = 2;
+
 /// A statement of account 3, without an opening balance, which does not tie.
-const HELD: &[u8] = b"\x01\0\0\0\0\0\0\0\x03\0\0\0\0\0\0\0\x04NL01\0\0\0\0\0\0\0\x02A7\0\
+const HELD: &[u8] = b"\x02\0\0\0\0\0\0\0\x03\0\0\0\0\0\0\0\x04NL01\0\0\0\0\0\0\0\x02A7\0\
     \x01\0\0\0\0\0\0\0\xfa\0\0\0\0\0\0\x4d\x0f\x01\0";
 
 /// A line of statement 9 with one part, matched with split 6.
 const LINE: &[u8] =
-    b"\x01\0\0\0\0\0\0\0\x03\0\0\0\0\0\0\0\x09\0\0\0\0\0\0\0\x02\0\0\0\0\0\0\x4d\x0f\
+    b"\x02\0\0\0\0\0\0\0\x03\0\0\0\0\0\0\0\x09\0\0\0\0\0\0\0\x02\0\0\0\0\0\0\x4d\x0f\
     \0\0\0\0\0\0\x4d\x10\0\0\0\0\0\0\x03\xe8\0\0\0\0\0\0\0\x04NTRF\0\0\0\0\0\0\0\x02R1\0\0\0\0\0\0\0\x03B22\
     \0\0\0\0\0\0\0\x04Rent\0\0\0\0\0\0\0\x04Home\0\0\0\0\0\0\0\x01\0\0\0\0\0\0\0\x04Flat\0\0\0\0\0\0\0\x03May\
     \xff\xff\xff\xff\xff\xff\xfe\xd4\x02\0\0\0\0\0\0\0\x06";
 
 /// What files call account 4.
-const BINDING: &[u8] = b"\x01\0\0\0\0\0\0\0\x04NL02\0\0\0\0\0\0\0\x04";
+const BINDING: &[u8] = b"\x02\0\0\0\0\0\0\0\x04NL02\0\0\0\0\0\0\0\x04";
 
 /// A reconciliation with the opening balance 2^64 + 2 and two marked splits.
 const RECON: &[u8] =
-    b"\x01\0\0\0\0\0\0\0\x03\0\0\0\0\0\0\x4d\x29\0\0\0\0\0\0\0\x01\0\0\0\0\0\0\0\x02\
+    b"\x02\0\0\0\0\0\0\0\x03\0\0\0\0\0\0\x4d\x29\0\0\0\0\0\0\0\x01\0\0\0\0\0\0\0\x02\
     \0\0\0\0\0\0\0\x05\0\0\0\0\0\0\0\x02\0\0\0\0\0\0\0\x06\xff\xff\xff\xff\xff\xff\xff\xfc\
     \0\0\0\0\0\0\0\x08\0\0\0\0\0\0\0\x0a";
 
@@ -102,7 +105,7 @@ fn reconciliation(alloc: Global) -> Result<Recon, OutOfMemory> {
 
 /// Whether the body is that of the thing.
 fn is_body<T: Field<Rows>>(alloc: Global, thing: &T, body: &[u8]) -> bool {
-    match write_whole::<Rows, T>(alloc, thing) {
+    match write_whole::<Rows, T>(alloc, FORMAT, thing) {
         Ok(written) => written.as_slice() == body,
         Err(_) => false,
     }

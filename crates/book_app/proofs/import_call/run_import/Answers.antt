@@ -4,7 +4,9 @@ use Rattle.book_app.specs.Numbers.{status_unopened}
 use Rattle.book_app.specs.StatusClause.{IsBookRun, over}
 use Rattle.book_app.specs.Words.{Import}
 use Rattle.book_app.specs.declared.status.Status.{Status}
-use Rattle.book_app.proofs.StatusClauseLemmas.{not_asked, run_of_import, run_of_nothing, same_rows, unopened_import, untouched}
+use Rattle.book_engine.proofs.StandLemmas.{kept_format}
+use Rattle.book_app.proofs.StatusClauseLemmas.{not_asked, run_of_import, run_of_nothing, same_rows, still_unopened, unopened, unopened_import}
+use Rattle.book_app.proofs.StatusClauseLemmas.{untouched}
 use Rattle.book_app.proofs.import_call.run_import.Goals as goal
 
 pub returns-in_default-clause-run : goal.returns-in_default-clause-run
@@ -13,7 +15,8 @@ returns-in_default-clause-run g c =
 
 pub returns-in_default-room_after-clause-run : goal.returns-in_default-room_after-clause-run
 returns-in_default-room_after-clause-run g c =
-    run_of_nothing (Import c.args.import) _ _ _ _ (λ bytes. untouched _ (not_asked g.K.Keeper c.args.keeper.now))
+    run_of_nothing (Import c.args.import) _ _ _ _ (λ bytes. unopened _
+    (still_unopened _ (not_asked g.K.Keeper c.args.keeper.now)))
 
 pub returns-in-Ok-open_book-clause-run : goal.returns-in-Ok-open_book-clause-run
 returns-in-Ok-open_book-clause-run g c =
@@ -22,13 +25,13 @@ returns-in-Ok-open_book-clause-run g c =
     run_of_import c.args.import keeping (machine_kept c.in-Ok-open_book.engine)
     (machine_kept c.import_input.new.importer.engine) (g.K.Keeper.faults c.open_book.new.keeper) _ _ _ _
     c.import_input.result c.in-Ok-open_book.ensures.cause.done
-    (λ honest rows held. (c.in-Ok-open_book.ensures.opened (later.still_honest honest) rows held).0)
-    (λ still. let stood = c.import_input.ensures.stands.rows still in (stood.0, stood.1, stood.2.0))
+    (λ honest rows held. c.in-Ok-open_book.ensures.opened (later.still_honest honest) rows held)
+    (λ still. let stood = c.import_input.ensures.stands.rows still in (stood.0, stood.1, stood.2.0, kept_format c.import_input.new.importer.engine stood.0 stood.2))
     c.import_input.ensures.stands.left
     (λ is. same_rows g.K.Keeper c.args.keeper.now c.open_book.new.keeper
-    c.import_input.new.keeper (c.import_input.ensures.limit is) c.open_book.ensures.before)
+    c.import_input.new.keeper (c.import_input.ensures.limit is) c.in-Ok-open_book.ensures.before)
     (λ is. same_rows g.K.Keeper c.args.keeper.now c.open_book.new.keeper
-    c.import_input.new.keeper (c.import_input.ensures.fault is) c.open_book.ensures.before)
+    c.import_input.new.keeper (c.import_input.ensures.fault is) c.in-Ok-open_book.ensures.before)
     c.import_input.ensures.run
 
 pub returns-clause-run : goal.returns-clause-run
@@ -39,5 +42,5 @@ returns-clause-run g c =
     subst (λ (s : Status). IsBookRun (Import c.args.import) keeping input input output output s)
     (sym c.status_unopened.ensures)
     (run_of_nothing (Import c.args.import) keeping input output (status_unopened c.in-Err.error)
-    (λ bytes. unopened_import c.args.import keeping output bytes c.in-Err.error c.open_book.ensures.before
+    (λ bytes. unopened_import c.args.import keeping output bytes c.in-Err.error c.in-Err.ensures.before
     c.in-Err.ensures.opened))

@@ -4,7 +4,9 @@ use Rattle.book_app.specs.Numbers.{status_unopened}
 use Rattle.book_app.specs.StatusClause.{IsBookRun, over}
 use Rattle.book_app.specs.Words.{Lines}
 use Rattle.book_app.specs.declared.status.Status.{Status}
-use Rattle.book_app.proofs.StatusClauseLemmas.{run_of_lines, run_of_nothing, unopened_clause, untouched, not_asked}
+use Rattle.book_engine.proofs.StandLemmas.{kept_format}
+use Rattle.book_app.proofs.StatusClauseLemmas.{run_of_lines, run_of_nothing, still_unopened, unopened, unopened_clause, untouched}
+use Rattle.book_app.proofs.StatusClauseLemmas.{not_asked}
 use Rattle.book_app.proofs.main_call.run_book.Goals as goal
 
 pub returns-in_default-clause-run : goal.returns-in_default-clause-run
@@ -13,7 +15,8 @@ returns-in_default-clause-run g c =
 
 pub returns-in_default-room_after-clause-run : goal.returns-in_default-room_after-clause-run
 returns-in_default-room_after-clause-run g c =
-    run_of_nothing Lines _ _ _ _ (λ bytes. untouched _ (not_asked g.K.Keeper c.args.keeper.now))
+    run_of_nothing Lines _ _ _ _ (λ bytes. unopened _
+    (still_unopened _ (not_asked g.K.Keeper c.args.keeper.now)))
 
 pub returns-in-Ok-open_book-clause-run : goal.returns-in-Ok-open_book-clause-run
 returns-in-Ok-open_book-clause-run g c =
@@ -21,8 +24,8 @@ returns-in-Ok-open_book-clause-run g c =
     let later = c.run_lines.ensures.keeper in
     run_of_lines keeping (machine_kept c.in-Ok-open_book.engine) (machine_kept c.run_lines.new.engine)
     (g.K.Keeper.faults c.open_book.new.keeper) _ _ _ _ _ c.in-Ok-open_book.ensures.cause.done
-    (λ honest rows held. (c.in-Ok-open_book.ensures.opened (later.still_honest honest) rows held).0)
-    (λ still. let stood = c.run_lines.ensures.stands.rows still in (stood.0, stood.1, stood.2.0))
+    (λ honest rows held. c.in-Ok-open_book.ensures.opened (later.still_honest honest) rows held)
+    (λ still. let stood = c.run_lines.ensures.stands.rows still in (stood.0, stood.1, stood.2.0, kept_format c.run_lines.new.engine stood.0 stood.2))
     c.run_lines.ensures.stands.left c.run_lines.ensures.run
 
 pub returns-clause-run : goal.returns-clause-run
@@ -32,4 +35,4 @@ returns-clause-run g c =
     let output = g.O.Sink.written c.args.output.now in
     subst (λ (s : Status). IsBookRun Lines keeping input input output output s) (sym c.status_unopened.ensures)
     (run_of_nothing Lines keeping input output (status_unopened c.in-Err.error)
-    (λ bytes. unopened_clause keeping output bytes c.in-Err.error c.open_book.ensures.before c.in-Err.ensures.opened))
+    (λ bytes. unopened_clause keeping output bytes c.in-Err.error c.in-Err.ensures.before c.in-Err.ensures.opened))

@@ -15,7 +15,7 @@ rows-init g c = record {
   known = λ honest sure. sure;
   count = refl;
   rows = λ known rows held begins.
-      start_rows rows (state_of c.args.saved.now) c.requires.begun
+      start_rows c.args.format rows (state_of c.args.saved.now) c.requires.begun
       (g.met.K.Keeper.rising c.args.keeper.now rows held) begins;
 }
 
@@ -26,7 +26,7 @@ rows-preserved g c =
     let after = state_of c.put.new.self in
     let above = rw c.in-Ok-Some.field-0-is at c.in-Ok-Some.ensures.above in
     record {
-      read = next_read before after row.key.id c.in-Ok.it c.in-Ok.ensures.behind c.in-Ok-put.ensures
+      read = next_read c.args.format before after row.key.id c.in-Ok.it c.in-Ok.ensures.behind c.in-Ok-put.ensures
           c.in-Ok.ensures.read c.rows.invariant.read;
       head = next_head before after row.key.id c.in-Ok.it (head_of (state_of c.args.saved.now)) c.in-Ok-put.ensures
           c.rows.invariant.head;
@@ -45,7 +45,7 @@ rows-preserved g c =
       rows = λ known rows held begins.
           let still = c.in-Ok-Some.ensures.sure known in
           let now = c.rows.invariant.keeper.same_rows still rows held in
-          next_rows rows (rank c.rows.last) row before after row.key.id c.in-Ok.it c.in-Ok.ensures.behind
+          next_rows c.args.format rows (rank c.rows.last) row before after row.key.id c.in-Ok.it c.in-Ok.ensures.behind
           (g.met.K.Keeper.rising c.args.keeper.now rows held)
           (sym (c.in-Ok-Some.ensures.found known rows now) ∙ c.in-Ok-Some.field-0-is)
           (c.rows.invariant.rows still rows held begins) c.in-Ok.ensures.found c.in-Ok-put.ensures
@@ -62,7 +62,7 @@ pub returns-in-Ok-None-clause-rows : goal.returns-in-Ok-None-clause-rows
 returns-in-Ok-None-clause-rows g c = λ known rows held begins.
     let still = c.in-Ok-None.ensures.sure known in
     let now = c.rows.invariant.keeper.same_rows still rows held in
-    last_rows rows (rank c.rows.last) (state_of c.rows.saved)
+    last_rows c.args.format rows (rank c.rows.last) (state_of c.rows.saved)
     (sym (c.in-Ok-None.ensures.found known rows now) ∙ c.in-Ok-None.field-0-is)
     (c.rows.invariant.rows still rows held begins)
 
@@ -89,10 +89,10 @@ returns-in-Err-BadRows-clause-bad g c = λ known rows held begins.
     let still = c.in-Ok-Some.ensures.sure known in
     let now = c.rows.invariant.keeper.same_rows still rows held in
     let fault = c.in-Err-BadRows in
-    next_bad rows (rank c.rows.last) row before c.first_bad.result c.bad.result
+    next_bad c.args.format rows (rank c.rows.last) row before c.first_bad.result c.bad.result
     (g.met.K.Keeper.rising c.args.keeper.now rows held)
     (sym (c.in-Ok-Some.ensures.found known rows now) ∙ c.in-Ok-Some.field-0-is)
     (c.rows.invariant.rows still rows held begins) c.rows.invariant.read
-    (begins_as rows before (head_of (state_of c.args.saved.now)) c.rows.invariant.head begins)
-    (bad_thing row fault.field-0 fault.field-0-0 fault.field-0-1 fault.field-0-is fault.ensures.bad)
+    (begins_as c.args.format rows before (head_of (state_of c.args.saved.now)) c.rows.invariant.head begins)
+    (bad_thing c.args.format row fault.field-0 fault.field-0-0 fault.field-0-1 fault.field-0-is fault.ensures.bad)
     c.first_bad.ensures c.bad.ensures

@@ -11,14 +11,14 @@ use Rattle.book_opening.proofs.read.read_into.Given as goal
 
 abbrev pub invariant-rows : goal.invariant-rows
 invariant-rows g l = record {
-  read : AllByRecursion IsOnlyRecord (records_of (state_of l.saved));
+  read : AllByRecursion (IsOnlyRecord l.format) (records_of (state_of l.saved));
   head : head_of (state_of l.saved) ≡ head_of (state_of l.fn.saved);
   last : rank head_key ≤ rank l.last;
   keeper : WasRead g.K.Keeper l.fn.keeper l.keeper;
   known : StaysSure g.K.Keeper l.fn.keeper l.keeper;
   count : g.K.Keeper.faults l.keeper ≡ g.K.Keeper.faults l.fn.keeper;
   rows : IsTrue (g.K.Keeper.sure l.keeper) → (rows : List Row) → g.K.Keeper.holds l.fn.keeper rows
-      → Begins rows (head_of (state_of l.fn.saved)) → up_to (rank l.last) rows ≡ rows_of (state_of l.saved);
+      → Begins l.format rows (head_of (state_of l.fn.saved)) → up_to (rank l.last) rows ≡ rows_of l.format (state_of l.saved);
 }
 
 abbrev pub decreases-rows : goal.decreases-rows

@@ -3,7 +3,7 @@ use Rattle.std.proofs.Common.{Some, ap, sym, ◌∙◌}
 use Rattle.book_keeper.specs.declared.row.Row.{Row}
 use Rattle.book_opening.specs.State.{state_of}
 use Rattle.book_opening.proofs.KeptSteps.{only_can}
-use Rattle.book_opening.proofs.ReadLaws.{bad_start, begins_as, known_more, known_twice, read_more, unread_bad}
+use Rattle.book_opening.proofs.ReadLaws.{bad_start, begins_as, known_more, known_twice, unread_bad}
 use Rattle.book_opening.proofs.ReadLaws.{unread_known, unread_opens, where_bad}
 use Rattle.book_opening.proofs.OpenLaws.{bad_answers, bad_opens, only_state, start_opens}
 use Rattle.book_opening.proofs.read.read_rows.Goals as goal
@@ -33,7 +33,7 @@ returns-in-Ok-read_behind-clause-answer g c = λ known rows held.
     let still = c.read_behind.ensures.keeper.still_sure known in
     let first = sym (c.in-Ok-Some.ensures.found still rows held) ∙ c.in-Ok-Some.field-0-is in
     c.in-Ok-read_behind.ensures.rows known rows (c.in-Ok-Some.ensures.rows still rows held)
-    (begins_as rows (state_of c.begun.result) c.in-Ok.head c.begun.ensures.head_is
+    (begins_as c.format_in-format.result rows (state_of c.begun.result) c.in-Ok.head c.begun.ensures.head_is
     (first ∙ ap (λ (r : Row). Some r) c.in-Ok.ensures.found))
 
 pub returns-in-Ok-read_behind-clause-again : goal.returns-in-Ok-read_behind-clause-again
@@ -41,14 +41,14 @@ returns-in-Ok-read_behind-clause-again g c = λ known rows held state opens.
     let still = c.read_behind.ensures.keeper.still_sure known in
     let first = sym (c.in-Ok-Some.ensures.found still rows held) ∙ c.in-Ok-Some.field-0-is in
     let mine = c.in-Ok-read_behind.ensures.rows known rows (c.in-Ok-Some.ensures.rows still rows held)
-    (begins_as rows (state_of c.begun.result) c.in-Ok.head c.begun.ensures.head_is
+    (begins_as c.format_in-format.result rows (state_of c.begun.result) c.in-Ok.head c.begun.ensures.head_is
     (first ∙ ap (λ (r : Row). Some r) c.in-Ok.ensures.found)) in
-    only_state rows (state_of c.in-Ok-read_behind.saved) state mine.are c.in-Ok-read_behind.ensures.read opens
+    only_state c.format_in-format.result rows (state_of c.in-Ok-read_behind.saved) state mine.are c.in-Ok-read_behind.ensures.read opens
 
 -- what was read has spellings, and steps that the head counts
 pub returns-in-Ok-read_behind-clause-readable : goal.returns-in-Ok-read_behind-clause-readable
 returns-in-Ok-read_behind-clause-readable g c = record {
-  spelled = only_can (state_of c.in-Ok-read_behind.saved) c.in-Ok-read_behind.ensures.read;
+  spelled = only_can c.format_in-format.result (state_of c.in-Ok-read_behind.saved) c.in-Ok-read_behind.ensures.read;
   counted = c.in-Ok-read_behind.ensures.counted;
 }
 
@@ -58,7 +58,7 @@ returns-clause-answer g c = λ known rows held.
     let first = sym (c.in-Ok-Some.ensures.found still rows held) ∙ c.in-Ok-Some.field-0-is in
     bad_answers rows c.in-Err-read_behind.fault
     (c.in-Err-read_behind.ensures.bad known rows (c.in-Ok-Some.ensures.rows still rows held)
-    (begins_as rows (state_of c.begun.result) c.in-Ok.head c.begun.ensures.head_is
+    (begins_as c.format_in-format.result rows (state_of c.begun.result) c.in-Ok.head c.begun.ensures.head_is
     (first ∙ ap (λ (r : Row). Some r) c.in-Ok.ensures.found)))
 
 pub returns-clause-again : goal.returns-clause-again
@@ -66,10 +66,10 @@ returns-clause-again g c = λ known rows held state opens.
     let still = c.read_behind.ensures.keeper.still_sure known in
     let first = sym (c.in-Ok-Some.ensures.found still rows held) ∙ c.in-Ok-Some.field-0-is in
     let begins = first ∙ ap (λ (r : Row). Some r) c.in-Ok.ensures.found in
-    bad_opens rows state c.in-Ok.head c.in-Err-read_behind.fault
+    bad_opens c.format_in-format.result rows state c.in-Ok.head c.in-Err-read_behind.fault
     (g.met.K.Keeper.rising c.args.keeper.now rows held) begins c.in-Ok.ensures.read opens
     (c.in-Err-read_behind.ensures.bad known rows (c.in-Ok-Some.ensures.rows still rows held)
-    (begins_as rows (state_of c.begun.result) c.in-Ok.head c.begun.ensures.head_is begins))
+    (begins_as c.format_in-format.result rows (state_of c.begun.result) c.in-Ok.head c.begun.ensures.head_is begins))
 
 -- whether the keeper still knows its rows
 pub returns-in-Err-clause-known : goal.returns-in-Err-clause-known

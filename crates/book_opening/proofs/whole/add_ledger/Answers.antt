@@ -8,6 +8,7 @@ use Rattle.book_opening.specs.BookRows.{records_in}
 use Rattle.book_opening.specs.Changes.{puts_of}
 use Rattle.book_opening.proofs.TableLaws.{slice_fit, table_added, three_behind}
 use Rattle.book_opening.proofs.whole.add_ledger.Goals as goal
+use Rattle.book_rows.specs.declared.format.RowFormat.TheVariants.{Two}
 
 pub returns-clause-added : goal.returns-clause-added
 returns-clause-added c =
@@ -23,7 +24,7 @@ returns-clause-added c =
     (table_added 3 account_bytes (λ it. thing.Account it) (λ _. refl)
     (λ _. refl) plain.accounts.entries plain.accounts.entries
     c.put_entries.new.changes c.put_accounts.new.changes refl c.in_ok-put_accounts.ensures.added)
-    (table_added 4 txn_bytes (λ it. thing.Txn it) (λ _. refl)
+    (table_added 4 (txn_bytes Two) (λ it. thing.Txn it) (λ _. refl)
     (λ _. refl) plain.transactions.entries c.as_slice-2.result.now
     c.put_accounts.new.changes c.put_entries-2.new.changes c.as_slice-2.ensures.entries
     c.in_ok-put_entries-2.ensures.added)

@@ -8,6 +8,7 @@ use Rattle.book_opening.specs.BookRows.{records_in}
 use Rattle.book_opening.specs.Changes.{puts_of}
 use Rattle.book_opening.proofs.TableLaws.{slice_fit, table_added, three_behind}
 use Rattle.book_opening.proofs.whole.add_plans.Goals as goal
+use Rattle.book_rows.specs.declared.format.RowFormat.TheVariants.{Two}
 
 pub returns-clause-added : goal.returns-clause-added
 returns-clause-added c =
@@ -19,7 +20,7 @@ returns-clause-added c =
     c.put_prices.new.changes c.put_entries.new.changes c.put_entries-2.new.changes
     (table_added 5 price_bytes (λ it. thing.Price it) (λ _. refl) (λ _. refl) plain.prices.entries plain.prices.entries
     c.args.changes.now c.put_prices.new.changes refl c.in_ok-put_prices.ensures.added)
-    (table_added 6 schedule_bytes (λ it. thing.Schedule it) (λ _. refl)
+    (table_added 6 (schedule_bytes Two) (λ it. thing.Schedule it) (λ _. refl)
     (λ _. refl) plain.schedules.entries c.as_slice.result.now
     c.put_prices.new.changes c.put_entries.new.changes c.as_slice.ensures c.in_ok-put_entries.ensures.added)
     (table_added 7 held_bytes (λ it. thing.Held it) (λ _. refl)

@@ -19,7 +19,7 @@ read_parts-returns-in-Err-clause-again t c parts tail fit long is =
 pub read_parts-returns-clause-again : goal.read_parts-returns-clause-again
 read_parts-returns-clause-again t c parts tail fit long is =
     let all : length c.loop-place.parts ≡ length parts = omega (arith, long) in
-    left_none (IsEditWithin c.args.most) edit_bytes parts c.loop-place.parts _ tail all
+    left_none (IsEditWithin c.args.most) (edit_bytes c.args.format) parts c.loop-place.parts _ tail all
     (c.loop-place.invariant.again parts tail fit long is)
 
 pub read_parts-loop-place-preserved : goal.read_parts-loop-place-preserved
@@ -33,38 +33,38 @@ read_parts-loop-place-preserved t c =
           ∙ (let few = length-append c.loop-place.parts (c.in-Ok.found.0 ∷ []) in omega (arith, few));
       fits = subst (AllByRecursion within) (sym added)
           (fit_more within c.loop-place.parts c.in-Ok.found.0 c.loop-place.invariant.fits c.in-Ok.ensures.fits);
-      found = first ∙ ap (λ b. flat_map edit_bytes c.loop-place.parts ++ b) next
-          ∙ read_on edit_bytes c.loop-place.parts c.in-Ok.found.0 c.in-Ok.found.1.now
-          ∙ ap (λ (l : List Edit). flat_map edit_bytes l ++ c.in-Ok.found.1.now) (sym added);
+      found = first ∙ ap (λ b. flat_map (edit_bytes c.args.format) c.loop-place.parts ++ b) next
+          ∙ read_on (edit_bytes c.args.format) c.loop-place.parts c.in-Ok.found.0 c.in-Ok.found.1.now
+          ∙ ap (λ (l : List Edit). flat_map (edit_bytes c.args.format) l ++ c.in-Ok.found.1.now) (sym added);
       again = λ parts tail fit long is.
           let short : length c.loop-place.parts < length parts = omega (arith, long) in
-          subst (λ (l : List Edit). AreLeft within edit_bytes parts l c.in-Ok.found.1.now tail) (sym added)
-          (left_more within edit_bytes parts c.loop-place.parts c.in-Ok.found.0 _ c.in-Ok.found.1.now tail short
+          subst (λ (l : List Edit). AreLeft within (edit_bytes c.args.format) parts l c.in-Ok.found.1.now tail) (sym added)
+          (left_more within (edit_bytes c.args.format) parts c.loop-place.parts c.in-Ok.found.0 _ c.in-Ok.found.1.now tail short
           (c.loop-place.invariant.again parts tail fit long is) (λ y more f e. c.in-Ok.ensures.again y more f e));
     }
 
 pub read_list-returns-in_default-clause-again : goal.read_list-returns-in_default-clause-again
 read_list-returns-in_default-clause-again t c edit rest fits e =
-    let at = parts_at c.args.most edit _ rest fits e in
+    let at = parts_at c.args.format c.args.most edit _ rest fits e in
     c.in_default.ensures at.deep
 
 pub read_list-returns-in-Err-clause-again : goal.read_list-returns-in-Err-clause-again
 read_list-returns-in-Err-clause-again t c edit rest fits e =
-    let at = parts_at c.args.most edit _ rest fits e in
-    c.in-Err.ensures.again (length at.list.parts) (flat_map edit_bytes at.list.parts ++ rest) at.few at.list.spelled
+    let at = parts_at c.args.format c.args.most edit _ rest fits e in
+    c.in-Err.ensures.again (length at.list.parts) (flat_map (edit_bytes c.args.format) at.list.parts ++ rest) at.few at.list.spelled
 
 pub read_list-returns-in-Err-read_parts-clause-again : goal.read_list-returns-in-Err-read_parts-clause-again
 read_list-returns-in-Err-read_parts-clause-again t c edit rest fits e =
-    let at = parts_at c.args.most edit _ rest fits e in
+    let at = parts_at c.args.format c.args.most edit _ rest fits e in
     let parts = at.list.parts in
-    let same = c.in-Ok.ensures.again (length parts) (flat_map edit_bytes parts ++ rest) at.few at.list.spelled in
+    let same = c.in-Ok.ensures.again (length parts) (flat_map (edit_bytes c.args.format) parts ++ rest) at.few at.list.spelled in
     c.in-Err-read_parts.ensures.again parts rest (at.within c.in-Some.less (omega (arith, c.in-Some.ensures)))
     (sym (ap (λ (p : ℕ × List ℕ). p.0) same)) (ap (λ (p : ℕ × List ℕ). p.1) same)
 
 pub read_list-returns-in-Ok-read_parts-clause-found : goal.read_list-returns-in-Ok-read_parts-clause-found
 read_list-returns-in-Ok-read_parts-clause-found t c =
     let read = c.in-Ok-read_parts.ensures in
-    list_spelled c.in-Ok-read_parts.parts c.in-Ok.found.0 c.args.bytes.now c.in-Ok.found.1.now
+    list_spelled c.args.format c.in-Ok-read_parts.parts c.in-Ok.found.0 c.args.bytes.now c.in-Ok.found.1.now
     c.in-Ok-read_parts.rest.now c.in-Ok.ensures.found read.found read.count
 
 pub read_list-returns-in-Ok-read_parts-clause-fits : goal.read_list-returns-in-Ok-read_parts-clause-fits
@@ -76,18 +76,18 @@ read_list-returns-in-Ok-read_parts-clause-fits t c =
 
 pub read_list-returns-in-Ok-read_parts-clause-again : goal.read_list-returns-in-Ok-read_parts-clause-again
 read_list-returns-in-Ok-read_parts-clause-again t c edit rest fits e =
-    let at = parts_at c.args.most edit _ rest fits e in
+    let at = parts_at c.args.format c.args.most edit _ rest fits e in
     let parts = at.list.parts in
-    let same = c.in-Ok.ensures.again (length parts) (flat_map edit_bytes parts ++ rest) at.few at.list.spelled in
+    let same = c.in-Ok.ensures.again (length parts) (flat_map (edit_bytes c.args.format) parts ++ rest) at.few at.list.spelled in
     made_edit (λ (l : List Edit). All l) _ _ edit _ _ at.list.is
     (c.in-Ok-read_parts.ensures.again parts rest (at.within c.in-Some.less (omega (arith, c.in-Some.ensures)))
     (sym (ap (λ (p : ℕ × List ℕ). p.0) same)) (ap (λ (p : ℕ × List ℕ). p.1) same))
 
 pub read_within-returns-in_default-clause-again : goal.read_within-returns-in_default-clause-again
 read_within-returns-in_default-clause-again t c edit rest fits e =
-    absurd (omega (arith, begins edit rest, ap length e, c.in_default.len_below))
+    absurd (omega (arith, begins c.args.format edit rest, ap length e, c.in_default.len_below))
 
 pub read_within-returns-in_default-first-clause-again : goal.read_within-returns-in_default-first-clause-again
 read_within-returns-in_default-first-clause-again t c edit rest fits e =
-    let first = subst (λ (b : List ℕ). get_or b 0 0 ≤ 3) (sym e) (first_byte edit rest) in
+    let first = subst (λ (b : List ℕ). get_or b 0 0 ≤ 3) (sym e) (first_byte c.args.format edit rest) in
     absurd (grind (arith, common_steps, first, c.in_default-first))

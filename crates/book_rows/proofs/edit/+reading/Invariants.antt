@@ -19,8 +19,8 @@ abbrev pub invariant-read_parts-loop-place : goal.invariant-read_parts-loop-plac
 invariant-read_parts-loop-place l = record {
   count : length l.parts ≡ l._place;
   fits : AllByRecursion (IsEditWithin l.most) l.parts;
-  found : l.bytes ≡ flat_map edit_bytes l.parts ++ l.rest;
+  found : l.bytes ≡ flat_map (edit_bytes l.format) l.parts ++ l.rest;
   again : (parts : List Edit) (tail : List ℕ) → AllByRecursion (IsEditWithin l.most) parts
-      → length parts ≡ l.count → l.bytes ≡ flat_map edit_bytes parts ++ tail
-      → AreLeft (IsEditWithin l.most) edit_bytes parts l.parts l.rest tail;
+      → length parts ≡ l.count → l.bytes ≡ flat_map (edit_bytes l.format) parts ++ tail
+      → AreLeft (IsEditWithin l.most) (edit_bytes l.format) parts l.parts l.rest tail;
 }

@@ -1,5 +1,5 @@
 -- An edit that all the bytes spell is read with nothing behind it.
-use Rattle.std.proofs.Common.{◌≡◌, ℕ, List, [], sym, ap, ◌∙◌, append-nil, arith}
+use Rattle.std.proofs.Common.{◌≡◌, ℕ, List, [], ap, arith}
 use Rattle.std.proofs.lemmas.Grind.{common_steps}
 use Rattle.book_undo.specs.declared.edit.Edit.{Edit}
 use Rattle.book_rows.proofs.edit.read_edit.Goals as goal

@@ -5,7 +5,8 @@ use Rattle.book_show.proofs.opening.open_book.Goals as goal
 pub returns-in-Ok-Some-clause-opened : goal.returns-in-Ok-Some-clause-opened
 returns-in-Ok-Some-clause-opened g c = λ still rows held.
     let is = rw c.in-Ok-Some.field-0-is at (c.in-Ok-Some.ensures.answer still rows held) in
-    opened_of rows (state_of c.in-Ok-Some.state) c.checked.result is c.checked.ensures
+    opened_of rows (state_of c.in-Ok-Some.state) c.checked.result (c.in-Ok-Some._format, is)
+    c.checked.ensures
 
 pub returns-in-Ok-None-clause-opened : goal.returns-in-Ok-None-clause-opened
 returns-in-Ok-None-clause-opened g c = λ still rows held.

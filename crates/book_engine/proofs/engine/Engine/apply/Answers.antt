@@ -46,3 +46,9 @@ returns-clause-saved c =
 
 pub returns-clause-changes : goal.returns-clause-changes
 returns-clause-changes c = not_changed c.args.self.now c.known.ensures.bounded c.known.ensures.index
+
+pub returns-in-Some-clause-asked : goal.returns-in-Some-clause-asked
+returns-in-Some-clause-asked c none =
+    let some : c.args.plan.turn ≡ Some c.in-Some.turn =
+    ap (λ (p : Planned). p.turn) (sym c.plan.view_is) ∙ c.in-Some.is in
+    absurd (let e : Some c.in-Some.turn ≡ None = sym some ∙ none in cc)

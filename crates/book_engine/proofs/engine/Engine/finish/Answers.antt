@@ -6,6 +6,7 @@ use Rattle.book_keeper.specs.declared.row.Row.{Row}
 use Rattle.book_engine.specs.Planned.{commits}
 use Rattle.book_engine.proofs.StandLemmas.{left_unchanged, plan_changes, stands_failed, stands_made}
 use Rattle.book_engine.proofs.StandLemmas.{stands_unchanged}
+use Rattle.book_engine.proofs.RoomLemmas.{same_room}
 use Rattle.book_engine.proofs.engine.Engine.finish.Goals as goal
 
 pub returns-then-not-commits-clause-stands : goal.returns-then-not-commits-clause-stands
@@ -62,3 +63,9 @@ returns-in-Err-clause-leaves g c =
     → rows ≡ after_changes changes held)) in
     λ honest. subst Left c.changes.ensures c.in-Err.ensures.left honest
     (plan_changes c.args.self.now.state c.args.self.now.saved c.args.plan c.requires.made some)
+
+pub returns-in-Err-clause-spare : goal.returns-in-Err-clause-spare
+returns-in-Err-clause-spare g c = same_room c.args.self.now
+
+pub returns-in-Err-clause-asked : goal.returns-in-Err-clause-asked
+returns-in-Err-clause-asked g c none = same_room c.args.self.now

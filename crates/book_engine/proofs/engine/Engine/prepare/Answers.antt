@@ -34,8 +34,8 @@ returns-in-Ok-clause-spare c =
     no_less_by c.args.self.now c.reckon_for.new.self c.ready.new.self c.reckon_for.ensures.spare
     c.ready.ensures.spare
 
-pub returns-in-Ok-clause-still : goal.returns-in-Ok-clause-still
-returns-in-Ok-clause-still c =
+pub returns-in-Ok-clause-earlier_room : goal.returns-in-Ok-clause-earlier_room
+returns-in-Ok-clause-earlier_room c =
     still_room c.args.self.now c.ready.new.self
     (no_less_by c.args.self.now c.reckon_for.new.self c.ready.new.self c.reckon_for.ensures.spare
     c.ready.ensures.spare)
@@ -45,14 +45,14 @@ returns-in-Err-ready-clause-spare c =
     no_less_by c.args.self.now c.reckon_for.new.self c.ready.new.self c.reckon_for.ensures.spare
     c.ready.ensures.spare
 
-pub returns-in-Err-ready-clause-still : goal.returns-in-Err-ready-clause-still
-returns-in-Err-ready-clause-still c =
+pub returns-in-Err-ready-clause-earlier_room : goal.returns-in-Err-ready-clause-earlier_room
+returns-in-Err-ready-clause-earlier_room c =
     still_room c.args.self.now c.ready.new.self
     (no_less_by c.args.self.now c.reckon_for.new.self c.ready.new.self c.reckon_for.ensures.spare
     c.ready.ensures.spare)
 
-pub returns-in-Err-clause-still : goal.returns-in-Err-clause-still
-returns-in-Err-clause-still c = still_room c.args.self.now c.reckon_for.new.self c.reckon_for.ensures.spare
+pub returns-in-Err-clause-earlier_room : goal.returns-in-Err-clause-earlier_room
+returns-in-Err-clause-earlier_room c = still_room c.args.self.now c.reckon_for.new.self c.reckon_for.ensures.spare
 
-pub returns-in_err-plan-clause-still : goal.returns-in_err-plan-clause-still
-returns-in_err-plan-clause-still c = still_room c.args.self.now c.reckon_for.new.self c.reckon_for.ensures.spare
+pub returns-in_err-plan-clause-earlier_room : goal.returns-in_err-plan-clause-earlier_room
+returns-in_err-plan-clause-earlier_room c = still_room c.args.self.now c.reckon_for.new.self c.reckon_for.ensures.spare
