@@ -153,31 +153,25 @@ class Walk:
         self.signed()
         self.listed(self.mark)
 
+    def price(self):
+        self.numbers(2)
+        self.day()
+        self.numbers(2)
+
+    def commodity(self):
+        self.texts(3)
+        self.number()
+
+    def binding(self):
+        self.text()
+        self.number()
+
     def thing(self, kind):
-        if kind == 2:
-            self.texts(3)
-            self.number()
-        elif kind == 3:
-            self.account()
-        elif kind == 4:
-            self.transaction()
-        elif kind == 5:
-            self.numbers(2)
-            self.day()
-            self.numbers(2)
-        elif kind == 6:
-            self.schedule()
-        elif kind == 7:
-            self.statement()
-        elif kind == 8:
-            self.line()
-        elif kind == 9:
-            self.text()
-            self.number()
-        elif kind == 10:
-            self.reconciliation()
-        else:
+        kinds = (self.commodity, self.account, self.transaction, self.price, self.schedule, self.statement, self.line,
+                 self.binding, self.reconciliation)
+        if not 2 <= kind < 2 + len(kinds):
             raise ValueError('no kind of a thing')
+        kinds[kind - 2]()
 
     def edit(self, lists=8):
         form = self.variant(3, 0)
