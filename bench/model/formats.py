@@ -1,15 +1,19 @@
-"""Bodies of format 1 as bodies of format 2. Each byte of a body is read by the tables of the formats, and stays as it
-is; behind the splits of each transaction the byte 0 is added. What is no body of format 1 is a ValueError."""
+"""A reader of the bodies of rows in both formats, by the tables of the formats. It gives the body in format 2: each
+byte stays as it is, and where the body is in format 1 the byte 0 is added behind the splits of each transaction. What
+is no body is a ValueError. `bad_key` gives the least key at which rows are bad."""
 
 MOST_ID = 1 << 62
+MOST_STEPS = 256
 FIRST_DAY, LAST_DAY = -25_567, 84_005
+# How many marks of a split there are, by format: the fourth is that of a voided transaction.
+MARKS = {1: 3, 2: 4}
 
 
 class Walk:
-    """Walks through the fields of a body, and writes them in format 2."""
+    """Walks through the fields of a body in a format, and writes them in format 2."""
 
-    def __init__(self, data):
-        self.data, self.at, self.out = data, 0, bytearray()
+    def __init__(self, data, form):
+        self.data, self.form, self.at, self.out = data, form, 0, bytearray()
 
     def take(self, count):
         if self.at + count > len(self.data):
@@ -76,17 +80,27 @@ class Walk:
     def split(self):
         self.numbers(2)
         self.texts(2)
-        self.variant(3)
+        self.variant(MARKS[self.form])
         self.optional(self.number)
+        self.amounts()
+
+    def amounts(self):
         self.signed()
         self.signed()
+
+    def void(self):
+        self.text()
+        self.listed(self.amounts)
 
     def transaction(self):
         self.number()
         self.day()
         self.texts(2)
         self.listed(self.split)
-        self.out += b'\0'
+        if self.form == 1:
+            self.out += b'\0'
+        else:
+            self.optional(self.void)
 
     def recurrence(self):
         self.variant(8)
@@ -198,17 +212,60 @@ class Walk:
             self.thing(kind)
 
 
-def in_second(kind, body):
-    """The body in format 2 of the row of this kind whose body in format 1 is given."""
-    if body[:1] != b'\1':
-        raise ValueError('no body of format 1')
-    walk = Walk(body[1:])
+def read(kind, body, form):
+    """The body in format 2 of the row of this kind whose body in this format is given."""
+    if body[:1] != bytes([form]):
+        raise ValueError('no body of this format')
+    walk = Walk(body[1:], form)
     walk.row(kind)
     if walk.at != len(walk.data):
         raise ValueError('bytes behind the fields')
     return b'\2' + bytes(walk.out)
 
 
+def in_second(kind, body):
+    """The body in format 2 of the row of this kind whose body in format 1 is given."""
+    return read(kind, body, 1)
+
+
 def all_in_second(have):
     """Rows of format 1 in format 2, under the same keys."""
     return {(kind, number): in_second(kind, body) for (kind, number), body in have.items()}
+
+
+def is_body(key, body, form):
+    """Whether the bytes are a body of the row with this key, in this format."""
+    kind, number = key
+    if not 1 <= kind <= 12 or kind == 1 and number != 0 or number >= MOST_ID:
+        return False
+    try:
+        read(kind, body, form)
+        return True
+    except ValueError:
+        return False
+
+
+def steps_of(head):
+    """The keys of the steps back and forth that a head asks for; None where it counts too many of them."""
+    position, past, later = (int.from_bytes(head[at:at + 8], 'big') for at in (17, 25, 33))
+    if past > position or past + later > MOST_STEPS:
+        return None
+    back = {(11, number) for number in range(position - past + 1, position + 1)}
+    return back | {(12, number) for number in range(position + 1, position + later + 1)}
+
+
+def bad_key(have):
+    """The least key at which rows are bad: whose body is none in the format of the head, or of a row that is missing or
+    one too many. None where there is no such key."""
+    if not have:
+        return None
+    head = have.get((1, 0), b'')
+    form = 1 if head[:1] == b'\1' else 2
+    bad = {key for key, body in have.items() if not is_body(key, body, form)}
+    if (1, 0) not in have:
+        bad.add((1, 0))
+    elif (1, 0) not in bad:
+        steps = steps_of(head)
+        if steps is not None:
+            bad |= steps ^ {key for key in have if key[0] in (11, 12)}
+    return min(bad, default=None)

@@ -1,6 +1,7 @@
 """The rows of a book: their bytes, written from the tables of the formats, and a machine read from rows.
 Rows have two formats, 1 and 2, and the first byte of a body is its format. In format 2 a transaction ends with the byte
-0: what is kept of a voided one is absent."""
+0, or with what is kept of a voided one. The model's commands void none: a transaction is written with the byte 0 here,
+and a voided one can't be read. `sound.py` reads those too."""
 import datetime as dt
 from model import Book, KINDS, MAPS, RECURRENCES, Machine
 
@@ -16,6 +17,7 @@ e = lambda place: bytes([place + 1])
 opt = lambda x, f: b'\0' if x is None else b'\1' + f(x)
 many = lambda items, f: u(len(items)) + b''.join(f(i) for i in items)
 ADJUST = ['none', 'back', 'forward']
+# New, cleared and reconciled. Format 2 has a fourth mark, voided, which no split of the model has.
 MARKS = 'ncy'
 
 

@@ -62,6 +62,7 @@ pub fn run_import<K: Keeper, S: Source, O: Sink>(
     ensures honest { IsTrue (K.honest keeper.new) → IsTrue (K.honest keeper.old) }
     ensures sure { IsTrue (K.sure keeper.new) → IsTrue (K.sure keeper.old) }
     ensures usage { (result ≡ Status.Usage) ↔ (named_book words.now ≡ None) }
+    ensures untouched { result ≡ Status.Usage → keeper.new ≡ keeper.old }
     ensures keeper_fault { result ≡ Status.KeeperFault → Rose (K.faults keeper.old) (K.faults keeper.new) }
     ensures input_fault { result ≡ Status.InputFault → Rose (S.faults input.old) (S.faults input.new) }
     ensures no_input_fault { result ≢ Status.InputFault → S.faults input.new ≡ S.faults input.old }

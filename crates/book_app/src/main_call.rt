@@ -7,7 +7,8 @@ ghost use Rattle.book_serve.specs.Served.{link_reports};
 ghost use Rattle.book_app.specs.ServeClause.{ServeClause, across};
 ghost use Rattle.book_app.specs.StatusClause.{HasBookPath, IsBookRun, IsLineRun, IsShownAs, over};
 ghost use Rattle.book_app.specs.Later.{IsLater};
-ghost use Rattle.book_app.specs.Words.{AreNoWords, Lines, named_book, named_import, named_serve, work_named, work_of};
+ghost use Rattle.book_app.specs.Words.{AreNoWords, Lines, named_book, named_import, named_number, named_serve};
+ghost use Rattle.book_app.specs.Words.{work_named, work_of};
 
 use crate::import_call::run_import;
 use crate::opening::{open_book, room_after};
@@ -63,6 +64,7 @@ fn run_book<K: Keeper, S: Source, O: Sink>(
     ensures honest { IsTrue (K.honest keeper.new) → IsTrue (K.honest keeper.old) }
     ensures sure { IsTrue (K.sure keeper.new) → IsTrue (K.sure keeper.old) }
     ensures usage { (result ≡ Status.Usage) ↔ (named_book words.now ≡ None) }
+    ensures untouched { result ≡ Status.Usage → keeper.new ≡ keeper.old }
     ensures keeper_fault { result ≡ Status.KeeperFault → Rose (K.faults keeper.old) (K.faults keeper.new) }
     ensures input_fault { result ≡ Status.InputFault → Rose (S.faults input.old) (S.faults input.new) }
     ensures no_input_fault { result ≢ Status.InputFault → S.faults input.new ≡ S.faults input.old }
@@ -108,6 +110,7 @@ fn run_over_input<K: Keeper, S: Source, O: Sink>(
     ensures honest { IsTrue (K.honest keeper.new) → IsTrue (K.honest keeper.old) }
     ensures sure { IsTrue (K.sure keeper.new) → IsTrue (K.sure keeper.old) }
     ensures usage { (result ≡ Status.Usage) ↔ (named_book words.now ≡ None) }
+    ensures untouched { result ≡ Status.Usage → keeper.new ≡ keeper.old }
     ensures keeper_fault { result ≡ Status.KeeperFault → Rose (K.faults keeper.old) (K.faults keeper.new) }
     ensures input_fault { result ≡ Status.InputFault → Rose (S.faults input.old) (S.faults input.new) }
     ensures no_input_fault { result ≢ Status.InputFault → S.faults input.new ≡ S.faults input.old }
@@ -136,6 +139,7 @@ fn run_with_book<K: Keeper, S: Source, O: Sink, P: Ports>(
     ensures honest { IsTrue (K.honest keeper.new) → IsTrue (K.honest keeper.old) }
     ensures sure { IsTrue (K.sure keeper.new) → IsTrue (K.sure keeper.old) }
     ensures usage { (result ≡ Status.Usage) ↔ (named_book words.now ≡ None) }
+    ensures untouched { result ≡ Status.Usage → keeper.new ≡ keeper.old }
     ensures keeper_fault { result ≡ Status.KeeperFault → Rose (K.faults keeper.old) (K.faults keeper.new) }
     ensures input_fault { result ≡ Status.InputFault → Rose (S.faults input.old) (S.faults input.new) }
     ensures no_input_fault { result ≢ Status.InputFault → S.faults input.new ≡ S.faults input.old }
@@ -183,6 +187,8 @@ pub fn book_main<K: Keeper, S: Source, O: Sink, P: Ports>(
     ensures honest { IsTrue (K.honest keeper.new) → IsTrue (K.honest keeper.old) }
     ensures sure { IsTrue (K.sure keeper.new) → IsTrue (K.sure keeper.old) }
     ensures usage { (result ≡ Status.Usage) ↔ AreNoWords words.now }
+    ensures untouched { result ≡ Status.Usage → keeper.new ≡ keeper.old }
+    ensures sample { named_number words.now ≢ None → keeper.new ≡ keeper.old }
     ensures keeper_fault { result ≡ Status.KeeperFault → Rose (K.faults keeper.old) (K.faults keeper.new) }
     ensures input_fault { result ≡ Status.InputFault → Rose (S.faults input.old) (S.faults input.new) }
     ensures no_input_fault { result ≢ Status.InputFault → S.faults input.new ≡ S.faults input.old }

@@ -1,4 +1,4 @@
-ghost use Rattle.std.specs.Prelude.{◌≡◌, [], List, IfOk, IsTrue};
+ghost use Rattle.std.specs.Prelude.{◌≡◌, ◌⊎◌, [], List, IfOk, IsTrue};
 ghost use Rattle.book_http.specs.Routing.{all_routes};
 ghost use Rattle.book_keeper.specs.declared.row.Row.{Row};
 ghost use Rattle.book_lines.specs.Room.{seen};
@@ -23,6 +23,7 @@ pub fn open_book<K: Keeper>(alloc: Global, keeper: &mut K, book: &str) -> Result
     ensures opened { IsTrue (K.honest keeper.new) → (rows : List Row) → K.holds keeper.old rows → Opened rows result }
     ensures stands { IfOk result (Stands K.Keeper keeper.new) }
     ensures path { IsOpenedAt book.now (K.path_given keeper.new) result }
+    ensures path_else { K.path_given keeper.new ≡ K.path_given keeper.old ⊎ K.path_given keeper.new ≡ book.now }
     ensures cause { HasOpenCause (K.faults keeper.old) (K.faults keeper.new) result }
 {
     match keeper.open(book) {

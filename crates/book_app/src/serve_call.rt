@@ -75,6 +75,7 @@ pub fn run_serve<K: Keeper, P: Ports>(
     ensures honest { IsTrue (K.honest keeper.new) → IsTrue (K.honest keeper.old) }
     ensures sure { IsTrue (K.sure keeper.new) → IsTrue (K.sure keeper.old) }
     ensures usage { (result ≡ Status.Usage) ↔ (named_book words.now ≡ None) }
+    ensures untouched { result ≡ Status.Usage → keeper.new ≡ keeper.old }
     ensures keeper_fault { result ≡ Status.KeeperFault → Rose (K.faults keeper.old) (K.faults keeper.new) }
 {
     let Some(book) = named_book(words) else {

@@ -7,7 +7,7 @@ use Rattle.book_accounts.specs.declared.account.Account.{Account}
 use Rattle.book_accounts.specs.declared.kind.AccountKind.{AccountKind}
 use Rattle.book_accounts.specs.declared.kind.AccountKind.TheVariants.{Root, Asset, Expense}
 use Rattle.book_splits.specs.declared.rule.TxnRule.TheVariants as transaction
-use Rattle.book_splits.specs.declared.split.Mark.TheVariants.{New}
+use Rattle.book_splits.specs.declared.split.Mark.TheVariants.{New, Voided}
 use Rattle.book_splits.specs.declared.split.Split.{Split}
 use Rattle.book_splits.specs.declared.transaction.Txn.{Txn}
 use Rattle.book_prices.specs.declared.price.Price.{Price}
@@ -48,7 +48,8 @@ split id account value = record {
 }
 
 abbrev txn : List Split → Txn
-txn splits = record { currency = 1; day = pos 19723; num = []; description = []; splits = splits }
+txn splits =
+    record { currency = 1; day = pos 19723; num = []; description = []; splits = splits; voided = None }
 
 abbrev rent : Txn
 rent = txn (split 11 3 (negsuc 199) ∷ split 12 4 (pos 200) ∷ [])
@@ -107,6 +108,20 @@ split_of_another_transaction :
     broken (record book { transactions = (10, rent) ∷ (13, rent) ∷ [] }) 4 13 ≡ Some rule.SplitElsewhere
 unfolding broken_at broken_thing
 split_of_another_transaction = refl
+
+abbrev with_rent : Txn → Book
+with_rent changed = record book { transactions = (10, changed) ∷ [] }
+
+-- a voided split in a transaction of which nothing is kept, and a transaction of which something is
+with_a_voided_split :
+    broken (with_rent (txn (record (split 11 3 (pos 0)) { mark = Voided } ∷ split 12 4 (pos 0) ∷ []))) 4 10
+    ≡ Some rule.Mark
+unfolding broken_at broken_thing
+with_a_voided_split = refl
+
+voided : broken (with_rent (record rent { voided = Some (record { reason = []; kept = [] }) })) 4 10 ≡ Some rule.Voided
+unfolding broken_at broken_thing
+voided = refl
 
 price_of_the_same_day : broken (record book { prices = (8, price) ∷ (9, price) ∷ [] }) 5 9 ≡ Some rule.SameDay
 unfolding broken_at broken_thing

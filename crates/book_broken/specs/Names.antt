@@ -46,7 +46,8 @@ check_name commodities accounts transaction = name_of_check (first_broken (txn_r
 -- Those of `marked_transaction_rules`.
 abbrev pub transaction_names : List (ℕ × Commodity) → List (ℕ × Account) → Txn → List BrokenRule
 transaction_names commodities accounts transaction =
-    check_name commodities accounts transaction ∷ rule.SplitTwice ∷ rule.SplitElsewhere ∷ rule.Mark ∷ []
+    check_name commodities accounts transaction ∷ rule.SplitTwice ∷ rule.SplitElsewhere ∷ rule.Mark
+    ∷ rule.Voided ∷ []
 
 -- Those of `price_rules`.
 abbrev pub price_names : List BrokenRule
@@ -56,7 +57,8 @@ price_names = rule.UnknownCommodity ∷ rule.CurrencyIsNone ∷ rule.Ratio ∷ r
 abbrev pub schedule_names : List (ℕ × Commodity) → List (ℕ × Account) → Schedule → List BrokenRule
 schedule_names commodities accounts schedule =
     rule.Multiplier ∷ rule.RecurrenceCount ∷ rule.NoOccurrence ∷ rule.Advance
-    ∷ check_name commodities accounts schedule.template ∷ rule.TemplateSplit ∷ []
+    ∷ check_name commodities accounts schedule.template ∷ rule.TemplateSplit
+    ∷ rule.TemplateVoided ∷ []
 
 -- Those of `statement_rules`.
 abbrev pub statement_names : List BrokenRule

@@ -47,8 +47,11 @@ pub enum BrokenRule {
     SplitTwice,
     /// A transaction before it has a split with the number of one of its splits.
     SplitElsewhere,
-    /// One of its splits is reconciled, and no reconciliation has marked it so; or it isn't, and names one.
+    /// One of its splits is reconciled, and no reconciliation has marked it so; or it isn't, and names one; or it has
+    /// the mark voided.
     Mark,
+    /// It is voided.
+    Voided,
     /// Its numbers are not from 1 to 10^9.
     Ratio,
     /// Its commodity is its currency.
@@ -65,6 +68,8 @@ pub enum BrokenRule {
     Advance,
     /// A split of its template has a number, a mark or a reconciliation.
     TemplateSplit,
+    /// Its template is voided.
+    TemplateVoided,
     /// Its account isn't in the book.
     UnknownAccount,
     /// A statement before it is equal in all fields.
@@ -140,7 +145,10 @@ impl BrokenRule {
             }
             BrokenRule::Mark => {
                 "one of its splits is reconciled, and no reconciliation of its account has marked it so;\n\
-                or it is not reconciled, and names a reconciliation.\n"
+                or it is not reconciled, and names a reconciliation; or it has the mark voided.\n"
+            }
+            BrokenRule::Voided => {
+                "it is voided, and this program keeps no voided transaction.\n"
             }
             BrokenRule::Ratio => { "its num or its denom is not from 1 to 1,000,000,000.\n" }
             BrokenRule::OneCommodity => { "its commodity is its currency.\n" }
@@ -153,6 +161,9 @@ impl BrokenRule {
             BrokenRule::Advance => { "it is made more than 366 days in advance.\n" }
             BrokenRule::TemplateSplit => {
                 "a split of its template has a number, is not new, or names a reconciliation.\n"
+            }
+            BrokenRule::TemplateVoided => {
+                "its template is voided, and this program keeps no voided transaction.\n"
             }
             BrokenRule::UnknownAccount => { "its account is not in the book.\n" }
             BrokenRule::SameStatement => { "another statement is equal to it in all fields.\n" }

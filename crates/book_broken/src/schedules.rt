@@ -44,6 +44,9 @@ pub(crate) fn in_schedules(
     if !are_blank(schedule.template.splits.as_slice()) {
         return Some(BrokenRule::TemplateSplit);
     }
+    if schedule.template.voided.is_some() {
+        return Some(BrokenRule::TemplateVoided);
+    }
     Some(BrokenRule::TooMany)
 }
 

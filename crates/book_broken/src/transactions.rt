@@ -41,6 +41,9 @@ pub(crate) fn in_transactions(
     if !are_marked(reconciliations, transaction.splits.as_slice()) {
         return Some(BrokenRule::Mark);
     }
+    if transaction.voided.is_some() {
+        return Some(BrokenRule::Voided);
+    }
     Some(BrokenRule::TooMany)
 }
 
@@ -96,7 +99,7 @@ fn share_one(transaction: &Txn, other: &Txn) -> bool
     splits.any(|split| has_number(other.splits.as_slice(), split.id))
 }
 
-/// Whether each split is reconciled exactly where it names a reconciliation that has marked it.
+/// Whether each split is reconciled exactly where it names a reconciliation that has marked it, and none is voided.
 fn are_marked(reconciliations: &Table<Recon>, splits: &[Split]) -> bool
     ensures { result ≡ list_all (is_rightly_marked reconciliations.now.entries) splits.now }
 {
@@ -105,13 +108,14 @@ fn are_marked(reconciliations: &Table<Recon>, splits: &[Split]) -> bool
         .all(|split| is_rightly_marked(reconciliations, split))
 }
 
-/// Whether the split is reconciled exactly where it names a reconciliation that has marked it.
+/// Whether the split is reconciled exactly where it names a reconciliation that has marked it, and is not voided.
 fn is_rightly_marked(reconciliations: &Table<Recon>, split: &Split) -> bool
     ensures { result ≡ is_rightly_marked reconciliations.now.entries split.now }
 {
     match split.mark {
+        Mark::New | Mark::Cleared => split.recon.is_none(),
         Mark::Reconciled => is_named_rightly(reconciliations, split),
-        _ => split.recon.is_none(),
+        Mark::Voided => false,
     }
 }
 

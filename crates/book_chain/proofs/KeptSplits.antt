@@ -11,7 +11,7 @@ use Rattle.book_commodity.proofs.ListLemmas.{all_back, all_front}
 use Rattle.book_splits.specs.Balance.{splits_of}
 use Rattle.book_splits.specs.declared.reconciliation.MarkedSplit.{MarkedSplit}
 use Rattle.book_splits.specs.declared.split.Mark.{Mark}
-use Rattle.book_splits.specs.declared.split.Mark.TheVariants.{New, Cleared, Reconciled}
+use Rattle.book_splits.specs.declared.split.Mark.TheVariants.{New, Cleared, Reconciled, Voided}
 use Rattle.book_splits.specs.declared.split.Split.{Split}
 use Rattle.book_splits.specs.declared.transaction.Txn.{Txn}
 use Rattle.book_splits.proofs.ReplacedLemmas.{all_of_one, all_splits_with, all_splits_without}
@@ -54,6 +54,7 @@ open-mark : (mark : Mark) → is_reconciled mark ≡ false → is_mark mark Reco
 open-mark New is = refl
 open-mark Cleared is = refl
 open-mark Reconciled is = absurd cc
+open-mark Voided is = refl
 
 open-other : (n account : ℕ) (m : MarkedSplit) (split : Split) → IsOpen split → IsOther n account m split
 open-other n account m split is =

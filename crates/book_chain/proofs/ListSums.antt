@@ -17,7 +17,7 @@ use Rattle.book_splits.specs.TransactionRules.{are_once, is_among, numbers_of}
 use Rattle.book_splits.specs.declared.reconciliation.MarkedSplit.{MarkedSplit}
 use Rattle.book_splits.specs.declared.reconciliation.Recon.{Recon}
 use Rattle.book_splits.specs.declared.split.Mark.{Mark}
-use Rattle.book_splits.specs.declared.split.Mark.TheVariants.{New, Cleared, Reconciled}
+use Rattle.book_splits.specs.declared.split.Mark.TheVariants.{New, Cleared, Reconciled, Voided}
 use Rattle.book_splits.specs.declared.split.Split.{Split}
 use Rattle.book_splits.specs.declared.transaction.Txn.{Txn}
 use Rattle.book_undo.specs.Book.{Book}
@@ -319,6 +319,7 @@ mark-reconciled : (mark : Mark) → is_mark mark Reconciled ≡ true → is_reco
 mark-reconciled New is = absurd cc
 mark-reconciled Cleared is = absurd cc
 mark-reconciled Reconciled is = refl
+mark-reconciled Voided is = absurd cc
 
 same-test :
     (account : ℕ) (reconciliations : List (ℕ × Recon)) (s : Split) → is_rightly_marked reconciliations s ≡ true

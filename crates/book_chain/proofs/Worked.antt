@@ -31,7 +31,8 @@ split id account mark recon amount = record {
 }
 
 abbrev on : ℕ → ℤ → List Split → ℕ × Txn
-on number day splits = (number, record { currency = 1; day = day; num = []; description = []; splits = splits })
+on number day splits =
+    (number, record { currency = 1; day = day; num = []; description = []; splits = splits; voided = None })
 
 abbrev kept : ℕ → ℤ → MarkedSplit
 kept number quantity = record { split = number; quantity = quantity }

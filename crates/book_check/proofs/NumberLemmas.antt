@@ -1,5 +1,5 @@
 -- Numbers of splits, against those that were seen.
-use Rattle.std.proofs.Common.{◌≡◌, ℕ, ◌+◌, ◌==◌, not, Bool, true, false, ◌&&◌, ◌||◌, List, ◌∷◌, take, Some, slice_get}
+use Rattle.std.proofs.Common.{◌≡◌, ℕ, ◌+◌, ◌==◌, not, Bool, true, false, ◌&&◌, ◌||◌, List, ◌∷◌, take, Some, slice_get, is_none}
 use Rattle.std.proofs.Common.{refl, sym, ap, ◌∙◌, arith}
 use Rattle.std.specs.List.{list_all, list_any}
 use Rattle.std.specs.Cmp.{unsigned_tied}
@@ -99,21 +99,26 @@ pub rules_asked :
     (commodities : List (ℕ × Commodity)) (accounts : List (ℕ × Account)) (reconciliations : List (ℕ × Recon))
     (seen : List ℕ) (es : List (ℕ × Txn)) (i n : ℕ) (t : Txn) (kept new : Bool) → Rises es
     → slice_get es i ≡ Some (n, t) → HasNumbers seen (take i es)
-    → kept ≡ (passes_check commodities accounts t && list_all (is_rightly_marked reconciliations) t.splits)
+    → kept ≡ (passes_check commodities accounts t
+    && (list_all (is_rightly_marked reconciliations) t.splits && is_none t.voided))
     → new ≡ are_new seen (numbers_of t.splits)
     → all_hold (marked_transaction_rules commodities accounts reconciliations es n t) ≡ (kept && new)
 rules_asked commodities accounts reconciliations seen es i n t kept new rise there has asked counted =
     regrouped (passes_check commodities accounts t) (are_once (numbers_of t.splits))
-    (stands_before (share_numbers t) n es) (list_all (is_rightly_marked reconciliations) t.splits)
-    ∙ ap (λ b. (passes_check commodities accounts t && list_all (is_rightly_marked reconciliations) t.splits)
-    && (are_once (numbers_of t.splits) && not b)) (shares_seen seen es i n t rise there has)
+    (stands_before (share_numbers t) n es) (list_all (is_rightly_marked reconciliations) t.splits) (is_none t.voided)
+    ∙ ap (λ b. (passes_check commodities accounts t
+    && (list_all (is_rightly_marked reconciliations) t.splits && is_none t.voided)) && (are_once (numbers_of t.splits) && not b)) (shares_seen seen es i n t rise there has)
     ∙ ap (λ b. b && are_new seen (numbers_of t.splits)) (sym asked) ∙ ap (λ b. kept && b) (sym counted)
   where
-    regrouped : (p o s m : Bool) → (p && (o && (not s && (m && true)))) ≡ ((p && m) && (o && not s))
-    regrouped false o s m = refl
-    regrouped true false s true = refl
-    regrouped true false s false = refl
-    regrouped true true true true = refl
-    regrouped true true true false = refl
-    regrouped true true false true = refl
-    regrouped true true false false = refl
+    regrouped :
+        (p o s m v : Bool) → (p && (o && (not s && (m && (v && true))))) ≡ ((p && (m && v)) && (o && not s))
+    regrouped false o s m v = refl
+    regrouped true true true true true = refl
+    regrouped true true false true true = refl
+    regrouped true false s true true = refl
+    regrouped true true true true false = refl
+    regrouped true true false true false = refl
+    regrouped true false s true false = refl
+    regrouped true true true false v = refl
+    regrouped true true false false v = refl
+    regrouped true false s false v = refl

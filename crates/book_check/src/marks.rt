@@ -57,7 +57,7 @@ fn split_key(number: u64, split: &Split) -> MarkKey
     (number, split.id, split.quantity)
 }
 
-/// Whether each split is reconciled exactly where it names a reconciliation that has marked it.
+/// Whether each split is reconciled exactly where it names a reconciliation that has marked it, and none is voided.
 pub(crate) fn are_marked(
     reconciliations: &Table<Recon>,
     marks: &Seen<MarkKey>,
@@ -74,14 +74,15 @@ pub(crate) fn are_marked(
     true
 }
 
-/// Whether the split is reconciled exactly where it names a reconciliation that has marked it.
+/// Whether the split is reconciled exactly where it names a reconciliation that has marked it, and is not voided.
 fn is_rightly_marked(reconciliations: &Table<Recon>, marks: &Seen<MarkKey>, split: &Split) -> bool
     requires { HasMarks marks.now reconciliations.now.entries }
     ensures { result ≡ is_rightly_marked reconciliations.now.entries split.now }
 {
     match split.mark {
+        Mark::New | Mark::Cleared => split.recon.is_none(),
         Mark::Reconciled => is_named_rightly(reconciliations, marks, split),
-        _ => split.recon.is_none(),
+        Mark::Voided => false,
     }
 }
 

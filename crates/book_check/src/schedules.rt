@@ -77,6 +77,7 @@ fn is_kept(commodities: &Commodities, accounts: &Tree, schedule: &Schedule) -> b
         && schedule.timing.advance <= 366
         && passes_check(commodities, accounts, &schedule.template)
         && are_blank(schedule.template.splits.as_slice())
+        && schedule.template.voided.is_none()
 }
 
 /// Whether each recurrence goes on by 1 to 10,000 at a time.

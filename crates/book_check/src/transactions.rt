@@ -1,4 +1,4 @@
-ghost use Rattle.std.specs.Prelude.{◌≡◌, ◌+◌, ◌≤◌, IfOk, nat_lt, not, ◌&&◌};
+ghost use Rattle.std.specs.Prelude.{◌≡◌, ◌+◌, ◌≤◌, IfOk, nat_lt, not, ◌&&◌, is_none};
 ghost use Rattle.std.specs.Bool.{OnTrue};
 ghost use Rattle.std.specs.List.{list_all};
 ghost use Rattle.book_splits.specs.TransactionRules.{numbers_of};
@@ -65,7 +65,7 @@ fn is_past(place: usize, sum: usize, count: usize) -> bool
     place >= MOST || count > MOST_SPLITS - sum
 }
 
-/// Whether the transaction passes the check of transactions, and its splits are rightly marked.
+/// Whether the transaction passes the check of transactions, its splits are rightly marked, and it is not voided.
 fn is_kept(
     commodities: &Commodities,
     accounts: &Tree,
@@ -75,10 +75,12 @@ fn is_kept(
 ) -> bool
     requires { HasMarks marks.now reconciliations.now.entries }
     ensures { result ≡ (passes_check commodities.now.entries accounts.now.entries transaction.now
-        && list_all (is_rightly_marked reconciliations.now.entries) transaction.now.splits) }
+        && (list_all (is_rightly_marked reconciliations.now.entries) transaction.now.splits
+        && is_none transaction.now.voided)) }
 {
     passes_check(commodities, accounts, transaction)
         && are_marked(reconciliations, marks, transaction.splits.as_slice())
+        && transaction.voided.is_none()
 }
 
 /// Adds the numbers of the splits, and says whether each is new.

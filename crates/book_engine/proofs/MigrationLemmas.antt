@@ -37,26 +37,26 @@ use Rattle.book_engine.specs.declared.fault.OpenError.TheVariants as error
 pub within_read : (state : State) → IsReadable state → IsWithin (head_of state)
 within_read state is = is.spelled.0.1.1
 
-back_of : (steps : List (ℕ × Edit)) → AllByRecursion CanBeRow (back_records steps) → AllByRecursion IsShallow steps
+back_of : (steps : List (ℕ × Edit)) → AllByRecursion (CanBeRow Two) (back_records steps) → AllByRecursion IsShallow steps
 back_of [] can = tt
 back_of (step ∷ steps) can = (can.0.1.1, back_of steps can.1)
 
-forth_of : (steps : List (ℕ × Edit)) → AllByRecursion CanBeRow (forth_records steps) → AllByRecursion IsShallow steps
+forth_of : (steps : List (ℕ × Edit)) → AllByRecursion (CanBeRow Two) (forth_records steps) → AllByRecursion IsShallow steps
 forth_of [] can = tt
 forth_of (step ∷ steps) can = (can.0.1.1, forth_of steps can.1)
 
 steps_read :
-    (state : State) → IsReadable state → AllByRecursion CanBeRow (back_records state.back ++ forth_records state.forth)
+    (state : State) → IsReadable state → AllByRecursion (CanBeRow Two) (back_records state.back ++ forth_records state.forth)
 steps_read state is =
-    all_last CanBeRow (things_of state.book) (back_records state.back ++ forth_records state.forth) is.spelled.1
+    all_last (CanBeRow Two) (things_of state.book) (back_records state.back ++ forth_records state.forth) is.spelled.1
 
 pub back_read : (state : State) → IsReadable state → AllByRecursion IsShallow state.back
 back_read state is =
-    back_of state.back (all_first CanBeRow (back_records state.back) (forth_records state.forth) (steps_read state is))
+    back_of state.back (all_first (CanBeRow Two) (back_records state.back) (forth_records state.forth) (steps_read state is))
 
 pub forth_read : (state : State) → IsReadable state → AllByRecursion IsShallow state.forth
 forth_read state is =
-    forth_of state.forth (all_last CanBeRow (back_records state.back) (forth_records state.forth) (steps_read state is))
+    forth_of state.forth (all_last (CanBeRow Two) (back_records state.back) (forth_records state.forth) (steps_read state is))
 
 pub anew_rises :
     (state : State) (saved : Bool) → IsReadable state → IsWhole state saved → AreRising (all_put state)

@@ -378,6 +378,8 @@ impl Engine {
             (AreKeptUp self.old self.new (lots_asked self.old.state.book.accounts command.what)) }
         ensures unchanged { OnErr result (IsUnchanged self.old self.new) }
         ensures spare { OnErr result (HasNoLessRoom self.old self.new) }
+        ensures asked { OnOk result (machine_of self.new.state ≡ machine_of self.old.state
+            → HasNoLessRoom self.old self.new) }
         ensures sound { IsSound (step_state self.new.state) }
         ensures path { K.path_given keeper.new ≡ K.path_given keeper.old }
         ensures honest { IsTrue (K.honest keeper.new) → IsTrue (K.honest keeper.old) }

@@ -56,6 +56,7 @@ transaction day num description splits = record {
   num = num;
   description = description;
   splits = splits;
+  voided = None;
 }
 
 abbrev price : ℕ → ℕ → Price

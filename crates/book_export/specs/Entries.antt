@@ -7,7 +7,7 @@ use Rattle.std.specs.Ordering.{int_eq}
 use Rattle.book_commodity.specs.Day.{day_text}
 use Rattle.book_commodity.specs.Table.{value_of}
 use Rattle.book_splits.specs.declared.split.Mark.{Mark}
-use Rattle.book_splits.specs.declared.split.Mark.TheVariants.{New, Cleared, Reconciled}
+use Rattle.book_splits.specs.declared.split.Mark.TheVariants.{New, Cleared, Reconciled, Voided}
 use Rattle.book_splits.specs.declared.split.Split.{Split}
 use Rattle.book_splits.specs.declared.transaction.Txn.{Txn}
 use Rattle.book_undo.specs.Book.{Book}
@@ -17,11 +17,13 @@ use Rattle.book_export.specs.Texts.{code, note, shown}
 use Rattle.book_export.specs.declared.posting.Posting.{Posting}
 use Rattle.book_export.specs.declared.texts.Place.TheVariants.{Description}
 
--- A mark as both programs have it: `!` for cleared, `*` for reconciled (GnuCash Manual, reconciling).
+-- A mark as both programs have it: `!` for cleared, `*` for reconciled (GnuCash Manual, reconciling). They have none for
+-- voided, whose amounts are zero.
 abbrev pub mark_text : Mark → List ℕ
 mark_text New = []
 mark_text Cleared = codes "! "
 mark_text Reconciled = codes "* "
+mark_text Voided = []
 
 -- The commodity of the account with a number; 0, where there is no such account.
 abbrev pub commodity_of : Book → ℕ → ℕ

@@ -179,7 +179,7 @@ fn mark_text(mark: Mark) -> &'static [u8]
     ensures { result.now ≡ mark_text mark }
 {
     match mark {
-        Mark::New => b"".as_slice(),
+        Mark::New | Mark::Voided => b"".as_slice(),
         Mark::Cleared => b"! ".as_slice(),
         Mark::Reconciled => b"* ".as_slice(),
     }

@@ -185,11 +185,13 @@ three-sums early (row ∷ rows) =
 reconciled-ties : Ties is_reconciled mark.Reconciled
 reconciled-ties mark.New = refl
 reconciled-ties mark.Cleared = refl
+reconciled-ties mark.Voided = refl
 reconciled-ties mark.Reconciled = refl
 
 pub cleared-ties : Ties is_cleared_alone mark.Cleared
 cleared-ties mark.New = refl
 cleared-ties mark.Cleared = refl
+cleared-ties mark.Voided = refl
 cleared-ties mark.Reconciled = refl
 
 all-days : (ts : List (ℕ × Txn)) → filter (λ (e : ℕ × Txn). true) ts ≡ ts

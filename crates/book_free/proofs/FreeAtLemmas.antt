@@ -17,12 +17,11 @@ use Rattle.book_match.specs.Kept.{has_split}
 use Rattle.book_match.specs.declared.free.Free.{Free}
 use Rattle.book_match.proofs.IndexLaws.{there-ordered}
 use Rattle.book_sound.specs.LineRules.{split_among}
-use Rattle.book_sound.specs.MarkedTransactionRules.{is_reconciled}
 use Rattle.book_sound.specs.Soundness.{IsSoundBook}
 use Rattle.book_sound.proofs.SplitFrames.{found_among, found_number}
 use Rattle.book_undo.specs.Book.{Book}
 use Rattle.book_free.specs.FreeSplits.{free_among, free_at, free_of, free_split, free_splits, is_free, is_matched}
-use Rattle.book_free.specs.FreeSplits.{open_at, open_in, open_split}
+use Rattle.book_free.specs.FreeSplits.{is_never_free, open_at, open_in, open_split}
 use Rattle.book_free.proofs.FreeLemmas.{not_among_fewer, not_there, numbers_among, numbers_free}
 use Rattle.book_free.proofs.SplitsOnce.{splits_once}
 
@@ -89,7 +88,7 @@ and_false false = refl
 one_free : (taken : ℕ → Bool) (f : Free) (day : ℤ) (x : Split) (rest : List Free) → x.id ≡ f.split
     → is_there f rest ≡ false
     → is_there f (if is_free taken x then free_split day x ∷ rest else rest) ≡ free_as taken f (open_split day x)
-one_free taken f day x rest same none = by_tests (is_reconciled x.mark) (taken x.id) refl
+one_free taken f day x rest same none = by_tests (is_never_free x.mark) (taken x.id) refl
   where
     turned : taken f.split ≡ taken x.id
     turned = ap taken (sym same)
@@ -206,7 +205,7 @@ open_number n e g is = by_found (split_among n e.1.splits) refl is
         → g.split ≡ n
     by_found None found there = absurd cc
     by_found (Some x) found there =
-        by_mark (is_reconciled x.mark) x (found_number n e.1.splits x found) there
+        by_mark (is_never_free x.mark) x (found_number n e.1.splits x found) there
 
 pub free_number : (n : ℕ) (book : Book) (g : Free) → free_at n book ≡ Some g → g.split ≡ n
 free_number n book g is = by_matched (is_matched book.lines n) is

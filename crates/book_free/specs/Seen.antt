@@ -20,7 +20,8 @@ is_taken matched number = is_some (value_of number matched)
 
 -- ---- what leaves say
 
--- The splits of a transaction, if there is one, by their numbers: each as the index has it, unless it is reconciled.
+-- The splits of a transaction, if there is one, by their numbers: each as the index has it, unless it is reconciled
+-- or voided.
 abbrev pub split_entries : Option Txn → List (ℕ × Option Free)
 split_entries None = []
 split_entries (Some transaction) =
@@ -92,7 +93,8 @@ noted [] entries = entries
 noted (entry ∷ more) entries = noted more (with_entry entry.0 entry.1 entries)
 
 -- What was seen: the splits that stood in changed transactions and those that stand there now, as the index has them
--- unless they are reconciled; and the changed lines that were matched and that are now, by the numbers of the splits.
+-- unless they are reconciled or voided; and the changed lines that were matched and that are now, by the numbers of the
+-- splits.
 pub record Seen : Type 0 where
   pub before : List (ℕ × Option Free)
   pub after : List (ℕ × Option Free)

@@ -117,7 +117,7 @@ fn unless(taken: bool, split: Option<Free>) -> Option<Free>
     if taken { None } else { split }
 }
 
-/// The split of a number before the edit, as the index has it, unless it is reconciled or isn't there.
+/// The split of a number before the edit, as the index has it, unless it is reconciled or voided, or isn't there.
 fn before(transactions: &Txns, seen: &Seen, split: u64) -> Option<Free>
     requires { are_once (numbers_of (splits_of transactions.now.entries)) ≡ true }
     ensures { result ≡ side_of (value_of split seen.now.before) (is_some (value_of split seen.now.after))
@@ -147,7 +147,7 @@ fn after(transactions: &Txns, seen: &Seen, split: u64) -> Option<Free>
     find_open(transactions, split)
 }
 
-/// The split of a number as the index has it, unless it is reconciled or isn't there.
+/// The split of a number as the index has it, unless it is reconciled or voided, or isn't there.
 fn find_open(transactions: &Txns, number: u64) -> Option<Free>
     requires { are_once (numbers_of (splits_of transactions.now.entries)) ≡ true }
     ensures { result ≡ open_at number transactions.now.entries }

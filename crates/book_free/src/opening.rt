@@ -126,13 +126,13 @@ fn add_split(
     Ok(())
 }
 
-/// Whether the split isn't reconciled and no line is matched with it.
+/// Whether the split is new or cleared, and no line is matched with it.
 fn is_free(split: &Split, matched: &Table<u64>) -> bool
     ensures { result ≡ is_free_split (is_taken matched.now.entries) split.now }
 {
     match split.mark {
         Mark::New | Mark::Cleared => matched.find(split.id).is_none(),
-        Mark::Reconciled => false,
+        Mark::Reconciled | Mark::Voided => false,
     }
 }
 

@@ -15,7 +15,7 @@ use std::alloc::Global;
 use std::marker::Model;
 
 /// What an edit says of splits: what those of changed transactions were and what they are, as the index has them unless
-/// they are reconciled; and the changed lines that were matched with splits, and those that are now.
+/// they are reconciled or voided; and the changed lines that were matched with splits, and those that are now.
 #[derive(Drop)]
 pub(crate) struct Seen {
     pub(crate) before: Table<Option<Free>>,
@@ -151,12 +151,12 @@ fn note_line(table: &mut Table<u64>, number: u64, line: Option<&Line>) -> Result
     Ok(())
 }
 
-/// A split of a transaction of this day as the index has it, unless it is reconciled.
+/// A split of a transaction of this day as the index has it, unless it is reconciled or voided.
 pub(crate) fn open_split(day: Day, split: &Split) -> Option<Free>
     ensures { result ≡ open_split day split.now }
 {
     match split.mark {
         Mark::New | Mark::Cleared => Some(free_split(day, split)),
-        Mark::Reconciled => None,
+        Mark::Reconciled | Mark::Voided => None,
     }
 }

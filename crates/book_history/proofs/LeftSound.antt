@@ -10,11 +10,13 @@ use Rattle.book_commodity.proofs.DrawnLemmas.{some_stays, value_left}
 use Rattle.book_commodity.proofs.TableLemmas.{value_of_without}
 use Rattle.book_splits.specs.declared.reconciliation.Recon.{Recon}
 use Rattle.book_splits.specs.declared.split.Split.{Split}
+use Rattle.book_splits.specs.declared.split.Mark.{Mark}
+use Rattle.book_splits.specs.declared.split.Mark.TheVariants.{New, Cleared, Reconciled, Voided}
 use Rattle.book_splits.specs.declared.transaction.Txn.{Txn}
 use Rattle.book_statement.specs.declared.line.Line.{Line}
 use Rattle.book_sound.specs.BindingRules.{binding_rules, is_same_binding}
 use Rattle.book_sound.specs.LineRules.{has_same_key, line_rules, shares_split}
-use Rattle.book_sound.specs.MarkedTransactionRules.{fits_mark, has_marked, is_named_rightly, is_reconciled}
+use Rattle.book_sound.specs.MarkedTransactionRules.{fits_mark, has_marked, is_named_rightly}
 use Rattle.book_sound.specs.MarkedTransactionRules.{is_rightly_marked, marked_transaction_rules}
 use Rattle.book_sound.specs.ReconciliationRules.{reconciliation_rules}
 use Rattle.book_sound.specs.Soundness.{IsSoundBook}
@@ -132,11 +134,13 @@ named_still n reconciliations split (Some m) r other is =
     ap (has_marked split) (same_there m n reconciliations r other) ∙ is
 
 mark_still :
-    (n : ℕ) (reconciliations : List (ℕ × Recon)) (split : Split) (reconciled : Bool) → Rises reconciliations
-    → is_number n split.recon ≡ false → fits_mark reconciliations split reconciled ≡ true
-    → fits_mark (without_entry n reconciliations) split reconciled ≡ true
-mark_still n reconciliations split true r other is = named_still n reconciliations split split.recon r other is
-mark_still n reconciliations split false r other is = is
+    (n : ℕ) (reconciliations : List (ℕ × Recon)) (split : Split) (mark : Mark) → Rises reconciliations
+    → is_number n split.recon ≡ false → fits_mark reconciliations split mark ≡ true
+    → fits_mark (without_entry n reconciliations) split mark ≡ true
+mark_still n reconciliations split New r other is = is
+mark_still n reconciliations split Cleared r other is = is
+mark_still n reconciliations split Reconciled r other is = named_still n reconciliations split split.recon r other is
+mark_still n reconciliations split Voided r other is = absurd cc
 
 -- splits that don't name it are rightly marked as before
 marks_still :
@@ -149,7 +153,7 @@ marks_still n reconciliations (s ∷ splits) r others are =
     let other = and_parts (not (is_number n s.recon)) _ others in
     let is = and_parts (is_rightly_marked reconciliations s) _ are in
     and_from (is_rightly_marked (without_entry n reconciliations) s) _
-    (mark_still n reconciliations s (is_reconciled s.mark) r (not-true _ other.0) is.0)
+    (mark_still n reconciliations s s.mark r (not-true _ other.0) is.0)
     (marks_still n reconciliations splits r other.1 is.1)
 
 transactions_apart :
@@ -169,7 +173,7 @@ transactions_apart book n r none =
     (λ k t there kept.
     let other = passes_there (λ (e : ℕ × Txn). list_all others e.1.splits) k t book.transactions each there in
     let marks = marks_still n book.reconciliations t.splits r other kept.1.1.1.0 in
-    (kept.0, (kept.1.0, (kept.1.1.0, (marks, tt)))))
+    (kept.0, (kept.1.0, (kept.1.1.0, (marks, kept.1.1.1.1)))))
 
 pub reconciliation_taken :
     (book : Book) (n : ℕ) → is_unnamed n book.transactions ≡ true → IsSoundBook book

@@ -1,7 +1,8 @@
 -- A sound book stays sound where a transaction is deleted with whose splits no line is matched, and where the splits of
 -- one are only marked otherwise.
 use Rattle.std.proofs.Common.{◌≡◌, ℕ, ◌<◌, ◌==◌, not, Bool, true, All, List, [], ◌∷◌, Option, Some, None}
-use Rattle.std.proofs.Common.{refl, sym, ap, subst, ◌∙◌}
+use Rattle.std.proofs.Common.{is_none, refl, sym, ap, subst, ◌∙◌}
+use Rattle.std.specs.List.{list_all}
 use Rattle.std.specs.Ordering.{int_eq}
 use Rattle.std.proofs.lemmas.Bool.{and_parts, eqb-true, not-true}
 use Rattle.std.proofs.lemmas.Bool.Decides.{Decides-int_eq}
@@ -14,6 +15,7 @@ use Rattle.book_splits.proofs.ReplacedLemmas.{all_of_one}
 use Rattle.book_statement.specs.declared.line.Line.{Line}
 use Rattle.book_sound.specs.Dismissal.{dismissed_if, lines_after, loses_split}
 use Rattle.book_sound.specs.Soundness.{AreDrawn, IsSoundBook}
+use Rattle.book_sound.specs.MarkedTransactionRules.{is_rightly_marked}
 use Rattle.book_sound.proofs.BookFrames.{transaction_taken}
 use Rattle.book_sound.proofs.DrawnFrames.{transaction_drawn, transaction_left_drawn}
 use Rattle.book_sound.proofs.MarkFrames.{AreRemarked, IsRemarked, transaction_marked}
@@ -96,10 +98,11 @@ marked_put book n next new None there marks is are = absurd cc
 marked_put book n next new (Some old) there marks is are =
     let currency = and_parts (new.currency == old.currency) _ marks in
     let splits = and_parts (are_remarked old.splits new.splits) _ currency.1 in
+    let marked = and_parts (list_all (is_rightly_marked book.reconciliations) new.splits) (is_none new.voided) splits.1 in
     let stay = all_remarked_of old.splits new.splits splits.0 in
     let Below : Split → Type 0 = λ s. s.id < next in (
-      transaction_marked book n next old new there are (sym (eqb-true new.currency old.currency currency.0)) stay
-          splits.1 is,
+      transaction_marked book n next old new there are (sym (eqb-true new.currency old.currency currency.0)) marked.1
+          stay marked.0 is,
       transaction_drawn book n next new (drawn_below n next old book.transactions are.transactions there)
           (remarked_drawn next old.splits new.splits stay
           (all_of_one Below n old book.transactions there are.splits)) are,

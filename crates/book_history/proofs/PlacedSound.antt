@@ -82,6 +82,7 @@ record IsPut (next : ℕ) (book : Book) (n : ℕ) (new : Txn) : Type 0 where
   check : passes_check book.commodities book.accounts new ≡ true
   once : are_once (numbers_of new.splits) ≡ true
   marks : list_all (is_rightly_marked book.reconciliations) new.splits ≡ true
+  unvoided : is_none new.voided ≡ true
   few : length book.transactions < 200000
   few_splits : length (splits_of book.transactions) + length new.splits ≤ 1000000
   apart : is_apart n new book.transactions ≡ true
@@ -95,6 +96,7 @@ put_of next book n new fits =
     let rules = and_parts (keeps_own_rules book new) _ numbers.1 in
     let check = and_parts (passes_check book.commodities book.accounts new) _ rules.0 in
     let splits = and_parts (are_once (numbers_of new.splits)) _ check.1 in
+    let marks = and_parts (list_all (is_rightly_marked book.reconciliations) new.splits) (is_none new.voided) splits.1 in
     let room = and_parts (has_room ts (length new.splits)) _ rules.1 in
     let count = and_parts (nat_lt (length ts) 200000) _ room.0 in
     let others = and_parts (is_apart n new ts) _ room.1 in
@@ -104,7 +106,8 @@ put_of next book n new fits =
       drawn = number.1;
       check = check.0;
       once = splits.0;
-      marks = splits.1;
+      marks = marks.0;
+      unvoided = marks.1;
       few = ltb-true (length ts) 200000 count.0;
       few_splits = grind (arith, nat_tests, few);
       apart = others.0;
@@ -139,7 +142,7 @@ transactions_put next book n new fit is =
     let few : length later ≤ 200000 = omega (arith, count, more, fit.few) in
     sound_with (marked_transaction_rules book.commodities book.accounts book.reconciliations ts)
     (marked_transaction_rules book.commodities book.accounts book.reconciliations later) 200000 n new ts
-    (fit.check, (fit.once, (not_from_false _ free, (fit.marks, tt))))
+    (fit.check, (fit.once, (not_from_false _ free, (fit.marks, (fit.unvoided, tt)))))
     (λ k x other there kept.
     let apart = none_shared (numbers_of new.splits) (numbers_of x.splits)
     (shares_none n k new x ts fit.apart other there) in

@@ -1,7 +1,7 @@
 -- Which things may be put into a sound book, which then stays sound. That is seen from the thing, from a walk along the
 -- transactions of the book, and from one along its lines.
 use Rattle.std.specs.Prelude.{ℕ, ◌+◌, ◌==◌, nat_lt, not, Bool, true, false, ◌&&◌, ◌||◌, List, [], length, Option}
-use Rattle.std.specs.Prelude.{Some, None}
+use Rattle.std.specs.Prelude.{Some, None, is_none}
 use Rattle.std.specs.List.{list_all}
 use Rattle.book_commodity.specs.Table.{value_of}
 use Rattle.book_splits.specs.Balance.{splits_of}
@@ -26,11 +26,11 @@ abbrev pub are_drawn : ℕ → List Split → Bool
 are_drawn next splits = list_all (λ split. nat_lt split.id next) splits
 
 -- Whether a transaction keeps the rules that ask for no other: it passes the check of transactions, each of its splits
--- has a number that no other of them has, and each is rightly marked.
+-- has a number that no other of them has, each is rightly marked, and it is not voided.
 abbrev pub keeps_own_rules : Book → Txn → Bool
 keeps_own_rules book transaction =
     passes_check book.commodities book.accounts transaction && (are_once (numbers_of transaction.splits)
-    && list_all (is_rightly_marked book.reconciliations) transaction.splits)
+    && (list_all (is_rightly_marked book.reconciliations) transaction.splits && is_none transaction.voided))
 
 -- Whether there is room for a transaction more with so many splits.
 abbrev pub has_room : List (ℕ × Txn) → ℕ → Bool

@@ -10,7 +10,7 @@ use book_commodity::Table;
 use book_splits::{Mark, MarkedSplit, Recon, Split, Txn};
 
 /// Whether there is a transaction that has the currency of the new one, and its splits but for their marks and texts,
-/// and those of the new one are rightly marked.
+/// and those of the new one are rightly marked, and it is not voided.
 pub(crate) fn only_marks(reconciliations: &Table<Recon>, new: &Txn, found: Option<&Txn>) -> bool
     ensures { result ≡ only_marks reconciliations.now.entries new.now (option_copied found.entry) }
 {
@@ -20,6 +20,7 @@ pub(crate) fn only_marks(reconciliations: &Table<Recon>, new: &Txn, found: Optio
             new.currency == old.currency
                 && are_remarked(old.splits.as_slice(), splits)
                 && are_rightly_marked(reconciliations, splits)
+                && new.voided.is_none()
         }
         None => false,
     }
@@ -50,7 +51,7 @@ fn is_remarked(old: &Split, new: &Split) -> bool
         && new.quantity == old.quantity
 }
 
-/// Whether each split is reconciled exactly where it names a reconciliation that has marked it.
+/// Whether each split is reconciled exactly where it names a reconciliation that has marked it, and none is voided.
 pub(crate) fn are_rightly_marked(reconciliations: &Table<Recon>, splits: &[Split]) -> bool
     ensures { result ≡ list_all (is_rightly_marked reconciliations.now.entries) splits.now }
 {
@@ -59,13 +60,14 @@ pub(crate) fn are_rightly_marked(reconciliations: &Table<Recon>, splits: &[Split
         .all(|split| is_rightly_marked(reconciliations, split))
 }
 
-/// Whether the split is reconciled exactly where it names a reconciliation that has marked it.
+/// Whether the split is reconciled exactly where it names a reconciliation that has marked it, and is not voided.
 fn is_rightly_marked(reconciliations: &Table<Recon>, split: &Split) -> bool
     ensures { result ≡ is_rightly_marked reconciliations.now.entries split.now }
 {
     match split.mark {
-        Mark::Reconciled => is_named_rightly(reconciliations, split),
         Mark::New | Mark::Cleared => split.recon.is_none(),
+        Mark::Reconciled => is_named_rightly(reconciliations, split),
+        Mark::Voided => false,
     }
 }
 

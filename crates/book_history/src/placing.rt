@@ -74,7 +74,7 @@ fn are_drawn(splits: &[Split], next: u64) -> bool
 }
 
 /// Whether the transaction keeps the rules that ask for no other: it passes the check of transactions, and its splits
-/// have numbers of their own and are rightly marked.
+/// have numbers of their own and are rightly marked, and it is not voided.
 fn keeps_own_rules(plain: &Plain, transaction: &Txn) -> bool
     ensures { result ≡ keeps_own_rules (book_of plain.now) transaction.now }
 {
@@ -82,6 +82,7 @@ fn keeps_own_rules(plain: &Plain, transaction: &Txn) -> bool
     passes_check(plain, transaction)
         && are_once(splits)
         && are_rightly_marked(&plain.reconciliations, splits)
+        && transaction.voided.is_none()
 }
 
 /// Whether the transaction breaks no rule of transactions.

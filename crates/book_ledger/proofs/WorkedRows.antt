@@ -24,7 +24,7 @@ split id account amount = record {
 }
 
 abbrev transaction : ℤ → List Split → Txn
-transaction day splits = record { currency = 1; day = day; num = []; description = []; splits = splits }
+transaction day splits = record { currency = 1; day = day; num = []; description = []; splits = splits; voided = None }
 
 abbrev salary : ℕ × Txn
 salary = (5, transaction (pos 5) (split 6 3 (pos 250000) ∷ split 7 4 (negsuc 249999) ∷ []))

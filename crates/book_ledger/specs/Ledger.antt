@@ -14,11 +14,12 @@ use Rattle.book_splits.specs.declared.split.Split.{Split}
 use Rattle.book_splits.specs.declared.transaction.Txn.{Txn}
 use Rattle.book_undo.specs.Book.{Book}
 
--- How far a split is reconciled: n, c or y (GnuCash Manual, reconciling accounts).
+-- How far a split is reconciled: n, c or y (GnuCash Manual, reconciling accounts). A sound book has no voided split.
 abbrev pub mark_of : Mark → Mark2
 mark_of mark.New = kept.Plain
 mark_of mark.Cleared = kept.Cleared
 mark_of mark.Reconciled = kept.Reconciled
+mark_of mark.Voided = kept.Plain
 
 -- The row of the split that stands at a place of the transaction with a number.
 abbrev pub row_of : ℕ → Txn → ℕ → Split → Entry

@@ -16,7 +16,7 @@ fn mark_of(mark: Mark) -> Mark2
     ensures { result ≡ kept_mark mark }
 {
     match mark {
-        Mark::New => Mark2::Plain,
+        Mark::New | Mark::Voided => Mark2::Plain,
         Mark::Cleared => Mark2::Cleared,
         Mark::Reconciled => Mark2::Reconciled,
     }

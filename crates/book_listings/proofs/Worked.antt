@@ -62,6 +62,7 @@ buy = record {
   description = codes "Buy";
   splits = split 8 4 [] (pos 10000) (pos 10) ∷ split 9 6 (codes "fee") (pos 150) (pos 150)
       ∷ split 10 5 [] (negsuc 10149) (negsuc 10149) ∷ [];
+  voided = None;
 }
 
 abbrev book : Book

@@ -53,6 +53,7 @@ abbrev pub mark_letter : Mark → List ℕ
 mark_letter mark.New = codes "n"
 mark_letter mark.Cleared = codes "c"
 mark_letter mark.Reconciled = codes "y"
+mark_letter mark.Voided = codes "v"
 
 -- An amount of a commodity.
 abbrev pub amount_in : Book → ℕ → ℤ → List ℕ

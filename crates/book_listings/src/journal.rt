@@ -283,5 +283,6 @@ pub(crate) fn mark_letter(mark: Mark) -> &'static str
         Mark::New => "n",
         Mark::Cleared => "c",
         Mark::Reconciled => "y",
+        Mark::Voided => "v",
     }
 }

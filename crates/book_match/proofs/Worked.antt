@@ -100,6 +100,7 @@ posted number other day quantity num = (
     day = day;
     num = num;
     description = [];
+    voided = None;
     splits = record {
       id = other;
       account = 3;

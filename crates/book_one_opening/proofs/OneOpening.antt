@@ -14,7 +14,7 @@ use Rattle.book_engine.specs.Machine.{Machine}
 use Rattle.book_engine.specs.Opens.{Opens, OpensTo}
 use Rattle.book_one_opening.proofs.RecordCodes.{only-record}
 
-only-one : (m : RowFormat) (entry : ℕ × Record) → CanBeRow entry → IsOnlyRecord m entry
+only-one : (m : RowFormat) (entry : ℕ × Record) → CanBeRow m entry → IsOnlyRecord m entry
 only-one m entry can = (
   can,
   λ it stands. only-record m (row_of m entry).key (row_of m entry).body it entry.1 stands
@@ -22,7 +22,7 @@ only-one m entry can = (
 )
 
 all-only :
-    (m : RowFormat) (entries : List (ℕ × Record)) → AllByRecursion CanBeRow entries
+    (m : RowFormat) (entries : List (ℕ × Record)) → AllByRecursion (CanBeRow m) entries
     → AllByRecursion (IsOnlyRecord m) entries
 all-only m [] all = tt
 all-only m (entry ∷ entries) all = (only-one m entry all.0, all-only m entries all.1)

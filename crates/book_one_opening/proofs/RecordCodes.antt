@@ -1,5 +1,6 @@
 -- A row stands for one record alone: the spellings of a kind's records are those of no other record of the kind.
-use Rattle.std.proofs.Common.{◌≡◌, ℕ, ◌+◌, ◌==◌, List, [], ◌∷◌, ◌++◌, length, if◌then◌else◌}
+use Rattle.std.proofs.Common.{◌≡◌, ℕ, ◌+◌, ◌==◌, ℤ, true, not, List, [], ◌∷◌, ◌++◌, length, if◌then◌else◌}
+use Rattle.std.proofs.Common.{Option, None, is_none}
 use Rattle.std.proofs.Common.{◌-◌, zero, suc, flat_map, refl, sym, ap, ◌∙◌, subst, append_assoc, arith}
 use Rattle.std.proofs.lemmas.Int.{ints}
 use Rattle.book_keeper.specs.declared.row.RowKey.{RowKey}
@@ -21,7 +22,12 @@ use Rattle.book_splits.specs.declared.reconciliation.Recon.{Recon}
 use Rattle.book_splits.specs.declared.split.Mark.TheVariants as mark
 use Rattle.book_splits.specs.declared.split.Mark.{Mark}
 use Rattle.book_splits.specs.declared.split.Split.{Split}
+use Rattle.book_splits.specs.TransactionRules.{has_voided, is_unvoided}
 use Rattle.book_splits.specs.declared.transaction.Txn.{Txn}
+use Rattle.book_splits.specs.declared.void.KeptSplit.{KeptSplit}
+use Rattle.book_splits.specs.declared.void.Void.{Void}
+use Rattle.book_splits.proofs.TransactionRuleLemmas.{is_none_of}
+use Rattle.std.proofs.lemmas.Bool.{and_parts}
 use Rattle.book_statement.specs.declared.binding.Binding.{Binding}
 use Rattle.book_statement.specs.declared.held.Held.{Held}
 use Rattle.book_statement.specs.declared.line.Line.{Line}
@@ -55,8 +61,8 @@ use Rattle.book_rows.specs.StatementBytes.{binding_bytes, binding_made, held_byt
 use Rattle.book_rows.specs.StatementBytes.{line_state_bytes, part_bytes, part_made, statement_line_bytes}
 use Rattle.book_rows.specs.StatementBytes.{statement_line_made}
 use Rattle.book_rows.specs.ThingBytes.{IsThing, thing_bytes}
-use Rattle.book_rows.specs.TransactionBytes.{IsSplit, IsTxn, place_of_mark, split_bytes, split_made, txn_bytes}
-use Rattle.book_rows.specs.TransactionBytes.{txn_fields}
+use Rattle.book_rows.specs.TransactionBytes.{IsKept, IsSplit, IsTxn, IsVoid, kept_bytes, kept_made, place_of_mark}
+use Rattle.book_rows.specs.TransactionBytes.{split_bytes, split_made, txn_bytes, void_bytes, void_made}
 use Rattle.book_rows.specs.declared.format.RowFormat.{RowFormat}
 use Rattle.book_rows.specs.declared.format.RowFormat.TheVariants as format
 use Rattle.book_rows.specs.TransactionBytes.{txn_made}
@@ -107,13 +113,15 @@ account_kind_back account_kind.Expense = refl
 account_kind_back account_kind.Equity = refl
 
 mark_at : ℕ → Mark
-mark_at n = if n == 1 then mark.New else if n == 2 then mark.Cleared else mark.Reconciled
+mark_at n =
+    if n == 1 then mark.New else if n == 2 then mark.Cleared else if n == 3 then mark.Reconciled else mark.Voided
 
 mark_back : (x : Mark) → mark_at (place_of_mark x) ≡ x
 unfolding mark_at
 mark_back mark.New = refl
 mark_back mark.Cleared = refl
 mark_back mark.Reconciled = refl
+mark_back mark.Voided = refl
 
 recurrence_kind_at : ℕ → RecurrenceKind
 recurrence_kind_at n =
@@ -188,21 +196,41 @@ split-code =
     (λ (x : Split). (x.id, (x.account, (x.memo, (x.action, (x.mark, (x.recon, (x.value, x.quantity))))))))
     split_made (λ x. refl) code
 
-fields-code : IsCode IsTxn txn_fields
-fields-code =
-    let code =
-    pair-code number-code (pair-code day-code (pair-code text-code (pair-code text-code (listed-code split-code)))) in
-    made-code (λ (x : Txn). (x.currency, (x.day, (x.num, (x.description, x.splits))))) txn_made (λ x. refl) code
+kept-code : IsCode IsKept kept_bytes
+kept-code =
+    made-code (λ (x : KeptSplit). (x.value, x.quantity)) kept_made (λ x. refl) (pair-code signed-code signed-code)
 
--- A transaction in format 2 is followed by one byte.
-txn-code : (m : RowFormat) → IsCode IsTxn (txn_bytes m)
-txn-code format.One = fields-code
-txn-code format.Two = record {
+void-code : IsCode IsVoid void_bytes
+void-code =
+    made-code (λ (x : Void). (x.reason, x.kept)) void_made (λ x. refl) (pair-code text-code (listed-code kept-code))
+
+-- The fields that both formats have of a transaction.
+abbrev Fields : Type 0
+Fields = ℕ × (ℤ × (List ℕ × (List ℕ × List Split)))
+
+abbrev fields_in : Txn → Fields
+fields_in x = (x.currency, (x.day, (x.num, (x.description, x.splits))))
+
+-- A transaction that is not voided is made of these alone.
+made-unvoided : (x : Txn) → is_unvoided x ≡ true → txn_made (fields_in x, None) ≡ x
+made-unvoided x unvoided =
+    let parts = and_parts (is_none x.voided) (not (has_voided x.splits)) unvoided in
+    ap (λ (v : Option Void). txn_made (fields_in x, v)) (sym (is_none_of x.voided parts.0))
+
+txn-code : (m : RowFormat) → IsCode (IsTxn m) (txn_bytes m)
+txn-code format.One = record {
   only = λ a b r s fit less e.
-      let same = fields-code.only a b (0 ∷ r) (0 ∷ s) fit less
-      (sym (append_assoc (txn_fields a) (0 ∷ []) r) ∙ e ∙ append_assoc (txn_fields b) (0 ∷ []) s) in
-      (same.0, behind _ _ _ _ same.1);
+      let code = pair-code number-code (pair-code day-code (pair-code text-code (pair-code text-code
+      (listed-code split-code)))) in
+      let same = code.only (fields_in a) (fields_in b) r s fit.0 less.0 e in (
+        sym (made-unvoided a fit.1) ∙ ap (λ (f : Fields). txn_made (f, None)) same.0 ∙ made-unvoided b less.1,
+        same.1,
+      );
 }
+txn-code format.Two =
+    let code = pair-code number-code (pair-code day-code (pair-code text-code (pair-code text-code
+    (listed-code split-code)))) in
+    made-code (λ (x : Txn). (fields_in x, x.voided)) txn_made (λ x. refl) (pair-code code (optional-code void-code))
 
 price-code : IsCode IsPrice price_bytes
 price-code =
@@ -232,10 +260,11 @@ timing-code =
     (pair-code (optional-code day-code) number-code))) in
     made-code (λ (x : Timing). (x.recurrences, (x.end, (x.advance, (x.last, x.made))))) timing_made (λ x. refl) code
 
-schedule-code : (m : RowFormat) → IsCode IsSchedule (schedule_bytes m)
+schedule-code : (m : RowFormat) → IsCode (IsSchedule m) (schedule_bytes m)
 schedule-code m =
     let code = pair-code text-code (pair-code timing-code (txn-code m)) in
-    made-code (λ (x : Schedule). (x.name, (x.timing, x.template))) schedule_made (λ x. refl) code
+    made-code (λ (x : Schedule). (x.name, (x.timing, x.template))) (λ f. schedule_made ((f.0, f.1.0), f.1.1))
+    (λ x. refl) code
 
 held-code : IsCode IsHeld held_bytes
 held-code =
@@ -304,7 +333,7 @@ head-code =
 
 -- Things of one kind.
 only-thing :
-    (m : RowFormat) (a b : Thing) (r s : List ℕ) → row_kind (thing_kind_of a) ≡ row_kind (thing_kind_of b) → IsThing a → IsThing b
+    (m : RowFormat) (a b : Thing) (r s : List ℕ) → row_kind (thing_kind_of a) ≡ row_kind (thing_kind_of b) → IsThing m a → IsThing m b
     → thing_bytes m a ++ r ≡ thing_bytes m b ++ s → (a ≡ b) × (r ≡ s)
 only-thing m (thing.Commodity a) (thing.Commodity b) r s kinds fit less e =
     let same = commodity-code.only a b r s fit less e in (ap thing.Commodity same.0, same.1)
@@ -328,7 +357,7 @@ only-thing m a b r s kinds fit less e = absurd (omega (arith, kinds))
 
 -- The lists of edits at one depth less are spelled apart.
 abbrev AreLess : RowFormat → ℕ → Type 0
-AreLess m most = (less : ℕ) → most ≡ less + 1 → IsCode (IsEditWithin less) (edit_bytes m)
+AreLess m most = (less : ℕ) → most ≡ less + 1 → IsCode (IsEditWithin m less) (edit_bytes m)
 
 only-list :
     (m : RowFormat) (most : ℕ) (a b : Edit) (bytes r s : List ℕ) → AreLess m most → HasParts m most a bytes r → HasParts m most b bytes s
@@ -340,15 +369,15 @@ only-list m most a b bytes r s codes one other =
     let size = number-code.only (length one.list.parts) (length other.list.parts)
     (flat_map (edit_bytes m) one.list.parts ++ r) (flat_map (edit_bytes m) other.list.parts ++ s) one.few other.few
     (sym one.list.spelled ∙ other.list.spelled) in
-    let same = only-items (IsEditWithin less) (edit_bytes m) (codes less is) one.list.parts other.list.parts r s size.0
+    let same = only-items (IsEditWithin m less) (edit_bytes m) (codes less is) one.list.parts other.list.parts r s size.0
     (one.within less is) (other.within less is) size.1 in
     (one.list.is ∙ ap All same.0 ∙ sym other.list.is, same.1)
 
 only-put :
-    (m : RowFormat) (n : ℕ) (a : Thing) (b : Edit) (bytes r s : List ℕ) → IsNumber n → IsThing a → HasValues b
+    (m : RowFormat) (n : ℕ) (a : Thing) (b : Edit) (bytes r s : List ℕ) → IsNumber n → IsThing m a → HasValues m b
     → bytes ≡ row_kind (thing_kind_of a) ∷ number n ++ (thing_bytes m a ++ r) → IsPut m b bytes s → (Put n a ≡ b) × (r ≡ s)
 only-put m n a b bytes r s few fit fits spelled put =
-    let less = subst HasValues put.is fits in
+    let less = subst (HasValues m) put.is fits in
     let both = sym spelled ∙ put.spelled in
     let size = number-code.only n put.it (thing_bytes m a ++ r) (thing_bytes m put.thing ++ s) few less.0
     (behind _ _ _ _ both) in
@@ -356,25 +385,25 @@ only-put m n a b bytes r s few fit fits spelled put =
     (ap (λ (k : ℕ). Put k a) size.0 ∙ ap (λ (x : Thing). Put put.it x) same.0 ∙ sym put.is, same.1)
 
 only-gone :
-    (m : RowFormat) (of : ThingKind) (n : ℕ) (b : Edit) (bytes r s : List ℕ) → IsNumber n → HasValues b
+    (m : RowFormat) (of : ThingKind) (n : ℕ) (b : Edit) (bytes r s : List ℕ) → IsNumber n → HasValues m b
     → bytes ≡ row_kind of ∷ number n ++ r → IsGone b bytes s → (Gone of n ≡ b) × (r ≡ s)
 only-gone m of n b bytes r s few fits spelled gone =
-    let less = subst HasValues gone.is fits in
+    let less = subst (HasValues m) gone.is fits in
     let both = sym spelled ∙ gone.spelled in
     let size = number-code.only n gone.it r s few less (behind _ _ _ _ both) in
     let kinds = sym (thing_kind_back of) ∙ ap thing_kind_at (first-byte _ _ _ _ both) ∙ thing_kind_back gone.kind in
     (ap (λ (k : ThingKind). Gone k n) kinds ∙ ap (λ (k : ℕ). Gone gone.kind k) size.0 ∙ sym gone.is, size.1)
 
 only-currency :
-    (m : RowFormat) (n : ℕ) (b : Edit) (bytes r s : List ℕ) → IsNumber n → HasValues b → bytes ≡ number n ++ r
+    (m : RowFormat) (n : ℕ) (b : Edit) (bytes r s : List ℕ) → IsNumber n → HasValues m b → bytes ≡ number n ++ r
     → IsCurrency b bytes s → (Currency n ≡ b) × (r ≡ s)
 only-currency m n b bytes r s few fits spelled currency =
-    let less = subst HasValues currency.is fits in
+    let less = subst (HasValues m) currency.is fits in
     let size = number-code.only n currency.it r s few less (sym spelled ∙ currency.spelled) in
     (ap Currency size.0 ∙ sym currency.is, size.1)
 
 only-edit :
-    (m : RowFormat) (most : ℕ) (a b : Edit) (r s : List ℕ) → AreLess m most → IsEditWithin most a → IsEditWithin most b
+    (m : RowFormat) (most : ℕ) (a b : Edit) (r s : List ℕ) → AreLess m most → IsEditWithin m most a → IsEditWithin m most b
     → edit_bytes m a ++ r ≡ edit_bytes m b ++ s → (a ≡ b) × (r ≡ s)
 unfolding edit_bytes
 only-edit m most (Currency n) b r s codes fit less e =
@@ -392,7 +421,7 @@ only-edit m most (All' shape parts) b r s codes fit less e =
     only-list m most (All' shape parts) b bytes r s codes (parts_at m most (All' shape parts) bytes r fit refl)
     (parts_at m most b bytes s less e)
 
-edit-code : (m : RowFormat) (most : ℕ) → IsCode (IsEditWithin most) (edit_bytes m)
+edit-code : (m : RowFormat) (most : ℕ) → IsCode (IsEditWithin m most) (edit_bytes m)
 edit-code m zero = record {
   only = λ a b r s fit less e.
       only-edit m zero a b r s (λ fewer is. absurd (omega (arith, is))) fit less e;
@@ -402,14 +431,14 @@ edit-code m (suc most) = record {
       only-edit m (suc most) a b r s
       (λ fewer is.
       let same : most ≡ fewer = omega (arith, is) in
-      subst (λ (n : ℕ). IsCode (IsEditWithin n) (edit_bytes m)) same (edit-code m most)) fit less e;
+      subst (λ (n : ℕ). IsCode (IsEditWithin m n) (edit_bytes m)) same (edit-code m most)) fit less e;
 }
 
 -- ---- rows
 
 -- Records of one kind.
 only-fields :
-    (m : RowFormat) (a b : Record) → kind_of a ≡ kind_of b → IsRecord a → IsRecord b → fields_of m a ≡ fields_of m b → a ≡ b
+    (m : RowFormat) (a b : Record) → kind_of a ≡ kind_of b → IsRecord m a → IsRecord m b → fields_of m a ≡ fields_of m b → a ≡ b
 only-fields m (record_of.Head a) (record_of.Head b) kinds fit less e =
     ap record_of.Head (whole-code head-code a b fit.0 less.0 e)
 only-fields m (record_of.Thing a) (record_of.Thing b) kinds fit less e =

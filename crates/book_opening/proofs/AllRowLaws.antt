@@ -13,6 +13,7 @@ use Rattle.book_opening.specs.Opening.{CanBeRow, OpenIn}
 use Rattle.book_rows.specs.declared.format.RowFormat.{RowFormat}
 use Rattle.book_opening.specs.State.{State}
 use Rattle.book_opening.specs.Steps.{AreCounted}
+use Rattle.book_opening.proofs.FormatLaws.{can_in_two}
 use Rattle.book_opening.proofs.Ranked.{RisesBy}
 use Rattle.book_opening.proofs.StateRecords.{TablesRise, records_behind, records_rise}
 use Rattle.book_opening.proofs.ThingRecords.{IsSmall, rank_of}
@@ -60,7 +61,7 @@ put_behind front (row ∷ rest) rise =
 -- Where there were no rows, they open as a state once all its rows are put, where its steps are those that its head
 -- counts.
 pub opens_from_none :
-    (s : State) → TablesRise s → AllByRecursion CanBeRow (records_of s) → AreCounted s
+    (s : State) → TablesRise s → AllByRecursion (CanBeRow Two) (records_of s) → AreCounted s
     → OpenIn Two (after_changes (all_put s) []) s
 opens_from_none s rise can counted = record {
   are = put_behind [] (rows_of Two s) (rows_rise s rise (small_numbers (behind_head s) can.1));
@@ -109,8 +110,9 @@ pub opens_anew :
     → OpenIn Two (after_changes (all_put s) rows) s
 opens_anew format rows s rise opens = record {
   are = ap (after_changes (all_put s)) opens.are
-      ∙ put_over format [] (records_of s) (rows_rise s rise (small_numbers (behind_head s) opens.spelled.1));
-  spelled = opens.spelled;
+      ∙ put_over format [] (records_of s) (rows_rise s rise (small_numbers (behind_head s)
+      (can_in_two format (records_of s) opens.spelled).1));
+  spelled = can_in_two format (records_of s) opens.spelled;
   counted = opens.counted;
 }
 
@@ -132,7 +134,7 @@ all_positive (e ∷ es) = (omega arith, all_positive es)
 
 -- And the keys of these changes rise, as a commit wants it.
 pub all_put_rise :
-    (s : State) → TablesRise s → AllByRecursion CanBeRow (records_of s) → AreRising (all_put s)
+    (s : State) → TablesRise s → AllByRecursion (CanBeRow Two) (records_of s) → AreRising (all_put s)
 all_put_rise s rise can =
     put_rise 0 (records_of s) (rows_rise s rise (small_numbers (behind_head s) can.1)) (all_positive (records_of s))
     (small_numbers (records_of s) can)

@@ -137,31 +137,31 @@ rows_after_leaves (OfGone k n ∷ ls) head s all small =
     (gone_row Two head (record { kind = row_kind k; id = n }) s next (kind_least k) taken)
     ∙ rows_after_leaves ls head next (all_gone IsSmall (row_kind k * 2 ^ 64 + n) s next taken all) small.1
 
-can_be : (n : ℕ) (it : Record) → 2 ≤ kind_of it → n < 2 ^ 62 → IsRecord it → CanBeRow (n, it)
+can_be : (n : ℕ) (it : Record) → 2 ≤ kind_of it → n < 2 ^ 62 → IsRecord Two it → CanBeRow Two (n, it)
 can_be n it least small fits = ((refl, small, (λ one. absurd (omega (arith, one, least)))), fits)
 
 -- The numbers of records that can be rows are small.
-pub small_numbers : (es : List (ℕ × Record)) → AllByRecursion CanBeRow es → AllByRecursion IsSmall es
-small_numbers es can = all_weak CanBeRow IsSmall (λ e h. h.0.1) es can
+pub small_numbers : (es : List (ℕ × Record)) → AllByRecursion (CanBeRow Two) es → AllByRecursion IsSmall es
+small_numbers es can = all_weak (CanBeRow Two) IsSmall (λ e h. h.0.1) es can
 
 spelled_after :
     (ls : List Leaf) (s : State) → AllByRecursion IsSmallLeaf ls → AllByRecursion LeafFits ls
-    → AllByRecursion CanBeRow (behind_head s)
-    → AllByRecursion CanBeRow (behind_head (with_book (after_leaves ls s.book) s))
+    → AllByRecursion (CanBeRow Two) (behind_head s)
+    → AllByRecursion (CanBeRow Two) (behind_head (with_book (after_leaves ls s.book) s))
 spelled_after [] s small fit can = can
 spelled_after (OfCurrency c ∷ ls) s small fit can =
     spelled_after ls (with_book (with_currency c s.book) s) small.1 fit.1
-    (subst (AllByRecursion CanBeRow) (same_behind c s) can)
+    (subst (AllByRecursion (CanBeRow Two)) (same_behind c s) can)
 spelled_after (OfPut n t ∷ ls) s small fit can =
     let all = small_numbers (behind_head s) can in
     let least = kind_least (thing_kind t) in
     spelled_after ls (with_record n (kept.Thing t) s) small.1 fit.1
-    (all_with CanBeRow n (kept.Thing t) s least small.0 all (can_be n (kept.Thing t) least small.0 fit.0) can)
+    (all_with (CanBeRow Two) n (kept.Thing t) s least small.0 all (can_be n (kept.Thing t) least small.0 fit.0) can)
 spelled_after (OfGone k n ∷ ls) s small fit can =
     let all = small_numbers (behind_head s) can in
     let next = with_book (without_thing k n s.book) s in
     spelled_after ls next small.1 fit.1
-    (all_gone CanBeRow (row_kind k * 2 ^ 64 + n) s next (take_thing k n s small.0 all) can)
+    (all_gone (CanBeRow Two) (row_kind k * 2 ^ 64 + n) s next (take_thing k n s small.0 all) can)
 
 -- ---- steps
 -- The number of a step that changes can be that of a row.
@@ -181,7 +181,7 @@ step_row (GoneForth n) head s small all =
 step_all :
     (P : ℕ × Record → Type 0) (step : StepChange) (s : State) → IsSmallStep step
     → AllByRecursion IsSmall (behind_head s)
-    → ((it : Record) → 2 ≤ kind_of it → IsRecord it → P (step_number step, it)) → StepFits step
+    → ((it : Record) → 2 ≤ kind_of it → IsRecord Two it → P (step_number step, it)) → StepFits step
     → AllByRecursion P (behind_head s) → AllByRecursion P (behind_head (with_step step s))
 step_all P (PutBack n e) s small all here fits h =
     all_with P n (kept.Back e) s (omega arith) small all (here (kept.Back e) (omega arith) fits) h
@@ -204,11 +204,11 @@ rows_after_steps (step ∷ steps) head s small fit all =
 
 spelled_steps :
     (steps : List StepChange) (s : State) → AllByRecursion IsSmallStep steps → AllByRecursion StepFits steps
-    → AllByRecursion CanBeRow (behind_head s) → AllByRecursion CanBeRow (behind_head (with_steps steps s))
+    → AllByRecursion (CanBeRow Two) (behind_head s) → AllByRecursion (CanBeRow Two) (behind_head (with_steps steps s))
 spelled_steps [] s small fit can = can
 spelled_steps (step ∷ steps) s small fit can =
     spelled_steps steps (with_step step s) small.1 fit.1
-    (step_all CanBeRow step s small.0 (small_numbers (behind_head s) can)
+    (step_all (CanBeRow Two) step s small.0 (small_numbers (behind_head s) can)
     (λ it least fits. can_be (step_number step) it least small.0 fits) fit.0 can)
 
 after_both :
@@ -223,7 +223,7 @@ pub opens_after :
     → behind_head t ≡ behind_head (with_steps steps (with_book (edited edit s.book) s))
     → AllByRecursion IsSmallLeaf (leaves edit) → AllByRecursion LeafFits (leaves edit)
     → AllByRecursion IsSmallStep steps → AllByRecursion StepFits steps
-    → IsRecord (kept.Head (head_of t)) → AreCounted t
+    → IsRecord Two (kept.Head (head_of t)) → AreCounted t
     → OpenIn Two (after_changes (changes_of (head_of t) edit ++ map step_change steps) rows) t
 opens_after rows s t edit steps open_as is small fit small_steps fit_steps head_fits counted =
     let head = head_of t in
@@ -231,8 +231,8 @@ opens_after rows s t edit steps open_as is small fit small_steps fit_steps head_
     let all = small_numbers (behind_head s) can in
     let book : after_leaves (leaves edit) s.book ≡ edited edit s.book = sym (edited-leaves edit s.book) in
     let middle : State = with_book (edited edit s.book) s in
-    let can_middle : AllByRecursion CanBeRow (behind_head middle) =
-    subst (λ (b : Book). AllByRecursion CanBeRow (behind_head (with_book b s))) book
+    let can_middle : AllByRecursion (CanBeRow Two) (behind_head middle) =
+    subst (λ (b : Book). AllByRecursion (CanBeRow Two) (behind_head (with_book b s))) book
     (spelled_after (leaves edit) s small fit can) in
     record {
       are = after_both (changes_of head edit) (map step_change steps) rows
@@ -244,7 +244,7 @@ opens_after rows s t edit steps open_as is small fit small_steps fit_steps head_
           ∙ ap (λ (es : List (ℕ × Record)). map (row_of Two) ((0, kept.Head head) ∷ es)) (sym is);
       spelled = (
         ((refl, omega arith, (λ one. refl)), head_fits),
-        subst (AllByRecursion CanBeRow) (sym is) (spelled_steps steps middle small_steps fit_steps can_middle),
+        subst (AllByRecursion (CanBeRow Two)) (sym is) (spelled_steps steps middle small_steps fit_steps can_middle),
       );
       counted = counted;
     }

@@ -1,5 +1,6 @@
 pub mod AllRowLaws
 pub mod ChangeLaws
+pub mod FormatLaws
 pub mod FirstOff
 pub mod KeptSteps
 pub mod OpenAfter

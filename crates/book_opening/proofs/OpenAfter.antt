@@ -43,7 +43,7 @@ pub opens_with :
     → t.book ≡ edited edit s.book → t.back ≡ (with_steps steps s).back → t.forth ≡ (with_steps steps s).forth
     → AllByRecursion IsSmallLeaf (leaves edit) → AllByRecursion LeafFits (leaves edit)
     → AllByRecursion IsSmallStep steps → AllByRecursion StepFits steps
-    → IsRecord (kept.Head (head_of t)) → AreCounted t
+    → IsRecord Two (kept.Head (head_of t)) → AreCounted t
     → OpenIn Two (after_changes (changes_of (head_of t) edit ++ map step_change steps) rows) t
 opens_with rows s t edit steps opens book back forth small fit small_steps fit_steps head_fits counted =
     let b : Book = edited edit s.book in

@@ -6,11 +6,12 @@ use Rattle.book_keeper.specs.declared.row.Row.{Row}
 use Rattle.book_rows.specs.declared.head.Head.{Head}
 use Rattle.book_rows.specs.declared.record.Record.TheVariants as kept
 use Rattle.book_opening.specs.BookRows.{records_of, row_of, rows_of}
-use Rattle.book_opening.specs.Opening.{Answers, Begins, IsBadFor, IsBadHead, IsNoRecord, IsOnlyRecord, IsOpened}
+use Rattle.book_opening.specs.Opening.{Answers, Begins, CanBeRow, IsBadFor, IsBadHead, IsNoRecord, IsOnlyRecord, IsOpened}
 use Rattle.book_opening.specs.Opening.{OpenAs, OpenIn, head_key}
 use Rattle.book_opening.specs.State.{State, head_of}
 use Rattle.book_opening.specs.declared.fault.OpenFault.{OpenFault}
 use Rattle.book_opening.specs.declared.fault.OpenFault.TheVariants as fault
+use Rattle.book_opening.proofs.FormatLaws.{can_in_two}
 use Rattle.book_opening.proofs.SameRecords.{same_state}
 use Rattle.book_opening.proofs.StepLaws.{begins_format, format_is, opens_not_bad}
 use Rattle.book_opening.proofs.UpTo.{stands_in}
@@ -18,6 +19,7 @@ use Rattle.book_opening.proofs.UpTo.{only_records}
 use Rattle.book_rows.specs.Format.{format_in}
 use Rattle.book_rows.specs.HeadBytes.{head_bytes}
 use Rattle.book_rows.specs.declared.format.RowFormat.{RowFormat}
+use Rattle.book_rows.specs.declared.format.RowFormat.TheVariants.{Two}
 
 pub bad_answers : (rows : List Row) (error : OpenFault) → IsBadFor rows error → Answers rows (Err error)
 bad_answers rows (fault.BadRows kind id) bad = bad
@@ -76,8 +78,12 @@ only_state m rows s state are only opens =
     let records = only_records m (records_of s) (records_of state) (sym are ∙ mine.are) only mine.spelled in
     same_state s state (sym records)
 
--- The rows of a state in the one format open as it where those in the other do.
+-- The rows of a state in the one format open as it where those in the other do, and its records can be rows of the one.
 pub in_both :
     (one other : RowFormat) (state : State) → OpenIn one (rows_of one state) state
-    → OpenIn other (rows_of other state) state
-in_both one other state opens = record { are = refl; spelled = opens.spelled; counted = opens.counted }
+    → AllByRecursion (CanBeRow other) (records_of state) → OpenIn other (rows_of other state) state
+in_both one other state opens can = record { are = refl; spelled = can; counted = opens.counted }
+
+-- Those of format 2 open as it where those of a format do: what can be a row of format 1 can be one of format 2.
+pub in_two : (m : RowFormat) (state : State) → OpenIn m (rows_of m state) state → OpenIn Two (rows_of Two state) state
+in_two m state opens = in_both m Two state opens (can_in_two m (records_of state) opens.spelled)

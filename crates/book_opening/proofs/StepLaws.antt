@@ -172,7 +172,7 @@ same_head m h head rows rise begins only some =
 
 -- ---- the first step that is missing or not counted
 odd_of :
-    (m : RowFormat) (rows : List Row) (s : State) (key : RowKey) → Begins m rows (head_of s) → CanBeRow (0, kept.Head (head_of s))
+    (m : RowFormat) (rows : List Row) (s : State) (key : RowKey) → Begins m rows (head_of s) → CanBeRow m (0, kept.Head (head_of s))
     → stands_at key rows ≡ has_step s key → counts_fit (head_of s) ≡ true → is_step key ≡ true
     → (has_step s key ≡ counts (head_of s) key → ⊥) → IsOdd rows key
 odd_of m rows s key begins can stands fits step differs = record {
@@ -257,11 +257,11 @@ pub whole_opens :
     → OpenIn m rows s
 whole_opens m rows s are only counted = record {
   are = are;
-  spelled = all_weak (IsOnlyRecord m) CanBeRow (λ e h. h.0) (records_of s) only;
+  spelled = all_weak (IsOnlyRecord m) (CanBeRow m) (λ e h. h.0) (records_of s) only;
   counted = counted;
 }
 
-good_can : (m : RowFormat) (es : List (ℕ × Record)) → AllByRecursion CanBeRow es → AllByRecursion (IsGood m) (map (row_of m) es)
+good_can : (m : RowFormat) (es : List (ℕ × Record)) → AllByRecursion (CanBeRow m) es → AllByRecursion (IsGood m) (map (row_of m) es)
 good_can m [] h = tt
 good_can m (e ∷ es) h = ((e.1, stands_in m e h.0), good_can m es h.1)
 

@@ -64,7 +64,7 @@ table_puts {T} kind bytes of same spelled (e ∷ es) =
     ∷ puts_of (records_in of es)) (sym (spelled e.1))
 
 pub table_fit :
-    {T : Type 0} (P : T → Type 0) (of : T → Thing) → ((x : T) → P x → IsRecord (kept.Thing (of x)))
+    {T : Type 0} (P : T → Type 0) (of : T → Thing) → ((x : T) → P x → IsRecord Two (kept.Thing (of x)))
     → (es : List (ℕ × T)) → AllByRecursion (λ e. P e.1) es → AreRecords (records_in of es)
 table_fit P of fits [] h = tt
 table_fit P of fits (e ∷ es) h = (fits e.1 h.0, table_fit P of fits es h.1)
@@ -84,7 +84,7 @@ puts-things b = puts-joined (tables_of b)
 
 all-joined : (ss : List (List (ℕ × Record))) → AllByRecursion AreRecords ss → AreRecords (joined ss)
 all-joined [] h = tt
-all-joined (s ∷ ss) h = all_both (λ e. IsRecord e.1) s (joined ss) h.0 (all-joined ss h.1)
+all-joined (s ∷ ss) h = all_both (λ e. IsRecord Two e.1) s (joined ss) h.0 (all-joined ss h.1)
 
 pub all-things : (b : Book) → AllByRecursion AreRecords (tables_of b) → AreRecords (things_of b)
 unfolding things_of
@@ -107,7 +107,7 @@ table_added kind bytes of same spelled es slice old new is added =
     ∙ ap (λ (l : List Change). old ++ l) (table_puts kind bytes of same spelled es)
 
 pub slice_fit :
-    {T : Type 0} (P : T → Type 0) (of : T → Thing) → ((x : T) → P x → IsRecord (kept.Thing (of x)))
+    {T : Type 0} (P : T → Type 0) (of : T → Thing) → ((x : T) → P x → IsRecord Two (kept.Thing (of x)))
     → (es slice : List (ℕ × T)) → slice ≡ es → AllByRecursion (λ e. P e.1) slice → AreRecords (records_in of es)
 slice_fit {T} P of fits es slice is h =
     table_fit P of fits es (subst (λ (l : List (ℕ × T)). AllByRecursion (λ e. P e.1) l) is h)
@@ -163,11 +163,11 @@ pub forth_puts : (es : List (ℕ × Edit)) → map (entry_put 12 (edit_bytes Two
 forth_puts [] = refl
 forth_puts (e ∷ es) = ap (λ (l : List Change). entry_put 12 (edit_bytes Two) e ∷ l) (forth_puts es)
 
-pub back_fit : (es : List (ℕ × Edit)) → AllByRecursion (λ e. IsEdit e.1) es → AreRecords (back_records es)
+pub back_fit : (es : List (ℕ × Edit)) → AllByRecursion (λ e. IsEdit Two e.1) es → AreRecords (back_records es)
 back_fit [] h = tt
 back_fit (e ∷ es) h = (h.0, back_fit es h.1)
 
-pub forth_fit : (es : List (ℕ × Edit)) → AllByRecursion (λ e. IsEdit e.1) es → AreRecords (forth_records es)
+pub forth_fit : (es : List (ℕ × Edit)) → AllByRecursion (λ e. IsEdit Two e.1) es → AreRecords (forth_records es)
 forth_fit [] h = tt
 forth_fit (e ∷ es) h = (h.0, forth_fit es h.1)
 
@@ -200,4 +200,4 @@ pub all_fit :
     (things back forth : List (ℕ × Record)) → AreRecords things → AreRecords back → AreRecords forth
     → AreRecords (things ++ (back ++ forth))
 all_fit things back forth h k l =
-    all_both (λ e. IsRecord e.1) things (back ++ forth) h (all_both (λ e. IsRecord e.1) back forth k l)
+    all_both (λ e. IsRecord Two e.1) things (back ++ forth) h (all_both (λ e. IsRecord Two e.1) back forth k l)

@@ -299,7 +299,7 @@ bad_head rows row rise e past = record {
 -- ---- the records of rows
 -- A record that can be a row is what its row stands for.
 pub stands_in :
-    (m : RowFormat) (e : ℕ × Record) → CanBeRow e → StandsFor m (row_of m e).key (row_of m e).body e.1
+    (m : RowFormat) (e : ℕ × Record) → CanBeRow m e → StandsFor m (row_of m e).key (row_of m e).body e.1
 stands_in m e can = (can.0, can.1, refl)
 
 pub good_rows :
@@ -309,7 +309,7 @@ good_rows m [] h = tt
 good_rows m (e ∷ es) h = ((e.1, stands_in m e h.0.0), good_rows m es h.1)
 
 only_by :
-    (m : RowFormat) (e f : ℕ × Record) → row_of m e ≡ row_of m f → IsOnlyRecord m e → CanBeRow f → f ≡ e
+    (m : RowFormat) (e f : ℕ × Record) → row_of m e ≡ row_of m f → IsOnlyRecord m e → CanBeRow m f → f ≡ e
 only_by m e f same only can =
     let record_same : f.1 ≡ e.1 =
     only.1 f.1 (subst (λ (r : Row). StandsFor m r.key r.body f.1) (sym same) (stands_in m f can)) in
@@ -319,7 +319,7 @@ only_by m e f same only can =
 -- rows of a format have only one list of records
 pub only_records :
     (m : RowFormat) (es fs : List (ℕ × Record)) → map (row_of m) es ≡ map (row_of m) fs
-    → AllByRecursion (IsOnlyRecord m) es → AllByRecursion CanBeRow fs → fs ≡ es
+    → AllByRecursion (IsOnlyRecord m) es → AllByRecursion (CanBeRow m) fs → fs ≡ es
 only_records m [] [] same only can = refl
 only_records m [] (f ∷ fs) same only can = absurd cc
 only_records m (e ∷ es) [] same only can = absurd cc

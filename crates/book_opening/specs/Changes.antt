@@ -29,7 +29,7 @@ changes_of head edit = change.Put (row_of Two (0, kept.Head head)) ∷ flat_map 
 -- What a leaf writes has a spelling.
 abbrev pub LeafFits : Leaf → Type 0
 LeafFits (OfCurrency currency) = ⊤
-LeafFits (OfPut number thing) = IsRecord (kept.Thing thing)
+LeafFits (OfPut number thing) = IsRecord Two (kept.Thing thing)
 LeafFits (OfGone kind number) = ⊤
 
 -- The number of what a leaf changes can be that of a row.
@@ -60,7 +60,7 @@ IsShallow step = depth step.1 ≤ 8
 
 -- Each of these records has a spelling.
 abbrev pub AreRecords : List (ℕ × Record) → Type 0
-AreRecords entries = AllByRecursion (λ entry. IsRecord entry.1) entries
+AreRecords entries = AllByRecursion (λ entry. IsRecord Two entry.1) entries
 
 -- A change of the steps that a state keeps.
 pub data StepChange : Type 0 where
@@ -90,9 +90,9 @@ with_steps (step ∷ steps) state = with_steps steps (with_step step state)
 
 -- What such a change writes has a spelling.
 abbrev pub StepFits : StepChange → Type 0
-StepFits (PutBack number edit) = IsRecord (kept.Back edit)
+StepFits (PutBack number edit) = IsRecord Two (kept.Back edit)
 StepFits (GoneBack number) = ⊤
-StepFits (PutForth number edit) = IsRecord (kept.Forth edit)
+StepFits (PutForth number edit) = IsRecord Two (kept.Forth edit)
 StepFits (GoneForth number) = ⊤
 
 -- The number of such a step.

@@ -44,21 +44,22 @@ pub record IsLeastBad (rows : List Row) (key : RowKey) : Type 0 where
   pub bad : IsBad rows key
   pub least : (other : RowKey) → IsBad rows other → rank key ≤ rank other
 
--- A record under a number can be a row.
-abbrev pub CanBeRow : ℕ × Record → Type 0
-CanBeRow entry = IsKeyOf (record { kind = kind_of entry.1; id = entry.0 }) entry.1 × IsRecord entry.1
+-- A record under a number can be a row of a format.
+abbrev pub CanBeRow : RowFormat → ℕ × Record → Type 0
+CanBeRow format entry =
+    IsKeyOf (record { kind = kind_of entry.1; id = entry.0 }) entry.1 × IsRecord format entry.1
 
 -- A record under a number is the one as which its row of a format opens.
 abbrev pub IsOnlyRecord : RowFormat → ℕ × Record → Type 0
 IsOnlyRecord format entry =
-    CanBeRow entry
+    CanBeRow format entry
     × ((it : Record) → StandsFor format (row_of format entry).key (row_of format entry).body it → it ≡ entry.1)
 
 -- Rows of a format open as a state: they are its rows, each of its records can be a row, and its steps are those that
 -- its head counts.
 pub record OpenIn (format : RowFormat) (rows : List Row) (state : State) : Type 0 where
   pub are : rows ≡ rows_of format state
-  pub spelled : AllByRecursion CanBeRow (records_of state)
+  pub spelled : AllByRecursion (CanBeRow format) (records_of state)
   pub counted : AreCounted state
 
 -- Rows open as a state, in the one format or in the other.

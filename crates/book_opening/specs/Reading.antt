@@ -5,6 +5,7 @@ use Rattle.book_keeper.specs.Rows.{rank}
 use Rattle.book_keeper.specs.declared.row.RowKey.{RowKey}
 use Rattle.book_commodity.specs.Table.{with_entry}
 use Rattle.book_undo.specs.Book.{with_thing}
+use Rattle.book_rows.specs.declared.format.RowFormat.TheVariants.{Two}
 use Rattle.book_rows.specs.declared.head.Head.{Head}
 use Rattle.book_rows.specs.declared.record.Record.{Record}
 use Rattle.book_rows.specs.declared.record.Record.TheVariants as kept
@@ -49,8 +50,8 @@ IsFirstBad state key first =
     × (counts_fit (head_of state) ≡ true → (other : RowKey) → rank other < rank key → IsEven state other))
     ⊎ ((rank first < rank key) × IsFirstOdd state (Some first))
 
--- What holds of every state that was read: each of its records has a spelling, and its steps are those that its head
--- counts.
+-- What holds of every state that was read: each of its records has a spelling in format 2, and its steps are those that
+-- its head counts.
 pub record IsReadable (state : State) : Type 0 where
-  pub spelled : AllByRecursion CanBeRow (records_of state)
+  pub spelled : AllByRecursion (CanBeRow Two) (records_of state)
   pub counted : AreCounted state

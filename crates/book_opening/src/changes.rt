@@ -1,6 +1,7 @@
 ghost use Rattle.std.specs.Prelude.{◌≡◌, ◌++◌, IfOk, OnOk, flat_map};
 ghost use Rattle.std.specs.List.{AllByRecursion};
 ghost use Rattle.book_undo.specs.Edit.{leaves};
+ghost use Rattle.book_rows.specs.declared.format.RowFormat.TheVariants.{Two};
 ghost use Rattle.book_rows.specs.Row.{IsRecord, IsWithin};
 ghost use Rattle.book_opening.specs.Changes.{LeafFits, changes_of, leaf_changes};
 
@@ -16,7 +17,7 @@ use std::alloc::Global;
 pub fn changes_of(alloc: Global, head: Head, edit: &Edit) -> Result<Many<Change>, OutOfMemory>
     requires { IsWithin head }
     ensures changes { IfOk result (λ changes. changes ≡ changes_of head edit.now) }
-    ensures head_fits { IfOk result (λ changes. IsRecord (Record.Head head)) }
+    ensures head_fits { IfOk result (λ changes. IsRecord Two (Record.Head head)) }
     ensures fit { IfOk result (λ changes. AllByRecursion LeafFits (leaves edit.now)) }
 {
     let mut changes = Many::new(alloc);

@@ -58,7 +58,7 @@ pub(crate) fn step_put(
 ) -> Result<Change, OutOfMemory>
     requires { depth edit.now ≤ 8 }
     ensures change { IfOk result (λ change. change ≡ entry_put kind (edit_bytes Two) (number, edit.now)) }
-    ensures fits { IfOk result (λ change. IsEdit edit.now) }
+    ensures fits { IfOk result (λ change. IsEdit Two edit.now) }
 {
     let body = write_edit(alloc, edit)?;
     Ok(Change::Put(Row {

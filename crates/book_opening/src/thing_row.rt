@@ -14,7 +14,7 @@ use std::alloc::Global;
 pub(crate) fn head_row(alloc: Global, head: Head) -> Result<Row, OutOfMemory>
     requires { IsWithin head }
     ensures row { IfOk result (λ row. row ≡ row_of Two (0, Record.Head head)) }
-    ensures fits { IfOk result (λ row. IsRecord (Record.Head head)) }
+    ensures fits { IfOk result (λ row. IsRecord Two (Record.Head head)) }
 {
     let body = write_whole::<Rows, Head>(alloc, WRITTEN_FORMAT, &head)?;
     Ok(Row {
@@ -26,7 +26,7 @@ pub(crate) fn head_row(alloc: Global, head: Head) -> Result<Row, OutOfMemory>
 /// The row of a thing under a number.
 pub(crate) fn thing_row(alloc: Global, number: u64, thing: &Thing) -> Result<Row, OutOfMemory>
     ensures row { IfOk result (λ row. row ≡ row_of Two (number, Record.Thing thing.now)) }
-    ensures fits { IfOk result (λ row. IsRecord (Record.Thing thing.now)) }
+    ensures fits { IfOk result (λ row. IsRecord Two (Record.Thing thing.now)) }
 {
     let body = write_thing(alloc, thing)?;
     Ok(Row {

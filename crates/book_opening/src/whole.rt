@@ -160,7 +160,7 @@ fn put_steps(
 ) -> Result<(), OutOfMemory>
     requires { AllByRecursion IsShallow steps.now }
     ensures added { OnOk result (changes.new ≡ changes.old ++ map (entry_put kind (edit_bytes Two)) steps.now) }
-    ensures fit { OnOk result (AllByRecursion (λ step. IsEdit step.1) steps.now) }
+    ensures fit { OnOk result (AllByRecursion (λ step. IsEdit Two step.1) steps.now) }
 {
     for step in steps {
         changes.push(step_put(alloc, kind, step.0, &step.1)?)?;

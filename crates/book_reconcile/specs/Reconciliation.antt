@@ -7,7 +7,7 @@ use Rattle.book_splits.specs.Balance.{splits_of, total}
 use Rattle.book_splits.specs.declared.reconciliation.MarkedSplit.{MarkedSplit}
 use Rattle.book_splits.specs.declared.reconciliation.Recon.{Recon}
 use Rattle.book_splits.specs.declared.split.Mark.{Mark}
-use Rattle.book_splits.specs.declared.split.Mark.TheVariants.{New, Cleared, Reconciled}
+use Rattle.book_splits.specs.declared.split.Mark.TheVariants.{New, Cleared, Reconciled, Voided}
 use Rattle.book_splits.specs.declared.split.Split.{Split}
 use Rattle.book_splits.specs.declared.transaction.Txn.{Txn}
 use Rattle.book_reconcile.specs.declared.finish.FinishError.{FinishError}
@@ -18,12 +18,8 @@ abbrev pub is_mark : Mark → Mark → Bool
 is_mark New New = true
 is_mark Cleared Cleared = true
 is_mark Reconciled Reconciled = true
-is_mark New Cleared = false
-is_mark New Reconciled = false
-is_mark Cleared New = false
-is_mark Cleared Reconciled = false
-is_mark Reconciled New = false
-is_mark Reconciled Cleared = false
+is_mark Voided Voided = true
+is_mark _ _ = false
 
 -- Whether a split stands on an account and has a mark.
 abbrev pub has_mark : Mark → ℕ → Split → Bool

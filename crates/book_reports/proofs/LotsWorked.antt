@@ -47,6 +47,7 @@ trade number day value quantity = (
     day = day;
     num = [];
     description = [];
+    voided = None;
     splits = record {
       id = number;
       account = 4;

@@ -54,7 +54,7 @@ split id account value quantity = record {
 }
 
 abbrev transaction : ℤ → List Split → Txn
-transaction day splits = record { currency = 1; day = day; num = []; description = []; splits = splits }
+transaction day splits = record { currency = 1; day = day; num = []; description = []; splits = splits; voided = None }
 
 -- ten shares bought on day 9 for 10.00, five on day 40 for 7.00, twelve sold on day 69 for 18.00, and on day 60 a price
 -- of 1.50 a share

@@ -33,14 +33,16 @@ bytes_of_row f n end_of-Edit = refl
 bytes_of_row f n (more_of-Edit part more) = ap (λ b. edit_bytes f part ++ b) (bytes_of_row f _ more)
 
 values_of_row :
-    (n : _) (row : Row_of-Edit n) → PartsHaveValues row → AllByRecursion HasValues (items-the_row-Edit n row)
-values_of_row n end_of-Edit all = tt
-values_of_row n (more_of-Edit part more) all = (all.0, values_of_row _ more all.1)
+    (f : RowFormat) (n : _) (row : Row_of-Edit n) → PartsHaveValues f row
+    → AllByRecursion (HasValues f) (items-the_row-Edit n row)
+values_of_row f n end_of-Edit all = tt
+values_of_row f n (more_of-Edit part more) all = (all.0, values_of_row f _ more all.1)
 
 row_of_values :
-    (n : _) (row : Row_of-Edit n) → AllByRecursion HasValues (items-the_row-Edit n row) → PartsHaveValues row
-row_of_values n end_of-Edit all = tt
-row_of_values n (more_of-Edit part more) all = (all.0, row_of_values _ more all.1)
+    (f : RowFormat) (n : _) (row : Row_of-Edit n) → AllByRecursion (HasValues f) (items-the_row-Edit n row)
+    → PartsHaveValues f row
+row_of_values f n end_of-Edit all = tt
+row_of_values f n (more_of-Edit part more) all = (all.0, row_of_values f _ more all.1)
 
 -- The bytes of a list are the byte 0, the number of its parts and its parts.
 pub bytes_of_all : (f : RowFormat) (parts : List Edit) → edit_bytes f (All parts) ≡ 0 ∷ listed (edit_bytes f) parts
@@ -51,53 +53,55 @@ bytes_of_all f parts =
     ap (λ n. 0 ∷ number n ++ row_bytes f row.1) (length_of_row row.0 row.1 ∙ ap length items)
     ∙ ap (λ b. 0 ∷ number (length parts) ++ b) (bytes_of_row f row.0 row.1 ∙ ap (flat_map (edit_bytes f)) items)
 
-pub values_of_all : (parts : List Edit) → HasValues (All parts) → AreItems HasValues parts
-values_of_all parts has =
+pub values_of_all : (f : RowFormat) (parts : List Edit) → HasValues f (All parts) → AreItems (HasValues f) parts
+values_of_all f parts has =
     let row = row_of (All parts) in
     let items = items_hidden-the_row-Edit-0 parts in (
       subst (λ n. n < 2 ^ 64) (length_of_row row.0 row.1 ∙ ap length items) has.0,
-      subst (AllByRecursion HasValues) items (values_of_row row.0 row.1 has.1),
+      subst (AllByRecursion (HasValues f)) items (values_of_row f row.0 row.1 has.1),
     )
 
-pub all_of_values : (parts : List Edit) → AreItems HasValues parts → HasValues (All parts)
-all_of_values parts are =
+pub all_of_values : (f : RowFormat) (parts : List Edit) → AreItems (HasValues f) parts → HasValues f (All parts)
+all_of_values f parts are =
     let row = row_of (All parts) in
     let items = items_hidden-the_row-Edit-0 parts in (
       subst (λ n. n < 2 ^ 64) (sym (length_of_row row.0 row.1 ∙ ap length items)) are.0,
-      row_of_values row.0 row.1 (subst (AllByRecursion HasValues) (sym items) are.1),
+      row_of_values f row.0 row.1 (subst (AllByRecursion (HasValues f)) (sym items) are.1),
     )
 
 -- ---- the depth of a list's parts
 values_within :
-    (most : ℕ) (parts : List Edit) → AllByRecursion (IsEditWithin most) parts → AllByRecursion HasValues parts
-values_within most [] all = tt
-values_within most (part ∷ more) all = (all.0.0, values_within most more all.1)
+    (f : RowFormat) (most : ℕ) (parts : List Edit) → AllByRecursion (IsEditWithin f most) parts
+    → AllByRecursion (HasValues f) parts
+values_within f most [] all = tt
+values_within f most (part ∷ more) all = (all.0.0, values_within f most more all.1)
 
-deepest_within : (most : ℕ) (parts : List Edit) → AllByRecursion (IsEditWithin most) parts → deepest parts ≤ most
-deepest_within most [] all = omega arith
-deepest_within most (part ∷ more) all = omega (arith, all.0.1, deepest_within most more all.1)
+deepest_within :
+    (f : RowFormat) (most : ℕ) (parts : List Edit) → AllByRecursion (IsEditWithin f most) parts → deepest parts ≤ most
+deepest_within f most [] all = omega arith
+deepest_within f most (part ∷ more) all = omega (arith, all.0.1, deepest_within f most more all.1)
 
 all_within :
-    (most : ℕ) (parts : List Edit) → AllByRecursion HasValues parts → deepest parts ≤ most
-    → AllByRecursion (IsEditWithin most) parts
-all_within most [] have deep = tt
-all_within most (part ∷ more) have deep =
-    ((have.0, omega (arith, deep)), all_within most more have.1 (omega (arith, deep)))
+    (f : RowFormat) (most : ℕ) (parts : List Edit) → AllByRecursion (HasValues f) parts → deepest parts ≤ most
+    → AllByRecursion (IsEditWithin f most) parts
+all_within f most [] have deep = tt
+all_within f most (part ∷ more) have deep =
+    ((have.0, omega (arith, deep)), all_within f most more have.1 (omega (arith, deep)))
 
 -- A list has a spelling where its parts have one, at one depth less.
 pub list_within :
-    (most less : ℕ) (parts : List Edit) → most ≡ less + 1 → length parts < 2 ^ 64
-    → AllByRecursion (IsEditWithin less) parts → IsEditWithin most (All parts)
-list_within most less parts one few all = (
-  all_of_values parts (few, values_within less parts all),
-  omega (arith, one, depth_of_all parts, deepest_within less parts all),
+    (f : RowFormat) (most less : ℕ) (parts : List Edit) → most ≡ less + 1 → length parts < 2 ^ 64
+    → AllByRecursion (IsEditWithin f less) parts → IsEditWithin f most (All parts)
+list_within f most less parts one few all = (
+  all_of_values f parts (few, values_within f less parts all),
+  omega (arith, one, depth_of_all parts, deepest_within f less parts all),
 )
 
 pub parts_within :
-    (most less : ℕ) (parts : List Edit) → most ≡ less + 1 → IsEditWithin most (All parts)
-    → AllByRecursion (IsEditWithin less) parts
-parts_within most less parts one is =
-    all_within less parts (values_of_all parts is.0).1 (omega (arith, one, depth_of_all parts, is.1))
+    (f : RowFormat) (most less : ℕ) (parts : List Edit) → most ≡ less + 1 → IsEditWithin f most (All parts)
+    → AllByRecursion (IsEditWithin f less) parts
+parts_within f most less parts one is =
+    all_within f less parts (values_of_all f parts is.0).1 (omega (arith, one, depth_of_all parts, is.1))
 
 -- ---- edits by their first byte
 heads : (a b : ℕ) (xs ys : List ℕ) → ◌≡◌ {A = List ℕ} (a ∷ xs) (b ∷ ys) → a ≡ b
@@ -167,19 +171,19 @@ pub record HasParts (f : RowFormat) (most : ℕ) (edit : Edit) (bytes rest : Lis
   pub list : IsList f edit bytes rest
   pub few : length list.parts < 2 ^ 64
   pub deep : 1 ≤ most
-  pub within : (less : ℕ) → most ≡ less + 1 → AllByRecursion (IsEditWithin less) list.parts
+  pub within : (less : ℕ) → most ≡ less + 1 → AllByRecursion (IsEditWithin f less) list.parts
 
 pub parts_at :
-    (f : RowFormat) (most : ℕ) (edit : Edit) (bytes rest : List ℕ) → IsEditWithin most edit → 0 ∷ bytes ≡ edit_bytes f edit ++ rest
-    → HasParts f most edit bytes rest
+    (f : RowFormat) (most : ℕ) (edit : Edit) (bytes rest : List ℕ) → IsEditWithin f most edit
+    → 0 ∷ bytes ≡ edit_bytes f edit ++ rest → HasParts f most edit bytes rest
 parts_at f most edit bytes rest fits e =
     let list = list_at f edit bytes rest e in
-    let all = subst (IsEditWithin most) list.is fits in
+    let all = subst (IsEditWithin f most) list.is fits in
     record {
       list = list;
-      few = (values_of_all list.parts all.0).0;
+      few = (values_of_all f list.parts all.0).0;
       deep = omega (arith, depth_of_all list.parts, all.1);
-      within = λ less one. parts_within most less list.parts one all;
+      within = λ less one. parts_within f most less list.parts one all;
     }
 
 -- An edit puts a thing, and the bytes are its kind, its number, its fields and then the rest.

@@ -29,24 +29,24 @@ unfoldable mutual
   row_bytes format end_of-Edit = []
   row_bytes format (more_of-Edit part more) = edit_bytes format part ++ row_bytes format more
 
--- An edit whose values have a spelling: its numbers are of 64 bits, its things have a spelling, and so have the parts
--- of each of its lists, fewer than 2^64.
+-- An edit whose values have a spelling in a format: its numbers are of 64 bits, its things have a spelling, and so have
+-- the parts of each of its lists, fewer than 2^64.
 abbrev mutual
-  pub HasValues : Edit → Type 0
-  HasValues (All' shape parts) = (row_length parts < 2 ^ 64) × PartsHaveValues parts
-  HasValues (Put it thing) = IsNumber it × IsThing thing
-  HasValues (Gone kind it) = IsNumber it
-  HasValues (Currency currency) = IsNumber currency
+  pub HasValues : RowFormat → Edit → Type 0
+  HasValues format (All' shape parts) = (row_length parts < 2 ^ 64) × PartsHaveValues format parts
+  HasValues format (Put it thing) = IsNumber it × IsThing format thing
+  HasValues format (Gone kind it) = IsNumber it
+  HasValues format (Currency currency) = IsNumber currency
 
   -- Each part of a list has values with a spelling.
-  pub PartsHaveValues : {count : _} → Row_of-Edit count → Type 0
-  PartsHaveValues end_of-Edit = ⊤
-  PartsHaveValues (more_of-Edit part more) = HasValues part × PartsHaveValues more
+  pub PartsHaveValues : {count : _} → RowFormat → Row_of-Edit count → Type 0
+  PartsHaveValues format end_of-Edit = ⊤
+  PartsHaveValues format (more_of-Edit part more) = HasValues format part × PartsHaveValues format more
 
 -- An edit of which at most so many lists stand in one another, and whose values have a spelling.
-abbrev pub IsEditWithin : ℕ → Edit → Type 0
-IsEditWithin most edit = HasValues edit × (depth edit ≤ most)
+abbrev pub IsEditWithin : RowFormat → ℕ → Edit → Type 0
+IsEditWithin format most edit = HasValues format edit × (depth edit ≤ most)
 
--- An edit that has a spelling: its values have one, and at most eight of its lists stand in one another.
-abbrev pub IsEdit : Edit → Type 0
-IsEdit edit = IsEditWithin 8 edit
+-- An edit that has a spelling in a format: its values have one, and at most eight of its lists stand in one another.
+abbrev pub IsEdit : RowFormat → Edit → Type 0
+IsEdit format edit = IsEditWithin format 8 edit

@@ -46,12 +46,12 @@ IsBounded (record_of.Back edit) = depth edit ≤ 8
 IsBounded (record_of.Forth edit) = depth edit ≤ 8
 IsBounded _ = ⊤
 
--- A record that has a spelling.
-abbrev pub IsRecord : Record → Type 0
-IsRecord (record_of.Head it) = IsHead it × IsWithin it
-IsRecord (record_of.Thing it) = IsThing it
-IsRecord (record_of.Back it) = IsEdit it
-IsRecord (record_of.Forth it) = IsEdit it
+-- A record that has a spelling in a format.
+abbrev pub IsRecord : RowFormat → Record → Type 0
+IsRecord format (record_of.Head it) = IsHead it × IsWithin it
+IsRecord format (record_of.Thing it) = IsThing format it
+IsRecord format (record_of.Back it) = IsEdit format it
+IsRecord format (record_of.Forth it) = IsEdit format it
 
 -- A key under which a record may stand: ids are below 2 ^ 62, and the head stands at 0.
 abbrev pub IsKeyOf : RowKey → Record → Type 0
@@ -59,7 +59,7 @@ IsKeyOf key it = (kind_of it ≡ key.kind) × (key.id < 2 ^ 62) × (key.kind ≡
 
 -- In this format the row with this key and this body stands for the record.
 abbrev pub StandsFor : RowFormat → RowKey → List ℕ → Record → Type 0
-StandsFor format key body it = IsKeyOf key it × IsRecord it × (body ≡ body_of format it)
+StandsFor format key body it = IsKeyOf key it × IsRecord format it × (body ≡ body_of format it)
 
 -- The key and the body are those of the record in this format.
 abbrev pub IsSpelledBy : RowFormat → RowKey → List ℕ → Record → Type 0

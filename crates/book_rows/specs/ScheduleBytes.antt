@@ -107,12 +107,12 @@ abbrev pub schedule_bytes : RowFormat → Schedule → List ℕ
 schedule_bytes format it =
     string it.name ++ (timing_bytes it.timing ++ txn_bytes format it.template)
 
--- A schedule that has a spelling: its name is UTF-8, and its timing and its template have a spelling.
-abbrev pub IsSchedule : Schedule → Type 0
-IsSchedule it =
-    IsString it.name × (IsTiming it.timing × IsTxn it.template)
+-- A schedule that has a spelling in a format: its name is UTF-8, and its timing and its template have a spelling.
+abbrev pub IsSchedule : RowFormat → Schedule → Type 0
+IsSchedule format it =
+    IsString it.name × (IsTiming it.timing × IsTxn format it.template)
 
--- The schedule whose fields these are, in the order of its bytes.
-abbrev pub schedule_made : (List ℕ × (Timing × Txn)) → Schedule
-schedule_made fields =
-    record { name = fields.0; timing = fields.1.0; template = fields.1.1 }
+-- The schedule with these fields, in the order of its bytes, and this template.
+abbrev pub schedule_made : ((List ℕ × Timing) × Txn) → Schedule
+schedule_made made =
+    record { name = made.0.0; timing = made.0.1; template = made.1 }

@@ -33,14 +33,14 @@ thing_bytes format (thing.Line it) = line_bytes it
 thing_bytes format (thing.Binding it) = binding_bytes it
 thing_bytes format (thing.Recon it) = recon_bytes it
 
--- A thing whose fields have a spelling.
-abbrev pub IsThing : Thing → Type 0
-IsThing (thing.Commodity it) = IsCommodity it
-IsThing (thing.Account it) = IsAccount it
-IsThing (thing.Txn it) = IsTxn it
-IsThing (thing.Price it) = IsPrice it
-IsThing (thing.Schedule it) = IsSchedule it
-IsThing (thing.Held it) = IsHeld it
-IsThing (thing.Line it) = IsLine it
-IsThing (thing.Binding it) = IsBinding it
-IsThing (thing.Recon it) = IsRecon it
+-- A thing whose fields have a spelling in a format.
+abbrev pub IsThing : RowFormat → Thing → Type 0
+IsThing format (thing.Commodity it) = IsCommodity it
+IsThing format (thing.Account it) = IsAccount it
+IsThing format (thing.Txn it) = IsTxn format it
+IsThing format (thing.Price it) = IsPrice it
+IsThing format (thing.Schedule it) = IsSchedule format it
+IsThing format (thing.Held it) = IsHeld it
+IsThing format (thing.Line it) = IsLine it
+IsThing format (thing.Binding it) = IsBinding it
+IsThing format (thing.Recon it) = IsRecon it

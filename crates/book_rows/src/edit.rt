@@ -20,7 +20,7 @@ const MAX_DEPTH: u32 = 8;
 pub fn write_edit(alloc: Global, edit: &Edit) -> Result<Bytes, OutOfMemory>
     requires { depth edit.now ≤ 8 }
     ensures body { IfOk result (λ body. body ≡ 2 ∷ edit_bytes RowFormat.Two edit.now) }
-    ensures fits { IfOk result (λ body. IsEdit edit.now) }
+    ensures fits { IfOk result (λ body. IsEdit RowFormat.Two edit.now) }
 {
     let mut out = Vec::new(alloc);
     out.push(WRITTEN_FORMAT)?;
@@ -33,7 +33,7 @@ pub fn write_edit(alloc: Global, edit: &Edit) -> Result<Bytes, OutOfMemory>
 #[tactic(auto, using(crate::proofs::EditLemmas::all_of_values), unfolding(crate::specs::EditBytes::edit_bytes))]
 pub(crate) fn spell_edit(edit: &Edit, out: &mut Vec<u8>) -> Result<(), OutOfMemory>
     ensures spelled { OnOk result (out.new.items ≡ out.old.items ++ edit_bytes RowFormat.Two edit.now) }
-    ensures fits { OnOk result (HasValues edit.now) }
+    ensures fits { OnOk result (HasValues RowFormat.Two edit.now) }
 {
     match edit {
         Edit::All(parts) => {
@@ -64,7 +64,7 @@ pub(crate) fn spell_edit(edit: &Edit, out: &mut Vec<u8>) -> Result<(), OutOfMemo
 #[cycle(spelling)]
 fn spell_parts(parts: &[Edit], out: &mut Vec<u8>) -> Result<(), OutOfMemory>
     ensures spelled { OnOk result (out.new.items ≡ out.old.items ++ flat_map (edit_bytes RowFormat.Two) parts.now) }
-    ensures fits { OnOk result (AllByRecursion HasValues parts.now) }
+    ensures fits { OnOk result (AllByRecursion (HasValues RowFormat.Two) parts.now) }
 {
     for part in parts {
         spell_edit(part, out)?;
@@ -76,8 +76,8 @@ fn spell_parts(parts: &[Edit], out: &mut Vec<u8>) -> Result<(), OutOfMemory>
 /// Bad: they are no edit's body in it.
 pub(crate) fn read_edit(alloc: Global, format: RowFormat, body: &[u8]) -> Result<Edit, DecodeError>
     ensures found { IfOk result (λ edit. body.now ≡ format_byte format ∷ edit_bytes format edit) }
-    ensures fits { IfOk result IsEdit }
-    ensures again { (edit : Edit) → IsEdit edit → body.now ≡ format_byte format ∷ edit_bytes format edit
+    ensures fits { IfOk result (IsEdit format) }
+    ensures again { (edit : Edit) → IsEdit format edit → body.now ≡ format_byte format ∷ edit_bytes format edit
         → Gives (λ x. x) result edit }
 {
     let Some(bytes) = behind_format(format_byte(format), body) else {
@@ -104,8 +104,9 @@ fn read_within(
     most: u32,
 ) -> Result<(Edit, &[u8]), DecodeError>
     ensures found { IfOk result (λ found. bytes.now ≡ edit_bytes format found.0 ++ found.1.now) }
-    ensures fits { IfOk result (λ found. IsEditWithin most found.0) }
-    ensures again { (edit : Edit) (rest : List ℕ) → IsEditWithin most edit → bytes.now ≡ edit_bytes format edit ++ rest
+    ensures fits { IfOk result (λ found. IsEditWithin format most found.0) }
+    ensures again { (edit : Edit) (rest : List ℕ) → IsEditWithin format most edit
+        → bytes.now ≡ edit_bytes format edit ++ rest
         → Gives {Y = Edit × List ℕ} (λ found. (found.0, found.1.now)) result (edit, rest) }
 {
     let [first, rest @ ..] = bytes else {
@@ -129,8 +130,8 @@ fn read_list(
     most: u32,
 ) -> Result<(Edit, &[u8]), DecodeError>
     ensures found { IfOk result (λ found. 0 ∷ bytes.now ≡ edit_bytes format found.0 ++ found.1.now) }
-    ensures fits { IfOk result (λ found. IsEditWithin most found.0) }
-    ensures again { (edit : Edit) (rest : List ℕ) → IsEditWithin most edit
+    ensures fits { IfOk result (λ found. IsEditWithin format most found.0) }
+    ensures again { (edit : Edit) (rest : List ℕ) → IsEditWithin format most edit
         → 0 ∷ bytes.now ≡ edit_bytes format edit ++ rest
         → Gives {Y = Edit × List ℕ} (λ found. (found.0, found.1.now)) result (edit, rest) }
 {
@@ -158,8 +159,8 @@ fn read_parts(
 ) -> Result<(Many<Edit>, &[u8]), DecodeError>
     ensures count { IfOk result (λ found. length found.0 ≡ count) }
     ensures found { IfOk result (λ found. bytes.now ≡ flat_map (edit_bytes format) found.0 ++ found.1.now) }
-    ensures fits { IfOk result (λ found. AllByRecursion (IsEditWithin most) found.0) }
-    ensures again { (parts : List Edit) (rest : List ℕ) → AllByRecursion (IsEditWithin most) parts
+    ensures fits { IfOk result (λ found. AllByRecursion (IsEditWithin format most) found.0) }
+    ensures again { (parts : List Edit) (rest : List ℕ) → AllByRecursion (IsEditWithin format most) parts
         → length parts ≡ count → bytes.now ≡ flat_map (edit_bytes format) parts ++ rest
         → Gives {Y = List Edit × List ℕ} (λ found. (found.0, found.1.now)) result (parts, rest) }
 {
@@ -182,8 +183,9 @@ fn read_parts(
 #[tactic(auto, unfolding(crate::specs::EditBytes::edit_bytes))]
 fn read_put(alloc: Global, format: RowFormat, bytes: &[u8]) -> Result<(Edit, &[u8]), DecodeError>
     ensures found { IfOk result (λ found. 1 ∷ bytes.now ≡ edit_bytes format found.0 ++ found.1.now) }
-    ensures fits { IfOk result (λ found. IsEditWithin 0 found.0) }
-    ensures again { (edit : Edit) (rest : List ℕ) → HasValues edit → 1 ∷ bytes.now ≡ edit_bytes format edit ++ rest
+    ensures fits { IfOk result (λ found. IsEditWithin format 0 found.0) }
+    ensures again { (edit : Edit) (rest : List ℕ) → HasValues format edit
+        → 1 ∷ bytes.now ≡ edit_bytes format edit ++ rest
         → Gives {Y = Edit × List ℕ} (λ found. (found.0, found.1.now)) result (edit, rest) }
 {
     let ((kind, number), rest) = match <(ThingKind, u64) as Field<Rows>>::read(alloc, bytes) {
@@ -201,8 +203,8 @@ fn read_put(alloc: Global, format: RowFormat, bytes: &[u8]) -> Result<(Edit, &[u
 fn read_gone(alloc: Global, bytes: &[u8]) -> Result<(Edit, &[u8]), DecodeError>
     ensures found { (format : RowFormat) → IfOk result (λ found.
         2 ∷ bytes.now ≡ edit_bytes format found.0 ++ found.1.now) }
-    ensures fits { IfOk result (λ found. IsEditWithin 0 found.0) }
-    ensures again { (format : RowFormat) (edit : Edit) (rest : List ℕ) → HasValues edit
+    ensures fits { (format : RowFormat) → IfOk result (λ found. IsEditWithin format 0 found.0) }
+    ensures again { (format : RowFormat) (edit : Edit) (rest : List ℕ) → HasValues format edit
         → 2 ∷ bytes.now ≡ edit_bytes format edit ++ rest
         → Gives {Y = Edit × List ℕ} (λ found. (found.0, found.1.now)) result (edit, rest) }
 {
@@ -217,8 +219,8 @@ fn read_gone(alloc: Global, bytes: &[u8]) -> Result<(Edit, &[u8]), DecodeError>
 fn read_currency(alloc: Global, bytes: &[u8]) -> Result<(Edit, &[u8]), DecodeError>
     ensures found { (format : RowFormat) → IfOk result (λ found.
         3 ∷ bytes.now ≡ edit_bytes format found.0 ++ found.1.now) }
-    ensures fits { IfOk result (λ found. IsEditWithin 0 found.0) }
-    ensures again { (format : RowFormat) (edit : Edit) (rest : List ℕ) → HasValues edit
+    ensures fits { (format : RowFormat) → IfOk result (λ found. IsEditWithin format 0 found.0) }
+    ensures again { (format : RowFormat) (edit : Edit) (rest : List ℕ) → HasValues format edit
         → 3 ∷ bytes.now ≡ edit_bytes format edit ++ rest
         → Gives {Y = Edit × List ℕ} (λ found. (found.0, found.1.now)) result (edit, rest) }
 {

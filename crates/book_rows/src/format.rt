@@ -1,8 +1,8 @@
 ghost use Rattle.std.specs.Prelude.{◌≡◌};
 ghost use Rattle.book_rows.specs.Format.{format_byte, format_in};
 
-/// The format of the rows of a book: the first byte of each body. Rows are written in format 2; in format 1 a
-/// transaction has nothing behind its splits.
+/// The format of the rows of a book: the first byte of each body. Rows are written in format 2. In format 1 a
+/// transaction has nothing behind its splits, and no split is voided.
 #[derive(Clone, Copy, Debug, PartialEq, Eq)]
 pub enum RowFormat {
     One,

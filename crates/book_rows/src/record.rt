@@ -43,7 +43,7 @@ pub enum RowError {
 pub fn write_row(alloc: Global, what: &Record) -> Result<Bytes, OutOfMemory>
     requires { IsBounded what.now }
     ensures body { IfOk result (λ body. body ≡ body_of RowFormat.Two what.now) }
-    ensures fits { IfOk result (λ body. IsRecord what.now) }
+    ensures fits { IfOk result (λ body. IsRecord RowFormat.Two what.now) }
 {
     match what {
         Record::Head(it) => write_whole::<Rows, Head>(alloc, WRITTEN_FORMAT, it),
@@ -61,7 +61,7 @@ pub fn read_row(
     body: &[u8],
 ) -> Result<Record, RowError>
     ensures found { IfOk result (λ it. IsSpelledBy format key body.now it) }
-    ensures fits { IfOk result IsRecord }
+    ensures fits { IfOk result (IsRecord format) }
     ensures again { (it : Record) → StandsFor format key body.now it → IsReadAs result it }
     ensures error { IfErr result (IsErrorAt key) }
 {
@@ -79,9 +79,9 @@ pub fn read_row(
 fn read_body(alloc: Global, format: RowFormat, kind: u8, body: &[u8]) -> Result<Record, DecodeError>
     ensures kind { IfOk result (λ it. kind_of it ≡ kind) }
     ensures found { IfOk result (λ it. body.now ≡ body_of format it) }
-    ensures fits { IfOk result IsRecord }
+    ensures fits { IfOk result (IsRecord format) }
     ensures bounded { IfOk result IsBounded }
-    ensures again { (it : Record) → kind_of it ≡ kind → IsRecord it → body.now ≡ body_of format it
+    ensures again { (it : Record) → kind_of it ≡ kind → IsRecord format it → body.now ≡ body_of format it
         → Gives (λ x. x) result it }
 {
     match kind {

@@ -7,9 +7,8 @@ ghost use Rattle.book_rows.specs.ScheduleBytes.{IsRecurrence, recurrence_bytes, 
 ghost use Rattle.book_rows.specs.ScheduleBytes.{IsSchedule, schedule_bytes};
 ghost use Rattle.book_rows.specs.ScheduleBytes.{recurrence_made, timing_made, schedule_made};
 ghost use Rattle.book_rows.specs.ScheduleBytes.{place_of_recurrence_kind, place_of_adjust};
-ghost use Rattle.book_rows.specs.TransactionBytes.{txn_made};
 
-use crate::transaction::{TxnFields, txn_of};
+use crate::transaction::read_txn;
 use crate::{RowFormat, Rows};
 use book_codec::{DecodeError, Field};
 use book_commodity::{Day, Many, OutOfMemory, Text};
@@ -239,15 +238,9 @@ fn timing_of(fields: TimingFields) -> Timing
     }
 }
 
-/// The fields of a schedule, in the order of their bytes.
-type ScheduleFields = (Text, (Timing, Txn));
-
-/// The fields of a schedule in format 1.
-type FormatOneFields = (Text, (Timing, TxnFields));
-
 /// A schedule in format 2: its name, its timing, and its template as a transaction.
 impl Field<Rows> for Schedule {
-    ghost fits = { IsSchedule };
+    ghost fits = { IsSchedule Two };
 
     ghost spelling = { schedule_bytes Two };
 
@@ -258,13 +251,12 @@ impl Field<Rows> for Schedule {
     }
 
     fn read(alloc: Global, bytes: &[u8]) -> Result<(Schedule, &[u8]), DecodeError> {
-        let (fields, rest) = match <ScheduleFields as Field<Rows>>::read(alloc, bytes) {
-            Ok(found) => found,
-            Err(error) => return Err(error),
-        };
-        Ok((schedule_of(fields), rest))
+        read_schedule(alloc, RowFormat::Two, bytes)
     }
 }
+
+/// The fields of a schedule before its template, in the order of their bytes.
+type ScheduleFields = (Text, Timing);
 
 /// Reads a schedule of the format at the front of the bytes, and gives the bytes behind it.
 /// Bad: the bytes begin with none.
@@ -274,36 +266,27 @@ pub(crate) fn read_schedule(
     bytes: &[u8],
 ) -> Result<(Schedule, &[u8]), DecodeError>
     ensures found { IfOk result (λ found. bytes.now ≡ schedule_bytes format found.0 ++ found.1.now) }
-    ensures fits { IfOk result (λ found. IsSchedule found.0) }
-    ensures again { (it : Schedule) (rest : List ℕ) → IsSchedule it → bytes.now ≡ schedule_bytes format it ++ rest
+    ensures fits { IfOk result (λ found. IsSchedule format found.0) }
+    ensures again { (it : Schedule) (rest : List ℕ) → IsSchedule format it
+        → bytes.now ≡ schedule_bytes format it ++ rest
         → Gives {Y = Schedule × List ℕ} (λ found. (found.0, found.1.now)) result (it, rest) }
 {
-    match format {
-        RowFormat::One => match <FormatOneFields as Field<Rows>>::read(alloc, bytes) {
-            Ok((fields, rest)) => Ok((schedule_in_format_one(fields), rest)),
-            Err(error) => Err(error),
-        },
-        RowFormat::Two => <Schedule as Field<Rows>>::read(alloc, bytes),
-    }
+    let (fields, behind) = match <ScheduleFields as Field<Rows>>::read(alloc, bytes) {
+        Ok(found) => found,
+        Err(error) => return Err(error),
+    };
+    let (template, rest) = match read_txn(alloc, format, behind) {
+        Ok(found) => found,
+        Err(error) => return Err(error),
+    };
+    Ok((schedule_of(fields, template), rest))
 }
 
-/// The schedule whose fields in format 1 these are.
-fn schedule_in_format_one(fields: FormatOneFields) -> Schedule
-    ensures { result ≡ schedule_made (fields.0, (fields.1.0, txn_made fields.1.1)) }
+/// The schedule with these fields and this template.
+fn schedule_of(fields: ScheduleFields, template: Txn) -> Schedule
+    ensures { result ≡ schedule_made (fields, template) }
 {
-    let (name, (timing, template)) = fields;
-    Schedule {
-        name,
-        timing,
-        template: txn_of(template),
-    }
-}
-
-/// The schedule whose fields these are.
-fn schedule_of(fields: ScheduleFields) -> Schedule
-    ensures { result ≡ schedule_made fields }
-{
-    let (name, (timing, template)) = fields;
+    let (name, timing) = fields;
     Schedule {
         name,
         timing,

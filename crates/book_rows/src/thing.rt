@@ -69,7 +69,7 @@ pub(crate) fn thing_kind_of(byte: u8) -> Option<ThingKind>
 /// Writes the fields of the thing, in format 2, behind the bytes.
 pub(crate) fn spell_thing(thing: &Thing, out: &mut Vec<u8>) -> Result<(), OutOfMemory>
     ensures spelled { OnOk result (out.new.items ≡ out.old.items ++ thing_bytes RowFormat.Two thing.now) }
-    ensures fits { OnOk result (IsThing thing.now) }
+    ensures fits { OnOk result (IsThing RowFormat.Two thing.now) }
 {
     match thing {
         Thing::Commodity(it) => Field::<Rows>::spell(it, out),
@@ -87,7 +87,7 @@ pub(crate) fn spell_thing(thing: &Thing, out: &mut Vec<u8>) -> Result<(), OutOfM
 /// The body of the row of a thing, in format 2.
 pub fn write_thing(alloc: Global, thing: &Thing) -> Result<Bytes, OutOfMemory>
     ensures body { IfOk result (λ body. body ≡ 2 ∷ thing_bytes RowFormat.Two thing.now) }
-    ensures fits { IfOk result (λ body. IsThing thing.now) }
+    ensures fits { IfOk result (λ body. IsThing RowFormat.Two thing.now) }
 {
     let mut out = Vec::new(alloc);
     out.push(WRITTEN_FORMAT)?;
@@ -105,8 +105,8 @@ pub(crate) fn read_thing_body(
 ) -> Result<Thing, DecodeError>
     ensures kind { IfOk result (λ thing. kind_of thing ≡ kind) }
     ensures found { IfOk result (λ thing. body.now ≡ format_byte format ∷ thing_bytes format thing) }
-    ensures fits { IfOk result IsThing }
-    ensures again { (thing : Thing) → kind_of thing ≡ kind → IsThing thing
+    ensures fits { IfOk result (IsThing format) }
+    ensures again { (thing : Thing) → kind_of thing ≡ kind → IsThing format thing
         → body.now ≡ format_byte format ∷ thing_bytes format thing → Gives (λ x. x) result thing }
 {
     let Some(bytes) = behind_format(format_byte(format), body) else {
@@ -132,8 +132,8 @@ pub(crate) fn read_thing(
 ) -> Result<(Thing, &[u8]), DecodeError>
     ensures kind { IfOk result (λ found. kind_of found.0 ≡ kind) }
     ensures found { IfOk result (λ found. bytes.now ≡ thing_bytes format found.0 ++ found.1.now) }
-    ensures fits { IfOk result (λ found. IsThing found.0) }
-    ensures again { (thing : Thing) (rest : List ℕ) → kind_of thing ≡ kind → IsThing thing
+    ensures fits { IfOk result (λ found. IsThing format found.0) }
+    ensures again { (thing : Thing) (rest : List ℕ) → kind_of thing ≡ kind → IsThing format thing
         → bytes.now ≡ thing_bytes format thing ++ rest
         → Gives {Y = Thing × List ℕ} (λ found. (found.0, found.1.now)) result (thing, rest) }
 {
@@ -174,8 +174,8 @@ fn read_bank_thing(
     ensures kind { IfOk result (λ found. kind_of found.0 ≡ kind) }
     ensures found { (format : RowFormat) → IfOk result (λ found.
         bytes.now ≡ thing_bytes format found.0 ++ found.1.now) }
-    ensures fits { IfOk result (λ found. IsThing found.0) }
-    ensures again { (format : RowFormat) (thing : Thing) (rest : List ℕ) → kind_of thing ≡ kind → IsThing thing
+    ensures fits { (format : RowFormat) → IfOk result (λ found. IsThing format found.0) }
+    ensures again { (format : RowFormat) (thing : Thing) (rest : List ℕ) → kind_of thing ≡ kind → IsThing format thing
         → bytes.now ≡ thing_bytes format thing ++ rest
         → Gives {Y = Thing × List ℕ} (λ found. (found.0, found.1.now)) result (thing, rest) }
 {

@@ -1,14 +1,14 @@
-ghost use Rattle.std.specs.Prelude.{◌≡◌, ◌∷◌, ◌++◌, [], ⊤, List, ℕ, Some, IfOk, OnOk, IfSome, IfNone};
+ghost use Rattle.std.specs.Prelude.{◌≡◌, ◌++◌, ⊤, List, ℕ, Some, None, IfOk, OnOk, IfSome, IfNone};
 ghost use Rattle.book_codec.specs.Read.{Gives};
-ghost use Rattle.book_rows.specs.declared.format.RowFormat.TheVariants.{Two};
+ghost use Rattle.book_rows.specs.declared.format.RowFormat.TheVariants.{One, Two};
 ghost use Rattle.book_rows.specs.TransactionBytes.{IsMark, mark_bytes, IsSplit, split_bytes, IsTxn, txn_bytes};
-ghost use Rattle.book_rows.specs.TransactionBytes.{split_made, txn_made, place_of_mark};
-ghost use Rattle.book_rows.specs.TransactionBytes.{split_rest, IsSplitRest};
+ghost use Rattle.book_rows.specs.TransactionBytes.{split_made, txn_made, place_of_mark, IsKept, IsVoid, kept_bytes};
+ghost use Rattle.book_rows.specs.TransactionBytes.{split_rest, IsSplitRest, kept_made, void_bytes, void_made};
 
 use crate::{RowFormat, Rows};
 use book_codec::{DecodeError, Field};
 use book_commodity::{Day, Many, OutOfMemory, Text};
-use book_splits::{Mark, Split, Txn};
+use book_splits::{KeptSplit, Mark, Split, Txn, Void};
 use std::alloc::Global;
 
 /// A mark as one byte: its place in the list of them, from 1.
@@ -41,6 +41,7 @@ fn place_of_mark(variant: Mark) -> u8
         Mark::New => 1,
         Mark::Cleared => 2,
         Mark::Reconciled => 3,
+        Mark::Voided => 4,
     }
 }
 
@@ -54,6 +55,7 @@ fn mark_at(place: u8) -> Option<Mark>
         1 => Some(Mark::New),
         2 => Some(Mark::Cleared),
         3 => Some(Mark::Reconciled),
+        4 => Some(Mark::Voided),
         _ => None,
     }
 }
@@ -115,36 +117,78 @@ fn split_of(fields: SplitFields) -> Split
     }
 }
 
-/// The fields of a transaction that both formats have, in the order of their bytes.
-pub(crate) type TxnFields = (u64, (Day, (Text, (Text, Many<Split>))));
+/// The fields of what is kept of a voided split, in the order of their bytes.
+type KeptFields = (i64, i64);
 
-/// What format 2 keeps of a transaction that is voided. None is.
-#[derive(Clone, Copy)]
-struct NotVoided;
+/// What is kept of a voided split: its value and its quantity.
+impl Field<Rows> for KeptSplit {
+    ghost fits = { IsKept };
 
-/// What is kept of a voided transaction is absent: the byte 0.
-impl Field<Rows> for NotVoided {
-    ghost fits = { λ absent. ⊤ };
-
-    ghost spelling = { λ absent. 0 ∷ [] };
+    ghost spelling = { kept_bytes };
 
     fn spell(&self, out: &mut Vec<u8>) -> Result<(), OutOfMemory> {
-        out.push(0)?;
-        Ok(())
+        Field::<Rows>::spell(&self.value, out)?;
+        Field::<Rows>::spell(&self.quantity, out)
     }
 
-    fn read(_alloc: Global, bytes: &[u8]) -> Result<(NotVoided, &[u8]), DecodeError> {
-        match bytes {
-            [0, rest @ ..] => Ok((NotVoided, rest)),
-            _ => Err(DecodeError::Bad),
-        }
+    fn read(alloc: Global, bytes: &[u8]) -> Result<(KeptSplit, &[u8]), DecodeError> {
+        let (fields, rest) = match <KeptFields as Field<Rows>>::read(alloc, bytes) {
+            Ok(found) => found,
+            Err(error) => return Err(error),
+        };
+        Ok((kept_of(fields), rest))
     }
 }
 
+/// What is kept of a split, made of its fields.
+fn kept_of(fields: KeptFields) -> KeptSplit
+    ensures { result ≡ kept_made fields }
+{
+    let (value, quantity) = fields;
+    KeptSplit { value, quantity }
+}
+
+/// The fields of what is kept of a voided transaction, in the order of their bytes.
+type VoidFields = (Text, Many<KeptSplit>);
+
+/// What is kept of a voided transaction: the reason, and what is kept of each split.
+impl Field<Rows> for Void {
+    ghost fits = { IsVoid };
+
+    ghost spelling = { void_bytes };
+
+    fn spell(&self, out: &mut Vec<u8>) -> Result<(), OutOfMemory> {
+        Field::<Rows>::spell(&self.reason, out)?;
+        Field::<Rows>::spell(&self.kept, out)
+    }
+
+    fn read(alloc: Global, bytes: &[u8]) -> Result<(Void, &[u8]), DecodeError> {
+        let (fields, rest) = match <VoidFields as Field<Rows>>::read(alloc, bytes) {
+            Ok(found) => found,
+            Err(error) => return Err(error),
+        };
+        Ok((void_of(fields), rest))
+    }
+}
+
+/// What is kept of a transaction, made of its fields.
+fn void_of(fields: VoidFields) -> Void
+    ensures { result ≡ void_made fields }
+{
+    let (reason, kept) = fields;
+    Void { reason, kept }
+}
+
+/// The fields of a transaction that both formats have, in the order of their bytes.
+type CommonFields = (u64, (Day, (Text, (Text, Many<Split>))));
+
+/// The fields of a transaction in format 2: those of both formats, and what is kept of it.
+type TxnFields = (CommonFields, Option<Void>);
+
 /// A transaction in format 2: its currency, its day, its number text, its description and its splits, and what is kept
-/// of a voided one.
+/// of it, if it is voided.
 impl Field<Rows> for Txn {
-    ghost fits = { IsTxn };
+    ghost fits = { IsTxn Two };
 
     ghost spelling = { txn_bytes Two };
 
@@ -154,13 +198,11 @@ impl Field<Rows> for Txn {
         Field::<Rows>::spell(&self.num, out)?;
         Field::<Rows>::spell(&self.description, out)?;
         Field::<Rows>::spell(&self.splits, out)?;
-        Field::<Rows>::spell(&NotVoided, out)
+        Field::<Rows>::spell(&self.voided, out)
     }
 
     fn read(alloc: Global, bytes: &[u8]) -> Result<(Txn, &[u8]), DecodeError> {
-        let ((fields, _), rest) = match <(TxnFields, NotVoided) as Field<Rows>>::read(
-            alloc, bytes,
-        ) {
+        let (fields, rest) = match <TxnFields as Field<Rows>>::read(alloc, bytes) {
             Ok(found) => found,
             Err(error) => return Err(error),
         };
@@ -176,29 +218,45 @@ pub(crate) fn read_txn(
     bytes: &[u8],
 ) -> Result<(Txn, &[u8]), DecodeError>
     ensures found { IfOk result (λ found. bytes.now ≡ txn_bytes format found.0 ++ found.1.now) }
-    ensures fits { IfOk result (λ found. IsTxn found.0) }
-    ensures again { (it : Txn) (rest : List ℕ) → IsTxn it → bytes.now ≡ txn_bytes format it ++ rest
+    ensures fits { IfOk result (λ found. IsTxn format found.0) }
+    ensures again { (it : Txn) (rest : List ℕ) → IsTxn format it → bytes.now ≡ txn_bytes format it ++ rest
         → Gives {Y = Txn × List ℕ} (λ found. (found.0, found.1.now)) result (it, rest) }
 {
     match format {
-        RowFormat::One => match <TxnFields as Field<Rows>>::read(alloc, bytes) {
-            Ok((fields, rest)) => Ok((txn_of(fields), rest)),
-            Err(error) => Err(error),
-        },
+        RowFormat::One => read_unvoided(alloc, bytes),
         RowFormat::Two => <Txn as Field<Rows>>::read(alloc, bytes),
     }
 }
 
+/// The same in format 1, which has no voided transactions.
+fn read_unvoided(alloc: Global, bytes: &[u8]) -> Result<(Txn, &[u8]), DecodeError>
+    ensures found { IfOk result (λ found. bytes.now ≡ txn_bytes One found.0 ++ found.1.now) }
+    ensures fits { IfOk result (λ found. IsTxn One found.0) }
+    ensures again { (it : Txn) (rest : List ℕ) → IsTxn One it → bytes.now ≡ txn_bytes One it ++ rest
+        → Gives {Y = Txn × List ℕ} (λ found. (found.0, found.1.now)) result (it, rest) }
+{
+    let (fields, rest) = match <CommonFields as Field<Rows>>::read(alloc, bytes) {
+        Ok(found) => found,
+        Err(error) => return Err(error),
+    };
+    let transaction = txn_of((fields, None));
+    if !transaction.is_unvoided() {
+        return Err(DecodeError::Bad);
+    }
+    Ok((transaction, rest))
+}
+
 /// The transaction whose fields these are.
-pub(crate) fn txn_of(fields: TxnFields) -> Txn
+fn txn_of(fields: TxnFields) -> Txn
     ensures { result ≡ txn_made fields }
 {
-    let (currency, (day, (num, (description, splits)))) = fields;
+    let ((currency, (day, (num, (description, splits)))), voided) = fields;
     Txn {
         currency,
         day,
         num,
         description,
         splits,
+        voided,
     }
 }

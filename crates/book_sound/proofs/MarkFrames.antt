@@ -173,10 +173,10 @@ lines_stay olds news (e ∷ lines) stay =
 -- A book stays sound where splits of a transaction are marked otherwise, and rightly.
 pub transaction_marked :
     (book : Book) (n limit : ℕ) (old new : Txn) → value_of n book.transactions ≡ Some old → AreDrawn book limit
-    → old.currency ≡ new.currency → AreRemarked old.splits new.splits
+    → old.currency ≡ new.currency → is_none new.voided ≡ true → AreRemarked old.splits new.splits
     → list_all (is_rightly_marked book.reconciliations) new.splits ≡ true → IsSoundBook book
     → IsSoundBook (record book { transactions = with_entry n new book.transactions })
-transaction_marked book n limit old new there are currency stay marks is =
+transaction_marked book n limit old new there are currency unvoided stay marks is =
     let kept = is.transactions.keep.each n old there in
     let numbers = same_numbers old.splits new.splits stay in
     let From = IsFrom limit (numbers_of old.splits) in
@@ -192,6 +192,7 @@ transaction_marked book n limit old new there are currency stay marks is =
       once = subst (λ (ns : List ℕ). are_once ns ≡ true) numbers kept.1.0;
       from = subst (λ (ns : List ℕ). All From ns) numbers among;
       marks = marks;
+      unvoided = unvoided;
     }) few is in
     subst (λ (lines : List (ℕ × Line)).
     IsSoundBook (record book { transactions = with_entry n new book.transactions; lines = lines }))

@@ -1,6 +1,6 @@
 -- What the rules of transactions see of the commodities, the accounts, the reconciliations and the other transactions.
 use Rattle.std.proofs.Common.{◌≡◌, ℕ, ◌+◌, ◌<◌, ◌≤◌, ◌&&◌, nat_lt, Bool, true, false, All, List, [], ◌∷◌, length}
-use Rattle.std.proofs.Common.{Option, Some, None, inr, refl, ap, ◌∙◌, arith}
+use Rattle.std.proofs.Common.{Option, Some, None, is_none, inr, refl, ap, ◌∙◌, arith}
 use Rattle.std.specs.List.{list_all, list_any}
 use Rattle.std.proofs.lemmas.Bool.{and_right, not-true, not_from_false, or_from, or_parts}
 use Rattle.std.proofs.lemmas.List.Elements.{All-weaker}
@@ -16,11 +16,13 @@ use Rattle.book_accounts.specs.declared.account.Account.{Account}
 use Rattle.book_splits.specs.Balance.{has_splits, splits_of}
 use Rattle.book_splits.specs.TransactionRules.{are_once, is_among, numbers_of, share_numbers}
 use Rattle.book_splits.specs.declared.reconciliation.Recon.{Recon}
+use Rattle.book_splits.specs.declared.split.Mark.{Mark}
+use Rattle.book_splits.specs.declared.split.Mark.TheVariants.{New, Cleared, Reconciled, Voided}
 use Rattle.book_splits.specs.declared.split.Split.{Split}
 use Rattle.book_splits.specs.declared.transaction.Txn.{Txn}
 use Rattle.book_splits.proofs.ReplacedLemmas.{IsFrom, all_of_one, none_shared_by, numbers_below, shares_none}
 use Rattle.book_splits.proofs.TransactionRuleLemmas.{Suits, has_of_one}
-use Rattle.book_sound.specs.MarkedTransactionRules.{fits_mark, has_marked, is_named_rightly, is_reconciled}
+use Rattle.book_sound.specs.MarkedTransactionRules.{fits_mark, has_marked, is_named_rightly}
 use Rattle.book_sound.specs.MarkedTransactionRules.{is_rightly_marked, marked_transaction_rules}
 use Rattle.book_sound.specs.Naming.{is_on_some}
 use Rattle.book_sound.specs.Tests.{passes_check}
@@ -69,10 +71,12 @@ named_still old new split (Some r) stays is =
     marked_still split (value_of r old) (value_of r new) (stays.each r) is
 
 mark_still :
-    (old new : List (ℕ × Recon)) (split : Split) (reconciled : Bool) → Stays old new
-    → fits_mark old split reconciled ≡ true → fits_mark new split reconciled ≡ true
-mark_still old new split true stays is = named_still old new split split.recon stays is
-mark_still old new split false stays is = is
+    (old new : List (ℕ × Recon)) (split : Split) (mark : Mark) → Stays old new
+    → fits_mark old split mark ≡ true → fits_mark new split mark ≡ true
+mark_still old new split New stays is = is
+mark_still old new split Cleared stays is = is
+mark_still old new split Reconciled stays is = named_still old new split split.recon stays is
+mark_still old new split Voided stays is = absurd cc
 
 -- Transactions stay sound where reconciliations are added.
 pub transactions_under :
@@ -85,13 +89,13 @@ transactions_under commodities accounts old new most ts stays =
     (marked_transaction_rules commodities accounts new ts) most ts
     (λ k t there kept.
     let marks = all_still (is_rightly_marked old) (is_rightly_marked new) t.splits
-    (λ split. mark_still old new split (is_reconciled split.mark) stays) kept.1.1.1.0 in
-    (kept.0, (kept.1.0, (kept.1.1.0, (marks, tt)))))
+    (λ split. mark_still old new split split.mark stays) kept.1.1.1.0 in
+    (kept.0, (kept.1.0, (kept.1.1.0, (marks, kept.1.1.1.1)))))
 
 -- ---- where a transaction is put
 
 -- What a transaction brings that is put: it breaks no rule; its splits have numbers of their own, which are some that
--- were there or are drawn from the limit on; and they are rightly marked.
+-- were there or are drawn from the limit on; they are rightly marked; and it is not voided.
 pub record IsFit
     (commodities : List (ℕ × Commodity)) (accounts : List (ℕ × Account)) (reconciliations : List (ℕ × Recon))
     (limit : ℕ) (olds : List ℕ) (new : Txn)
@@ -100,6 +104,7 @@ pub record IsFit
   pub once : are_once (numbers_of new.splits) ≡ true
   pub from : All (IsFrom limit olds) (numbers_of new.splits)
   pub marks : list_all (is_rightly_marked reconciliations) new.splits ≡ true
+  pub unvoided : is_none new.voided ≡ true
 
 -- numbers above one are drawn from it on
 pub drawn_from : (n : ℕ) (numbers : List ℕ) → All (λ (m : ℕ). n < m) numbers → All (IsFrom n []) numbers
@@ -153,7 +158,7 @@ transactions_posted commodities accounts reconciliations n new most ts below ids
       rise = rises_with n new ts is.rise;
       keep = each_with (marked_transaction_rules commodities accounts reconciliations ts)
           (marked_transaction_rules commodities accounts reconciliations later) n new ts
-          (fit.check, (fit.once, (not_from_false _ own, (fit.marks, tt))))
+          (fit.check, (fit.once, (not_from_false _ own, (fit.marks, (fit.unvoided, tt)))))
           (λ k t other there kept.
           let drawn = drawn_below k n t ts below there in
           let once = none_before_with (share_numbers t) k n new ts (λ before. absurd (omega (arith, before, drawn)))
@@ -181,7 +186,7 @@ transactions_replaced commodities accounts reconciliations limit n old new most 
       rise = rises_with n new ts is.rise;
       keep = each_with (marked_transaction_rules commodities accounts reconciliations ts)
           (marked_transaction_rules commodities accounts reconciliations later) n new ts
-          (fit.check, (fit.once, (not_from_false _ own, (fit.marks, tt))))
+          (fit.check, (fit.once, (not_from_false _ own, (fit.marks, (fit.unvoided, tt)))))
           (λ k t other found kept.
           let free = not-true _ kept.1.1.0 in
           let numbers = numbers_below limit t.splits (all_of_one Below k t ts found below) in

@@ -6,7 +6,7 @@ use Rattle.book_commodity.specs.CommodityRules.{commodity_rules}
 use Rattle.book_accounts.specs.AccountRules.{account_rules}
 use Rattle.book_accounts.specs.Tree.{nearest_parents}
 use Rattle.book_splits.specs.declared.reconciliation.MarkedSplit.{MarkedSplit}
-use Rattle.book_splits.specs.declared.split.Mark.TheVariants.{New, Cleared, Reconciled}
+use Rattle.book_splits.specs.declared.split.Mark.TheVariants.{New, Cleared, Reconciled, Voided}
 use Rattle.book_splits.specs.declared.split.Split.{Split}
 use Rattle.book_splits.specs.declared.transaction.Txn.{Txn}
 use Rattle.book_schedule.specs.declared.timing.End.TheVariants.{Until, After}
@@ -27,7 +27,7 @@ use Rattle.book_sound.specs.ScheduleRules.{schedule_rules}
 use Rattle.book_sound.specs.Soundness.{IsSoundBook}
 use Rattle.book_sound.specs.StatementRules.{statement_rules}
 use Rattle.book_sound.proofs.WalkLemmas.{each_of}
-use Rattle.book_sound.proofs.WorkedBook.{account, accounts, binding, body, book_with, commodities, line, monthly}
+use Rattle.book_sound.proofs.WorkedBook.{accounts, binding, body, book_with, commodities, line, monthly}
 use Rattle.book_sound.proofs.WorkedBook.{opening, price, prices, reconciliation, reconciliations, rent, schedule}
 use Rattle.book_sound.proofs.WorkedBook.{split, statement, template, timing, transactions, txn}
 
@@ -118,6 +118,16 @@ txn_other_account :
     of_opening (txn (split 12 3 (negsuc 999) New None ∷ split 11 4 (pos 1000) Reconciled (Some 19) ∷ [])) ≡ 3 ∷ []
 txn_other_account = refl
 
+-- a split that is voided in a transaction that isn't, and a transaction that is voided
+txn_voided_split : of_txn (txn (split 14 3 (pos 0) Voided None ∷ [])) ≡ 3 ∷ []
+txn_voided_split = refl
+
+abbrev voided : Txn → Txn
+voided transaction = record transaction { voided = Some (record { reason = []; kept = [] }) }
+
+txn_voided : of_txn (voided rent) ≡ 4 ∷ []
+txn_voided = refl
+
 -- ---- reconciliations
 
 reconciliation_kept : broken (reconciliation_rules accounts 19 reconciliation) ≡ []
@@ -170,6 +180,9 @@ schedule_until = refl
 
 schedule_far_ahead : of_schedule (schedule (record timing { advance = 367 }) template) ≡ 3 ∷ []
 schedule_far_ahead = refl
+
+schedule_voided : of_schedule (schedule timing (voided template)) ≡ 6 ∷ []
+schedule_voided = refl
 
 schedule_unbalanced : of_schedule (schedule timing (txn (split 0 3 (pos 1) New None ∷ []))) ≡ 4 ∷ []
 schedule_unbalanced = refl

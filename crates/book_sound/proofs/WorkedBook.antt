@@ -66,7 +66,8 @@ split id account value mark recon = record {
 }
 
 abbrev pub txn : List Split → Txn
-txn splits = record { currency = 1; day = pos 19723; num = []; description = []; splits = splits }
+txn splits =
+    record { currency = 1; day = pos 19723; num = []; description = []; splits = splits; voided = None }
 
 -- a transaction whose split on the bank account is reconciled, and one whose split there is cleared
 abbrev pub opening : Txn

@@ -10,7 +10,7 @@ use Rattle.book_splits.specs.TransactionRules.{are_once, numbers_of, share_numbe
 use Rattle.book_splits.specs.declared.reconciliation.MarkedSplit.{MarkedSplit}
 use Rattle.book_splits.specs.declared.reconciliation.Recon.{Recon}
 use Rattle.book_splits.specs.declared.split.Mark.{Mark}
-use Rattle.book_splits.specs.declared.split.Mark.TheVariants.{Reconciled}
+use Rattle.book_splits.specs.declared.split.Mark.TheVariants.{New, Cleared, Reconciled, Voided}
 use Rattle.book_splits.specs.declared.split.Split.{Split}
 use Rattle.book_splits.specs.declared.transaction.Txn.{Txn}
 use Rattle.book_sound.specs.Tests.{passes_check}
@@ -37,19 +37,22 @@ abbrev pub is_named_rightly : List (ℕ × Recon) → Split → Option ℕ → B
 is_named_rightly reconciliations split None = false
 is_named_rightly reconciliations split (Some number) = has_marked split (value_of number reconciliations)
 
--- Whether the mark of a split says what its reconciliation does: where it is reconciled, it names a reconciliation
--- that has marked it; where it isn't, it names none.
-abbrev pub fits_mark : List (ℕ × Recon) → Split → Bool → Bool
-fits_mark reconciliations split true = is_named_rightly reconciliations split split.recon
-fits_mark reconciliations split false = is_none split.recon
+-- Whether a mark is one that the split may have: where it is reconciled, the split names a reconciliation that has marked
+-- it; where it is new or cleared, the split names none. No split is voided (GnuCash Manual, reconciling).
+abbrev pub fits_mark : List (ℕ × Recon) → Split → Mark → Bool
+fits_mark reconciliations split New = is_none split.recon
+fits_mark reconciliations split Cleared = is_none split.recon
+fits_mark reconciliations split Reconciled = is_named_rightly reconciliations split split.recon
+fits_mark reconciliations split Voided = false
 
 -- Whether a split is rightly marked.
 abbrev pub is_rightly_marked : List (ℕ × Recon) → Split → Bool
-is_rightly_marked reconciliations split = fits_mark reconciliations split (is_reconciled split.mark)
+is_rightly_marked reconciliations split = fits_mark reconciliations split split.mark
 
 -- The rules of a transaction: it passes the check of transactions among the commodities and the accounts of the book;
--- each of its splits has a number that no other of them has, and none of a transaction before it; and each is
--- reconciled exactly where it names a reconciliation of its account that has marked it (GnuCash Manual, reconciling).
+-- each of its splits has a number that no other of them has, and none of a transaction before it; each is reconciled
+-- exactly where it names a reconciliation of its account that has marked it; and the transaction is not voided (GnuCash
+-- Manual, reconciling and voiding).
 abbrev pub marked_transaction_rules :
     List (ℕ × Commodity) → List (ℕ × Account) → List (ℕ × Recon) → List (ℕ × Txn) → ℕ → Txn → List Bool
 marked_transaction_rules commodities accounts reconciliations transactions number transaction =
@@ -57,4 +60,5 @@ marked_transaction_rules commodities accounts reconciliations transactions numbe
     ∷ are_once (numbers_of transaction.splits)
     ∷ not (stands_before (share_numbers transaction) number transactions)
     ∷ list_all (is_rightly_marked reconciliations) transaction.splits
+    ∷ is_none transaction.voided
     ∷ []

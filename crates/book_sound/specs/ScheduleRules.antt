@@ -1,5 +1,5 @@
 -- The rules that each schedule of a book keeps.
-use Rattle.std.specs.Prelude.{ℕ, ◌==◌, nat_lt, not, Bool, true, ◌&&◌, List, [], ◌∷◌, length}
+use Rattle.std.specs.Prelude.{ℕ, ◌==◌, nat_lt, not, Bool, true, ◌&&◌, List, [], ◌∷◌, length, is_none}
 use Rattle.std.specs.List.{list_all}
 use Rattle.book_commodity.specs.declared.commodity.Commodity.{Commodity}
 use Rattle.book_accounts.specs.declared.account.Account.{Account}
@@ -27,8 +27,9 @@ is_blank split = (split.id == 0) && is_unmarked split
 
 -- The rules of a schedule: its recurrences have their multipliers in range; it has 1 to 12 of them; an end after so
 -- many occurrences leaves room for one; its transactions are made at most 366 days in advance (limits of this
--- project); its template breaks no rule of transactions; and the splits of the template are none of the book (GnuCash
--- SQL schema, tables schedxactions and recurrences; GnuCash Manual, scheduled transactions).
+-- project); its template breaks no rule of transactions; the splits of the template are none of the book; and the
+-- template is not voided (GnuCash SQL schema, tables schedxactions and recurrences; GnuCash Manual, scheduled
+-- transactions).
 abbrev pub schedule_rules : List (ℕ × Commodity) → List (ℕ × Account) → ℕ → Schedule → List Bool
 schedule_rules commodities accounts number schedule =
     list_all has_multiplier schedule.timing.recurrences
@@ -37,4 +38,5 @@ schedule_rules commodities accounts number schedule =
     ∷ not (nat_lt 366 schedule.timing.advance)
     ∷ passes_check commodities accounts schedule.template
     ∷ list_all is_blank schedule.template.splits
+    ∷ is_none schedule.template.voided
     ∷ []

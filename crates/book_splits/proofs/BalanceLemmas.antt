@@ -1,12 +1,10 @@
 -- Laws of sums over splits.
 use Rattle.std.proofs.Common.{◌≡◌, ℕ, ℤ, pos, ◌+ℤ◌, ◌==◌, Bool, true, false, if◌then◌else◌, List, [], ◌∷◌, ◌++◌}
-use Rattle.std.proofs.Common.{◌≤◌, ◌<◌, nat_lt, not, All, arith, length, map, refl, sym, ap, subst}
+use Rattle.std.proofs.Common.{◌<◌, nat_lt, not, All, arith, map, refl, sym, ap, subst}
 use Rattle.std.proofs.Common.{◌∙◌, append_assoc, filter}
-use Rattle.std.proofs.Math.ListN.{length-append}
 use Rattle.std.proofs.lemmas.Bool.{eqb-true}
 use Rattle.std.proofs.lemmas.Bool.Decides.{nat_tests}
 use Rattle.std.proofs.lemmas.List.{append-nil}
-use Rattle.std.proofs.lemmas.List.Elements.{filter-append}
 use Rattle.std.proofs.Math.IntN.{+ℤ_assoc, +ℤ_comm, +ℤ_idl, +ℤ_idr}
 use Rattle.book_commodity.specs.Table.{AllAbove, Rises, with_entry}
 use Rattle.book_commodity.proofs.DrawnLemmas.{with_last}

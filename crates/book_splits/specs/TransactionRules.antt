@@ -3,7 +3,7 @@
 use Rattle.std.specs.Prelude.{ℕ, ◌==◌, not, Bool, true, false, ◌&&◌, List, [], ◌∷◌, map, is_none}
 use Rattle.std.specs.List.{list_any}
 use Rattle.book_splits.specs.declared.split.Mark.{Mark}
-use Rattle.book_splits.specs.declared.split.Mark.TheVariants.{New}
+use Rattle.book_splits.specs.declared.split.Mark.TheVariants.{New, Voided}
 use Rattle.book_splits.specs.declared.split.Split.{Split}
 use Rattle.book_splits.specs.declared.transaction.Txn.{Txn}
 
@@ -32,3 +32,17 @@ is_new _ = false
 -- Whether a split is unmarked: it is new, and names no reconciliation (GnuCash Manual, reconciling).
 abbrev pub is_unmarked : Split → Bool
 is_unmarked split = is_new split.mark && is_none split.recon
+
+-- Whether it is the mark of a split whose transaction is voided.
+abbrev pub is_voided : Mark → Bool
+is_voided Voided = true
+is_voided _ = false
+
+-- Whether one of the splits is voided.
+abbrev pub has_voided : List Split → Bool
+has_voided splits = list_any (λ split. is_voided split.mark) splits
+
+-- Whether a transaction is no voided one: nothing is kept of such, and no split is voided (GnuCash Manual, voiding a
+-- transaction).
+abbrev pub is_unvoided : Txn → Bool
+is_unvoided transaction = is_none transaction.voided && not (has_voided transaction.splits)

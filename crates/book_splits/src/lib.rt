@@ -11,6 +11,7 @@ mod rule;
 mod split;
 mod transaction;
 mod transactions;
+mod void;
 
 pub use account_splits::has_splits;
 pub use check::check_txn;
@@ -19,3 +20,4 @@ pub use rule::TxnRule;
 pub use split::{Mark, Split};
 pub use transaction::Txn;
 pub use transactions::Txns;
+pub use void::{KeptSplit, Void};

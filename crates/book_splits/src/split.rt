@@ -2,12 +2,14 @@ ghost use Rattle.std.specs.Prelude.{◌≡◌, IfOk};
 
 use book_commodity::{OutOfMemory, Text};
 
-/// How far a split was checked against the bank's word: not yet, cleared, or reconciled.
+/// How far a split was checked against the bank's word: not yet, cleared, or reconciled; or that its transaction is
+/// voided (GnuCash SQL schema, column reconcile_state of splits).
 #[derive(Clone, Copy, Debug, PartialEq, Eq)]
 pub enum Mark {
     New,
     Cleared,
     Reconciled,
+    Voided,
 }
 
 /// One account's part in a transaction. The value is in smallest units of the transaction's currency,

@@ -15,6 +15,7 @@ use Rattle.book_history.specs.History.{AreNumberedFrom}
 use Rattle.book_history.specs.Steps.{AreSound}
 use Rattle.book_history.proofs.FaultLaws.{sound_faultless}
 use Rattle.book_history.proofs.TurnLaws.{counted_history}
+use Rattle.book_rows.specs.declared.format.RowFormat.TheVariants.{Two}
 use Rattle.book_opening.specs.BookRows.{back_records, behind_head, forth_records, things_of}
 use Rattle.book_opening.specs.Opening.{CanBeRow, head_key}
 use Rattle.book_opening.specs.Reading.{IsReadable}
@@ -33,7 +34,7 @@ or_false false = refl
 
 last_small :
     (from : ℕ) (steps : List (ℕ × Edit)) → AreNumberedFrom from steps → from ≤ 2 ^ 62
-    → AllByRecursion CanBeRow (forth_records steps) → from + length steps ≤ 2 ^ 62
+    → AllByRecursion (CanBeRow Two) (forth_records steps) → from + length steps ≤ 2 ^ 62
 last_small from [] numbers low can = omega (arith, low)
 last_small from (step ∷ steps) numbers low can =
     let here = numbers.0 in
@@ -57,10 +58,10 @@ readable_sound state is back_rise forth_rise reached fits sound drawn back_sound
     (λ id. even (record { kind = 12; id = id }) refl) back_sound forth_sound in
     let count_forth = history.forth_count in
     let position_small = within.1.1 in
-    let can : AllByRecursion CanBeRow (behind_head state) = is.spelled.1 in
+    let can : AllByRecursion (CanBeRow Two) (behind_head state) = is.spelled.1 in
     let small = last_small (state.position + 1) state.forth history.forth_numbers (omega (arith, position_small))
-    (all_last CanBeRow (back_records state.back) (forth_records state.forth)
-    (all_last CanBeRow (things_of state.book) (back_records state.back ++ forth_records state.forth) can)) in
+    (all_last (CanBeRow Two) (back_records state.back) (forth_records state.forth)
+    (all_last (CanBeRow Two) (things_of state.book) (back_records state.back ++ forth_records state.forth) can)) in
     record {
       book = sound;
       drawn = drawn;

@@ -19,7 +19,7 @@ use Rattle.book_splits.specs.declared.split.Split.{Split}
 use Rattle.book_splits.proofs.NamedLemmas.{named, named_among, named_holds, named_number, named_passes}
 use Rattle.book_splits.proofs.ReplacedLemmas.{IsFrom, none_from_limit, not_among_from, numbers_below}
 use Rattle.book_sound.specs.MarkedTransactionRules.{is_reconciled, is_rightly_marked}
-use Rattle.book_sound.proofs.MarkLemmas.{right_still, unreconciled_is_right, unreconciled_names_none}
+use Rattle.book_sound.proofs.MarkLemmas.{right_is_unvoided, right_still, unreconciled_is_right, unreconciled_names_none}
 use Rattle.book_command.specs.declared.command.GivenSplit.{GivenSplit}
 use Rattle.book_step.specs.Editing.{drawn_by, drawn_for, edited_split, edited_splits, keeps_mark, kept_by, number_given}
 use Rattle.book_step.specs.Editing.{number_rules, unknown_split}
@@ -96,7 +96,7 @@ kept_right reconciliations split given right keeps =
             quantity = sym ((Decides-int_eq given.quantity split.quantity).0 parts.1);
           }) right
       | false ↦ λ unmarked same.
-          unreconciled_is_right reconciliations new unmarked
+          unreconciled_is_right reconciliations new unmarked (right_is_unvoided reconciliations split right)
           (unreconciled_names_none reconciliations split right unmarked)
     ] refl keeps
 

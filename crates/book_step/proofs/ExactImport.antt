@@ -1,11 +1,11 @@
 -- The edit of an import is exact for a sound book, and leads to the book with what is added.
-use Rattle.std.proofs.Common.{◌≡◌, ◌≢◌, ℕ, ◌-◌, ◌+◌, ◌^◌, ◌<◌, ◌≤◌, nat_lt, max, min, Bool, true, false, All, List, []}
-use Rattle.std.proofs.Common.{◌∷◌, ◌++◌, flat_map, length, map, Option, Some, None, option_map, refl, sym, ap, subst}
+use Rattle.std.proofs.Common.{◌≡◌, ◌≢◌, ℕ, ◌-◌, ◌+◌, ◌^◌, ◌<◌, nat_lt, max, min, Bool, false, All, List, []}
+use Rattle.std.proofs.Common.{◌∷◌, ◌++◌, flat_map, map, Option, Some, None, option_map, refl, sym, ap, subst}
 use Rattle.std.proofs.Common.{◌∙◌, append_assoc, arith}
 use Rattle.std.proofs.lemmas.Bool.Decides.{nat_tests}
 use Rattle.std.proofs.lemmas.List.{append-nil}
 use Rattle.book_commodity.specs.Rules.{broken_where}
-use Rattle.book_commodity.specs.Table.{AllAbove, Rises, value_of, with_entry}
+use Rattle.book_commodity.specs.Table.{value_of, with_entry}
 use Rattle.book_commodity.proofs.DrawnLemmas.{drawn_before, drawn_free, with_last}
 use Rattle.book_statement.specs.declared.held.Held.{Held}
 use Rattle.book_statement.specs.declared.line.Line.{Line}
@@ -13,10 +13,9 @@ use Rattle.book_undo.specs.Book.{Book}
 use Rattle.book_undo.specs.Edit.{Key, Leaf, OfPut, depth, deepest, edited, edited_all, is_nothing, key_at, leaves}
 use Rattle.book_undo.specs.EditRules.{first_missing, first_unordered, out_of_order}
 use Rattle.book_undo.specs.Exact.{IsExact}
-use Rattle.book_undo.specs.declared.edit.Edit.{Edit, All as AllOf}
+use Rattle.book_undo.specs.declared.edit.Edit.{Edit}
 use Rattle.book_undo.specs.declared.rule.EditRule.{EditRule}
 use Rattle.book_undo.specs.declared.rule.EditRule.TheVariants.{OutOfOrder, TooDeep}
-use Rattle.book_undo.specs.declared.thing.Thing.{Thing}
 use Rattle.book_undo.specs.declared.thing.Thing.TheVariants as thing
 use Rattle.book_undo.proofs.ExactLaws.{AllChange, exact_of, something_of_some}
 use Rattle.book_undo.proofs.PartLaws.{depth_of_all, edited_of_all, leaves_of_all}

@@ -1,6 +1,6 @@
 -- The edit of a run of schedules is exact for a sound book, and leads to the book of the run; so are those of a new
 -- schedule and of one that is deleted.
-use Rattle.std.proofs.Common.{◌≡◌, ◌≢◌, ℕ, ◌-◌, ◌+◌, ◌^◌, ◌<◌, ◌≤◌, nat_lt, max, min, Bool, false, All, List, [], ◌∷◌}
+use Rattle.std.proofs.Common.{◌≡◌, ◌≢◌, ℕ, ◌-◌, ◌^◌, ◌<◌, ◌≤◌, nat_lt, max, min, Bool, false, All, List, [], ◌∷◌}
 use Rattle.std.proofs.Common.{◌++◌, flat_map, map, Option, Some, None, is_none, option_map, refl, sym, ap, inl, inr}
 use Rattle.std.proofs.Common.{subst, ◌∙◌, arith}
 use Rattle.std.proofs.lemmas.Bool.{cases_lt}

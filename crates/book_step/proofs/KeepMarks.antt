@@ -15,7 +15,6 @@ use Rattle.book_undo.specs.Book.{Book}
 use Rattle.book_command.specs.declared.answer.Answer.{Answer}
 use Rattle.book_command.specs.declared.answer.Answer.TheVariants as answer
 use Rattle.book_command.specs.declared.rule.Rule.{Rule}
-use Rattle.book_step.specs.Accounts.{unknown_account}
 use Rattle.book_step.specs.AutoMatching as auto
 use Rattle.book_step.specs.Laws.{SaysSame}
 use Rattle.book_step.specs.LineMatching as matching

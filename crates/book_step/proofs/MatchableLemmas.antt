@@ -1,21 +1,14 @@
 -- What may be matched of a sound book: its open lines stand among its lines, and its free splits among its splits, each
 -- once.
-use Rattle.std.proofs.Common.{◌≡◌, ℕ, ◌==◌, Bool, true, false, not, ◌&&◌, if◌then◌else◌, cond, All}
-use Rattle.std.proofs.Common.{List, [], ◌∷◌, ◌++◌, filter, flat_map, map, Some, refl, sym, ap, ◌∙◌, eq-eqb, arith}
-use Rattle.std.specs.Ordering.{int_eq}
-use Rattle.std.proofs.lemmas.Bool.{and_from, and_parts, eqb-true, not-true, not_from_false, or_from, or_parts}
-use Rattle.std.proofs.lemmas.Bool.Decides.{nat_tests}
-use Rattle.std.proofs.lemmas.List.{map-append}
+use Rattle.std.proofs.Common.{◌≡◌, ℕ, ◌==◌, Bool, true, false, not, if◌then◌else◌, All}
+use Rattle.std.proofs.Common.{List, [], ◌∷◌, filter, flat_map, Some, refl, ◌∙◌}
+use Rattle.std.proofs.lemmas.Bool.{and_parts, eqb-true, not-true}
 use Rattle.std.proofs.lemmas.List.Elements.{All-append, All-cons, All-head, All-map, All-nil, All-tail, All-weaker}
-use Rattle.std.proofs.lemmas.List.Elements.{filter-append}
-use Rattle.book_commodity.specs.Rules.{stands_before}
 use Rattle.book_commodity.specs.Table.{Rises, value_of}
-use Rattle.book_splits.specs.Balance.{splits_of}
-use Rattle.book_splits.specs.TransactionRules.{are_once, is_among, numbers_of, share_numbers}
 use Rattle.book_splits.specs.declared.split.Split.{Split}
 use Rattle.book_splits.specs.declared.transaction.Txn.{Txn}
 use Rattle.book_statement.specs.declared.line.Line.{Line}
-use Rattle.book_match.specs.AmountIndex.{AreApart, is_same, is_there, ordered, precedes, with_free}
+use Rattle.book_match.specs.AmountIndex.{ordered, precedes, with_free}
 use Rattle.book_match.specs.Kept.{view_of, views_on}
 use Rattle.book_match.specs.declared.free.Free.{Free}
 use Rattle.book_match.specs.declared.views.LineView.{LineView}

@@ -1,6 +1,6 @@
 -- A book in which a split is marked: it is the book with one transaction in the place of another, and it stays sound.
 use Rattle.std.proofs.Common.{◌≡◌, ◌≢◌, ℕ, ◌<◌, ◌==◌, nat_lt, Bool, true, false, cond, if◌then◌else◌, All, List, []}
-use Rattle.std.proofs.Common.{◌∷◌, ◌++◌, map, Option, Some, None, option_map, refl, sym, ap, subst, ◌∙◌, eq-eqb, arith}
+use Rattle.std.proofs.Common.{◌∷◌, ◌++◌, map, Option, Some, None, is_none, option_map, refl, sym, ap, subst, ◌∙◌, eq-eqb, arith}
 use Rattle.std.specs.List.{list_all}
 use Rattle.std.specs.Option.{option_or}
 use Rattle.std.proofs.lemmas.Bool.{and_from, and_parts, eqb-true, not-true, or_parts}
@@ -14,7 +14,7 @@ use Rattle.book_commodity.proofs.DrawnLemmas.{drawn_below}
 use Rattle.book_commodity.proofs.RuleLemmas.{fails_before}
 use Rattle.book_commodity.proofs.TableLemmas.{rises_with, same_entries, value_of_with}
 use Rattle.book_splits.specs.Balance.{splits_of}
-use Rattle.book_splits.specs.TransactionRules.{is_among, numbers_of, share_numbers}
+use Rattle.book_splits.specs.TransactionRules.{is_among, is_voided, numbers_of, share_numbers}
 use Rattle.book_splits.specs.declared.reconciliation.Recon.{Recon}
 use Rattle.book_splits.specs.declared.split.Mark.{Mark}
 use Rattle.book_splits.specs.declared.split.Split.{Split}
@@ -49,12 +49,13 @@ remarked_below next (old ∷ olds) (new ∷ news) stay all =
 pub remarked-sound :
     (book : Book) (n limit : ℕ) (old new : Txn) → value_of n book.transactions ≡ Some old
     → old.currency ≡ new.currency → AreRemarked old.splits new.splits
-    → list_all (is_rightly_marked book.reconciliations) new.splits ≡ true → AreDrawn book limit → IsSoundBook book
+    → list_all (is_rightly_marked book.reconciliations) new.splits ≡ true → is_none new.voided ≡ true
+    → AreDrawn book limit → IsSoundBook book
     → IsSoundBook (record book { transactions = with_entry n new book.transactions })
     × AreDrawn (record book { transactions = with_entry n new book.transactions }) limit
-remarked-sound book n limit old new there currency stay marks are is =
+remarked-sound book n limit old new there currency stay marks unvoided are is =
     let below = all_of_one (λ (s : Split). s.id < limit) n old book.transactions there are.splits in (
-      transaction_marked book n limit old new there are currency stay marks is,
+      transaction_marked book n limit old new there are currency unvoided stay marks is,
       transaction_drawn book n limit new (drawn_below n limit old book.transactions are.transactions there)
           (remarked_below limit old.splits new.splits stay below) are,
     )
@@ -74,29 +75,29 @@ pub all_remarked :
 all_remarked number mark [] = tt
 all_remarked number mark (s ∷ splits) = (one_remarked number mark s, all_remarked number mark splits)
 
--- they are rightly marked where that is no mark of a reconciled one
+-- they are rightly marked where that is no mark of a reconciled one, nor of a voided one
 one_right :
     (reconciliations : List (ℕ × Recon)) (number : ℕ) (mark : Mark) (split : Split) → is_reconciled mark ≡ false
-    → is_rightly_marked reconciliations split ≡ true
+    → is_voided mark ≡ false → is_rightly_marked reconciliations split ≡ true
     → is_rightly_marked reconciliations (marked_where number mark split) ≡ true
-one_right reconciliations number mark split not_yet right =
+one_right reconciliations number mark split not_yet unvoided right =
     let Right : Bool → Type 0 =
     λ b. is_rightly_marked reconciliations (if b then marked_as mark split else split) ≡ true in
     elim (split.id == number) as Right [
-      | true ↦ unreconciled_is_right reconciliations (marked_as mark split) not_yet refl
+      | true ↦ unreconciled_is_right reconciliations (marked_as mark split) not_yet unvoided refl
       | false ↦ right
     ]
 
 pub all_right :
     (reconciliations : List (ℕ × Recon)) (number : ℕ) (mark : Mark) (splits : List Split) → is_reconciled mark ≡ false
-    → list_all (is_rightly_marked reconciliations) splits ≡ true
+    → is_voided mark ≡ false → list_all (is_rightly_marked reconciliations) splits ≡ true
     → list_all (is_rightly_marked reconciliations) (marked_among number mark splits) ≡ true
-all_right reconciliations number mark [] not_yet right = refl
-all_right reconciliations number mark (s ∷ splits) not_yet right =
+all_right reconciliations number mark [] not_yet unvoided right = refl
+all_right reconciliations number mark (s ∷ splits) not_yet unvoided right =
     let parts = and_parts (is_rightly_marked reconciliations s) (list_all (is_rightly_marked reconciliations) splits)
     right in
-    and_from _ _ (one_right reconciliations number mark s not_yet parts.0)
-    (all_right reconciliations number mark splits not_yet parts.1)
+    and_from _ _ (one_right reconciliations number mark s not_yet unvoided parts.0)
+    (all_right reconciliations number mark splits not_yet unvoided parts.1)
 
 -- the split with the number is the marked one
 pub among_marked :
@@ -288,11 +289,12 @@ marked_is_put book number mark held is has =
 -- A book stays sound, and its numbers drawn, where one of its splits is marked as new or as cleared.
 pub marked-sound :
     (book : Book) (number limit : ℕ) (mark : Mark) (held : Held) → IsHeld book.transactions number held
-    → is_reconciled mark ≡ false → AreDrawn book limit → IsSoundBook book
+    → is_reconciled mark ≡ false → is_voided mark ≡ false → AreDrawn book limit → IsSoundBook book
     → IsSoundBook (book_marked number mark book) × AreDrawn (book_marked number mark book) limit
-marked-sound book number limit mark held has not_yet are is =
+marked-sound book number limit mark held has not_yet unvoided are is =
     let t = held.transaction in
-    let right = (is.transactions.keep.each held.number t has.0).1.1.1.0 in
+    let kept = is.transactions.keep.each held.number t has.0 in
     let put = remarked-sound book held.number limit t (remarked number mark t) has.0 refl
-    (all_remarked number mark t.splits) (all_right book.reconciliations number mark t.splits not_yet right) are is in
+    (all_remarked number mark t.splits)
+    (all_right book.reconciliations number mark t.splits not_yet unvoided kept.1.1.1.0) kept.1.1.1.1.0 are is in
     subst (λ (b : Book). IsSoundBook b × AreDrawn b limit) (sym (marked_is_put book number mark held is has)) put

@@ -368,7 +368,8 @@ puts_sound book rule limit (e ∷ ts) alone r marks are is =
     let own = drawn_below e.0 limit e.1 book.transactions are.transactions marks.0.0 in
     let ids = all_of_one Below e.0 e.1 book.transactions marks.0.0 are.splits in
     let drawn = transaction_drawn book e.0 limit new own (ids_below rule e.1.day limit e.1.splits alone ids) are in
-    let sound = transaction_marked book e.0 limit e.1 new marks.0.0 are refl
+    let unvoided = (is.transactions.keep.each e.0 e.1 marks.0.0).1.1.1.1.0 in
+    let sound = transaction_marked book e.0 limit e.1 new marks.0.0 are refl unvoided
     (splits_remarked rule e.1.day e.1.splits alone) marks.0.1 is in
     puts_sound later rule limit ts alone r.1 (marked_beside book rule e.0 new ts r.0 marks.1) drawn sound
 

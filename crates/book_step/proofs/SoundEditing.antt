@@ -67,6 +67,7 @@ replaces book number next day given old there are is keeps =
       once = edited_once next next old.splits [] given.splits below (omega arith) keeps.numbers;
       from = edited_from next next old.splits given.splits (omega arith);
       marks = edited_right book.reconciliations next old.splits given.splits was.1.1.1.0;
+      unvoided = refl;
     }
 
 edited_book :

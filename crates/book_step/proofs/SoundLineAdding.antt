@@ -87,6 +87,7 @@ line_posted book n commodity line others description are kept is =
       from = drawn_from n (numbers_of new.splits) (splits_above n (n + 1) line others (omega arith));
       marks = and_from _ _ refl
           (unmarked_are_right book.reconciliations (new_splits (n + 1 + 1) given) (new_marks (n + 1 + 1) given));
+      unvoided = refl;
     })
     (grind (arith, nat_tests, few)) (grind (arith, nat_tests, splits)) is
 

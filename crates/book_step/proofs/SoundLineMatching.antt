@@ -102,7 +102,7 @@ cleared-sound book wanted limit split there are is = go (is_mark split.mark New)
     go : (new : Bool) → Clears book (if new then book_marked wanted Cleared book else book) limit
     go true =
         let found = held_of wanted split book.transactions is.transactions.rise there in
-        let both = marked-sound book wanted limit Cleared found.held found.has refl are is in
+        let both = marked-sound book wanted limit Cleared found.held found.has refl refl are is in
         record { sound = both.0; drawn = both.1; lines = refl }
     go false = record { sound = is; drawn = are; lines = refl }
 

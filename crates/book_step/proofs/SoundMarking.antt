@@ -2,6 +2,7 @@
 use Rattle.std.proofs.Common.{◌≡◌, ℕ, ◌+◌, Bool, true, false, [], ◌∷◌, Option, Some, None, refl, arith}
 use Rattle.book_splits.specs.declared.split.Split.{Split}
 use Rattle.book_sound.specs.LineRules.{split_at}
+use Rattle.book_splits.specs.TransactionRules.{is_voided}
 use Rattle.book_sound.specs.MarkedTransactionRules.{is_reconciled}
 use Rattle.book_sound.proofs.DrawnFrames.{drawn_later}
 use Rattle.book_command.specs.declared.answer.Answer.{Answer}
@@ -18,6 +19,10 @@ asked_unreconciled : (cleared : Bool) → is_reconciled (mark_asked cleared) ≡
 asked_unreconciled true = refl
 asked_unreconciled false = refl
 
+asked_unvoided : (cleared : Bool) → is_voided (mark_asked cleared) ≡ false
+asked_unvoided true = refl
+asked_unvoided false = refl
+
 mark_at-sound :
     (state : State) (number : ℕ) (cleared force : Bool) (found : Option Split) (new : State) (answered : Answer)
     → split_at number state.book.transactions ≡ found → IsSound state
@@ -31,7 +36,7 @@ mark_at-sound state number cleared force (Some split) new answered there is e =
     let later = book_marked number to book in
     let held = held_of number split book.transactions is.book.transactions.rise there in
     let sound = marked-sound book number (state.next + 0) to held.held held.has (asked_unreconciled cleared)
-    (drawn_later book state.next (state.next + 0) (omega arith) is.drawn) is.book in
+    (asked_unvoided cleared) (drawn_later book state.next (state.next + 0) (omega arith) is.drawn) is.book in
     either_sound (is_mark split.mark to) state new rules later 0 answer.Mark answer.Mark answered is
     (λ change. sound_after state rules later 0 new change sound.0 sound.1) e
 

@@ -1,14 +1,14 @@
 -- The command that matches the open lines of an account leads from sound states to sound states.
 use Rattle.std.proofs.Common.{◌≡◌, ℕ, ◌+◌, ◌==◌, Bool, true, false, if◌then◌else◌, List, [], ◌∷◌, length, map}
-use Rattle.std.proofs.Common.{refl, sym, ap, ◌∙◌, arith}
+use Rattle.std.proofs.Common.{refl, arith}
 use Rattle.std.specs.List.{list_all}
 use Rattle.std.proofs.lemmas.Bool.{and_from, and_parts}
 use Rattle.book_splits.specs.TransactionRules.{is_new}
 use Rattle.book_splits.specs.declared.reconciliation.Recon.{Recon}
 use Rattle.book_splits.specs.declared.split.Mark.{Mark}
-use Rattle.book_splits.specs.declared.split.Mark.TheVariants.{Cleared, New, Reconciled}
+use Rattle.book_splits.specs.declared.split.Mark.TheVariants.{Cleared, New, Reconciled, Voided}
 use Rattle.book_splits.specs.declared.split.Split.{Split}
-use Rattle.book_sound.specs.MarkedTransactionRules.{fits_mark, is_reconciled, is_rightly_marked}
+use Rattle.book_sound.specs.MarkedTransactionRules.{fits_mark, is_rightly_marked}
 use Rattle.book_sound.proofs.DrawnFrames.{drawn_later}
 use Rattle.book_undo.specs.Book.{Book}
 use Rattle.book_command.specs.declared.answer.Answer.{Answer}
@@ -26,10 +26,14 @@ use Rattle.book_step.proofs.SoundOutcome.{either_sound, sound_after}
 
 -- ---- a split that becomes cleared is rightly marked
 
-new_mark : (mark : Mark) → is_new mark ≡ true → is_reconciled mark ≡ false
-new_mark New e = refl
-new_mark Cleared e = absurd cc
-new_mark Reconciled e = absurd cc
+-- one that is new fits as it would if it were cleared
+new_fits :
+    (reconciliations : List (ℕ × Recon)) (split : Split) (mark : Mark) → is_new mark ≡ true
+    → fits_mark reconciliations split mark ≡ true → fits_mark reconciliations split Cleared ≡ true
+new_fits reconciliations split New e right = right
+new_fits reconciliations split Cleared e right = absurd cc
+new_fits reconciliations split Reconciled e right = absurd cc
+new_fits reconciliations split Voided e right = absurd cc
 
 rightly_still :
     (taken : ℕ → Bool) (reconciliations : List (ℕ × Recon)) (split : Split)
@@ -41,7 +45,7 @@ rightly_still taken reconciliations split right =
     elim (becomes_cleared taken split) as Marked [
       | true ↦ λ new.
           let parts = and_parts (is_new split.mark) (taken split.id) new in
-          sym (ap (fits_mark reconciliations split) (new_mark split.mark parts.0)) ∙ right
+          new_fits reconciliations split split.mark parts.0 right
       | false ↦ λ stays. right
     ] refl
 

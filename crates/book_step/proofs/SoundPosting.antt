@@ -89,6 +89,7 @@ posted book n day given are kept is =
       once = new_once (n + 1) given.splits;
       from = drawn_from n (numbers_of new.splits) (new_above n (n + 1) given.splits (omega arith));
       marks = unmarked_are_right book.reconciliations new.splits (new_marks (n + 1) given.splits);
+      unvoided = refl;
     })
     (grind (arith, nat_tests, few)) (grind (arith, nat_tests, splits)) is
 

@@ -1,10 +1,10 @@
 -- Each command on prices leads from a sound state to a sound one.
-use Rattle.std.proofs.Common.{◌≡◌, ℕ, ◌+◌, ◌==◌, ◌≤◌, Bool, true, false, not, ◌&&◌, List, [], ◌∷◌, ◌++◌, length, find}
-use Rattle.std.proofs.Common.{Option, Some, None, is_none, is_some, refl, sym, ap, subst, ◌∙◌, arith}
+use Rattle.std.proofs.Common.{◌≡◌, ℕ, ◌+◌, Bool, true, false, not, ◌&&◌, [], ◌∷◌, ◌++◌}
+use Rattle.std.proofs.Common.{Option, Some, None, is_none, is_some, refl, arith}
 use Rattle.std.proofs.lemmas.Bool.{and_parts}
 use Rattle.std.proofs.lemmas.Bool.Decides.{nat_tests}
 use Rattle.book_commodity.specs.Rules.{AllKept}
-use Rattle.book_commodity.specs.Table.{value_of, with_entry}
+use Rattle.book_commodity.specs.Table.{value_of}
 use Rattle.book_commodity.proofs.DrawnLemmas.{drawn_below, length_changed, length_drawn}
 use Rattle.book_commodity.proofs.RuleLemmas.{kept_back, kept_front, not-broken}
 use Rattle.book_prices.specs.Rate.{is_same}
@@ -13,7 +13,7 @@ use Rattle.book_sound.specs.PriceRules.{has_pair, has_ratio}
 use Rattle.book_sound.proofs.BookChanges.{price_put, price_replaced, price_taken}
 use Rattle.book_sound.proofs.DrawnChanges.{price_drawn, price_left_drawn}
 use Rattle.book_sound.proofs.DrawnFrames.{drawn_later}
-use Rattle.book_sound.proofs.OwnChanges.{IsOfPair, IsPrice}
+use Rattle.book_sound.proofs.OwnChanges.{IsPrice}
 use Rattle.book_undo.specs.Book.{Book, with_thing, without_thing}
 use Rattle.book_undo.specs.declared.thing.Thing.TheVariants as thing
 use Rattle.book_undo.specs.declared.thing.ThingKind.TheVariants as kind
@@ -23,7 +23,7 @@ use Rattle.book_step.specs.Commodities.{is_currency_of}
 use Rattle.book_step.specs.Outcome.{Done}
 use Rattle.book_step.specs.Prices.{has_numbers, price_drop, price_of_day, price_rules, price_set, price_set_at}
 use Rattle.book_step.specs.Prices.{too_many_prices, unknown_price}
-use Rattle.book_step.specs.Soundness.{IsSound, IsSoundBook}
+use Rattle.book_step.specs.Soundness.{IsSound}
 use Rattle.book_step.specs.State.{State}
 use Rattle.book_command.proofs.RateLemmas.{alike_of}
 use Rattle.book_step.proofs.PriceLemmas.{found_there}

@@ -78,6 +78,7 @@ one_made book n count splits day template passes few few_splits is =
             once = made_once (n + 1) template.splits;
             from = drawn_from n (numbers_of new.splits) (made_above n (n + 1) template.splits (omega arith));
             marks = unmarked_are_right book.reconciliations new.splits (made_unmarked (n + 1) template.splits);
+            unvoided = refl;
           })
           (omega (arith, few, is.transactions)) (omega (arith, few_splits, size, is.all_splits)) is.sound;
       drawn = transaction_drawn book n (n + drawn_of template) new (omega arith)

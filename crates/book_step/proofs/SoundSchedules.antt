@@ -53,9 +53,10 @@ all_blank (split ∷ more) = all_blank more
 
 put-sound :
     (state : State) (schedule : Schedule) (new : State) (answered : Answer)
-    → list_all is_blank schedule.template.splits ≡ true → schedule.timing.made ≡ 0 → IsSound state
+    → list_all is_blank schedule.template.splits ≡ true → is_none schedule.template.voided ≡ true
+    → schedule.timing.made ≡ 0 → IsSound state
     → schedule_put state schedule ≡ Done new answered → IsSound new
-put-sound state schedule new answered blank none is e =
+put-sound state schedule new answered blank unvoided none is e =
     let book = state.book in
     let timing = schedule.timing in
     let rules = add_rules book schedule in
@@ -76,7 +77,7 @@ put-sound state schedule new answered blank none is e =
     let longer = length_drawn state.next schedule book.schedules is.book.schedules.rise is.drawn.schedules in
     sound_after state rules later 1 new change
     (changes.schedule_put book state.next schedule
-    (steps, (count.0, (end.0, (end.1, (check, (blank, tt)))))) (grind (arith, nat_tests, few, longer)) is.book)
+    (steps, (count.0, (end.0, (end.1, (check, (blank, (unvoided, tt))))))) (grind (arith, nat_tests, few, longer)) is.book)
     (schedule_drawn book state.next (state.next + 1) schedule (omega arith) (omega (arith, none))
     (drawn_later book state.next (state.next + 1) (omega arith) is.drawn))
 
@@ -85,7 +86,7 @@ add_from-sound :
     → schedule_add_from state given rs ≡ Done new answered → IsSound new
 add_from-sound state given [] new answered is e = absurd cc
 add_from-sound state given (first ∷ more) new answered is e =
-    put-sound state (new_schedule first.start given) new answered (all_blank given.template.splits) refl is e
+    put-sound state (new_schedule first.start given) new answered (all_blank given.template.splits) refl refl is e
 
 pub schedule_add-sound :
     (state : State) (given : GivenSchedule) (new : State) (answered : Answer) → IsSound state

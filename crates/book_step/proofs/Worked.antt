@@ -337,6 +337,7 @@ made_of description = (
     day = pos 19728;
     num = [];
     description = description;
+    voided = None;
     splits = record {
       id = 11;
       account = 3;

@@ -69,6 +69,7 @@ paid mark recon = (
     num = [];
     description = codes "Rent";
     splits = out_of mark recon ∷ into ∷ [];
+    voided = None;
   },
 ) ∷ []
 

@@ -63,7 +63,7 @@ rent number mark = record {
 
 -- a transaction of one such split, on the day
 abbrev paid : ℤ → Split → Txn
-paid day split = record { currency = 1; day = day; num = []; description = []; splits = split ∷ [] }
+paid day split = record { currency = 1; day = day; num = []; description = []; splits = split ∷ []; voided = None }
 
 -- a line of 200.00 out of the account on 2024-01-05, in a state
 abbrev booked : LineState → Line

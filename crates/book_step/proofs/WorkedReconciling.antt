@@ -62,7 +62,8 @@ split id account mark recon amount = record {
 }
 
 abbrev on : ℕ → ℤ → List Split → ℕ × Txn
-on number day splits = (number, record { currency = 1; day = day; num = []; description = []; splits = splits })
+on number day splits =
+    (number, record { currency = 1; day = day; num = []; description = []; splits = splits; voided = None })
 
 -- 1000.00 come, 200.00 go, and in February 50.00 come; those of account 3 have one mark
 abbrev winter : Mark → Mark → Option ℕ → List (ℕ × Txn)

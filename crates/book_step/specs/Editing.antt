@@ -114,6 +114,7 @@ edited_transaction old next day given = record {
   num = given.num;
   description = given.description;
   splits = edited_splits old.splits next given.splits;
+  voided = None;
 }
 
 -- ---- reconciled splits

@@ -66,6 +66,7 @@ line_transaction number currency line others description = record {
   num = line.body.ref_own;
   description = unwrap_or description line.body.text;
   splits = line_splits (number + 1) line others;
+  voided = None;
 }
 
 -- The currency of the transaction is the commodity of the line's account, which is there in every sound book.

@@ -46,6 +46,7 @@ new_transaction number day given = record {
   num = given.num;
   description = given.description;
   splits = new_splits (number + 1) given.splits;
+  voided = None;
 }
 
 -- The first rule of transactions that it breaks.

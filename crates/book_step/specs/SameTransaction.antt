@@ -1,5 +1,6 @@
 -- Whether a transaction is the same as another.
-use Rattle.std.specs.Prelude.{◌≡◌, ℕ, ℤ, ◌==◌, Bool, true, false, List, refl}
+use Rattle.std.specs.Prelude.{◌≡◌, ℕ, ℤ, ◌==◌, Bool, true, false, if◌then◌else◌, List, Option, Some, None, is_some}
+use Rattle.std.specs.Prelude.{unwrap_or, refl}
 use Rattle.std.specs.Cmp.{unsigned_Decides}
 use Rattle.std.specs.Ordering.{int_eq}
 use Rattle.std.proofs.Common.{ap, sym, ◌∙◌}
@@ -8,9 +9,11 @@ use Rattle.std.proofs.lemmas.Slice.Eq.{slice_eq-Decides}
 use lib.Pointwise.{pointwise}
 use Rattle.book_commodity.specs.Decision.{Decision, as_well, both, same_option, same_text}
 use Rattle.book_splits.specs.declared.split.Mark.{Mark}
-use Rattle.book_splits.specs.declared.split.Mark.TheVariants.{New, Cleared, Reconciled}
+use Rattle.book_splits.specs.declared.split.Mark.TheVariants.{New, Cleared, Reconciled, Voided}
 use Rattle.book_splits.specs.declared.split.Split.{Split}
 use Rattle.book_splits.specs.declared.transaction.Txn.{Txn}
+use Rattle.book_splits.specs.declared.void.KeptSplit.{KeptSplit}
+use Rattle.book_splits.specs.declared.void.Void.{Void}
 
 -- Two numbers are the same.
 abbrev pub same_number : (m n : ℕ) → Decision (m ≡ n)
@@ -25,6 +28,7 @@ abbrev pub is_mark : Mark → Mark → Bool
 is_mark New New = true
 is_mark Cleared Cleared = true
 is_mark Reconciled Reconciled = true
+is_mark Voided Voided = true
 is_mark _ _ = false
 
 -- Marks of which the test says that they are the same are the same.
@@ -32,18 +36,26 @@ pub mark_is : (m n : Mark) → is_mark m n ≡ true → m ≡ n
 mark_is New New e = refl
 mark_is New Cleared e = absurd cc
 mark_is New Reconciled e = absurd cc
+mark_is New Voided e = absurd cc
 mark_is Cleared New e = absurd cc
 mark_is Cleared Cleared e = refl
 mark_is Cleared Reconciled e = absurd cc
+mark_is Cleared Voided e = absurd cc
 mark_is Reconciled New e = absurd cc
 mark_is Reconciled Cleared e = absurd cc
 mark_is Reconciled Reconciled e = refl
+mark_is Reconciled Voided e = absurd cc
+mark_is Voided New e = absurd cc
+mark_is Voided Cleared e = absurd cc
+mark_is Voided Reconciled e = absurd cc
+mark_is Voided Voided e = refl
 
 -- A mark is the same as itself.
 pub mark_itself : (m : Mark) → is_mark m m ≡ true
 mark_itself New = refl
 mark_itself Cleared = refl
 mark_itself Reconciled = refl
+mark_itself Voided = refl
 
 -- Two marks are the same.
 abbrev pub same_mark : (m n : Mark) → Decision (m ≡ n)
@@ -111,12 +123,53 @@ same_splits new old = record {
       (pointwise (λ a b. (same_split a b).is) new old) refl;
 }
 
+-- What is kept of a voided split is the same as of another.
+abbrev pub same_kept : (new old : KeptSplit) → Decision (new ≡ old)
+same_kept new old =
+    as_well (λ same i. record { value = same.0 i; quantity = same.1 i })
+    (λ same. (ap (λ k. k.value) same, ap (λ k. k.quantity) same))
+    (both (same_integer new.value old.value) (same_integer new.quantity old.quantity))
+
+-- What is kept of each split is the same, place by place.
+abbrev pub same_kept_splits : (new old : List KeptSplit) → Decision (new ≡ old)
+same_kept_splits new old = record {
+  is = pointwise (λ a b. (same_kept a b).is) new old;
+  decides = slice_eq-Decides (λ a b. (same_kept a b).decides) new old
+      (pointwise (λ a b. (same_kept a b).is) new old) refl;
+}
+
+-- What is kept of a voided transaction is the same as of another.
+abbrev pub same_void : (new old : Void) → Decision (new ≡ old)
+same_void new old =
+    as_well (λ same i. record { reason = same.0 i; kept = same.1 i })
+    (λ same. (ap (λ v. v.reason) same, ap (λ v. v.kept) same))
+    (both (same_text new.reason old.reason) (same_kept_splits new.kept old.kept))
+
+-- What is kept of a transaction that may be voided is the same as of another.
+abbrev pub same_voided : (new old : Option Void) → Decision (new ≡ old)
+same_voided None None = record { is = true; decides = (λ h. refl, λ h. refl) }
+same_voided None (Some old) = record {
+  is = false;
+  decides = (λ h. ap (λ (t : Bool). if t then Some old else None) h, λ h. ap is_some h);
+}
+same_voided (Some new) None = record {
+  is = false;
+  decides = (
+    λ h. ap (λ (t : Bool). if t then None else Some new) h,
+    λ h. ap (λ (o : Option Void). if is_some o then false else true) h,
+  );
+}
+same_voided (Some new) (Some old) =
+    as_well (λ same. ap (λ (v : Void). Some v) same) (λ same. ap (λ (o : Option Void). unwrap_or o new) same)
+    (same_void new old)
+
 -- A transaction has what another has.
 abbrev pub HasSameTerms : Txn → Txn → Type 0
 HasSameTerms old new =
     (new.currency ≡ old.currency)
     × ((new.day ≡ old.day)
-    × ((new.num ≡ old.num) × ((new.description ≡ old.description) × (new.splits ≡ old.splits))))
+    × ((new.num ≡ old.num)
+    × ((new.description ≡ old.description) × ((new.splits ≡ old.splits) × (new.voided ≡ old.voided)))))
 
 -- A transaction that has what another has is the same transaction.
 pub same_terms : (old new : Txn) → HasSameTerms old new → new ≡ old
@@ -125,7 +178,8 @@ same_terms old new same i = record {
   day = same.1.0 i;
   num = same.1.1.0 i;
   description = same.1.1.1.0 i;
-  splits = same.1.1.1.1 i;
+  splits = same.1.1.1.1.0 i;
+  voided = same.1.1.1.1.1 i;
 }
 
 -- Whether a transaction is the same as another.
@@ -134,9 +188,16 @@ same_transaction new old =
     as_well (same_terms old new)
     (λ same. (
       ap (λ t. t.currency) same,
-      (ap (λ t. t.day) same, (ap (λ t. t.num) same, (ap (λ t. t.description) same, ap (λ t. t.splits) same))),
+      (
+        ap (λ t. t.day) same,
+        (
+          ap (λ t. t.num) same,
+          (ap (λ t. t.description) same, (ap (λ t. t.splits) same, ap (λ t. t.voided) same)),
+        ),
+      ),
     ))
     (both (same_number new.currency old.currency)
     (both (same_integer new.day old.day)
     (both (same_text new.num old.num)
-    (both (same_text new.description old.description) (same_splits new.splits old.splits)))))
+    (both (same_text new.description old.description)
+    (both (same_splits new.splits old.splits) (same_voided new.voided old.voided))))))

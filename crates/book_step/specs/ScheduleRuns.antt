@@ -34,7 +34,7 @@ made_splits number (split ∷ more) = made_split number split ∷ made_splits (n
 -- The transaction that is made of a template on a day draws its number, the next for its first split, and so on.
 abbrev pub made_transaction : ℕ → ℤ → Txn → Txn
 made_transaction number day template =
-    record template { day = day; splits = made_splits (number + 1) template.splits }
+    record template { day = day; splits = made_splits (number + 1) template.splits; voided = None }
 
 -- How many numbers such a transaction draws.
 abbrev pub drawn_of : Txn → ℕ

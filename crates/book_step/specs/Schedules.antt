@@ -62,6 +62,7 @@ template day given = record {
   num = given.num;
   description = given.description;
   splits = map (new_split 0) given.splits;
+  voided = None;
 }
 
 -- A new schedule, whose template is of a day: nothing is made yet.

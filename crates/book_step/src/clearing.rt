@@ -152,7 +152,7 @@ fn becomes_cleared(split: &Split, taken: &BTreeSet<u64>) -> bool
 {
     match split.mark {
         Mark::New => taken.contains(&split.id),
-        Mark::Cleared | Mark::Reconciled => false,
+        Mark::Cleared | Mark::Reconciled | Mark::Voided => false,
     }
 }
 
@@ -160,13 +160,7 @@ fn becomes_cleared(split: &Split, taken: &BTreeSet<u64>) -> bool
 fn cleared(alloc: Global, transaction: &Txn, taken: &BTreeSet<u64>) -> Result<Txn, OutOfMemory>
     ensures { IfOk result (λ new. new ≡ remarked (clearing (contains nat_cmp taken.now)) transaction.now) }
 {
-    Ok(Txn {
-        currency: transaction.currency,
-        day: transaction.day,
-        num: transaction.num.copy()?,
-        description: transaction.description.copy()?,
-        splits: splits_paired(alloc, transaction.splits.as_slice(), taken)?,
-    })
+    transaction.with_splits(splits_paired(alloc, transaction.splits.as_slice(), taken)?)
 }
 
 /// The splits, of which those that are new and taken are cleared.

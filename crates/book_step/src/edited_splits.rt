@@ -173,6 +173,6 @@ pub(crate) fn is_reconciled(mark: Mark) -> bool
 {
     match mark {
         Mark::Reconciled => true,
-        Mark::New | Mark::Cleared => false,
+        Mark::New | Mark::Cleared | Mark::Voided => false,
     }
 }

@@ -83,6 +83,7 @@ fn edited_transaction(
         num: given.num,
         description: given.description,
         splits,
+        voided: None,
     };
     Ok((new, drawn))
 }

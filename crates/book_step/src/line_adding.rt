@@ -160,6 +160,7 @@ fn line_transaction(
         num: line.body.ref_own.copy()?,
         description,
         splits,
+        voided: None,
     })
 }
 

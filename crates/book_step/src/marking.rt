@@ -61,13 +61,7 @@ pub(crate) fn remarked(
 ) -> Result<Txn, OutOfMemory>
     ensures { IfOk result (λ new. new ≡ remarked number mark transaction.now) }
 {
-    Ok(Txn {
-        currency: transaction.currency,
-        day: transaction.day,
-        num: transaction.num.copy()?,
-        description: transaction.description.copy()?,
-        splits: marked_among(alloc, transaction.splits.as_slice(), number, mark)?,
-    })
+    transaction.with_splits(marked_among(alloc, transaction.splits.as_slice(), number, mark)?)
 }
 
 /// The splits, of which the one with the number has the mark and names no reconciliation.

@@ -46,6 +46,7 @@ fn new_transaction(
         num: given.num,
         description: given.description,
         splits: new_splits(alloc, number + 1, given.splits)?,
+        voided: None,
     })
 }
 

@@ -296,13 +296,7 @@ impl Marking {
         ensures { IfOk result (λ marked. marked
             ≡ remarked (marked_under self.now.number self.now.account self.now.upto) transaction.now) }
     {
-        Ok(Txn {
-            currency: transaction.currency,
-            day: transaction.day,
-            num: transaction.num.copy()?,
-            description: transaction.description.copy()?,
-            splits: self.splits(alloc, transaction.day, transaction.splits.as_slice())?,
-        })
+        transaction.with_splits(self.splits(alloc, transaction.day, transaction.splits.as_slice())?)
     }
 
     /// The splits of a transaction of the day, marked.

@@ -220,6 +220,7 @@ fn made_transaction(
         num: template.num.copy()?,
         description: template.description.copy()?,
         splits: made_splits(alloc, number + 1, template.splits.as_slice())?,
+        voided: None,
     })
 }
 

@@ -169,6 +169,7 @@ fn template(alloc: Global, day: Day, given: GivenTxn) -> Result<Txn, OutOfMemory
         num: given.num,
         description: given.description,
         splits: template_splits(alloc, given.splits)?,
+        voided: None,
     })
 }
 

@@ -25,6 +25,7 @@ use Rattle.book_undo.proofs.EditLaws.{after_leaves, edited-leaves, rising_after,
 use Rattle.book_undo.proofs.InverseLaws.{above_untouched, missing_first, rises_first}
 use Rattle.book_undo.proofs.ThreeRules.{three_kept}
 use Rattle.book_rows.specs.Row.{IsRecord, kind_of}
+use Rattle.book_rows.specs.declared.format.RowFormat.TheVariants.{Two}
 use Rattle.book_rows.specs.declared.record.Record.{Record}
 use Rattle.book_rows.specs.declared.record.Record.TheVariants as kept
 use Rattle.book_history.specs.History.{AreNumberedFrom}
@@ -159,19 +160,19 @@ book_things book next are small =
     (beside (table_things (λ it. thing.Recon it) next book.reconciliations small are.reconciliations)
     tt)))))))))
 
-thing_row : (e : ℕ × Record) → IsThing e → IsRecord e.1 → CanBeRow e
+thing_row : (e : ℕ × Record) → IsThing e → IsRecord Two e.1 → CanBeRow Two e
 thing_row e is record_is =
     let least : 2 ≤ kind_of e.1 = subst (λ (r : Record). 2 ≤ kind_of r) (sym is.1.1) (kind_least (thing_kind is.1.0)) in
     ((refl, is.0, λ one. absurd (omega (arith, least, one))), record_is)
 
 all_rows :
-    (es : List (ℕ × Record)) → AllByRecursion IsThing es → AreRecords es → AllByRecursion CanBeRow es
+    (es : List (ℕ × Record)) → AllByRecursion IsThing es → AreRecords es → AllByRecursion (CanBeRow Two) es
 all_rows [] are fit = tt
 all_rows (e ∷ es) are fit = (thing_row e are.0 fit.0, all_rows es are.1 fit.1)
 
 back_can :
     (from : ℕ) (steps : List (ℕ × Edit)) → AreNumberedFrom from steps → from + length steps ≤ 2 ^ 62
-    → AreRecords (back_records steps) → AllByRecursion CanBeRow (back_records steps)
+    → AreRecords (back_records steps) → AllByRecursion (CanBeRow Two) (back_records steps)
 back_can from [] numbers few fit = tt
 back_can from (step ∷ steps) numbers few fit =
     let here = numbers.0 in (
@@ -181,7 +182,7 @@ back_can from (step ∷ steps) numbers few fit =
 
 forth_can :
     (from : ℕ) (steps : List (ℕ × Edit)) → AreNumberedFrom from steps → from + length steps ≤ 2 ^ 62
-    → AreRecords (forth_records steps) → AllByRecursion CanBeRow (forth_records steps)
+    → AreRecords (forth_records steps) → AllByRecursion (CanBeRow Two) (forth_records steps)
 forth_can from [] numbers few fit = tt
 forth_can from (step ∷ steps) numbers few fit =
     let here = numbers.0 in (
@@ -192,7 +193,7 @@ forth_can from (step ∷ steps) numbers few fit =
 -- The records of a state that an engine keeps can be rows, where they have spellings.
 pub can_be_rows :
     (state : State) (saved : Bool) → IsWhole state saved → AreRecords (records_of state)
-    → AllByRecursion CanBeRow (records_of state)
+    → AllByRecursion (CanBeRow Two) (records_of state)
 can_be_rows state saved whole fit =
     let things = things_of state.book in
     let back = back_records state.back in
@@ -203,15 +204,15 @@ can_be_rows state saved whole fit =
     let later = h.forth_count in
     let few = whole.few in
     let least : AreRecords (things ++ (back ++ forth)) = fit.1 in
-    let steps : AreRecords (back ++ forth) = all_last (λ (e : ℕ × Record). IsRecord e.1) things (back ++ forth) least in
+    let steps : AreRecords (back ++ forth) = all_last (λ (e : ℕ × Record). IsRecord Two e.1) things (back ++ forth) least in
     let small = whole.sound.next in
-    let can : AllByRecursion CanBeRow (behind_head state) =
-    all_both CanBeRow things (back ++ forth)
+    let can : AllByRecursion (CanBeRow Two) (behind_head state) =
+    all_both (CanBeRow Two) things (back ++ forth)
     (all_rows things (book_things state.book state.next whole.sound.drawn small)
-    (all_first (λ (e : ℕ × Record). IsRecord e.1) things (back ++ forth) least))
-    (all_both CanBeRow back forth
+    (all_first (λ (e : ℕ × Record). IsRecord Two e.1) things (back ++ forth) least))
+    (all_both (CanBeRow Two) back forth
     (back_can (state.position - state.past + 1) state.back h.back_numbers (omega (arith, reached, past, few))
-    (all_first (λ (e : ℕ × Record). IsRecord e.1) back forth steps))
+    (all_first (λ (e : ℕ × Record). IsRecord Two e.1) back forth steps))
     (forth_can (state.position + 1) state.forth h.forth_numbers (omega (arith, later, few))
-    (all_last (λ (e : ℕ × Record). IsRecord e.1) back forth steps))) in
+    (all_last (λ (e : ℕ × Record). IsRecord Two e.1) back forth steps))) in
     (((refl, omega arith, λ one. refl), fit.0), can)

@@ -8,6 +8,7 @@ use Rattle.book_undo.specs.Edit.{depth, edited, leaves}
 use Rattle.book_undo.specs.EditRules.{IsAllowed}
 use Rattle.book_undo.specs.declared.edit.Edit.{Edit}
 use Rattle.book_rows.specs.Row.{IsRecord}
+use Rattle.book_rows.specs.declared.format.RowFormat.TheVariants.{Two}
 use Rattle.book_rows.specs.declared.head.Head.{Head}
 use Rattle.book_rows.specs.declared.record.Record.TheVariants as kept
 use Rattle.book_history.specs.Numbers.{numbers_from}
@@ -152,7 +153,7 @@ changes_to false state turn = all_put (turned turn state)
 -- What these changes write has spellings.
 abbrev pub HaveSpellings : Bool → State → Turn → Type 0
 HaveSpellings true state turn =
-    IsRecord (kept.Head (head_of (turned turn state))) × AllByRecursion LeafFits (leaves turn.edit)
+    IsRecord Two (kept.Head (head_of (turned turn state))) × AllByRecursion LeafFits (leaves turn.edit)
     × AllByRecursion StepFits (step_changes turn.way state turn.inverse)
 HaveSpellings false state turn = AreRecords (records_of (turned turn state))
 

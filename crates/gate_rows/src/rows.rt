@@ -1,18 +1,20 @@
-ghost use Rattle.std.specs.Prelude.{◌≡◌, ◌↔◌, [], IfOk, IsTrue, OnErr, OnOk};
+ghost use Rattle.std.specs.Prelude.{◌≡◌, ◌↔◌, ◌==◌, [], IfNone, IfOk, IfSome, IsTrue, List, OnErr, OnOk};
+ghost use Rattle.std.specs.List.{before_first};
+ghost use Rattle.hex.specs.Hex.{decode_of};
+ghost use Rattle.book_keeper.specs.Faults.{Rose};
 ghost use Rattle.book_keeper.specs.Rows.{after_change, with_row, without_row};
+ghost use Rattle.book_keeper.specs.declared.row.Row.{Row};
 ghost use Rattle.book_keeper.specs.declared.row.RowKey.{RowKey};
+ghost use Rattle.gate_rows.specs.RowWords.{behind_word, digits_in, first_word, id_in, kind_in, number_of};
 
 use crate::counters::{memory, number, unread};
 use book_commodity::{Bytes, Many, OutOfMemory};
-use book_keeper::{Change, Keeper, MemKeeper, Row, RowKey};
+use book_keeper::{Change, KeepError, Keeper, MemKeeper, Row, RowKey};
 use std::alloc::Global;
 use std::io;
 
 /// The numbers of rows that are given to a keeper are below this one.
 const NUMBERS: u64 = 1 << 62;
-
-/// A bound on the rows that are read from a keeper.
-const MOST_ROWS: u64 = 1 << 20;
 
 /// Rows of a kind and of the numbers from a first to a last one, as a line spells them: `KIND ID HEX`, or
 /// `KIND FIRST-LAST HEX`. The body may be empty.
@@ -25,18 +27,21 @@ struct Spelled {
 }
 
 /// The rows that a line spells.
-fn rows_of(alloc: Global, text: &str) -> io::Result<Spelled> {
-    let mut words = text.split(' ');
-    let Ok(kind) = u8::try_from(number(words.next().unwrap_or(""))?) else {
+fn rows_of(alloc: Global, text: &str) -> io::Result<Spelled>
+    ensures kind { IfOk result (λ rows. rows.kind ≡ kind_in text.now) }
+    ensures first { IfOk result (λ rows. rows.first ≡ id_in text.now) }
+    ensures body { IfOk result (λ rows. decode_of (digits_in text.now) ≡ Ok rows.body.items) }
+{
+    let (kind, rest) = word_and_rest(text);
+    let Ok(kind) = u8::try_from(number(kind)?) else {
         return Err(unread());
     };
-    let ids = words.next().unwrap_or("");
-    let (first, last) = ids.split_once('-').unwrap_or((ids, ids));
-    let (first, last) = (number(first)?, number(last)?);
-    let Ok(body) = hex::decode(alloc, words.next().unwrap_or("")) else {
+    let (ids, digits) = word_and_rest(rest);
+    let (first, last) = first_and_last(ids)?;
+    let Ok(body) = hex::decode(alloc, digits) else {
         return Err(unread());
     };
-    if words.next().is_some() || last < first {
+    if last < first {
         return Err(unread());
     }
     Ok(Spelled {
@@ -47,8 +52,37 @@ fn rows_of(alloc: Global, text: &str) -> io::Result<Spelled> {
     })
 }
 
+/// What stands before the first blank of a text and what stands behind it; the whole text and nothing where it has no
+/// blank.
+fn word_and_rest(text: &str) -> (&str, &str)
+    ensures word { result.0.now ≡ first_word text.now }
+    ensures rest { result.1.now ≡ behind_word text.now }
+{
+    match text.split_once(' ') {
+        Some((word, rest)) => (word, rest),
+        None => (text, ""),
+    }
+}
+
+/// The numbers of a word `FIRST-LAST`, or of a word that is one number, which is the last one too.
+fn first_and_last(word: &str) -> io::Result<(u64, u64)>
+    ensures { IfOk result (λ numbers. numbers.0 ≡ number_of (before_first (λ byte. byte == 45) word.now)) }
+{
+    match word.split_once('-') {
+        Some((first, last)) => Ok((number(first)?, number(last)?)),
+        None => {
+            let only = number(word)?;
+            Ok((only, only))
+        }
+    }
+}
+
 /// The key and the body of the one row that a line spells, as `KIND ID HEX`.
-pub fn row_of(alloc: Global, text: &str) -> io::Result<(RowKey, Vec<u8>)> {
+pub fn row_of(alloc: Global, text: &str) -> io::Result<(RowKey, Vec<u8>)>
+    ensures kind { IfOk result (λ row. row.0.kind ≡ kind_in text.now) }
+    ensures id { IfOk result (λ row. row.0.id ≡ id_in text.now) }
+    ensures body { IfOk result (λ row. decode_of (digits_in text.now) ≡ Ok row.1.items) }
+{
     let Spelled {
         kind,
         first,
@@ -169,19 +203,27 @@ fn is_same(row: &Row, other: &Row) -> bool
     row.key == other.key && row.body.as_slice() == other.body.as_slice()
 }
 
-/// The rows that a keeper gives one after another. None where it fails.
-pub fn rows_in<K: Keeper>(alloc: Global, keeper: &mut K) -> io::Result<Option<Vec<Row>>> {
+/// The rows that a keeper gives one after another, which are all that it holds. None where it fails.
+pub fn rows_in<K: Keeper>(alloc: Global, keeper: &mut K) -> io::Result<Option<Vec<Row>>>
+    ensures path { K.path_given keeper.new ≡ K.path_given keeper.old }
+    ensures sure { IsTrue (K.sure keeper.new) → IsTrue (K.sure keeper.old) }
+    ensures kept { IsTrue (K.sure keeper.new) → (held : List Row) → K.holds keeper.old held → K.holds keeper.new held }
+    ensures read { IfOk result (λ found. IfSome found (λ rows. IsTrue (K.sure keeper.new) → (held : List Row)
+        → K.holds keeper.old held → rows.items ≡ held)) }
+    ensures fault { IfOk result (λ found. IfNone found (Rose (K.faults keeper.old) (K.faults keeper.new))) }
+{
     let mut rows = Vec::new(alloc);
-    let mut after = None;
-    for _ in 0..MOST_ROWS {
-        match keeper.next_row(after) {
-            Ok(Some(row)) => {
-                after = Some(row.key);
-                rows.push(row)?;
-            }
+    let mut last: Option<RowKey> = None;
+    'rows: loop {
+        let row = match keeper.next_row(last) {
+            Ok(Some(row)) => row,
             Ok(None) => return Ok(Some(rows)),
-            Err(_) => return Ok(None),
-        }
+            Err(KeepError::Failed) => return Ok(None),
+            Err(KeepError::OutOfMemory) => return Err(memory()),
+        };
+        last = Some(row.key);
+        let Ok(()) = rows.push(row) else {
+            return Err(memory());
+        };
     }
-    Ok(None)
 }

@@ -43,6 +43,6 @@ returns-clause-accounts c =
 
 pub returns-clause-transactions : goal.returns-clause-transactions
 returns-clause-transactions c =
-    slice_fit IsTxn (λ it. thing.Txn it)
+    slice_fit (IsTxn Two) (λ it. thing.Txn it)
     (λ _ fits. fits) c.args.plain.now.transactions.entries c.as_slice-2.result.now c.as_slice-2.ensures.entries
     c.in_ok-put_entries-2.ensures.fit

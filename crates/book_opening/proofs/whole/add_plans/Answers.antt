@@ -35,7 +35,7 @@ returns-clause-prices c =
 
 pub returns-clause-schedules : goal.returns-clause-schedules
 returns-clause-schedules c =
-    slice_fit IsSchedule (λ it. thing.Schedule it)
+    slice_fit (IsSchedule Two) (λ it. thing.Schedule it)
     (λ _ fits. fits) c.args.plain.now.schedules.entries c.as_slice.result.now c.as_slice.ensures
     c.in_ok-put_entries.ensures.fit
 

@@ -30,7 +30,7 @@ returns-clause-changes c =
 
 pub returns-clause-fit : goal.returns-clause-fit
 returns-clause-fit c = (
-  subst (λ (h : Head). IsRecord (kept.Head h)) c.head_of.ensures c.in_ok-head_row.ensures.fits,
+  subst (λ (h : Head). IsRecord Two (kept.Head h)) c.head_of.ensures c.in_ok-head_row.ensures.fits,
   let state = state_of c.args.saved.now in
       all_fit (things_of state.book) (back_records state.back) (forth_records state.forth)
       (all-things state.book

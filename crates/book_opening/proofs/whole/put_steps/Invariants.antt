@@ -11,6 +11,6 @@ invariant-loop-step l = record {
   shallow : AllByRecursion IsShallow (drop l.step-index l.steps);
   added : l.changes ++ map (entry_put l.kind (edit_bytes Two)) (drop l.step-index l.steps)
       ≡ l.fn.changes ++ map (entry_put l.kind (edit_bytes Two)) l.steps;
-  fit : AllByRecursion (λ step. IsEdit step.1) (drop l.step-index l.steps)
-      → AllByRecursion (λ step. IsEdit step.1) l.steps;
+  fit : AllByRecursion (λ step. IsEdit Two step.1) (drop l.step-index l.steps)
+      → AllByRecursion (λ step. IsEdit Two step.1) l.steps;
 }

@@ -1,6 +1,7 @@
 -- One part more is read, or an error comes for the next part.
 use Rattle.std.proofs.Common.{◌≡◌, ℕ, ◌<◌, List, ◌∷◌, [], ◌++◌, length, flat_map, arith, sym, ap, ◌∙◌, subst}
-use Rattle.std.proofs.Common.{length-append, get_or, ◌≤◌}
+use Rattle.std.proofs.Common.{length-append, get_or, ◌≤◌, Result, Ok, Err, IfOk}
+use Rattle.book_rows.specs.declared.format.RowFormat.{RowFormat}
 use Rattle.std.proofs.lemmas.Grind.{common_steps}
 use Rattle.std.specs.List.{AllByRecursion}
 use Rattle.book_codec.proofs.ItemLemmas.{AreLeft, left_one, left_more, left_none, read_on, fit_more}
@@ -19,7 +20,7 @@ read_parts-returns-in-Err-clause-again t c parts tail fit long is =
 pub read_parts-returns-clause-again : goal.read_parts-returns-clause-again
 read_parts-returns-clause-again t c parts tail fit long is =
     let all : length c.loop-place.parts ≡ length parts = omega (arith, long) in
-    left_none (IsEditWithin c.args.most) (edit_bytes c.args.format) parts c.loop-place.parts _ tail all
+    left_none (IsEditWithin c.args.format c.args.most) (edit_bytes c.args.format) parts c.loop-place.parts _ tail all
     (c.loop-place.invariant.again parts tail fit long is)
 
 pub read_parts-loop-place-preserved : goal.read_parts-loop-place-preserved
@@ -27,7 +28,7 @@ read_parts-loop-place-preserved t c =
     let added = c.in-Ok-push.ensures.added in
     let first = c.loop-place.invariant.found in
     let next = c.in-Ok.ensures.found in
-    let within = IsEditWithin c.args.most in
+    let within = IsEditWithin c.args.format c.args.most in
     record {
       count = ap length added
           ∙ (let few = length-append c.loop-place.parts (c.in-Ok.found.0 ∷ []) in omega (arith, few));
@@ -71,7 +72,7 @@ pub read_list-returns-in-Ok-read_parts-clause-fits : goal.read_list-returns-in-O
 read_list-returns-in-Ok-read_parts-clause-fits t c =
     let read = c.in-Ok-read_parts.ensures in
     let count = c.in-Ok.ensures.fits in
-    list_within c.args.most c.in-Some.less c.in-Ok-read_parts.parts (omega (arith, c.in-Some.ensures))
+    list_within c.args.format c.args.most c.in-Some.less c.in-Ok-read_parts.parts (omega (arith, c.in-Some.ensures))
     (omega (arith, read.count, count)) read.fits
 
 pub read_list-returns-in-Ok-read_parts-clause-again : goal.read_list-returns-in-Ok-read_parts-clause-again
@@ -91,3 +92,19 @@ pub read_within-returns-in_default-first-clause-again : goal.read_within-returns
 read_within-returns-in_default-first-clause-again t c edit rest fits e =
     let first = subst (λ (b : List ℕ). get_or b 0 0 ≤ 3) (sym e) (first_byte c.args.format edit rest) in
     absurd (grind (arith, common_steps, first, c.in_default-first))
+
+-- an edit without lists has a spelling at any depth
+deeper :
+    {X E : Type 0} (format : RowFormat) (most : ℕ) (of : X → Edit) (result : Result X E)
+    → IfOk result (λ found. IsEditWithin format 0 (of found)) → IfOk result (λ found. IsEditWithin format most (of found))
+deeper format most of (Ok found) fits = (fits.0, omega (arith, fits.1))
+deeper format most of (Err error) fits = tt
+
+pub read_within-returns-in-2-clause-fits : goal.read_within-returns-in-2-clause-fits
+read_within-returns-in-2-clause-fits t c =
+    deeper c.args.format c.args.most (λ found. found.0) c.read_gone.result (c.read_gone.ensures.fits c.args.format)
+
+pub read_within-returns-in-3-clause-fits : goal.read_within-returns-in-3-clause-fits
+read_within-returns-in-3-clause-fits t c =
+    deeper c.args.format c.args.most (λ found. found.0) c.read_currency.result
+    (c.read_currency.ensures.fits c.args.format)

@@ -18,9 +18,9 @@ decreases-read_parts l = 3 * l.most + 3
 abbrev pub invariant-read_parts-loop-place : goal.invariant-read_parts-loop-place
 invariant-read_parts-loop-place l = record {
   count : length l.parts ≡ l._place;
-  fits : AllByRecursion (IsEditWithin l.most) l.parts;
+  fits : AllByRecursion (IsEditWithin l.format l.most) l.parts;
   found : l.bytes ≡ flat_map (edit_bytes l.format) l.parts ++ l.rest;
-  again : (parts : List Edit) (tail : List ℕ) → AllByRecursion (IsEditWithin l.most) parts
+  again : (parts : List Edit) (tail : List ℕ) → AllByRecursion (IsEditWithin l.format l.most) parts
       → length parts ≡ l.count → l.bytes ≡ flat_map (edit_bytes l.format) parts ++ tail
-      → AreLeft (IsEditWithin l.most) (edit_bytes l.format) parts l.parts l.rest tail;
+      → AreLeft (IsEditWithin l.format l.most) (edit_bytes l.format) parts l.parts l.rest tail;
 }

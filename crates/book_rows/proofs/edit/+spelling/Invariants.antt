@@ -9,5 +9,5 @@ abbrev pub invariant-spell_parts-loop-part : goal.invariant-spell_parts-loop-par
 invariant-spell_parts-loop-part l = record {
   spelled : l.out.items ++ flat_map (edit_bytes Two) (drop l.part-index l.parts)
       ≡ l.fn.out.items ++ flat_map (edit_bytes Two) l.parts;
-  fits : AllByRecursion HasValues (drop l.part-index l.parts) → AllByRecursion HasValues l.parts;
+  fits : AllByRecursion (HasValues Two) (drop l.part-index l.parts) → AllByRecursion (HasValues Two) l.parts;
 }

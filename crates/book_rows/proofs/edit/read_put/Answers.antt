@@ -16,13 +16,13 @@ Keyed = (ThingKind × ℕ) × List ℕ
 pub returns-in-Err-clause-again : goal.returns-in-Err-clause-again
 returns-in-Err-clause-again c edit rest has e =
     let at = put_at c.args.format edit _ rest e in
-    let values = subst HasValues at.is has in
+    let values = subst (HasValues c.args.format) at.is has in
     c.in-Err.ensures.again (kind_of at.thing, at.it) (thing_bytes c.args.format at.thing ++ rest) (tt, values.0) at.spelled
 
 pub returns-in-Err-read_thing-clause-again : goal.returns-in-Err-read_thing-clause-again
 returns-in-Err-read_thing-clause-again c edit rest has e =
     let at = put_at c.args.format edit _ rest e in
-    let values = subst HasValues at.is has in
+    let values = subst (HasValues c.args.format) at.is has in
     let behind = thing_bytes c.args.format at.thing ++ rest in
     let same = c.in-Ok.ensures.again (kind_of at.thing, at.it) behind (tt, values.0) at.spelled in
     c.in-Err-read_thing.ensures.again at.thing rest (sym (ap (λ (p : Keyed). p.0.0) same)) values.1
@@ -31,7 +31,7 @@ returns-in-Err-read_thing-clause-again c edit rest has e =
 pub returns-in-Ok-read_thing-clause-again : goal.returns-in-Ok-read_thing-clause-again
 returns-in-Ok-read_thing-clause-again c edit rest has e =
     let at = put_at c.args.format edit _ rest e in
-    let values = subst HasValues at.is has in
+    let values = subst (HasValues c.args.format) at.is has in
     let behind = thing_bytes c.args.format at.thing ++ rest in
     let same = c.in-Ok.ensures.again (kind_of at.thing, at.it) behind (tt, values.0) at.spelled in
     let thing = c.in-Ok-read_thing.ensures.again at.thing rest (sym (ap (λ (p : Keyed). p.0.0) same)) values.1

@@ -1,5 +1,5 @@
 -- Where none is counted, each row that is wanted is held.
-use Rattle.std.proofs.Common.{◌≡◌, ◌<◌, ◌≤◌, ◌∙◌, ℕ, List, length, drop, ap, sym, subst, arith}
+use Rattle.std.proofs.Common.{◌<◌, ◌≤◌, ◌∙◌, ℕ, List, length, ap, sym, subst, arith}
 use Rattle.std.proofs.lemmas.List.{drop_all}
 use Rattle.book_keeper.specs.Faults.{next_count}
 use Rattle.gate_rows.specs.declared.answers.WantedRow.{WantedRow}

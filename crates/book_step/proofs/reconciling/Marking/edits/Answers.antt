@@ -1,4 +1,4 @@
-use Rattle.std.proofs.Common.{List, subst, ap, ◌∙◌}
+use Rattle.std.proofs.Common.{subst, ap, ◌∙◌}
 use Rattle.std.proofs.lemmas.List.{take_all}
 use Rattle.book_step.specs.Reconciling.{marked_under}
 use Rattle.book_step.specs.Soundness.{IsSound}

@@ -1,0 +1,2 @@
+pub mod VoidLaws
+pub mod Worked
