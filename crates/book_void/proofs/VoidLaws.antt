@@ -14,7 +14,8 @@ splits_back [] = refl
 splits_back (s ∷ splits) = ap (λ (more : List Split). new_again s ∷ more) (splits_back splits)
 
 -- A transaction that is voided and brought back is the one before with each split new: no mark comes back.
-pub void_and_back : (reason : List ℕ) (transaction : Txn) → restored (voided_for reason transaction) ≡ all_new transaction
+pub void_and_back :
+    (reason : List ℕ) (transaction : Txn) → restored (voided_for reason transaction) ≡ all_new transaction
 void_and_back reason transaction =
     ap (λ (splits : List Split). record transaction { splits = splits; voided = None }) (splits_back transaction.splits)
 
