@@ -1,7 +1,7 @@
 """Compares the program with the model on drawn lists: python3 compare.py BOOK FIRST LAST [COUNT]
 For each seed from FIRST to LAST a list of COUNT commands (300) is run in two runs over a new book in a file. An even seed
-draws mostly matches, marks and reconciliations, an odd one imports. The answers are compared byte by byte, and then the
-rows of the file with those of the model. The first difference of a seed is shown."""
+draws mostly matches, marks and reconciliations, an odd one imports; every third one mostly voids. The answers are
+compared byte by byte, and then the rows of the file with those of the model. The first difference of a seed is shown."""
 import os
 import sqlite3
 import subprocess
@@ -13,7 +13,7 @@ from rows import opened, rows
 
 
 def one(book, seed, count):
-    lines = list(Draw(seed, seed % 2 == 0).lines(count))
+    lines = list(Draw(seed, seed % 2 == 0, seed % 3 == 0).lines(count))
     cut = count * 2 // 3
     have, failed = {}, None
     with tempfile.TemporaryDirectory() as folder:

@@ -1,7 +1,8 @@
-"""Draws a list of command lines: python3 draw.py SEED COUNT [reconciling] > lines
+"""Draws a list of command lines: python3 draw.py SEED COUNT [reconciling|voiding] > lines
 The draw follows the model, so that most numbers that are named are live. All commands are drawn; those on statements, and
 what acts on their lines, most often. With the word `reconciling` it is those that match, mark and reconcile, and commands
-that break a rule. Some lines are no commands, or name what isn't there."""
+that break a rule; with `voiding` those that void and bring back, and what acts on the same transactions. Some lines are no
+commands, or name what isn't there."""
 import json
 import os
 import random
@@ -20,9 +21,10 @@ def eur(cents):
 
 
 class Draw:
-    def __init__(self, seed, reconciling=False):
+    def __init__(self, seed, reconciling=False, voiding=False):
         self.r = random.Random(seed)
-        self.reconciling = reconciling
+        self.reconciling = reconciling or voiding
+        self.voiding = voiding
         self.m = Machine()
         self.files = []
         self.names = 0
@@ -277,6 +279,33 @@ class Draw:
         good = [n for n, v in held.items() if v['closing'] is not None and v['closing'] == self.closing(v['account'], str(v['day']))]
         return dict(do='reconcile_statement', statement=self.pick(good if good and self.r.random() < 0.7 else held, 0.05))
 
+    # ---- voided transactions
+
+    def do_void(self):
+        """A void, mostly of a transaction that is not voided; else of one that is, or of none."""
+        live = [n for n, t in self.m.book.txns.items() if t['voided'] is None]
+        reason = self.r.choice(['wrong', 'twice', '', 'é "x"\n', 'wrong'])
+        return self.forced(dict(do='void', transaction=self.pick(live if self.r.random() < 0.85 else self.m.book.txns, 0.04),
+                                reason=reason))
+
+    def do_unvoid(self):
+        gone = [n for n, t in self.m.book.txns.items() if t['voided'] is not None]
+        return dict(do='unvoid', transaction=self.pick(gone if self.r.random() < 0.85 else self.m.book.txns, 0.04))
+
+    def voided_split(self):
+        """A command on a voided transaction or one of its splits, that names it as if it were not voided."""
+        ids = self.splits(lambda t, s: s['mark'] == 'v')
+        gone = [n for n, t in self.m.book.txns.items() if t['voided'] is not None]
+        return self.r.choice([
+            lambda: self.forced(dict(do='mark', split=self.pick(ids), state=self.r.choice('nc'))),
+            lambda: dict(do='line_match', line=self.line('open'), split=self.pick(ids)),
+            lambda: self.forced(dict(do='drop', transaction=self.pick(gone))),
+            lambda: self.forced(dict(do='edit', transaction=self.pick(gone), day=self.day(), currency=1,
+                                     splits=[dict(account=self.account(), value=0, id=self.pick(ids))])),
+            lambda: dict(do='account_drop', account=self.account()),
+            lambda: dict(do='line_reopen', line=self.line('dismissed')),
+        ])()
+
     def odd(self):
         """A command that mostly breaks one of the rules which the others seldom break."""
         r, b = self.r, self.m.book
@@ -338,6 +367,13 @@ class Draw:
 
     def kinds(self):
         """The commands that are drawn, each with how often it is."""
+        voiding = [(self.do_void, 24), (self.do_unvoid, 12), (self.voided_split, 12),
+                   (lambda: dict(do='voided', account=self.account()), 12),
+                   (lambda: dict(do='register', account=self.account(), csv=True), 6)] if self.voiding else \
+            [(self.do_void, 4), (self.do_unvoid, 3), (self.voided_split, 2), (lambda: dict(do='voided', account=self.account()), 2)]
+        return voiding + self.other_kinds()
+
+    def other_kinds(self):
         if self.reconciling:
             return [(self.do_import, 9), (self.post_line, 14), (self.do_post, 4), (self.do_match_auto, 9), (self.do_line_match, 7), (self.do_mark, 12),
                     (self.do_reconcile, 9), (self.do_reconcile_statement, 6), (self.do_line_add, 7), (self.do_edit, 9), (self.odd, 10), (self.other, 5),
@@ -402,5 +438,5 @@ class Draw:
 
 
 if __name__ == '__main__':
-    for line in Draw(int(sys.argv[1]), 'reconciling' in sys.argv[3:]).lines(int(sys.argv[2])):
+    for line in Draw(int(sys.argv[1]), 'reconciling' in sys.argv[3:], 'voiding' in sys.argv[3:]).lines(int(sys.argv[2])):
         print(line)

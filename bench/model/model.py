@@ -231,6 +231,8 @@ COMMANDS = {
     'edit': [('transaction', N, R), ('force', B, O, False)] + EDIT,
     'drop': [('transaction', N, R), ('force', B, O, False)],
     'mark': [('split', N, R), ('state', word('n', 'c'), R), ('force', B, O, False)],
+    'void': [('transaction', N, R), ('reason', T, R), ('force', B, O, False)],
+    'unvoid': [('transaction', N, R)],
     'price_set': [('commodity', N, R), ('currency', N, R), ('day', D, R), ('num', N, R), ('denom', N, R)],
     'price_drop': [('price', N, R)],
     'schedule_add': [('name', T, R), ('recurrences', recurrences, R), ('end', end, O), ('advance', N, O, 0)] + TXN[1:],
@@ -255,6 +257,7 @@ COMMANDS = {
     'lines': [('account', N, R)],
     'statements': [('account', N, R)],
     'recons': [('account', N, R)],
+    'voided': [('account', N, R)],
     'due': [('upto', D, R)],
     'price': [('commodity', N, R), ('currency', N, R), ('day', D, R)],
     'status': [],
@@ -386,6 +389,18 @@ def check_txn(book, txn):
     total = sum(s['value'] for s in txn['splits'])
     if total != 0:
         raise Broken('Unbalanced', sum=str(total))
+
+
+def refuse_voided(book, t):
+    if book.txns[t]['voided'] is not None:
+        raise Broken('Voided', transaction=t)
+
+
+def refuse_reconciled(txn, force):
+    """Without force the first reconciled split by place is in the way."""
+    for s in txn['splits']:
+        if s['mark'] == 'y' and not force:
+            raise Broken('Reconciled', split=s['id'])
 
 
 def dismiss_lines(old, book):
@@ -534,7 +549,7 @@ class Step:
         for i, s in enumerate(parts):
             made.append(dict(id=self.draw(), account=s['account'], memo=s['memo'], action=s['action'],
                              mark=marks[i] if marks else 'n', recon=None, value=s['value'], quantity=s['quantity']))
-        self.book.put('txns', t, dict(currency=currency, day=day, num=num, description=description, splits=tuple(made)))
+        self.book.put('txns', t, dict(currency=currency, day=day, num=num, description=description, splits=tuple(made), voided=None))
         return t, [s['id'] for s in made]
 
     def balances(self, parts):
@@ -549,6 +564,7 @@ class Step:
     def edit(self, c):
         b, t = self.book, c['transaction']
         need(b, 'txns', 'transaction', t)
+        refuse_voided(b, t)
         old = b.txns[t]
         had, named = {s['id']: s for s in old['splits']}, set()
         for s in c['splits']:
@@ -573,16 +589,15 @@ class Step:
                     mark, recon = 'n', None
             made.append(dict(id=n, account=s['account'], memo=s['memo'], action=s['action'], mark=mark, recon=recon,
                              value=s['value'], quantity=s['quantity']))
-        b.put('txns', t, dict(currency=c['currency'], day=c['day'], num=c['num'], description=c['description'], splits=tuple(made)))
+        b.put('txns', t, dict(currency=c['currency'], day=c['day'], num=c['num'], description=c['description'], splits=tuple(made),
+                              voided=None))
         dismiss_lines(self.old, b)
         return dict(splits=[s['id'] for s in made], balances=self.balances(c['splits']))
 
     def drop(self, c):
         need(self.book, 'txns', 'transaction', c['transaction'])
-        if not c['force']:
-            for s in self.book.txns[c['transaction']]['splits']:
-                if s['mark'] == 'y':
-                    raise Broken('Reconciled', split=s['id'])
+        refuse_voided(self.book, c['transaction'])
+        refuse_reconciled(self.book.txns[c['transaction']], c['force'])
         self.book.gone('txns', c['transaction'])
         dismiss_lines(self.old, self.book)
         return {}
@@ -596,9 +611,35 @@ class Step:
         found = self.book.find_split(c['split'])
         if found is None:
             raise Broken('Unknown', kind='split', id=c['split'])
+        refuse_voided(self.book, found[0])
         if found[1]['mark'] == 'y' and not c['force']:
             raise Broken('Reconciled', split=c['split'])
         self.set_split(c['split'], mark=c['state'], recon=None)
+        return {}
+
+    def void(self, c):
+        b, t = self.book, c['transaction']
+        need(b, 'txns', 'transaction', t)
+        refuse_voided(b, t)
+        txn = b.txns[t]
+        refuse_reconciled(txn, c['force'])
+        kept = tuple((s['value'], s['quantity']) for s in txn['splits'])
+        b.put('txns', t, dict(txn, splits=tuple(dict(s, value=0, quantity=0, mark='v', recon=None) for s in txn['splits']),
+                              voided=dict(reason=c['reason'], kept=kept)))
+        ids = {s['id'] for s in txn['splits']}
+        for n, line in b.lines.items():
+            if line['state'] == 'matched' and line['split'] in ids:
+                b.put('lines', n, dict(line, state='dismissed', split=None))
+        return {}
+
+    def unvoid(self, c):
+        b, t = self.book, c['transaction']
+        need(b, 'txns', 'transaction', t)
+        txn = b.txns[t]
+        if txn['voided'] is None:
+            raise Broken('NotVoided', transaction=t)
+        b.put('txns', t, dict(txn, splits=tuple(dict(s, value=v, quantity=q, mark='n', recon=None)
+                                                for s, (v, q) in zip(txn['splits'], txn['voided']['kept'])), voided=None))
         return {}
 
     # ---- prices and schedules
@@ -780,6 +821,7 @@ class Step:
         found = b.find_split(c['split'])
         if found is None:
             raise Broken('Unknown', kind='split', id=c['split'])
+        refuse_voided(b, found[0])
         line = self.open_line(c['line'])
         if c['split'] in self.matched():
             raise Broken('LineTaken', line=self.matched()[c['split']])
@@ -898,6 +940,12 @@ class Step:
                 out.append(dict(id=n, day=str(r['day']), opening=str(r['opening']), closing=r['closing'],
                                 marked=len(r['marked']), intact=intact))
         return dict(recons=out)
+
+    def voided(self, c):
+        need(self.book, 'accounts', 'account', c['account'])
+        return dict(voided=[[t, s['id'], *amounts, txn['voided']['reason']] for t, txn in sorted(self.book.txns.items())
+                            if txn['voided'] is not None
+                            for s, amounts in zip(txn['splits'], txn['voided']['kept']) if s['account'] == c['account']])
 
     def due(self, c):
         out = []

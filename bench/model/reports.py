@@ -87,10 +87,11 @@ def worth(book, account, balance, day):
 
 
 def register(book, account):
+    """The splits of the account that are not voided, by day, transaction number and place."""
     rows = []
     for t, txn in book.txns.items():
         for place, s in enumerate(txn['splits']):
-            if s['account'] == account:
+            if s['account'] == account and s['mark'] != 'v':
                 rows.append((txn['day'], t, place, s, txn))
     rows.sort(key=lambda r: r[:3])
     return rows

@@ -1,7 +1,6 @@
 """The rows of a book: their bytes, written from the tables of the formats, and a machine read from rows.
 Rows have two formats, 1 and 2, and the first byte of a body is its format. In format 2 a transaction ends with the byte
-0, or with what is kept of a voided one. The model's commands void none: a transaction is written with the byte 0 here,
-and a voided one can't be read. `sound.py` reads those too."""
+0, or with what is kept of a voided one. Format 1 has no voided transaction: what holds one can't be written in it."""
 import datetime as dt
 from model import Book, KINDS, MAPS, RECURRENCES, Machine
 
@@ -17,8 +16,8 @@ e = lambda place: bytes([place + 1])
 opt = lambda x, f: b'\0' if x is None else b'\1' + f(x)
 many = lambda items, f: u(len(items)) + b''.join(f(i) for i in items)
 ADJUST = ['none', 'back', 'forward']
-# New, cleared and reconciled. Format 2 has a fourth mark, voided, which no split of the model has.
-MARKS = 'ncy'
+# New, cleared, reconciled and voided. Format 1 has the first three.
+MARKS = 'ncyv'
 
 
 def split(x, template=False):
@@ -29,7 +28,12 @@ def split(x, template=False):
 
 def txn(x, form, template=False):
     front = u(x['currency']) + d(x['day']) + t(x['num']) + t(x['description'])
-    return front + many(x['splits'], lambda y: split(y, template)) + (b'\0' if form == 2 else b'')
+    front += many(x['splits'], lambda y: split(y, template))
+    kept = None if template else x['voided']
+    if form == 1:
+        assert kept is None, 'a voided transaction in format 1'
+        return front
+    return front + opt(kept, lambda v: t(v['reason']) + many(v['kept'], lambda k: s(k[0]) + s(k[1])))
 
 
 def end(x):
@@ -131,11 +135,16 @@ class Reader:
     def txn(self, template=False):
         x = dict(currency=self.u(), day=self.d(), num=self.t(), description=self.t())
         x['splits'] = self.many(lambda: self.split(template))
+        kept = self.opt(self.void) if self.form == 2 else None
         if not template:
             x['splits'] = tuple(x['splits'])
-        if self.form == 2 and self.take(1) != b'\0':
-            raise ValueError('what is kept of a voided transaction')
+            x['voided'] = kept
+        elif kept is not None:
+            raise ValueError('a voided template')
         return x
+
+    def void(self):
+        return dict(reason=self.t(), kept=tuple(self.many(lambda: (self.s(), self.s()))))
 
     def end(self):
         k = self.take(1)

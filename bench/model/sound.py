@@ -1,6 +1,7 @@
 """What rows open as: `opened`, or the key at which they are bad or those of an unsound book, from the chapter "When
 rows are those of a book" of FORMATS.md alone. Two modules beside it read the bytes: `bad_key` of `formats.py` gives
-the least key at which rows are bad, and `Reader` of `rows.py` reads the fields of all things but transactions."""
+the least key at which rows are bad, and `Reader` of `rows.py` reads the fields of all things but transactions. A
+transaction is read here, since a template may be a voided one, and is then not sound."""
 from formats import bad_key
 from rows import Reader
 
@@ -155,10 +156,24 @@ class Check:
         return sum(s['value'] for s in x['splits']) == 0
 
     def kind_4(self, n, x):
-        marks = [s['mark'] for s in x['splits']]
-        return self.post(x) and x['voided'] is None and 'v' not in marks and all(map(self.is_marked, x['splits']))
+        if x['voided'] is None:
+            return self.post(x) and all(map(self.is_marked, x['splits']))
+        return all(map(self.is_empty, x['splits'])) and self.keeps(x)
+
+    def is_empty(self, s):
+        """Whether it is voided as the splits of a voided transaction are."""
+        return (s['mark'], s['value'], s['quantity'], s['recon']) == ('v', 0, 0, None)
+
+    def keeps(self, x):
+        """Whether the amounts of each split are kept, and the transaction with them keeps the rules of a post."""
+        kept = x['voided']['kept']
+        if len(kept) != len(x['splits']):
+            return False
+        return self.post(dict(x, splits=[dict(s, value=v, quantity=q) for s, (v, q) in zip(x['splits'], kept)]))
 
     def is_marked(self, s):
+        if s['mark'] == 'v':
+            return False
         if s['mark'] != 'y':
             return s['recon'] is None
         r = None if s['recon'] is None else self.get(10, s['recon'])
@@ -186,7 +201,8 @@ class Check:
         if x['state'] != 'matched':
             return True
         found = [s for _, t in self.kinds[4] for s in t['splits'] if s['id'] == x['split']]
-        return bool(found) and (found[0]['account'], found[0]['quantity']) == (x['account'], x['amount'])
+        return bool(found) and found[0]['mark'] != 'v' and \
+            (found[0]['account'], found[0]['quantity']) == (x['account'], x['amount'])
 
     def kind_9(self, n, x):
         a = self.get(3, x['account'])

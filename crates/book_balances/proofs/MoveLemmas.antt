@@ -1,10 +1,11 @@
 -- What splits give to their accounts, and the balance of an account once one transaction stands in the place of another.
+use Rattle.std.proofs.Common.{◌&&◌}
 use Rattle.std.proofs.Common.{◌≡◌, ℕ, ◌+◌, ◌<◌, ◌≤◌, ◌==◌, ℤ, pos, ◌+ℤ◌, ◌-ℤ◌, Bool, true, false, if◌then◌else◌}
 use Rattle.std.proofs.Common.{List, [], ◌∷◌, ◌++◌, All, length, map, take, get_or, Option, Some, None, IfSome, refl, sym, ap}
 use Rattle.std.proofs.Common.{◌∙◌, subst, arith, not}
 use Rattle.std.specs.Prelude.{filter, unsigned_abs}
 use Rattle.std.proofs.Math.IntN.{+ℤ_idr}
-use Rattle.std.proofs.lemmas.Bool.{eqb-true}
+use Rattle.std.proofs.lemmas.Bool.{and_right, eqb-true}
 use Rattle.std.proofs.lemmas.Bool.Decides.{nat_tests}
 use Rattle.std.proofs.lemmas.Int.{ints}
 use Rattle.std.proofs.lemmas.List.{map-append, length-map}
@@ -16,7 +17,8 @@ use Rattle.book_commodity.proofs.TableLemmas.{above_value, value_of_with}
 use Rattle.book_ledger.specs.Ledger.{HasPlaces}
 use Rattle.book_sound.specs.Soundness.{IsSoundBook}
 use Rattle.book_sound.proofs.SoundFacts.{IsAtMost, sum_is_small, transactions_balance}
-use Rattle.book_splits.specs.Balance.{quantity_on, splits_beside, splits_of}
+use Rattle.book_splits.specs.TransactionRules.{is_voided}
+use Rattle.book_splits.specs.Balance.{counts_on, quantity_on, splits_beside, splits_of}
 use Rattle.book_splits.specs.Check.{HasAmounts}
 use Rattle.book_splits.specs.Check as transaction
 use Rattle.book_splits.specs.declared.split.Split.{Split}
@@ -56,15 +58,43 @@ moved_one account quantity old new other more =
 
 -- ---- splits
 
+-- A split counts on its account where it is not voided, and on none where it is.
+counts_unvoided : (a : ℕ) (split : Split) → is_voided split.mark ≡ false → counts_on a split ≡ (split.account == a)
+counts_unvoided a split unvoided = ap (λ (b : Bool). (split.account == a) && not b) unvoided ∙ and_true (split.account == a)
+  where
+    and_true : (b : Bool) → (b && true) ≡ b
+    and_true true = refl
+    and_true false = refl
+
+counts_voided : (a : ℕ) (split : Split) → is_voided split.mark ≡ true → counts_on a split ≡ false
+counts_voided a split voided =
+    ap (λ (b : Bool). (split.account == a) && not b) voided ∙ and_right (split.account == a) false refl
+
+-- So one that is voided gives nothing,
+pub voided_adds :
+    (a : ℕ) (split : Split) (had : ℤ) → is_voided split.mark ≡ true → had ≡ had +ℤ quantity_on a (split ∷ [])
+voided_adds a split had voided =
+    let none : quantity_on a (split ∷ []) ≡ pos 0 = quantity_on-one a split
+    ∙ ap (λ (b : Bool). if b then split.quantity else pos 0) (counts_voided a split voided) in
+    sym (ap (λ (z : ℤ). had +ℤ z) none ∙ +ℤ_idr had)
+
+-- and another its quantity.
+pub split_adds :
+    (a : ℕ) (split : Split) (old new : List (ℕ × ℤ)) → is_voided split.mark ≡ false
+    → IsMoved split.account split.quantity old new → moved a new ≡ moved a old +ℤ quantity_on a (split ∷ [])
+split_adds a split old new unvoided more =
+    moved_one split.account split.quantity old new a more
+    ∙ ap (λ (z : ℤ). moved a old +ℤ z)
+    (sym (quantity_on-one a split ∙ ap (λ (b : Bool). if b then split.quantity else pos 0) (counts_unvoided a split unvoided)))
+
 -- One split more.
 pub moved_more :
     (before : List Split) (split : Split) (after : List Split) (old new : List (ℕ × ℤ)) → before ++ split ∷ [] ≡ after
-    → ((a : ℕ) → moved a old ≡ quantity_on a before) → IsMoved split.account split.quantity old new
+    → ((a : ℕ) → moved a old ≡ quantity_on a before)
+    → ((a : ℕ) → moved a new ≡ moved a old +ℤ quantity_on a (split ∷ []))
     → (a : ℕ) → moved a new ≡ quantity_on a after
 moved_more before split after old new is so_far more a =
-    moved_one split.account split.quantity old new a more
-    ∙ ap (λ (z : ℤ). z +ℤ (if split.account == a then split.quantity else pos 0)) (so_far a)
-    ∙ ap (λ (z : ℤ). quantity_on a before +ℤ z) (sym (quantity_on-one a split))
+    more a ∙ ap (λ (z : ℤ). z +ℤ quantity_on a (split ∷ [])) (so_far a)
     ∙ sym (quantity_on-append a before (split ∷ [])) ∙ ap (quantity_on a) is
 
 -- What 500 splits give is small.
@@ -74,7 +104,7 @@ pub given_small :
 given_small account splits small few =
     let Small : ℤ → Type 0 = λ a. unsigned_abs a ≤ largest_split_amount in
     let quantity : Split → ℤ = λ s. s.quantity in
-    let test : Split → Bool = λ s. s.account == account in
+    let test : Split → Bool = counts_on account in
     let picked = filter test splits in
     let kept = All-filter test HasAmounts splits small in
     let quantities = All-map Small quantity picked

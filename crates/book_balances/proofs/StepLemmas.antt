@@ -26,7 +26,7 @@ use Rattle.book_command.specs.declared.command.GivenSchedule.{GivenSchedule}
 use Rattle.book_command.specs.declared.command.GivenTxn.{GivenTxn}
 use Rattle.book_command.specs.declared.command.Update.{Update}
 use Rattle.book_command.specs.declared.command.Update.TheVariants.{BookCurrency, CommodityAdd, AccountAdd}
-use Rattle.book_command.specs.declared.command.Update.TheVariants.{AccountEdit, AccountDrop, Drop, Edit, Post}
+use Rattle.book_command.specs.declared.command.Update.TheVariants.{AccountEdit, AccountDrop, Drop, Edit, Post, Unvoid, Void}
 use Rattle.book_command.specs.declared.command.Update.TheVariants.{PriceDrop, PriceSet, ScheduleAdd, ScheduleDrop}
 use Rattle.book_command.specs.declared.command.Update.TheVariants.{ScheduleRun}
 use Rattle.book_command.specs.declared.command.Update.TheVariants.{Bind, Import, LineAdd, LineDismiss, LineReopen}
@@ -53,7 +53,7 @@ use Rattle.book_step.specs.LineAdding as adding
 use Rattle.book_step.specs.LineAdding.{book_matched, commodity_of, line_add_at, line_transaction, matched_answer}
 use Rattle.book_step.specs.LineMatching as line_matching
 use Rattle.book_step.specs.LineMatching.{line_match_at, line_match_of}
-use Rattle.book_step.specs.Marking.{book_marked, keeps_mark, mark_asked, mark_at}
+use Rattle.book_step.specs.Marking.{book_marked, keeps_mark, mark_asked, mark_at, mark_of}
 use Rattle.book_step.specs.Outcome.{Broken, Done, changing, leaving, unless_broken}
 use Rattle.book_step.specs.Posting.{new_transaction, post_answer, post_rules}
 use Rattle.book_step.specs.Prices.{has_numbers, price_of_day, price_rules, price_set_at, too_many_prices}
@@ -71,7 +71,10 @@ use Rattle.book_step.specs.Schedules as schedules
 use Rattle.book_step.specs.Schedules.{Run, new_schedule, runs_of, schedule_add_from, unknown_schedule}
 use Rattle.book_step.specs.State.{State}
 use Rattle.book_step.specs.Step.{outcome}
-use Rattle.book_step.proofs.SoundOutcome.{changing_done, leaving_done}
+use Rattle.book_step.specs.VoidRules.{already_voided, not_voided, voided_with}
+use Rattle.book_step.specs.Voiding.{book_restored, unvoid_at, void_at}
+use Rattle.book_void.specs.Voiding.{voided_for}
+use Rattle.book_step.proofs.SoundOutcome.{changing_done, leaving_done, unless_done}
 
 -- The state is the same, or its version is one more, and the next number has not fallen.
 abbrev pub Moves : State → State → Type 0
@@ -122,17 +125,33 @@ edit_moves state n force day given None new reply e = absurd cc
 edit_moves state n force day given (Some old) new reply e =
     let transaction = edited_transaction old state.next day given in
     let book = book_with state.book n old transaction in
+    let done = unless_done (already_voided n old) (editing.edit_of state n force day given old) new reply e in
     either_moves (same_transaction transaction old).is state
     (editing.edit_rules state.book n force given old transaction) book (drawn_by old.splits given.splits)
-    (edit_answer state.book n transaction) (edit_answer book n transaction) new reply e
+    (edit_answer state.book n transaction) (edit_answer book n transaction) new reply done.1
 
 drop_moves :
     (state : State) (n : ℕ) (force : Bool) (found : Option Txn) (new : State) (reply : Answer)
     → drop_at state n force found ≡ Done new reply → Moves state new
 drop_moves state n force None new reply e = absurd cc
 drop_moves state n force (Some old) new reply e =
-    changing_moves state (reconciled force old.splits [] ∷ []) (book_without state.book n old) 0 answer.Drop new
-    reply e
+    changing_moves state (already_voided n old ∷ reconciled force old.splits [] ∷ []) (book_without state.book n old) 0
+    answer.Drop new reply e
+
+void_moves :
+    (state : State) (n : ℕ) (reason : List ℕ) (force : Bool) (found : Option Txn) (new : State) (reply : Answer)
+    → void_at state n reason force found ≡ Done new reply → Moves state new
+void_moves state n reason force None new reply e = absurd cc
+void_moves state n reason force (Some old) new reply e =
+    changing_moves state (already_voided n old ∷ reconciled force old.splits [] ∷ [])
+    (book_with state.book n old (voided_for reason old)) 0 answer.Void new reply e
+
+unvoid_moves :
+    (state : State) (n : ℕ) (found : Option Txn) (new : State) (reply : Answer)
+    → unvoid_at state n found ≡ Done new reply → Moves state new
+unvoid_moves state n None new reply e = absurd cc
+unvoid_moves state n (Some old) new reply e =
+    changing_moves state (not_voided n old ∷ []) (book_restored state.book n old) 0 answer.Unvoid new reply e
 
 price_moves :
     (state : State) (price : Price) (found : Option (ℕ × Price)) (new : State) (reply : Answer)
@@ -248,16 +267,21 @@ mark_moves :
     → mark_at state number to force found ≡ Done new reply → Moves state new
 mark_moves state number to force None new reply e = absurd cc
 mark_moves state number to force (Some split) new reply e =
+    let done = unless_done (voided_with state.book.transactions number) (mark_of state number to force split) new reply
+    e in
     either_moves (is_mark split.mark to) state (keeps_mark force number split ∷ []) (book_marked number to state.book) 0
-    answer.Mark answer.Mark new reply e
+    answer.Mark answer.Mark new reply done.1
 
 pair_moves :
     (state : State) (n : ℕ) (line : Line) (wanted : ℕ) (found : Option Split) (new : State) (reply : Answer)
     → line_match_of state n line wanted found ≡ Done new reply → Moves state new
 pair_moves state n line wanted None new reply e = absurd cc
 pair_moves state n line wanted (Some split) new reply e =
-    changing_moves state (line_matching.match_rules state.book.lines n line wanted split)
-    (line_matching.book_paired n line wanted split state.book) 0 answer.LineMatch new reply e
+    let rules = line_matching.match_rules state.book.lines n line wanted split in
+    let later = line_matching.book_paired n line wanted split state.book in
+    let done = unless_done (voided_with state.book.transactions wanted) (changing state rules later 0 answer.LineMatch) new
+    reply e in
+    changing_moves state rules later 0 answer.LineMatch new reply done.1
 
 match_moves :
     (state : State) (n wanted : ℕ) (found : Option Line) (new : State) (reply : Answer)
@@ -292,6 +316,9 @@ outcome_moves state (Edit n force day given) new reply e =
     edit_moves state n force day given (value_of n state.book.transactions) new reply e
 outcome_moves state (Drop n force) new reply e =
     drop_moves state n force (value_of n state.book.transactions) new reply e
+outcome_moves state (Void n reason force) new reply e =
+    void_moves state n reason force (value_of n state.book.transactions) new reply e
+outcome_moves state (Unvoid n) new reply e = unvoid_moves state n (value_of n state.book.transactions) new reply e
 outcome_moves state (PriceSet price) new reply e =
     price_moves state price (price_of_day state.book.prices price) new reply e
 outcome_moves state (PriceDrop n) new reply e =

@@ -1,11 +1,12 @@
-ghost use Rattle.std.specs.Prelude.{◌≡◌, ℕ, ◌≤◌, All, IfOk, OnOk, length, pos};
+ghost use Rattle.std.specs.Prelude.{◌≡◌, ℕ, ◌≤◌, ◌+ℤ◌, All, IfOk, OnOk, [], ◌∷◌, length, not, pos};
 ghost use Rattle.book_balances.specs.Balances.{IsMoved, largest_move, moved};
 ghost use Rattle.book_sound.proofs.SoundFacts.{IsAtMost};
 ghost use Rattle.book_splits.specs.Balance.{quantity_on};
 ghost use Rattle.book_splits.specs.Check.{HasAmounts};
+ghost use Rattle.book_splits.specs.TransactionRules.{is_voided};
 
 use book_commodity::{OutOfMemory, Table};
-use book_splits::Split;
+use book_splits::{Mark, Split};
 use std::alloc::Global;
 
 /// What splits give to accounts: the sums of their quantities, by the numbers of the accounts.
@@ -33,7 +34,7 @@ impl Moves {
     {
         let mut moves = Moves::none(alloc);
         for split in splits {
-            moves.add(split.account, split.quantity)?;
+            moves.add_split(split)?;
         }
         Ok(moves)
     }
@@ -48,6 +49,19 @@ impl Moves {
         }
     }
 
+    /// Gives the split's account its quantity more, unless the split is voided.
+    fn add_split(&mut self, split: &Split) -> Result<(), OutOfMemory>
+        requires { IsAtMost largest_move (moved split.now.account self.old.sums.entries) }
+        ensures { OnOk result ((account : ℕ) → moved account self.new.sums.entries
+            ≡ moved account self.old.sums.entries +ℤ quantity_on account (split.now ∷ [])) }
+    {
+        if !counts(split) {
+            return Ok(());
+        }
+        self.add(split.account, split.quantity)?;
+        Ok(())
+    }
+
     /// Gives an account so much more.
     fn add(&mut self, account: u64, quantity: i64) -> Result<(), OutOfMemory>
         requires { IsAtMost largest_move (moved account self.old.sums.entries) }
@@ -58,4 +72,11 @@ impl Moves {
         let _ = self.sums.put(account, sum);
         Ok(())
     }
+}
+
+/// Whether the split counts on its account: it is not voided.
+fn counts(split: &Split) -> bool
+    ensures { result ≡ not (is_voided split.now.mark) }
+{
+    split.mark != Mark::Voided
 }

@@ -10,6 +10,7 @@ use Rattle.book_splits.specs.declared.rule.TxnRule.TheVariants as transaction
 use Rattle.book_splits.specs.declared.split.Mark.TheVariants.{New, Voided}
 use Rattle.book_splits.specs.declared.split.Split.{Split}
 use Rattle.book_splits.specs.declared.transaction.Txn.{Txn}
+use Rattle.book_splits.specs.declared.void.KeptSplit.{KeptSplit}
 use Rattle.book_prices.specs.declared.price.Price.{Price}
 use Rattle.book_undo.specs.Book.{Book}
 use Rattle.book_opening.specs.State.{State}
@@ -119,9 +120,30 @@ with_a_voided_split :
 unfolding broken_at broken_thing
 with_a_voided_split = refl
 
-voided : broken (with_rent (record rent { voided = Some (record { reason = []; kept = [] }) })) 4 10 ≡ Some rule.Voided
+abbrev keeping : List KeptSplit → Txn
+keeping kept = record rent { voided = Some (record { reason = []; kept = kept }) }
+
+nothing_kept : broken (with_rent (keeping [])) 4 10 ≡ Some rule.Kept
 unfolding broken_at broken_thing
-voided = refl
+nothing_kept = refl
+
+-- one cent is kept of the first split, and nothing of the other
+kept_out_of_balance :
+    broken
+    (with_rent (keeping (record { value = pos 1; quantity = pos 1 } ∷ record { value = pos 0; quantity = pos 0 } ∷ []))) 4
+    10
+    ≡ Some (rule.Transaction (transaction.Unbalanced (pos 1)))
+unfolding broken_at broken_thing
+kept_out_of_balance = refl
+
+-- the amounts are kept, and the splits have theirs still
+splits_not_voided :
+    broken
+    (with_rent (keeping (record { value = pos 0; quantity = pos 0 } ∷ record { value = pos 0; quantity = pos 0 } ∷ []))) 4
+    10
+    ≡ Some rule.Mark
+unfolding broken_at broken_thing
+splits_not_voided = refl
 
 price_of_the_same_day : broken (record book { prices = (8, price) ∷ (9, price) ∷ [] }) 5 9 ≡ Some rule.SameDay
 unfolding broken_at broken_thing

@@ -10,14 +10,13 @@ use Rattle.book_opening.specs.Steps.{counts_fit}
 use Rattle.book_undo.specs.Book.{Book}
 use Rattle.book_sound.specs.BindingRules.{binding_rules}
 use Rattle.book_sound.specs.LineRules.{line_rules}
-use Rattle.book_sound.specs.MarkedTransactionRules.{marked_transaction_rules}
 use Rattle.book_sound.specs.PriceRules.{price_rules}
 use Rattle.book_sound.specs.ReconciliationRules.{reconciliation_rules}
 use Rattle.book_sound.specs.ScheduleRules.{schedule_rules}
 use Rattle.book_sound.specs.StatementRules.{statement_rules}
 use Rattle.book_check.specs.FirstUnsound.{head_rules}
 use Rattle.book_broken.specs.Names.{account_names, binding_names, commodity_names, head_names, line_names, price_names}
-use Rattle.book_broken.specs.Names.{reconciliation_names, schedule_names, statement_names, transaction_names}
+use Rattle.book_broken.specs.Names.{reconciliation_names, schedule_names, statement_names, told_rules, transaction_names}
 use Rattle.book_broken.specs.declared.first.Broken.{Broken}
 use Rattle.book_broken.specs.declared.rule.BrokenRule.{BrokenRule}
 use Rattle.book_broken.specs.declared.rule.BrokenRule.TheVariants.{StepBack, StepForth, TooMany}
@@ -43,7 +42,7 @@ broken_thing book key =
     else if key.kind == 3
     then broken_in (account_rules book.commodities book.accounts) (λ _. account_names) key.id book.accounts
     else if key.kind == 4
-    then broken_in (marked_transaction_rules book.commodities book.accounts book.reconciliations book.transactions)
+    then broken_in (told_rules book.commodities book.accounts book.reconciliations book.transactions)
     (transaction_names book.commodities book.accounts) key.id book.transactions
     else if key.kind == 5
     then broken_in (price_rules book.commodities book.prices) (λ _. price_names) key.id book.prices

@@ -1,13 +1,18 @@
 -- What the tests of each kind are called, in the order of these tests.
-use Rattle.std.specs.Prelude.{ℕ, List, [], ◌∷◌, Option, Some, None}
-use Rattle.book_commodity.specs.Rules.{first_broken}
+use Rattle.std.specs.Prelude.{ℕ, not, Bool, List, [], ◌∷◌, Option, Some, None}
+use Rattle.book_commodity.specs.Rules.{first_broken, stands_before}
 use Rattle.book_commodity.specs.declared.commodity.Commodity.{Commodity}
 use Rattle.book_commodity.specs.declared.kind.Kind.TheVariants as kind
 use Rattle.book_accounts.specs.declared.account.Account.{Account}
 use Rattle.book_splits.specs.Check.{txn_rules}
+use Rattle.book_splits.specs.TransactionRules.{are_once, numbers_of, share_numbers}
+use Rattle.book_splits.specs.declared.reconciliation.Recon.{Recon}
 use Rattle.book_splits.specs.declared.rule.TxnRule.{TxnRule}
 use Rattle.book_splits.specs.declared.transaction.Txn.{Txn}
 use Rattle.book_undo.specs.declared.schedule.Schedule.{Schedule}
+use Rattle.book_void.specs.Voiding.{keeps_each, restored}
+use Rattle.book_sound.specs.MarkedTransactionRules.{are_rightly_marked}
+use Rattle.book_sound.specs.Tests.{passes_check}
 use Rattle.book_broken.specs.declared.rule.BrokenRule.{BrokenRule}
 use Rattle.book_broken.specs.declared.rule.BrokenRule.TheVariants as rule
 
@@ -43,11 +48,23 @@ name_of_check None = rule.TooMany
 abbrev pub check_name : List (ℕ × Commodity) → List (ℕ × Account) → Txn → BrokenRule
 check_name commodities accounts transaction = name_of_check (first_broken (txn_rules commodities accounts transaction))
 
--- Those of `marked_transaction_rules`.
+-- The rules of a transaction in the order in which their names are told: whether it can be brought back comes before
+-- what it is then.
+abbrev pub told_rules :
+    List (ℕ × Commodity) → List (ℕ × Account) → List (ℕ × Recon) → List (ℕ × Txn) → ℕ → Txn → List Bool
+told_rules commodities accounts reconciliations transactions number transaction =
+    keeps_each transaction.voided transaction.splits
+    ∷ passes_check commodities accounts (restored transaction)
+    ∷ are_once (numbers_of transaction.splits)
+    ∷ not (stands_before (share_numbers transaction) number transactions)
+    ∷ are_rightly_marked reconciliations transaction.voided transaction.splits
+    ∷ []
+
+-- Their names.
 abbrev pub transaction_names : List (ℕ × Commodity) → List (ℕ × Account) → Txn → List BrokenRule
 transaction_names commodities accounts transaction =
-    check_name commodities accounts transaction ∷ rule.SplitTwice ∷ rule.SplitElsewhere ∷ rule.Mark
-    ∷ rule.Voided ∷ []
+    rule.Kept ∷ check_name commodities accounts (restored transaction) ∷ rule.SplitTwice ∷ rule.SplitElsewhere
+    ∷ rule.Mark ∷ []
 
 -- Those of `price_rules`.
 abbrev pub price_names : List BrokenRule

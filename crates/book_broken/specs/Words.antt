@@ -81,9 +81,10 @@ words_on rule.SplitElsewhere =
     codes "a split of another transaction has the number of one of its splits.\n"
 words_on rule.Mark =
     codes "one of its splits is reconciled, and no reconciliation of its account has marked it so;\n"
-    ++ (codes "or it is not reconciled, and names a reconciliation; or it has the mark voided.\n")
-words_on rule.Voided =
-    codes "it is voided, and this program keeps no voided transaction.\n"
+    ++ (codes "or it is not reconciled, and names a reconciliation; or it is voided, and the transaction is not;\n"
+    ++ (codes "or the transaction is voided, and the split is not, or has amounts or a reconciliation.\n"))
+words_on rule.Kept =
+    codes "it is voided, and the amounts of each of its splits are not kept.\n"
 words_on rule.Ratio =
     codes "its num or its denom is not from 1 to 1,000,000,000.\n"
 words_on rule.OneCommodity =
@@ -101,7 +102,7 @@ words_on rule.Advance =
 words_on rule.TemplateSplit =
     codes "a split of its template has a number, is not new, or names a reconciliation.\n"
 words_on rule.TemplateVoided =
-    codes "its template is voided, and this program keeps no voided transaction.\n"
+    codes "its template is voided.\n"
 words_on rule.UnknownAccount =
     codes "its account is not in the book.\n"
 words_on rule.SameStatement =

@@ -40,7 +40,7 @@ pub fn first_broken_rule(alloc: Global, state: &mut Saved) -> Result<Option<Brok
         return Ok(Some(broken_head(state)));
     }
     if let Some(key) = first_unsound(alloc, &state.plain, state.next)? {
-        return Ok(Some(broken_row(state, key)));
+        return Ok(Some(broken_row(alloc, state, key)?));
     }
     first_broken_step(alloc, state)
 }
@@ -58,15 +58,15 @@ fn broken_head(state: &Saved) -> Broken
 }
 
 /// The first key at which the book is unsound, with the rule that is broken there.
-fn broken_row(state: &Saved, key: RowKey) -> Broken
+fn broken_row(alloc: Global, state: &Saved, key: RowKey) -> Result<Broken, OutOfMemory>
     requires { first_unsound (book_of state.now.plain) state.now.next ≡ Some key }
-    ensures key { result.key ≡ key }
-    ensures rule { HasRule (state_of state.now) result }
+    ensures key { IfOk result (λ broken. broken.key ≡ key) }
+    ensures rule { IfOk result (HasRule (state_of state.now)) }
 {
-    let Some(rule) = broken_rule(state, key) else {
+    let Some(rule) = broken_rule(alloc, state, key)? else {
         unreachable!()
     };
-    Broken { key, rule }
+    Ok(Broken { key, rule })
 }
 
 /// The numbers of the steps rise, as those of every table.

@@ -1,7 +1,7 @@
 //! Which rule a book breaks that is not sound: `broken_rule` names the rule that is broken at a key at which
 //! `book_state_check` finds a state unsound, and `BrokenRule` has the words for a person. The rules are the tests of
-//! `book_sound`; here stand their names. It takes no memory, so what may stand once is compared with each thing of its
-//! table.
+//! `book_sound`; here stand their names. It takes no memory but for a voided transaction, which is brought back to be
+//! checked; so what may stand once is compared with each thing of its table.
 #![tactic(auto)]
 
 mod accounts;

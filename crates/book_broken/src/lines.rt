@@ -10,7 +10,7 @@ ghost use Rattle.book_broken.specs.Names.{line_names};
 use crate::BrokenRule;
 use book_accounts::Tree;
 use book_commodity::Table;
-use book_splits::{Split, Txn, Txns};
+use book_splits::{Mark, Split, Txn, Txns};
 use book_statement::{Held, LARGEST_AMOUNT, Line, LineState};
 
 /// The rule that the line under the number breaks, if a line is there.
@@ -98,7 +98,7 @@ fn fits_in_state(transactions: &[(u64, Txn)], line: &Line) -> bool
     }
 }
 
-/// Whether the split with the number is there, of the line's account and with its amount as quantity.
+/// Whether the split with the number is there, of the line's account and with its amount as quantity, and not voided.
 fn fits_split(transactions: &[(u64, Txn)], number: u64, line: &Line) -> bool
     ensures { result ≡ fits_line line.now (split_at number transactions.now) }
 {
@@ -110,11 +110,13 @@ fn fits_split(transactions: &[(u64, Txn)], number: u64, line: &Line) -> bool
     false
 }
 
-/// Whether the split is of the line's account and with its amount as quantity.
+/// Whether the split is of the line's account and with its amount as quantity, and not voided.
 fn fits_line(line: &Line, split: &Split) -> bool
     ensures { result ≡ fits_line line.now (Some split.now) }
 {
-    split.account == line.account && split.quantity == line.body.amount
+    split.account == line.account
+        && split.quantity == line.body.amount
+        && split.mark != Mark::Voided
 }
 
 /// The first of the splits that has the number.

@@ -47,11 +47,11 @@ pub enum BrokenRule {
     SplitTwice,
     /// A transaction before it has a split with the number of one of its splits.
     SplitElsewhere,
-    /// One of its splits is reconciled, and no reconciliation has marked it so; or it isn't, and names one; or it has
-    /// the mark voided.
+    /// One of its splits is reconciled, and no reconciliation has marked it so; or it isn't, and names one; or it is
+    /// voided, and the transaction isn't; or the transaction is, and the split isn't rightly so.
     Mark,
-    /// It is voided.
-    Voided,
+    /// It is voided, and the amounts of each of its splits aren't kept.
+    Kept,
     /// Its numbers are not from 1 to 10^9.
     Ratio,
     /// Its commodity is its currency.
@@ -145,10 +145,11 @@ impl BrokenRule {
             }
             BrokenRule::Mark => {
                 "one of its splits is reconciled, and no reconciliation of its account has marked it so;\n\
-                or it is not reconciled, and names a reconciliation; or it has the mark voided.\n"
+                or it is not reconciled, and names a reconciliation; or it is voided, and the transaction is not;\n\
+                or the transaction is voided, and the split is not, or has amounts or a reconciliation.\n"
             }
-            BrokenRule::Voided => {
-                "it is voided, and this program keeps no voided transaction.\n"
+            BrokenRule::Kept => {
+                "it is voided, and the amounts of each of its splits are not kept.\n"
             }
             BrokenRule::Ratio => { "its num or its denom is not from 1 to 1,000,000,000.\n" }
             BrokenRule::OneCommodity => { "its commodity is its currency.\n" }
@@ -162,9 +163,7 @@ impl BrokenRule {
             BrokenRule::TemplateSplit => {
                 "a split of its template has a number, is not new, or names a reconciliation.\n"
             }
-            BrokenRule::TemplateVoided => {
-                "its template is voided, and this program keeps no voided transaction.\n"
-            }
+            BrokenRule::TemplateVoided => { "its template is voided.\n" }
             BrokenRule::UnknownAccount => { "its account is not in the book.\n" }
             BrokenRule::SameStatement => { "another statement is equal to it in all fields.\n" }
             BrokenRule::UnknownStatement => { "its statement is not in the book.\n" }

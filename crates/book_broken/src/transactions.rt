@@ -1,50 +1,98 @@
-ghost use Rattle.std.specs.Prelude.{◌≡◌, ◌+◌, ◌<◌, ◌==◌, Some, drop, length, option_map, slice_get};
+ghost use Rattle.std.specs.Prelude.{◌≡◌, ◌+◌, ◌<◌, ◌==◌, IfOk, Some, [], ◌∷◌, drop, length, not, option_map};
+ghost use Rattle.std.specs.Prelude.{slice_get, true};
 ghost use Rattle.std.specs.List.{list_all, list_any};
 ghost use Rattle.book_commodity.specs.Rules.{stands_before};
 ghost use Rattle.book_commodity.specs.Table.{value_of};
 ghost use Rattle.book_splits.specs.TransactionRules.{are_once, numbers_of, share_numbers};
 ghost use Rattle.book_sound.specs.MarkedTransactionRules.{has_marked, is_marked_as, is_named_rightly};
-ghost use Rattle.book_sound.specs.MarkedTransactionRules.{is_rightly_marked, marked_transaction_rules};
-ghost use Rattle.book_broken.specs.Broken.{broken_in};
-ghost use Rattle.book_broken.specs.Names.{transaction_names};
+ghost use Rattle.book_sound.specs.MarkedTransactionRules.{are_rightly_marked, is_rightly_marked};
+ghost use Rattle.book_splits.specs.Check.{txn_rules};
+ghost use Rattle.book_commodity.specs.Rules.{first_broken};
+ghost use Rattle.book_void.specs.Voiding.{keeps_each, restored};
+ghost use Rattle.book_broken.specs.Broken.{broken_in, first_failing};
+ghost use Rattle.book_broken.specs.Names.{told_rules, transaction_names};
+ghost use Rattle.book_broken.specs.declared.rule.BrokenRule.TheVariants as rule;
 
 use crate::BrokenRule;
 use book_accounts::Tree;
-use book_commodity::{Commodities, Table};
-use book_splits::{Mark, MarkedSplit, Recon, Split, Txn, Txns, check_txn};
+use book_commodity::{Commodities, OutOfMemory, Table};
+use book_splits::{Mark, MarkedSplit, Recon, Split, Txn, TxnRule, Txns, check_txn};
+use book_void::{are_rightly_voided, keeps_each, restored};
+use std::alloc::Global;
 
 /// The rule that the transaction under the number breaks, if a transaction is there.
 pub(crate) fn in_transactions(
+    alloc: Global,
     commodities: &Commodities,
     accounts: &Tree,
     reconciliations: &Table<Recon>,
     transactions: &Txns,
     number: u64,
-) -> Option<BrokenRule>
-    ensures { result ≡ broken_in
-        (marked_transaction_rules commodities.now.entries accounts.now.entries reconciliations.now.entries
+) -> Result<Option<BrokenRule>, OutOfMemory>
+    ensures { IfOk result (λ found. found ≡ broken_in
+        (told_rules commodities.now.entries accounts.now.entries reconciliations.now.entries
         transactions.now.entries)
-        (transaction_names commodities.now.entries accounts.now.entries) number transactions.now.entries }
+        (transaction_names commodities.now.entries accounts.now.entries) number transactions.now.entries) }
 {
     let Some(transaction) = transactions.find(number) else {
-        return None;
+        return Ok(None);
     };
-    if let Err(rule) = check_txn(commodities, accounts, transaction) {
-        return Some(BrokenRule::Transaction(rule));
+    if !keeps_each(transaction) {
+        return Ok(Some(BrokenRule::Kept));
     }
+    if let Some(rule) = broken_check(alloc, commodities, accounts, transaction)? {
+        return Ok(Some(BrokenRule::Transaction(rule)));
+    }
+    Ok(Some(in_splits(
+        reconciliations,
+        transactions.as_slice(),
+        number,
+        transaction,
+    )))
+}
+
+/// The first rule of transactions that the transaction breaks, as it is brought back where it is voided. Where it is
+/// voided, something is kept of each split.
+fn broken_check(
+    alloc: Global,
+    commodities: &Commodities,
+    accounts: &Tree,
+    transaction: &Txn,
+) -> Result<Option<TxnRule>, OutOfMemory>
+    requires { keeps_each transaction.now.voided transaction.now.splits ≡ true }
+    ensures { IfOk result (λ found. found
+        ≡ first_broken (txn_rules commodities.now.entries accounts.now.entries (restored transaction.now))) }
+{
+    if transaction.voided.is_none() {
+        return Ok(check_txn(commodities, accounts, transaction).err());
+    }
+    let restored = restored(alloc, transaction)?;
+    Ok(check_txn(commodities, accounts, &restored).err())
+}
+
+/// The rule that the splits of the transaction break, by the names that come behind that of the check.
+fn in_splits(
+    reconciliations: &Table<Recon>,
+    transactions: &[(u64, Txn)],
+    number: u64,
+    transaction: &Txn,
+) -> BrokenRule
+    ensures { result ≡ first_failing
+        (are_once (numbers_of transaction.now.splits)
+        ∷ not (stands_before (share_numbers transaction.now) number transactions.now)
+        ∷ are_rightly_marked reconciliations.now.entries transaction.now.voided transaction.now.splits ∷ [])
+        (rule.SplitTwice ∷ rule.SplitElsewhere ∷ rule.Mark ∷ []) }
+{
     if !are_once(transaction.splits.as_slice()) {
-        return Some(BrokenRule::SplitTwice);
+        return BrokenRule::SplitTwice;
     }
-    if shares_before(transactions.as_slice(), number, transaction) {
-        return Some(BrokenRule::SplitElsewhere);
+    if shares_before(transactions, number, transaction) {
+        return BrokenRule::SplitElsewhere;
     }
-    if !are_marked(reconciliations, transaction.splits.as_slice()) {
-        return Some(BrokenRule::Mark);
+    if !are_rightly_marked(reconciliations, transaction) {
+        return BrokenRule::Mark;
     }
-    if transaction.voided.is_some() {
-        return Some(BrokenRule::Voided);
-    }
-    Some(BrokenRule::TooMany)
+    BrokenRule::TooMany
 }
 
 /// Whether each of the splits has a number that no other of them has.
@@ -97,6 +145,18 @@ fn share_one(transaction: &Txn, other: &Txn) -> bool
 {
     let mut splits = transaction.splits.as_slice().iter();
     splits.any(|split| has_number(other.splits.as_slice(), split.id))
+}
+
+/// Whether the splits of the transaction are as its state says: where it is voided each is rightly voided, and else
+/// each is rightly marked.
+fn are_rightly_marked(reconciliations: &Table<Recon>, transaction: &Txn) -> bool
+    ensures { result ≡ are_rightly_marked reconciliations.now.entries transaction.now.voided transaction.now.splits }
+{
+    let splits = transaction.splits.as_slice();
+    match transaction.voided {
+        Some(_) => are_rightly_voided(splits),
+        None => are_marked(reconciliations, splits),
+    }
 }
 
 /// Whether each split is reconciled exactly where it names a reconciliation that has marked it, and none is voided.

@@ -28,6 +28,7 @@ use Rattle.book_reconcile.specs.Reconciliation.{difference}
 use Rattle.book_sound.specs.LineRules.{split_at}
 use Rattle.book_sound.specs.MarkedTransactionRules.{is_reconciled}
 use Rattle.book_sound.specs.ReconciliationRules.{marked_numbers}
+use Rattle.book_void.specs.Voiding.{voided_for}
 use Rattle.book_import.specs.declared.added.Additions.{Additions}
 use Rattle.book_command.specs.declared.answer.Answer.{Answer}
 use Rattle.book_command.specs.declared.answer.Answer.TheVariants as answer
@@ -37,7 +38,7 @@ use Rattle.book_command.specs.declared.command.GivenSchedule.{GivenSchedule}
 use Rattle.book_command.specs.declared.command.GivenTxn.{GivenTxn}
 use Rattle.book_command.specs.declared.command.Update.{Update}
 use Rattle.book_command.specs.declared.command.Update.TheVariants.{BookCurrency, CommodityAdd, AccountAdd, AccountEdit}
-use Rattle.book_command.specs.declared.command.Update.TheVariants.{AccountDrop, Drop, Edit, Post}
+use Rattle.book_command.specs.declared.command.Update.TheVariants.{AccountDrop, Drop, Edit, Post, Unvoid, Void}
 use Rattle.book_command.specs.declared.command.Update.TheVariants.{PriceDrop, PriceSet, ScheduleAdd, ScheduleDrop}
 use Rattle.book_command.specs.declared.command.Update.TheVariants.{ScheduleRun}
 use Rattle.book_command.specs.declared.command.Update.TheVariants.{LineAdd}
@@ -59,7 +60,7 @@ use Rattle.book_step.specs.Importing as importing
 use Rattle.book_step.specs.LineAdding as line_adding
 use Rattle.book_step.specs.LineMatching as matching
 use Rattle.book_step.specs.Marking as marking
-use Rattle.book_step.specs.Outcome.{Broken, Done}
+use Rattle.book_step.specs.Outcome.{Broken, Done, changing}
 use Rattle.book_step.specs.Posting.{new_transaction, post_answer, post_rules}
 use Rattle.book_step.specs.Prices as prices
 use Rattle.book_step.specs.Reconciling as reconciling
@@ -68,12 +69,14 @@ use Rattle.book_step.specs.ScheduleRuns as runs
 use Rattle.book_step.specs.Schedules as schedules
 use Rattle.book_step.specs.State.{State}
 use Rattle.book_step.specs.Step.{outcome}
+use Rattle.book_step.specs.VoidRules.{already_voided, not_voided, voided_with}
+use Rattle.book_step.specs.Voiding as voiding
 use Rattle.book_step.proofs.SoundOutcome.{changing_done, unless_done}
 use Rattle.book_chain.specs.Chain.{is_reconciling}
 use Rattle.book_chain.proofs.ChainChanges.{Change, Finishes, Leaves, after-change, after-either, after-leaving}
 use Rattle.book_chain.proofs.ChainChanges.{same-tables}
 use Rattle.book_chain.proofs.KeptSplits.{clearing-makes, none-added, none-edited, none-left, none-marked, none-posted}
-use Rattle.book_chain.proofs.KeptSplits.{none-remarked, none-run}
+use Rattle.book_chain.proofs.KeptSplits.{none-remarked, none-restored, none-run, none-voided}
 
 -- ---- commodities, accounts, prices
 
@@ -144,13 +147,14 @@ edit-leaves state n force day given (Some old) new answered there e =
     let edited = editing.edited_transaction old state.next day given in
     let rules = editing.edit_rules state.book n force given old edited in
     let later = editing.book_with state.book n old edited in
+    let done = unless_done (already_voided n old) (editing.edit_of state n force day given old) new answered e in
     after-either (same_transaction edited old).is state rules rules later
     (editing.drawn_by old.splits given.splits) (editing.edit_answer state.book n edited)
     (editing.edit_answer later n edited) new answered
     (record {
       transactions = none-edited state.next n state.next old edited given.splits state.book.transactions there refl;
       reconciliations = refl;
-    }) e
+    }) done.1
 
 drop-leaves :
     (state : State) (n : ℕ) (force : Bool) (found : Option Txn) (new : State) (answered : Answer)
@@ -158,8 +162,34 @@ drop-leaves :
 drop-leaves state n force None new answered e = absurd cc
 drop-leaves state n force (Some old) new answered e =
     let later = editing.book_without state.book n old in
-    after-change state (editing.reconciled force old.splits [] ∷ []) later 0 answer.Drop new answered
-    (record { transactions = none-left state.next n state.book.transactions; reconciliations = refl }) e
+    after-change state (already_voided n old ∷ editing.reconciled force old.splits [] ∷ []) later 0 answer.Drop new
+    answered (record { transactions = none-left state.next n state.book.transactions; reconciliations = refl }) e
+
+void-leaves :
+    (state : State) (n : ℕ) (reason : List ℕ) (force : Bool) (found : Option Txn) (new : State) (answered : Answer)
+    → voiding.void_at state n reason force found ≡ Done new answered → Leaves state.next state.book new.book
+void-leaves state n reason force None new answered e = absurd cc
+void-leaves state n reason force (Some old) new answered e =
+    let later = editing.book_with state.book n old (voided_for reason old) in
+    after-change state (already_voided n old ∷ editing.reconciled force old.splits [] ∷ []) later 0 answer.Void new
+    answered (record {
+      transactions = none-voided state.next n reason old state.book.transactions;
+      reconciliations = refl;
+    }) e
+
+unvoid-leaves :
+    (state : State) (n : ℕ) (found : Option Txn) (new : State) (answered : Answer)
+    → voiding.unvoid_at state n found ≡ Done new answered → Leaves state.next state.book new.book
+unvoid-leaves state n None new answered e = absurd cc
+unvoid-leaves state n (Some old) new answered e =
+    let later = voiding.book_restored state.book n old in
+    let rules = not_voided n old ∷ [] in
+    let change = changing_done state rules later 0 answer.Unvoid new answered e in
+    after-change state rules later 0 answer.Unvoid new answered
+    (record {
+      transactions = none-restored state.next n old state.book.transactions (not-broken _ _ change.kept.0);
+      reconciliations = refl;
+    }) e
 
 -- ---- schedules
 
@@ -284,8 +314,10 @@ mark-leaves state n mark force None new answered not_yet e = absurd cc
 mark-leaves state n mark force (Some split) new answered not_yet e =
     let rules = marking.keeps_mark force n split ∷ [] in
     let later = marking.book_marked n mark state.book in
+    let done = unless_done (voided_with state.book.transactions n) (marking.mark_of state n mark force split) new answered
+    e in
     after-either (is_mark split.mark mark) state rules rules later 0 answer.Mark answer.Mark new answered
-    (marked-leaves state.next n mark state.book not_yet) e
+    (marked-leaves state.next n mark state.book not_yet) done.1
 
 -- a book in which a split is cleared, or not, and a line is matched with it
 paired-leaves :
@@ -304,9 +336,12 @@ pair-leaves :
     → matching.line_match_of state n line wanted found ≡ Done new answered → Leaves state.next state.book new.book
 pair-leaves state n line wanted None new answered e = absurd cc
 pair-leaves state n line wanted (Some split) new answered e =
-    after-change state (matching.match_rules state.book.lines n line wanted split)
-    (matching.book_paired n line wanted split state.book) 0 answer.LineMatch new answered
-    (paired-leaves (is_mark split.mark New) state.next n wanted line state.book) e
+    let rules = matching.match_rules state.book.lines n line wanted split in
+    let later = matching.book_paired n line wanted split state.book in
+    let done = unless_done (voided_with state.book.transactions wanted) (changing state rules later 0 answer.LineMatch) new
+    answered e in
+    after-change state rules later 0 answer.LineMatch new answered
+    (paired-leaves (is_mark split.mark New) state.next n wanted line state.book) done.1
 
 line_match-leaves :
     (state : State) (n wanted : ℕ) (found : Option Line) (new : State) (answered : Answer)
@@ -400,6 +435,13 @@ outcome-changes state (Edit transaction force day given) new answered e =
     )
 outcome-changes state (Drop transaction force) new answered e =
     inl (refl, drop-leaves state transaction force (value_of transaction state.book.transactions) new answered e)
+outcome-changes state (Void transaction reason force) new answered e =
+    inl (
+      refl,
+      void-leaves state transaction reason force (value_of transaction state.book.transactions) new answered e,
+    )
+outcome-changes state (Unvoid transaction) new answered e =
+    inl (refl, unvoid-leaves state transaction (value_of transaction state.book.transactions) new answered e)
 outcome-changes state (PriceSet price) new answered e =
     inl (refl, price_set-leaves state price (prices.price_of_day state.book.prices price) new answered e)
 outcome-changes state (PriceDrop price) new answered e =

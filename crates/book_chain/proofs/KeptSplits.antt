@@ -1,6 +1,6 @@
 -- What no change of the transactions does: it makes no split one that a reconciliation of the book marked.
 use Rattle.std.proofs.Common.{◌≡◌, ℕ, ◌+◌, ◌<◌, ◌==◌, ◌&&◌, ◌||◌, not, ℤ, Bool, true, false, All, List, [], ◌∷◌}
-use Rattle.std.proofs.Common.{if◌then◌else◌, map, Option, Some, None, find, refl, sym, ap, subst, ◌∙◌, arith}
+use Rattle.std.proofs.Common.{if◌then◌else◌, map, Option, Some, None, is_none, find, refl, sym, ap, subst, ◌∙◌, arith}
 use Rattle.std.specs.Option.{option_and_then}
 use Rattle.std.specs.Ordering.{int_eq}
 use Rattle.std.proofs.lemmas.Bool.{and_left, and_parts, and_right, eqb-true}
@@ -14,6 +14,9 @@ use Rattle.book_splits.specs.declared.split.Mark.{Mark}
 use Rattle.book_splits.specs.declared.split.Mark.TheVariants.{New, Cleared, Reconciled, Voided}
 use Rattle.book_splits.specs.declared.split.Split.{Split}
 use Rattle.book_splits.specs.declared.transaction.Txn.{Txn}
+use Rattle.book_splits.specs.declared.void.KeptSplit.{KeptSplit}
+use Rattle.book_splits.specs.declared.void.Void.{Void}
+use Rattle.book_void.specs.Voiding.{restored, restored_split, restored_splits, restored_with, voided_for, voided_split}
 use Rattle.book_splits.proofs.ReplacedLemmas.{all_of_one, all_splits_with, all_splits_without}
 use Rattle.book_statement.specs.declared.line.Line.{Line}
 use Rattle.book_reconcile.specs.Reconciliation.{has_mark, is_kept_by, is_mark, is_under}
@@ -215,6 +218,32 @@ none-edited next k number old new given ts there is = record {
       all_splits_with (IsOther n account m) k new ts
       (subst Others (sym is) (all-edited n account m old.splits number given own)) all;
 }
+
+-- ---- a transaction that is voided, and one that is brought back
+
+voided-open : (splits : List Split) → All IsOpen (map voided_split splits)
+voided-open [] = All-nil IsOpen
+voided-open (s ∷ splits) = All-cons IsOpen (voided_split s) (map voided_split splits) refl (voided-open splits)
+
+pub none-voided :
+    (next k : ℕ) (reason : List ℕ) (old : Txn) (ts : List (ℕ × Txn))
+    → MakesNone next ts (with_entry k (voided_for reason old) ts)
+none-voided next k reason old ts = none-put next k (voided_for reason old) ts (voided-open old.splits)
+
+restored-open : (splits : List Split) (kept : List KeptSplit) → All IsOpen (restored_splits splits kept)
+restored-open [] kept = All-nil IsOpen
+restored-open (s ∷ splits) [] = All-nil IsOpen
+restored-open (s ∷ splits) (k ∷ kept) =
+    All-cons IsOpen (restored_split s k) (restored_splits splits kept) refl (restored-open splits kept)
+
+with-open : (t : Txn) (voided : Option Void) → is_none voided ≡ false → All IsOpen (restored_with t voided).splits
+with-open t None is = absurd cc
+with-open t (Some void) is = restored-open t.splits void.kept
+
+pub none-restored :
+    (next k : ℕ) (old : Txn) (ts : List (ℕ × Txn)) → is_none old.voided ≡ false
+    → MakesNone next ts (with_entry k (restored old) ts)
+none-restored next k old ts voided = none-put next k (restored old) ts (with-open old old.voided voided)
 
 -- A transaction is taken.
 pub none-left : (next k : ℕ) (ts : List (ℕ × Txn)) → MakesNone next ts (without_entry k ts)

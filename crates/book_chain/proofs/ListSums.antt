@@ -9,11 +9,10 @@ use Rattle.std.proofs.lemmas.Bool.{and_from, and_left, and_parts, and_right, eqb
 use Rattle.std.proofs.lemmas.Bool.{or_parts, or_right, true_from_ne_false}
 use Rattle.std.proofs.lemmas.Bool.Decides.{Decides-int_eq, nat_tests}
 use Rattle.std.proofs.lemmas.Int.{ints}
-use Rattle.std.proofs.lemmas.List.Elements.{All-cons, All-head, All-nil, All-tail, All-weaker}
-use Rattle.std.proofs.lemmas.List.Folds.{list_all-append}
+use Rattle.std.proofs.lemmas.List.Elements.{All-append, All-cons, All-head, All-nil, All-tail, All-weaker}
 use Rattle.book_commodity.specs.Table.{AllAbove, Rises, value_of}
 use Rattle.book_splits.specs.Balance.{splits_of, total}
-use Rattle.book_splits.specs.TransactionRules.{are_once, is_among, numbers_of}
+use Rattle.book_splits.specs.TransactionRules.{are_once, is_among, is_voided, numbers_of}
 use Rattle.book_splits.specs.declared.reconciliation.MarkedSplit.{MarkedSplit}
 use Rattle.book_splits.specs.declared.reconciliation.Recon.{Recon}
 use Rattle.book_splits.specs.declared.split.Mark.{Mark}
@@ -23,7 +22,10 @@ use Rattle.book_splits.specs.declared.transaction.Txn.{Txn}
 use Rattle.book_undo.specs.Book.{Book}
 use Rattle.book_reconcile.specs.Reconciliation.{has_mark, is_intact, is_kept_by, is_mark, is_under, opening}
 use Rattle.book_reconcile.proofs.KeptLemmas.{asks-number}
-use Rattle.book_sound.specs.MarkedTransactionRules.{is_marked_as, is_reconciled, is_rightly_marked}
+use Rattle.book_sound.specs.MarkedTransactionRules.{are_rightly_marked, is_marked_as, is_reconciled, is_rightly_marked}
+use Rattle.book_sound.specs.MarkedTransactionRules.{is_rightly_voided}
+use Rattle.book_sound.proofs.VoidFrames.{voided_of}
+use Rattle.book_splits.specs.declared.void.Void.{Void}
 use Rattle.book_sound.specs.ReconciliationRules.{marked_numbers, marked_sum}
 use Rattle.book_sound.specs.Soundness.{IsSoundBook}
 use Rattle.book_sound.proofs.MarkLemmas.{reconciled_is_marked}
@@ -347,15 +349,38 @@ all-pass {X} test (x ∷ xs) all =
     let parts = and_parts (test x) (list_all test xs) all in
     All-cons (λ (y : X). test y ≡ true) x xs parts.0 (all-pass test xs parts.1)
 
+voided-not : (mark : Mark) → is_voided mark ≡ true → is_mark mark Reconciled ≡ false
+voided-not New is = absurd cc
+voided-not Cleared is = absurd cc
+voided-not Reconciled is = absurd cc
+voided-not Voided is = refl
+
+-- Whether a split is reconciled on the account says whether a reconciliation of it lists the split.
+abbrev IsTold : ℕ → List (ℕ × Recon) → Split → Type 0
+IsTold account reconciliations s = has_mark Reconciled account s ≡ is_of_some account reconciliations s
+
+-- so it is of the splits of each transaction, be it voided or not
+told-of :
+    (account : ℕ) (reconciliations : List (ℕ × Recon)) (voided : Option Void) (splits : List Split)
+    → are_rightly_marked reconciliations voided splits ≡ true → All (IsTold account reconciliations) splits
+told-of account reconciliations None splits right =
+    All-weaker (λ (s : Split). is_rightly_marked reconciliations s ≡ true) (IsTold account reconciliations)
+    (λ s marked. same-test account reconciliations s marked) splits
+    (all-pass (is_rightly_marked reconciliations) splits right)
+told-of account reconciliations (Some void) splits right =
+    All-weaker (λ (s : Split). is_rightly_voided s ≡ true) (IsTold account reconciliations)
+    (λ s voided.
+    let has : has_mark Reconciled account s ≡ false =
+    and_right (s.account == account) _ (voided-not s.mark (voided_of s voided).mark) in
+    has ∙ sym (not-of-some account reconciliations s has)) splits
+    (all-pass is_rightly_voided splits right)
+
 all-splits :
-    (test : Split → Bool) (ts : List (ℕ × Txn)) → All (λ (e : ℕ × Txn). list_all test e.1.splits ≡ true) ts
-    → list_all test (splits_of ts) ≡ true
-all-splits test [] all = refl
-all-splits test (e ∷ ts) all =
-    let Passes : ℕ × Txn → Type 0 = λ x. list_all test x.1.splits ≡ true in
-    list_all-append test e.1.splits (splits_of ts)
-    ∙ and_from (list_all test e.1.splits) (list_all test (splits_of ts)) (All-head Passes e ts all)
-    (all-splits test ts (All-tail Passes e ts all))
+    (P : Split → Type 0) (ts : List (ℕ × Txn)) → All (λ (e : ℕ × Txn). All P e.1.splits) ts → All P (splits_of ts)
+all-splits P [] all = All-nil P
+all-splits P (e ∷ ts) all =
+    let Each : ℕ × Txn → Type 0 = λ x. All P x.1.splits in
+    All-append P e.1.splits (splits_of ts) (All-head Each e ts all) (all-splits P ts (All-tail Each e ts all))
 
 -- While the records of an account's reconciliations are intact in a sound book, the opening balance of the next one is
 -- the sum of their lists.
@@ -366,13 +391,10 @@ pub opening-sums :
 opening-sums book account is intact =
     let reconciliations = book.reconciliations in
     let ts = book.transactions in
-    let Right : Split → Type 0 = λ s. is_rightly_marked reconciliations s ≡ true in
-    let Same : Split → Type 0 = λ s. has_mark Reconciled account s ≡ is_of_some account reconciliations s in
-    let right : All Right (splits_of ts) = all-pass (is_rightly_marked reconciliations) (splits_of ts)
-    (all-splits (is_rightly_marked reconciliations) ts
-    (all_of_each (λ (e : ℕ × Txn). list_all (is_rightly_marked reconciliations) e.1.splits ≡ true) ts
-    is.transactions.rise (λ k t there. (is.transactions.keep.each k t there).1.1.1.0))) in
-    let same = All-weaker Right Same (λ s marked. same-test account reconciliations s marked) (splits_of ts) right in
+    let Told : Split → Type 0 = IsTold account reconciliations in
+    let same = all-splits Told ts
+    (all_of_each (λ (e : ℕ × Txn). All Told e.1.splits) ts is.transactions.rise
+    (λ k t there. told-of account reconciliations t.voided t.splits (is.transactions.keep.each k t there).1.1.1.0)) in
     let once = all_of_each (λ (e : ℕ × Recon). are_once (marked_numbers e.1.marked) ≡ true) reconciliations
     is.reconciliations.rise (λ k r there. (is.reconciliations.keep.each k r there).1.0) in
     sum-same (has_mark Reconciled account) (is_of_some account reconciliations) (splits_of ts) same

@@ -17,6 +17,7 @@ use Rattle.book_step.specs.Outcome as outcomes
 use Rattle.book_step.specs.Outcome.{Outcome, numbers}
 use Rattle.book_step.specs.Prices.{rate_rules}
 use Rattle.book_step.specs.Reconciling.{recons_of}
+use Rattle.book_step.specs.Voiding.{voided_of}
 use Rattle.book_step.specs.Schedules.{day_rules, due_of}
 use Rattle.book_step.specs.State.{State}
 use Rattle.book_step.specs.Step.{outcome, stale}
@@ -130,6 +131,9 @@ reply-moves machine (ask.Statements account) new given e =
 reply-moves machine (ask.Recons account) new given e =
     asked-moves machine (account_asked machine.book account) (answers.Recons (recons_of account machine.book))
     (ask.Recons account) new given e
+reply-moves machine (ask.Voided account) new given e =
+    asked-moves machine (account_asked machine.book account)
+    (answers.Voided (voided_of account machine.book.transactions)) (ask.Voided account) new given e
 reply-moves machine (ask.Due upto) new given e =
     asked-moves machine (day_rules upto machine.book.schedules) (answers.Due (due_of machine.book upto)) (ask.Due upto)
     new given e

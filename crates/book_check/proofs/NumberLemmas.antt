@@ -1,7 +1,7 @@
 -- Numbers of splits, against those that were seen.
-use Rattle.std.proofs.Common.{◌≡◌, ℕ, ◌+◌, ◌==◌, not, Bool, true, false, ◌&&◌, ◌||◌, List, ◌∷◌, take, Some, slice_get, is_none}
+use Rattle.std.proofs.Common.{◌≡◌, ℕ, ◌+◌, ◌==◌, not, Bool, true, false, ◌&&◌, ◌||◌, List, ◌∷◌, take, Some, slice_get}
 use Rattle.std.proofs.Common.{refl, sym, ap, ◌∙◌, arith}
-use Rattle.std.specs.List.{list_all, list_any}
+use Rattle.std.specs.List.{list_any}
 use Rattle.std.specs.Cmp.{unsigned_tied}
 use Rattle.std.specs.Ordering.{nat_cmp}
 use Rattle.std.proofs.lemmas.Bool.Decides.{nat_tests}
@@ -12,7 +12,8 @@ use Rattle.book_splits.specs.declared.transaction.Txn.{Txn}
 use Rattle.book_commodity.specs.declared.commodity.Commodity.{Commodity}
 use Rattle.book_accounts.specs.declared.account.Account.{Account}
 use Rattle.book_splits.specs.declared.reconciliation.Recon.{Recon}
-use Rattle.book_sound.specs.MarkedTransactionRules.{is_rightly_marked, marked_transaction_rules}
+use Rattle.book_void.specs.Voiding.{keeps_each, restored}
+use Rattle.book_sound.specs.MarkedTransactionRules.{are_rightly_marked, marked_transaction_rules}
 use Rattle.book_sound.specs.Tests.{passes_check}
 use Rattle.book_check.specs.FirstUnsound.{all_hold}
 use Rattle.book_check.specs.Numbers.{AddsAll, HasNumbers, are_new}
@@ -99,15 +100,17 @@ pub rules_asked :
     (commodities : List (ℕ × Commodity)) (accounts : List (ℕ × Account)) (reconciliations : List (ℕ × Recon))
     (seen : List ℕ) (es : List (ℕ × Txn)) (i n : ℕ) (t : Txn) (kept new : Bool) → Rises es
     → slice_get es i ≡ Some (n, t) → HasNumbers seen (take i es)
-    → kept ≡ (passes_check commodities accounts t
-    && (list_all (is_rightly_marked reconciliations) t.splits && is_none t.voided))
+    → kept ≡ (passes_check commodities accounts (restored t)
+    && (are_rightly_marked reconciliations t.voided t.splits && keeps_each t.voided t.splits))
     → new ≡ are_new seen (numbers_of t.splits)
     → all_hold (marked_transaction_rules commodities accounts reconciliations es n t) ≡ (kept && new)
 rules_asked commodities accounts reconciliations seen es i n t kept new rise there has asked counted =
-    regrouped (passes_check commodities accounts t) (are_once (numbers_of t.splits))
-    (stands_before (share_numbers t) n es) (list_all (is_rightly_marked reconciliations) t.splits) (is_none t.voided)
-    ∙ ap (λ b. (passes_check commodities accounts t
-    && (list_all (is_rightly_marked reconciliations) t.splits && is_none t.voided)) && (are_once (numbers_of t.splits) && not b)) (shares_seen seen es i n t rise there has)
+    let passes = passes_check commodities accounts (restored t) in
+    let marks = are_rightly_marked reconciliations t.voided t.splits in
+    let keeps = keeps_each t.voided t.splits in
+    let once = are_once (numbers_of t.splits) in
+    regrouped passes once (stands_before (share_numbers t) n es) marks keeps
+    ∙ ap (λ b. (passes && (marks && keeps)) && (once && not b)) (shares_seen seen es i n t rise there has)
     ∙ ap (λ b. b && are_new seen (numbers_of t.splits)) (sym asked) ∙ ap (λ b. kept && b) (sym counted)
   where
     regrouped :

@@ -1,20 +1,23 @@
 -- The splits of a book by their numbers, as lines are matched with them.
-use Rattle.std.specs.Prelude.{◌≡◌, ℕ, ℤ, ◌==◌, Bool, false, ◌&&◌, List, ◌++◌, Option, Some, None, option_map}
+use Rattle.std.specs.Prelude.{◌≡◌, ℕ, ℤ, ◌==◌, not, Bool, false, ◌&&◌, List, ◌++◌, Option, Some, None, option_map}
 use Rattle.std.specs.BTreeMap.{get}
 use Rattle.std.specs.Ordering.{int_eq, nat_cmp}
+use Rattle.book_splits.specs.TransactionRules.{is_voided}
 use Rattle.book_splits.specs.declared.split.Split.{Split}
 use Rattle.book_sound.specs.LineRules.{split_among}
 use Rattle.book_check.specs.declared.splits.Quantity.{Quantity}
 use Rattle.book_check.specs.declared.splits.Splits.{Splits}
 
--- What a split gives to its account.
+-- What a split gives to its account, and whether it is voided.
 abbrev pub quantity_of : Split → Quantity
-quantity_of split = record { account = split.account; quantity = split.quantity }
+quantity_of split =
+    record { account = split.account; quantity = split.quantity; voided = is_voided split.mark }
 
--- Whether there is a split, and it gives this quantity to the account.
+-- Whether there is a split, it gives this quantity to the account, and it is not voided.
 abbrev pub fits_quantity : ℕ → ℤ → Option Quantity → Bool
 fits_quantity account quantity None = false
-fits_quantity account quantity (Some split) = (split.account == account) && int_eq split.quantity quantity
+fits_quantity account quantity (Some split) =
+    (split.account == account) && (int_eq split.quantity quantity && not split.voided)
 
 -- The map has what each number's first split gives, and nothing more.
 abbrev pub HasSplits : List Split → Splits → Type 0

@@ -1,5 +1,6 @@
 ghost use Rattle.std.specs.Prelude.{◌≡◌, IfOk, OnOk, ◌||◌};
-ghost use Rattle.book_sound.specs.MarkedTransactionRules.{has_marked, is_named_rightly, is_rightly_marked};
+ghost use Rattle.book_sound.specs.MarkedTransactionRules.{are_rightly_marked, has_marked, is_named_rightly};
+ghost use Rattle.book_sound.specs.MarkedTransactionRules.{is_rightly_marked};
 ghost use Rattle.book_commodity.specs.Table.{value_of};
 ghost use Rattle.std.specs.List.{list_all};
 ghost use Rattle.book_check.specs.Marks.{HasMarks, MarkKey, is_made_by, mark_cmp};
@@ -7,7 +8,8 @@ ghost use Rattle.book_check.specs.Seen.{is_seen};
 
 use crate::seen::Seen;
 use book_commodity::{OutOfMemory, Table};
-use book_splits::{Mark, MarkedSplit, Recon, Split};
+use book_splits::{Mark, MarkedSplit, Recon, Split, Txn};
+use book_void::are_rightly_voided;
 use std::alloc::Global;
 
 /// The number of a reconciliation, that of a split which it has marked, and the quantity that the split had.
@@ -57,12 +59,25 @@ fn split_key(number: u64, split: &Split) -> MarkKey
     (number, split.id, split.quantity)
 }
 
-/// Whether each split is reconciled exactly where it names a reconciliation that has marked it, and none is voided.
-pub(crate) fn are_marked(
+/// Whether the splits of the transaction are as its state says: where it is voided each is rightly voided, and else
+/// each is rightly marked.
+pub(crate) fn are_rightly_marked(
     reconciliations: &Table<Recon>,
     marks: &Seen<MarkKey>,
-    splits: &[Split],
+    transaction: &Txn,
 ) -> bool
+    requires { HasMarks marks.now reconciliations.now.entries }
+    ensures { result ≡ are_rightly_marked reconciliations.now.entries transaction.now.voided transaction.now.splits }
+{
+    let splits = transaction.splits.as_slice();
+    match transaction.voided {
+        Some(_) => are_rightly_voided(splits),
+        None => are_marked(reconciliations, marks, splits),
+    }
+}
+
+/// Whether each split is reconciled exactly where it names a reconciliation that has marked it, and none is voided.
+fn are_marked(reconciliations: &Table<Recon>, marks: &Seen<MarkKey>, splits: &[Split]) -> bool
     requires { HasMarks marks.now reconciliations.now.entries }
     ensures { result ≡ list_all (is_rightly_marked reconciliations.now.entries) splits.now }
 {

@@ -5,15 +5,16 @@ ghost use Rattle.book_splits.specs.Balance.{splits_of};
 ghost use Rattle.book_check.specs.Splits.{fits_quantity, HasSplits, PutsBefore, quantity_of};
 
 use book_commodity::OutOfMemory;
-use book_splits::{Split, Txns};
+use book_splits::{Mark, Split, Txns};
 use std::alloc::Global;
 use std::collections::BTreeMap;
 
-/// What a split gives to an account, in smallest units of the account's commodity.
+/// What a split gives to an account, in smallest units of the account's commodity, and whether it is voided.
 #[derive(Clone, Copy, Debug, PartialEq, Eq)]
 pub(crate) struct Quantity {
     pub(crate) account: u64,
     pub(crate) quantity: i64,
+    pub(crate) voided: bool,
 }
 
 /// What the splits of a book give to accounts, by the numbers of the splits.
@@ -36,12 +37,14 @@ impl Splits {
         Ok(splits)
     }
 
-    /// Whether the split with the number is there, and gives this quantity to the account.
+    /// Whether the split with the number is there, gives this quantity to the account, and is not voided.
     pub(crate) fn fits(&self, number: u64, account: u64, quantity: i64) -> bool
         ensures { result ≡ fits_quantity account quantity (get nat_cmp self.now.quantities number) }
     {
         match self.quantities.get(&number) {
-            Some(split) => split.account == account && split.quantity == quantity,
+            Some(split) => {
+                split.account == account && split.quantity == quantity && !split.voided
+            }
             None => false,
         }
     }
@@ -58,12 +61,13 @@ impl Splits {
     }
 }
 
-/// What the split gives to its account.
+/// What the split gives to its account, and whether it is voided.
 fn quantity_of(split: &Split) -> Quantity
     ensures { result ≡ quantity_of split.now }
 {
     Quantity {
         account: split.account,
         quantity: split.quantity,
+        voided: split.mark == Mark::Voided,
     }
 }

@@ -1,20 +1,20 @@
-ghost use Rattle.std.specs.Prelude.{◌≡◌, ◌+◌, ◌≤◌, IfOk, nat_lt, not, ◌&&◌, is_none};
+ghost use Rattle.std.specs.Prelude.{◌≡◌, ◌+◌, ◌≤◌, IfOk, nat_lt, not, ◌&&◌};
 ghost use Rattle.std.specs.Bool.{OnTrue};
-ghost use Rattle.std.specs.List.{list_all};
 ghost use Rattle.book_splits.specs.TransactionRules.{numbers_of};
-ghost use Rattle.book_sound.specs.MarkedTransactionRules.{is_rightly_marked, marked_transaction_rules};
+ghost use Rattle.book_void.specs.Voiding.{keeps_each, restored};
+ghost use Rattle.book_sound.specs.MarkedTransactionRules.{are_rightly_marked, marked_transaction_rules};
 ghost use Rattle.book_sound.specs.Tests.{passes_check};
 ghost use Rattle.book_check.specs.FirstUnsound.{first_in, splits_in};
 ghost use Rattle.book_check.specs.Marks.{HasMarks};
 ghost use Rattle.book_check.specs.Numbers.{AddsAll, are_new};
 
-use crate::marks::{MarkKey, are_marked, marks_of};
+use crate::marks::{MarkKey, are_rightly_marked, marks_of};
 use crate::numbers::Numbers;
-use crate::passes::passes_check;
 use crate::seen::Seen;
 use book_accounts::Tree;
 use book_commodity::{Commodities, OutOfMemory, Table};
 use book_splits::{Recon, Split, Txn, Txns};
+use book_void::{keeps_each, passes_restored};
 use std::alloc::Global;
 
 /// How many transactions a book has at most.
@@ -46,7 +46,15 @@ pub(crate) fn first_transaction(
         if is_past(place, sum, count) {
             return Ok(Some(number));
         }
-        if !is_kept(commodities, accounts, reconciliations, &marks, transaction) {
+        let kept = is_kept(
+            alloc,
+            commodities,
+            accounts,
+            reconciliations,
+            &marks,
+            transaction,
+        )?;
+        if !kept {
             return Ok(Some(number));
         }
         if !add_new(&mut seen, transaction.splits.as_slice())? {
@@ -65,22 +73,29 @@ fn is_past(place: usize, sum: usize, count: usize) -> bool
     place >= MOST || count > MOST_SPLITS - sum
 }
 
-/// Whether the transaction passes the check of transactions, its splits are rightly marked, and it is not voided.
+/// Whether the transaction, as it is brought back where it is voided, passes the check of transactions, its splits are
+/// as its state says, and where it is voided the amounts of each are kept.
 fn is_kept(
+    alloc: Global,
     commodities: &Commodities,
     accounts: &Tree,
     reconciliations: &Table<Recon>,
     marks: &Seen<MarkKey>,
     transaction: &Txn,
-) -> bool
+) -> Result<bool, OutOfMemory>
     requires { HasMarks marks.now reconciliations.now.entries }
-    ensures { result ≡ (passes_check commodities.now.entries accounts.now.entries transaction.now
-        && (list_all (is_rightly_marked reconciliations.now.entries) transaction.now.splits
-        && is_none transaction.now.voided)) }
+    ensures { IfOk result (λ kept. kept ≡
+        (passes_check commodities.now.entries accounts.now.entries (restored transaction.now)
+        && (are_rightly_marked reconciliations.now.entries transaction.now.voided transaction.now.splits
+        && keeps_each transaction.now.voided transaction.now.splits))) }
 {
-    passes_check(commodities, accounts, transaction)
-        && are_marked(reconciliations, marks, transaction.splits.as_slice())
-        && transaction.voided.is_none()
+    if !keeps_each(transaction) {
+        return Ok(false);
+    }
+    if !are_rightly_marked(reconciliations, marks, transaction) {
+        return Ok(false);
+    }
+    passes_restored(alloc, commodities, accounts, transaction)
 }
 
 /// Adds the numbers of the splits, and says whether each is new.

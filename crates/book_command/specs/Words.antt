@@ -2,12 +2,13 @@
 use Rattle.std.specs.Prelude.{ℕ, List, [], ◌∷◌, codes}
 use Rattle.book_command.specs.declared.word.Word.{Word}
 use Rattle.book_command.specs.declared.word.Word.TheVariants.{BookCurrency, CommodityAdd, AccountAdd, AccountEdit}
-use Rattle.book_command.specs.declared.word.Word.TheVariants.{AccountDrop, Post, Edit, Drop, Mark, PriceSet}
-use Rattle.book_command.specs.declared.word.Word.TheVariants.{PriceDrop, ScheduleAdd, ScheduleDrop, ScheduleRun, Bind}
+use Rattle.book_command.specs.declared.word.Word.TheVariants.{AccountDrop, Post, Edit, Drop, Void, Unvoid, Mark}
+use Rattle.book_command.specs.declared.word.Word.TheVariants.{PriceSet, PriceDrop, ScheduleAdd, ScheduleDrop}
+use Rattle.book_command.specs.declared.word.Word.TheVariants.{ScheduleRun, Bind}
 use Rattle.book_command.specs.declared.word.Word.TheVariants.{Import, LineMatch, LineAdd, LineDismiss, LineReopen}
 use Rattle.book_command.specs.declared.word.Word.TheVariants.{MatchAuto, Reconcile, ReconcileStatement, Undo, Redo}
 use Rattle.book_command.specs.declared.word.Word.TheVariants.{Register, Trial, Sheet, Income, Lots, Gains, Lines}
-use Rattle.book_command.specs.declared.word.Word.TheVariants.{Statements, Recons, Due, Price, Status}
+use Rattle.book_command.specs.declared.word.Word.TheVariants.{Statements, Recons, Voided, Due, Price, Status}
 
 -- Each word behind its text.
 abbrev pub words : List (List ℕ × Word)
@@ -20,6 +21,8 @@ words =
     ∷ (codes "post", Post)
     ∷ (codes "edit", Edit)
     ∷ (codes "drop", Drop)
+    ∷ (codes "void", Void)
+    ∷ (codes "unvoid", Unvoid)
     ∷ (codes "mark", Mark)
     ∷ (codes "price_set", PriceSet)
     ∷ (codes "price_drop", PriceDrop)
@@ -46,6 +49,7 @@ words =
     ∷ (codes "lines", Lines)
     ∷ (codes "statements", Statements)
     ∷ (codes "recons", Recons)
+    ∷ (codes "voided", Voided)
     ∷ (codes "due", Due)
     ∷ (codes "price", Price)
     ∷ (codes "status", Status)

@@ -42,6 +42,17 @@ pub struct ReconShown {
     pub intact: bool,
 }
 
+/// A split of a voided transaction, by the transaction's number and its own: the value that was kept of it, in smallest
+/// units of the transaction's currency, the quantity, in smallest units of the account's commodity, and the reason.
+#[derive(Drop)]
+pub struct VoidedShown {
+    pub transaction: u64,
+    pub split: u64,
+    pub value: i64,
+    pub quantity: i64,
+    pub reason: Text,
+}
+
 /// What an accepted command is answered, by the command's word.
 #[derive(Drop)]
 pub enum Answer {
@@ -71,6 +82,8 @@ pub enum Answer {
         balances: Many<i128>,
     },
     Drop,
+    Void,
+    Unvoid,
     Mark,
     /// The number of the price, which is new, or that of the one in whose place it stands.
     PriceSet {
@@ -156,6 +169,10 @@ pub enum Answer {
     /// The reconciliations of the account, by number.
     Recons {
         recons: Many<ReconShown>,
+    },
+    /// The splits of the account whose transactions are voided, by the transactions' numbers and by place.
+    Voided {
+        voided: Many<VoidedShown>,
     },
     /// The days that are due, in order of their schedules and days.
     Due {

@@ -40,6 +40,10 @@ pub enum What {
     Recons {
         account: u64,
     },
+    /// The account's splits of voided transactions.
+    Voided {
+        account: u64,
+    },
     /// Which days of the schedules are due up to the day.
     Due {
         upto: Day,
@@ -130,6 +134,17 @@ pub enum Update {
     Drop {
         transaction: u64,
         force: bool,
+    },
+    /// The transaction of this number is voided for the reason: its amounts become zero, and what they were is kept.
+    /// One with reconciled splits is voided only with force.
+    Void {
+        transaction: u64,
+        reason: Text,
+        force: bool,
+    },
+    /// The voided transaction of this number is brought back, with the amounts that were kept of it.
+    Unvoid {
+        transaction: u64,
     },
     /// The split of this number is cleared, or it is new again. The mark of a reconciled one changes only with force.
     Mark {

@@ -11,7 +11,7 @@ mod rule;
 mod wire_error;
 mod word;
 
-pub use answer::{Answer, DueDay, HeldShown, LineShown, Ratio, ReconShown};
+pub use answer::{Answer, DueDay, HeldShown, LineShown, Ratio, ReconShown, VoidedShown};
 pub use command::{
     Command, Format, GivenAccount, GivenOther, GivenSchedule, GivenSplit, GivenTxn, Report, Update,
     What,

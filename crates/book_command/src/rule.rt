@@ -42,6 +42,10 @@ pub enum Rule {
     Unbalanced { sum: i128 },
     /// This split is reconciled with a statement, and would be removed, or have another account, quantity or mark.
     Reconciled { split: u64 },
+    /// This transaction is voided.
+    Voided { transaction: u64 },
+    /// This transaction is not voided.
+    NotVoided { transaction: u64 },
     /// The statement file is broken at a line of it.
     BadStatement { fault: StatementFault },
     /// No account is given, and this account text of a statement stands for none.

@@ -12,6 +12,8 @@ pub enum Word {
     Post,
     Edit,
     Drop,
+    Void,
+    Unvoid,
     Mark,
     PriceSet,
     PriceDrop,
@@ -38,13 +40,14 @@ pub enum Word {
     Lines,
     Statements,
     Recons,
+    Voided,
     Due,
     Price,
     Status,
 }
 
 /// The texts of the words.
-static WORDS: [(&str, Word); 37] = [
+static WORDS: [(&str, Word); 40] = [
     ("book_currency", Word::BookCurrency),
     ("commodity_add", Word::CommodityAdd),
     ("account_add", Word::AccountAdd),
@@ -53,6 +56,8 @@ static WORDS: [(&str, Word); 37] = [
     ("post", Word::Post),
     ("edit", Word::Edit),
     ("drop", Word::Drop),
+    ("void", Word::Void),
+    ("unvoid", Word::Unvoid),
     ("mark", Word::Mark),
     ("price_set", Word::PriceSet),
     ("price_drop", Word::PriceDrop),
@@ -79,6 +84,7 @@ static WORDS: [(&str, Word); 37] = [
     ("lines", Word::Lines),
     ("statements", Word::Statements),
     ("recons", Word::Recons),
+    ("voided", Word::Voided),
     ("due", Word::Due),
     ("price", Word::Price),
     ("status", Word::Status),

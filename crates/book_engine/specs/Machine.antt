@@ -9,7 +9,7 @@ use Rattle.book_command.specs.declared.command.Command.{Command}
 use Rattle.book_command.specs.declared.command.What.{What}
 use Rattle.book_command.specs.declared.command.What.TheVariants.{Update, Undo, Redo, Price, Report, Due, Status}
 use Rattle.book_command.specs.declared.command.What.TheVariants.{Lines, Statements}
-use Rattle.book_command.specs.declared.command.What.TheVariants.{Recons}
+use Rattle.book_command.specs.declared.command.What.TheVariants.{Recons, Voided}
 use Rattle.book_command.specs.declared.rule.Rule.{Rule}
 use Rattle.book_command.specs.declared.rule.Rule.TheVariants.{NothingToUndo, NothingToRedo}
 use Rattle.book_step.specs.BankLines.{account_asked, lines_of, statements_of}
@@ -21,6 +21,7 @@ use Rattle.book_step.specs.Reconciling.{recons_of}
 use Rattle.book_step.specs.Schedules.{day_rules, due_of}
 use Rattle.book_step.specs.State.{State, fresh_book}
 use Rattle.book_step.specs.Step.{outcome as outcome_of, stale}
+use Rattle.book_step.specs.Voiding.{voided_of}
 use Rattle.book_report_answers.specs.Reports.{report_answer, report_rules}
 
 -- The past books, the nearest first; the present book; the later ones, the nearest first; the number that the next
@@ -127,6 +128,8 @@ reply machine (Statements account) =
     (answer.Statements (statements_of account machine.book.statements))
 reply machine (Recons account) =
     asked machine (account_asked machine.book account) (answer.Recons (recons_of account machine.book))
+reply machine (Voided account) =
+    asked machine (account_asked machine.book account) (answer.Voided (voided_of account machine.book.transactions))
 reply machine (Due upto) =
     asked machine (day_rules upto machine.book.schedules) (answer.Due (due_of machine.book upto))
 reply machine Status = Done machine (status machine)

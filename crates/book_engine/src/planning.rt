@@ -12,6 +12,8 @@ ghost use Rattle.book_command.specs.declared.answer.Answer.TheVariants.{Due as D
 ghost use Rattle.book_command.specs.declared.answer.Answer.TheVariants.{Lines as LinesAnswer};
 ghost use Rattle.book_command.specs.declared.answer.Answer.TheVariants.{Statements as StatementsAnswer};
 ghost use Rattle.book_command.specs.declared.answer.Answer.TheVariants.{Recons as ReconsAnswer};
+ghost use Rattle.book_command.specs.declared.answer.Answer.TheVariants.{Voided as VoidedAnswer};
+ghost use Rattle.book_step.specs.Voiding.{voided_of};
 ghost use Rattle.book_command.specs.declared.command.What.TheVariants.{Redo as AskRedo, Undo as AskUndo};
 ghost use Rattle.book_opening.specs.State.{state_of};
 ghost use Rattle.book_report_answers.specs.Reports.{report_answer as report_answer_of, report_rules};
@@ -33,7 +35,7 @@ use book_opening::Saved;
 use book_report_answers::report_answer;
 use book_step::{
     Answer, Command, Refusal, Rule, Step, Update, check_version, due_answer, lines_answer,
-    rate_answer, recons_answer, statements_answer,
+    rate_answer, recons_answer, statements_answer, voided_answer,
 };
 use book_turns::{Turn, Way, row_changes};
 use book_undo::Edit;
@@ -95,6 +97,7 @@ fn plan_at(
         What::Lines { account } => plan_lines(alloc, state, account),
         What::Statements { account } => plan_statements(alloc, state, account),
         What::Recons { account } => plan_recons(alloc, state, account),
+        What::Voided { account } => plan_voided(alloc, state, account),
         What::Due { upto } => plan_due(alloc, state, upto),
         What::Status => Ok(plan_stay(alloc, state, status(state))),
     }
@@ -161,6 +164,16 @@ fn plan_recons(alloc: Global, state: &Saved, account: u64) -> Result<Plan, Refus
         (ReconsAnswer (recons_of account (state_of state.now).book))) result }
 {
     let answer = recons_answer(alloc, &state.plain, account)?;
+    Ok(plan_stay(alloc, state, answer))
+}
+
+/// The plan of the question for an account's splits of voided transactions. It leaves the state as it is.
+fn plan_voided(alloc: Global, state: &Saved, account: u64) -> Result<Plan, Refusal>
+    ensures { Finds (account_asked (state_of state.now).book account)
+        (λ plan. plan ≡ stay_plan (state_of state.now)
+        (VoidedAnswer (voided_of account (state_of state.now).book.transactions))) result }
+{
+    let answer = voided_answer(alloc, &state.plain, account)?;
     Ok(plan_stay(alloc, state, answer))
 }
 

@@ -10,11 +10,11 @@ use Rattle.book_commodity.specs.Day.{day_text}
 use Rattle.book_commodity.specs.declared.commodity.Commodity.{Commodity}
 use Rattle.book_prices.specs.declared.price.Price.{Price}
 use Rattle.book_splits.specs.declared.split.Mark.{Mark}
-use Rattle.book_splits.specs.declared.split.Mark.TheVariants.{Cleared, New, Reconciled}
+use Rattle.book_splits.specs.declared.split.Mark.TheVariants.{Cleared, New, Reconciled, Voided}
 use Rattle.book_splits.specs.declared.split.Split.{Split}
 use Rattle.book_splits.specs.declared.transaction.Txn.{Txn}
 use Rattle.book_undo.specs.Book.{Book, empty_book}
-use Rattle.book_export.specs.Entries.{head_line, posting_end, posting_line, posting_start, transaction_lines}
+use Rattle.book_export.specs.Entries.{head_line, posting_end, posting_line, posting_start, transaction_lines, void_line}
 use Rattle.book_export.specs.Export.{accounts_text, commodities_text, prices_text}
 use Rattle.book_export.specs.Names.{journal_name, written_from}
 use Rattle.book_export.specs.Prices.{power_for, price_line}
@@ -79,7 +79,7 @@ salary :
     (split 5 [] New (pos 250000) (pos 250000) ∷ split 6 [] New (negsuc 249999) (negsuc 249999) ∷ []))
     ≡ (codes "\n" ++ day_text (pos 40) ++ codes " (7) Salary\n") ++ codes "    Bank  2500.00 EUR\n    Pay  -2500.00 EUR\n"
 unfolding amount_in amount_text day_text decimals_of digits exponent_of head_line nearest_parents posting_end
-    posting_line posting_start shown transaction_lines written_from
+    posting_line posting_start shown transaction_lines void_line written_from
 salary = refl
 
 -- ten shares for 100.00: the value is the cost of the quantity
@@ -90,7 +90,7 @@ purchase :
     ≡ (codes "\n" ++ day_text (pos 41) ++ codes " Buy\n") ++ codes "    Bank:Broker  10 \"NYSE:ACME\" @@ 100.00 EUR\n"
     ++ codes "    Bank  -100.00 EUR\n"
 unfolding amount_in amount_text day_text decimals_of digits exponent_of head_line nearest_parents posting_end
-    posting_line posting_start shown transaction_lines written_from
+    posting_line posting_start shown transaction_lines void_line written_from
 purchase = refl
 
 -- a correction of the cost alone: one share has it, and one is taken back for nothing
@@ -102,7 +102,7 @@ correction :
     ++ codes "    Bank:Broker  1 \"NYSE:ACME\" @@ 1.50 EUR\n    Bank:Broker  -1 \"NYSE:ACME\" @@ 0.00 EUR\n"
     ++ codes "    Bank  -1.50 EUR\n"
 unfolding amount_in amount_text day_text decimals_of digits exponent_of head_line nearest_parents posting_end
-    posting_line posting_start shown transaction_lines written_from
+    posting_line posting_start shown transaction_lines void_line written_from
 correction = refl
 
 -- splits that are marked, a name with a semicolon, a memo with a colon, and a description that begins as a mark
@@ -113,8 +113,24 @@ marked :
     ≡ (codes "\n" ++ day_text (pos 43) ++ codes " () *Market%3B stall 3\n")
     ++ codes "    ! Food%3B drink  0.05 EUR\n    * Bank  -0.05 EUR  ; ref : 9\n"
 unfolding amount_in amount_text day_text decimals_of digits exponent_of head_line nearest_parents posting_end
-    posting_line posting_start shown transaction_lines written_from
+    posting_line posting_start shown transaction_lines void_line written_from
 marked = refl
+
+-- a voided transaction: a comment says why, with a blank before its colon, and its splits are postings of zero
+voided :
+    transaction_lines book
+    (record (transaction (pos 43) [] (codes "Twice")
+    (split 7 [] Voided (pos 0) (pos 0) ∷ split 5 (codes "fee") Voided (pos 0) (pos 0) ∷ [])) {
+      voided = Some (record {
+        reason = codes "see: 20";
+        kept = record { value = pos 150; quantity = pos 1 } ∷ record { value = negsuc 149; quantity = negsuc 149 } ∷ [];
+      });
+    })
+    ≡ (codes "\n" ++ day_text (pos 43) ++ codes " Twice\n") ++ codes "    ; voided : see : 20\n"
+    ++ codes "    Bank:Broker  0 \"NYSE:ACME\"\n    Bank  0.00 EUR  ; fee\n"
+unfolding amount_in amount_text day_text decimals_of digits exponent_of head_line nearest_parents posting_end
+    posting_line posting_start shown transaction_lines void_line written_from
+voided = refl
 
 -- every account has its directive, the hidden one too, and the root has none
 directives :

@@ -10,12 +10,13 @@ use Rattle.book_splits.specs.declared.split.Mark.{Mark}
 use Rattle.book_splits.specs.declared.split.Mark.TheVariants.{New, Cleared, Reconciled, Voided}
 use Rattle.book_splits.specs.declared.split.Split.{Split}
 use Rattle.book_splits.specs.declared.transaction.Txn.{Txn}
+use Rattle.book_splits.specs.declared.void.Void.{Void}
 use Rattle.book_undo.specs.Book.{Book}
 use Rattle.book_export.specs.Names.{journal_path}
 use Rattle.book_export.specs.Symbols.{amount_in}
 use Rattle.book_export.specs.Texts.{code, note, shown}
 use Rattle.book_export.specs.declared.posting.Posting.{Posting}
-use Rattle.book_export.specs.declared.texts.Place.TheVariants.{Description}
+use Rattle.book_export.specs.declared.texts.Place.TheVariants.{Description, Memo}
 
 -- A mark as both programs have it: `!` for cleared, `*` for reconciled (GnuCash Manual, reconciling). They have none for
 -- voided, whose amounts are zero.
@@ -101,10 +102,17 @@ head_line transaction =
     10 ∷ day_text transaction.day ++ 32 ∷ code transaction.num transaction.description
     ++ shown Description transaction.description ++ 10 ∷ []
 
+-- The line below it where a transaction is voided, and none of another: a comment that says so, and why. The splits of
+-- a voided transaction are postings of zero, which both programs take.
+unfoldable pub void_line : Option Void → List ℕ
+void_line None = []
+void_line (Some void) = codes "    ; voided : " ++ shown Memo void.reason ++ 10 ∷ []
+
 -- The lines of a transaction.
 unfoldable pub transaction_lines : Book → Txn → List ℕ
 transaction_lines book transaction =
-    head_line transaction ++ flat_map (split_lines book transaction) transaction.splits
+    (head_line transaction ++ void_line transaction.voided)
+    ++ flat_map (split_lines book transaction) transaction.splits
 
 -- Those of the transaction with a number.
 abbrev pub lines_at : Book → ℕ → List ℕ

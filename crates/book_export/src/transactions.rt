@@ -2,7 +2,7 @@ ghost use Rattle.std.specs.Prelude.{◌≡◌, ◌++◌, OnOk, IfOk};
 ghost use Rattle.std.specs.List.{flat_map};
 ghost use Rattle.book_accounts.specs.Tree.{IsRooted};
 ghost use Rattle.book_export.specs.Entries.{commodity_of, cost_text, head_line, lines_at, mark_text, posting_end};
-ghost use Rattle.book_export.specs.Entries.{posting_line, posting_start, split_lines, transaction_lines};
+ghost use Rattle.book_export.specs.Entries.{posting_line, posting_start, split_lines, transaction_lines, void_line};
 ghost use Rattle.book_undo.specs.Book.{book_of};
 
 use crate::path::path_of;
@@ -10,7 +10,7 @@ use crate::posting::{Posting, postings_of};
 use crate::symbols::push_amount;
 use crate::texts::{Place, push_code, push_note, push_shown};
 use book_commodity::OutOfMemory;
-use book_splits::{Mark, Split, Txn};
+use book_splits::{Mark, Split, Txn, Void};
 use book_undo::Plain;
 use std::alloc::Global;
 
@@ -25,13 +25,14 @@ pub(crate) fn lines_at(alloc: Global, book: &Plain, number: u64) -> Result<Vec<u
     }
 }
 
-/// The lines of a transaction: its first one, and those of its splits.
+/// The lines of a transaction: its first one, the one that says that it is voided, if it is, and those of its splits.
 #[tactic(auto, unfolding(crate::specs::Entries::transaction_lines))]
 fn transaction_lines(alloc: Global, book: &Plain, transaction: &Txn) -> Result<Vec<u8>, OutOfMemory>
     requires { IsRooted book.now.accounts.entries }
     ensures { IfOk result (λ lines. lines.items ≡ transaction_lines (book_of book.now) transaction.now) }
 {
     let mut lines = head_line(alloc, transaction)?;
+    push_void(&mut lines, &transaction.voided)?;
     push_splits(alloc, &mut lines, book, transaction)?;
     Ok(lines)
 }
@@ -50,6 +51,20 @@ fn head_line(alloc: Global, transaction: &Txn) -> Result<Vec<u8>, OutOfMemory>
     push_shown(&mut line, Place::Description, description)?;
     line.push(b'\n')?;
     Ok(line)
+}
+
+/// Adds the line that says that a transaction is voided, and why; nothing of another.
+#[tactic(auto, unfolding(crate::specs::Entries::void_line))]
+fn push_void(out: &mut Vec<u8>, voided: &Option<Void>) -> Result<(), OutOfMemory>
+    ensures { OnOk result (out.new.items ≡ out.old.items ++ void_line voided.now) }
+{
+    let Some(void) = voided else {
+        return Ok(());
+    };
+    out.extend_from_slice(b"    ; voided : ")?;
+    push_shown(out, Place::Memo, void.reason.as_str().as_bytes())?;
+    out.push(b'\n')?;
+    Ok(())
 }
 
 /// Adds the lines of all splits of a transaction.

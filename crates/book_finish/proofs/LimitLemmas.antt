@@ -1,10 +1,10 @@
 -- The rows of a register are within the limits, where the splits of the transactions are.
-use Rattle.std.proofs.Common.{ℕ, suc, ◌≡◌, ◌+◌, ◌≤◌, ◌==◌, true, false, if◌then◌else◌, cond, List, [], ◌∷◌, All}
+use Rattle.std.proofs.Common.{ℕ, suc, ◌≡◌, ◌+◌, ◌≤◌, true, false, if◌then◌else◌, cond, List, [], ◌∷◌, All}
 use Rattle.std.proofs.Common.{length, refl, ap, ◌∙◌, arith}
 use Rattle.std.proofs.lemmas.List.{length-append}
 use Rattle.std.proofs.lemmas.List.Elements.{All-append, All-cons, All-head, All-nil, All-tail}
 use Rattle.book_commodity.proofs.ListLemmas.{all_back, all_front}
-use Rattle.book_splits.specs.Balance.{splits_of}
+use Rattle.book_splits.specs.Balance.{counts_on, splits_of}
 use Rattle.book_splits.specs.Check.{HasAmounts}
 use Rattle.book_splits.specs.declared.split.Split.{Split}
 use Rattle.book_splits.specs.declared.transaction.Txn.{Txn}
@@ -20,7 +20,7 @@ small-from account number t place (s ∷ splits) all =
     let row = row_of number t place s in
     let later = rows_from account number t (place + 1) splits in
     let rest = small-from account number t (place + 1) splits (All-tail HasAmounts s splits all) in
-    elim (s.account == account) as (λ b. All IsSmall (if b then row ∷ later else later)) [
+    elim (counts_on account s) as (λ b. All IsSmall (if b then row ∷ later else later)) [
       | true ↦ All-cons IsSmall row later (All-head HasAmounts s splits all).1 rest
       | false ↦ rest
     ]
@@ -39,7 +39,7 @@ few-from account number t place (s ∷ splits) =
     let row = row_of number t place s in
     let later = rows_from account number t (place + 1) splits in
     let rest = few-from account number t (place + 1) splits in
-    elim (s.account == account) as (λ b. length (if b then row ∷ later else later) ≤ suc (length splits)) [
+    elim (counts_on account s) as (λ b. length (if b then row ∷ later else later) ≤ suc (length splits)) [
       | true ↦ omega (arith, rest)
       | false ↦ omega (arith, rest)
     ]

@@ -8,6 +8,8 @@ use Rattle.std.proofs.lemmas.Int.{ints}
 use Rattle.std.proofs.lemmas.List.{map-append}
 use Rattle.std.proofs.lemmas.List.Elements.{filter-append}
 use Rattle.book_commodity.specs.Table.{AllAbove, Rises}
+use Rattle.book_splits.specs.Balance.{counts_on}
+use Rattle.book_splits.specs.TransactionRules.{is_voided}
 use Rattle.book_splits.specs.declared.reconciliation.MarkedSplit.{MarkedSplit}
 use Rattle.book_splits.specs.declared.split.Mark.TheVariants as mark
 use Rattle.book_splits.specs.declared.split.Split.{Split}
@@ -18,7 +20,7 @@ use Rattle.book_register.specs.Register.{key_of, precedes}
 use Rattle.book_register.specs.declared.entry.Entry.{Entry}
 use Rattle.book_ledger.specs.Ledger.{mark_of, register_of, row_of, rows_from, rows_on, sorted, with_row}
 use Rattle.book_finish.specs.Kept.{is_cleared_alone, is_row_to_mark, marked_in, row_marked}
-use Rattle.book_finish.proofs.SumLemmas.{cleared-ties}
+use Rattle.book_finish.proofs.SumLemmas.{cleared-ties, counted-mark}
 
 abbrev Row : Type 0
 Row = ℤ × MarkedSplit
@@ -219,7 +221,7 @@ over-from number account other t place [] less = tt
 over-from number account other t place (s ∷ splits) less =
     let later = rows_from account other t (place + 1) splits in
     let rest = over-from number account other t (place + 1) splits less in
-    elim (s.account == account) as (λ b. AllOver number (if b then row_of other t place s ∷ later else later)) [
+    elim (counts_on account s) as (λ b. AllOver number (if b then row_of other t place s ∷ later else later)) [
       | true ↦ (less, rest)
       | false ↦ rest
     ]
@@ -246,7 +248,7 @@ none-from row account t place (s ∷ splits) less =
     let first = row_of row.txn t place s in
     let rest = none-from row account t (place + 1) splits (omega (arith, less)) in
     let none : is_before first row ≡ false = grind (arith, nat_tests, less) in
-    elim (s.account == account) as (λ b. NoneBefore row (if b then first ∷ later else later)) [
+    elim (counts_on account s) as (λ b. NoneBefore row (if b then first ∷ later else later)) [
       | true ↦ (none, rest)
       | false ↦ rest
     ]
@@ -258,7 +260,7 @@ turn-from account number t place (s ∷ splits) rest over turn =
     let row = row_of number t place s in
     let later = rows_from account number t (place + 1) splits in
     let more = turn-from account number t (place + 1) splits rest over turn in
-    elim (s.account == account) as (λ b. AreInTurn ((if b then row ∷ later else later) ++ rest)) [
+    elim (counts_on account s) as (λ b. AreInTurn ((if b then row ∷ later else later) ++ rest)) [
       | true ↦ (
         none-append row later rest (none-from row account t (place + 1) splits (omega arith)) (none-over row rest over),
         more,
@@ -284,9 +286,13 @@ dated-from : (day : ℤ) (account number : ℕ) (t : Txn) (place : ℕ) (splits 
     then map (λ (s : Split). (t.day, marked s)) (filter (has_mark mark.Cleared account) splits) else [])
 dated-from day account number t place [] = neither {X = Row} (int_le t.day day) [] refl
 dated-from day account number t place (s ∷ splits) =
-    either (s.account == account) (is_cleared_alone (mark_of s.mark)) (is_mark s.mark mark.Cleared)
-    (int_le t.day day) (cleared-ties s.mark) refl refl
+    let more = filter (has_mark mark.Cleared account) splits in
+    either (counts_on account s) (is_cleared_alone (mark_of s.mark)) (is_mark s.mark mark.Cleared)
+    (int_le t.day day) (cleared-ties s.mark).0 refl refl
     (dated-from day account number t (place + 1) splits)
+    ∙ ap (λ (k : Bool). if int_le t.day day then map (λ (x : Split). (t.day, marked x)) (if k then s ∷ more else more)
+    else [])
+    (counted-mark (s.account == account) (is_voided s.mark) (is_mark s.mark mark.Cleared) (cleared-ties s.mark).1)
   where
     either : (b j k d : Bool) → j ≡ k → is_cleared_alone (mark_of s.mark) ≡ j → int_le t.day day ≡ d
         → dated_in day (rows_from account number t (place + 1) splits)

@@ -9,6 +9,8 @@ use Rattle.std.specs.List.Sorted.{IsStrictlyIncreasing}
 use Rattle.std.proofs.lemmas.Bool.{eqb-true, eq-eqb}
 use Rattle.book_commodity.specs.Table.{AllAbove, Rises, value_of}
 use Rattle.book_commodity.proofs.TableLemmas.{above_less, same_entries}
+use Rattle.book_splits.specs.Balance.{counts_on}
+use Rattle.book_splits.specs.TransactionRules.{is_voided}
 use Rattle.book_splits.specs.declared.split.Mark.TheVariants as mark
 use Rattle.book_splits.specs.declared.split.Split.{Split}
 use Rattle.book_splits.specs.declared.transaction.Txn.{Txn}
@@ -17,7 +19,7 @@ use Rattle.book_register.specs.Register.{key_of, precedes}
 use Rattle.book_register.specs.declared.entry.Entry.{Entry}
 use Rattle.book_ledger.specs.Ledger.{register_of, row_of, rows_from, rows_on, sorted, with_row}
 use Rattle.book_finish.specs.Kept.{has_to_mark, is_row_to_mark, numbers_in, numbers_to_mark}
-use Rattle.book_finish.proofs.SumLemmas.{cleared-ties}
+use Rattle.book_finish.proofs.SumLemmas.{cleared-ties, counted-mark}
 
 -- ---- whether a number is in a list
 
@@ -158,15 +160,17 @@ has-from n day account number t place [] rest = refl
 has-from n day account number t place (s ∷ splits) rest =
     let test : Split → Bool = λ x. has_mark mark.Cleared account x && int_le t.day day in
     let later = rows_from account number t (place + 1) splits in
-    let own = s.account == account in
+    let own = counts_on account s in
     let early = int_le t.day day in
     own-choice n day own (row_of number t place s) later rest
     ∙ ap (λ (k : Bool). (own && ((k && early) && (n == number))) || has n (numbers_in day (later ++ rest)))
-    (cleared-ties s.mark)
+    (cleared-ties s.mark).0
     ∙ ap (λ (b : Bool). (own && ((is_mark s.mark mark.Cleared && early) && (n == number))) || b)
     (has-from n day account number t (place + 1) splits rest)
     ∙ one-split own (is_mark s.mark mark.Cleared) early (n == number) (list_any test splits)
     (has n (numbers_in day rest))
+    ∙ ap (λ (k : Bool). (((k && early) || list_any test splits) && (n == number)) || has n (numbers_in day rest))
+    (counted-mark (s.account == account) (is_voided s.mark) (is_mark s.mark mark.Cleared) (cleared-ties s.mark).1)
 
 chosen : (n : ℕ) (t : Bool) (e : ℕ × Txn) (es : List (ℕ × Txn))
     → ((t && (n == e.0)) || has n (map (λ (x : ℕ × Txn). x.0) es))

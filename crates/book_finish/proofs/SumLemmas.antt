@@ -1,9 +1,10 @@
 -- The balances over the rows of an account's register are sums over the splits of the account.
 use Rattle.std.proofs.Common.{◌≡◌, ℕ, ◌+◌, ◌==◌, ℤ, pos, ◌+ℤ◌, ◌-ℤ◌, int_le, Bool, true, false, cond, if◌then◌else◌, ◌&&◌}
-use Rattle.std.proofs.Common.{List, [], ◌∷◌, ◌++◌, filter, map, refl, sym, ap, ◌∙◌, arith}
+use Rattle.std.proofs.Common.{not, List, [], ◌∷◌, ◌++◌, filter, map, refl, sym, ap, ◌∙◌, arith}
 use Rattle.std.proofs.Math.IntN.{+ℤ_assoc, +ℤ_comm, +ℤ_idl}
 use Rattle.std.proofs.lemmas.Int.{ints}
-use Rattle.book_splits.specs.Balance.{splits_of, total}
+use Rattle.book_splits.specs.Balance.{counts_on, splits_of, total}
+use Rattle.book_splits.specs.TransactionRules.{is_voided}
 use Rattle.book_splits.specs.declared.split.Mark.{Mark}
 use Rattle.book_splits.specs.declared.split.Mark.TheVariants as mark
 use Rattle.book_splits.specs.declared.split.Split.{Split}
@@ -56,9 +57,15 @@ abbrev picked : (ℤ → Bool) → (Mark2 → Bool) → Entry → ℤ
 picked early chosen row =
     if early row.day then (if chosen row.mark then row.quantity else pos 0) else pos 0
 
--- a mark is chosen in a register where it is this one of a split
+-- a mark is chosen in a register where it is this one of a split, and no voided split has this one
 abbrev Ties : (Mark2 → Bool) → Mark → Type 0
-Ties chosen mark = (x : Mark) → chosen (mark_of x) ≡ is_mark x mark
+Ties chosen mark =
+    (x : Mark) → (chosen (mark_of x) ≡ is_mark x mark) × ((not (is_voided x) && is_mark x mark) ≡ is_mark x mark)
+
+-- so a split on the account that has this mark counts on it
+pub counted-mark : (own voided k : Bool) → (not voided && k) ≡ k → ((own && not voided) && k) ≡ (own && k)
+counted-mark true voided k is = is
+counted-mark false voided k is = refl
 
 total-choice : (b k : Bool) (s : Split) (splits : List Split)
     → total (map (λ (x : Split). x.quantity) (if b && k then s ∷ splits else splits))
@@ -85,17 +92,20 @@ given-from : (early : ℤ → Bool) (chosen : Mark2 → Bool) (mark : Mark) → 
 given-from early chosen mark ties account number t place [] = none-picked (early t.day)
 given-from early chosen mark ties account number t place (s ∷ splits) =
     let d = early t.day in
-    let own = s.account == account in
+    let own = counts_on account s in
     let later = rows_from account number t (place + 1) splits in
+    let more = filter (has_mark mark account) splits in
     let rest = given (picked early chosen) later in
     given-choice (picked early chosen) own (row_of number t place s) later
     ∙ ap (λ (k : Bool). (if own then (if d then (if k then s.quantity else pos 0) else pos 0) else pos 0) +ℤ rest)
-    (ties s.mark)
+    (ties s.mark).0
     ∙ ap (λ (z : ℤ). (if own then (if d then (if is_mark s.mark mark then s.quantity else pos 0) else pos 0)
     else pos 0) +ℤ z) (given-from early chosen mark ties account number t (place + 1) splits)
     ∙ both-choices d own (is_mark s.mark mark) s.quantity (balance_with mark account splits)
     ∙ ap (λ (z : ℤ). if d then z else pos 0)
-    (sym (total-choice own (is_mark s.mark mark) s (filter (has_mark mark account) splits)))
+    (sym (total-choice own (is_mark s.mark mark) s more)
+    ∙ ap (λ (k : Bool). total (map (λ (x : Split). x.quantity) (if k then s ∷ more else more)))
+    (counted-mark (s.account == account) (is_voided s.mark) (is_mark s.mark mark) (ties s.mark).1))
 
 balance-choice : (mark : Mark) (account : ℕ) (d : Bool) (e : ℕ × Txn) (es : List (ℕ × Txn))
     → (if d then balance_with mark account e.1.splits else pos 0) +ℤ balance_with mark account (splits_of es)
@@ -183,16 +193,16 @@ three-sums early (row ∷ rows) =
 -- ---- the balances of a reconciliation
 
 reconciled-ties : Ties is_reconciled mark.Reconciled
-reconciled-ties mark.New = refl
-reconciled-ties mark.Cleared = refl
-reconciled-ties mark.Voided = refl
-reconciled-ties mark.Reconciled = refl
+reconciled-ties mark.New = (refl, refl)
+reconciled-ties mark.Cleared = (refl, refl)
+reconciled-ties mark.Voided = (refl, refl)
+reconciled-ties mark.Reconciled = (refl, refl)
 
 pub cleared-ties : Ties is_cleared_alone mark.Cleared
-cleared-ties mark.New = refl
-cleared-ties mark.Cleared = refl
-cleared-ties mark.Voided = refl
-cleared-ties mark.Reconciled = refl
+cleared-ties mark.New = (refl, refl)
+cleared-ties mark.Cleared = (refl, refl)
+cleared-ties mark.Voided = (refl, refl)
+cleared-ties mark.Reconciled = (refl, refl)
 
 all-days : (ts : List (ℕ × Txn)) → filter (λ (e : ℕ × Txn). true) ts ≡ ts
 all-days [] = refl

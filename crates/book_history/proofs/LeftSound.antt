@@ -25,6 +25,7 @@ use Rattle.book_sound.proofs.OwnFrames.{others_left, sound_without}
 use Rattle.book_sound.proofs.TableFrames.{sound_still}
 use Rattle.book_sound.proofs.WalkLemmas.{passes_there}
 use Rattle.book_check.proofs.HeadLemmas.{all_splits}
+use Rattle.book_sound.proofs.VoidFrames as void
 use Rattle.book_undo.specs.Book.{Book}
 use Rattle.book_history.specs.Leaving.{is_number, is_unnamed, is_without_lines}
 
@@ -172,7 +173,8 @@ transactions_apart book n r none =
     200000 book.transactions
     (λ k t there kept.
     let other = passes_there (λ (e : ℕ × Txn). list_all others e.1.splits) k t book.transactions each there in
-    let marks = marks_still n book.reconciliations t.splits r other kept.1.1.1.0 in
+    let marks = void.marks_still book.reconciliations (without_entry n book.reconciliations) t.voided t.splits
+    (marks_still n book.reconciliations t.splits r other) kept.1.1.1.0 in
     (kept.0, (kept.1.0, (kept.1.1.0, (marks, kept.1.1.1.1)))))
 
 pub reconciliation_taken :

@@ -98,11 +98,12 @@ marked_put book n next new None there marks is are = absurd cc
 marked_put book n next new (Some old) there marks is are =
     let currency = and_parts (new.currency == old.currency) _ marks in
     let splits = and_parts (are_remarked old.splits new.splits) _ currency.1 in
-    let marked = and_parts (list_all (is_rightly_marked book.reconciliations) new.splits) (is_none new.voided) splits.1 in
+    let marked = and_parts (list_all (is_rightly_marked book.reconciliations) new.splits) _ splits.1 in
+    let unvoided = and_parts (is_none old.voided) (is_none new.voided) marked.1 in
     let stay = all_remarked_of old.splits new.splits splits.0 in
     let Below : Split → Type 0 = λ s. s.id < next in (
-      transaction_marked book n next old new there are (sym (eqb-true new.currency old.currency currency.0)) marked.1
-          stay marked.0 is,
+      transaction_marked book n next old new there are (sym (eqb-true new.currency old.currency currency.0)) unvoided.0
+          unvoided.1 stay marked.0 is,
       transaction_drawn book n next new (drawn_below n next old book.transactions are.transactions there)
           (remarked_drawn next old.splits new.splits stay
           (all_of_one Below n old book.transactions there are.splits)) are,

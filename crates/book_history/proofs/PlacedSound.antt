@@ -14,16 +14,17 @@ use Rattle.book_commodity.proofs.DrawnLemmas.{value_here}
 use Rattle.book_commodity.proofs.RuleLemmas.{none_before_with}
 use Rattle.book_commodity.proofs.TableLemmas.{above_value, length_with, rises_with}
 use Rattle.book_splits.specs.Balance.{splits_of}
-use Rattle.book_splits.specs.TransactionRules.{are_once, is_among, numbers_of, share_numbers}
+use Rattle.book_splits.specs.TransactionRules.{are_once, is_among, is_voided, numbers_of, share_numbers}
 use Rattle.book_splits.specs.declared.split.Split.{Split}
 use Rattle.book_splits.specs.declared.transaction.Txn.{Txn}
 use Rattle.book_splits.proofs.CountLemmas.{splits-with}
 use Rattle.book_splits.proofs.ReplacedLemmas.{fails_among}
+use Rattle.book_void.specs.Voiding.{keeps_each, restored}
 use Rattle.book_statement.specs.declared.line.Line.{Line}
 use Rattle.book_statement.specs.declared.line_state.LineState.{LineState}
 use Rattle.book_sound.specs.Dismissal.{is_lost, is_lost_split, loses_split}
 use Rattle.book_sound.specs.LineRules.{matched_split, split_among, split_at}
-use Rattle.book_sound.specs.MarkedTransactionRules.{is_rightly_marked, marked_transaction_rules}
+use Rattle.book_sound.specs.MarkedTransactionRules.{are_rightly_marked, marked_transaction_rules}
 use Rattle.book_sound.specs.Soundness.{AreDrawn, IsSoundBook}
 use Rattle.book_sound.specs.Tests.{passes_check}
 use Rattle.book_sound.proofs.DrawnFrames.{transaction_drawn}
@@ -33,7 +34,7 @@ use Rattle.book_sound.proofs.SplitFrames.{found_among, split_beside, split_of_on
 use Rattle.book_sound.proofs.WalkLemmas.{passes_there}
 use Rattle.book_undo.specs.Book.{Book}
 use Rattle.book_history.specs.Leaving.{none_loses}
-use Rattle.book_history.specs.Placing.{are_drawn, fits_under, has_room, is_apart, keeps_own_rules}
+use Rattle.book_history.specs.Placing.{are_drawn, fits_under, has_place, has_room, is_apart, keeps_own_rules}
 use Rattle.book_history.specs.Placing.{splits_found}
 
 -- ---- numbers of splits
@@ -79,10 +80,10 @@ shares_none n k new x ts apart other there =
 record IsPut (next : ℕ) (book : Book) (n : ℕ) (new : Txn) : Type 0 where
   below : n < next
   drawn : are_drawn next new.splits ≡ true
-  check : passes_check book.commodities book.accounts new ≡ true
+  check : passes_check book.commodities book.accounts (restored new) ≡ true
   once : are_once (numbers_of new.splits) ≡ true
-  marks : list_all (is_rightly_marked book.reconciliations) new.splits ≡ true
-  unvoided : is_none new.voided ≡ true
+  marks : are_rightly_marked book.reconciliations new.voided new.splits ≡ true
+  keeps : keeps_each new.voided new.splits ≡ true
   few : length book.transactions < 200000
   few_splits : length (splits_of book.transactions) + length new.splits ≤ 1000000
   apart : is_apart n new book.transactions ≡ true
@@ -91,23 +92,24 @@ record IsPut (next : ℕ) (book : Book) (n : ℕ) (new : Txn) : Type 0 where
 put_of : (next : ℕ) (book : Book) (n : ℕ) (new : Txn) → fits_under next book n new ≡ true → IsPut next book n new
 put_of next book n new fits =
     let ts = book.transactions in
-    let numbers = and_parts (nat_lt n next && are_drawn next new.splits) _ fits in
-    let number = and_parts (nat_lt n next) (are_drawn next new.splits) numbers.0 in
-    let rules = and_parts (keeps_own_rules book new) _ numbers.1 in
-    let check = and_parts (passes_check book.commodities book.accounts new) _ rules.0 in
+    let parts = and_parts (has_place next book n new) (keeps_own_rules book new) fits in
+    let number = and_parts (nat_lt n next) _ parts.0 in
+    let drawn = and_parts (are_drawn next new.splits) _ number.1 in
+    let check = and_parts (passes_check book.commodities book.accounts (restored new)) _ parts.1 in
     let splits = and_parts (are_once (numbers_of new.splits)) _ check.1 in
-    let marks = and_parts (list_all (is_rightly_marked book.reconciliations) new.splits) (is_none new.voided) splits.1 in
-    let room = and_parts (has_room ts (length new.splits)) _ rules.1 in
+    let marks = and_parts (are_rightly_marked book.reconciliations new.voided new.splits)
+    (keeps_each new.voided new.splits) splits.1 in
+    let room = and_parts (has_room ts (length new.splits)) _ drawn.1 in
     let count = and_parts (nat_lt (length ts) 200000) _ room.0 in
     let others = and_parts (is_apart n new ts) _ room.1 in
     let few = not-true (nat_lt 1000000 (length (splits_of ts) + length new.splits)) count.1 in
     record {
       below = ltb-true n next number.0;
-      drawn = number.1;
+      drawn = drawn.0;
       check = check.0;
       once = splits.0;
       marks = marks.0;
-      unvoided = marks.1;
+      keeps = marks.1;
       few = ltb-true (length ts) 200000 count.0;
       few_splits = grind (arith, nat_tests, few);
       apart = others.0;
@@ -142,7 +144,7 @@ transactions_put next book n new fit is =
     let few : length later ≤ 200000 = omega (arith, count, more, fit.few) in
     sound_with (marked_transaction_rules book.commodities book.accounts book.reconciliations ts)
     (marked_transaction_rules book.commodities book.accounts book.reconciliations later) 200000 n new ts
-    (fit.check, (fit.once, (not_from_false _ free, (fit.marks, (fit.unvoided, tt)))))
+    (fit.check, (fit.once, (not_from_false _ free, (fit.marks, (fit.keeps, tt)))))
     (λ k x other there kept.
     let apart = none_shared (numbers_of new.splits) (numbers_of x.splits)
     (shares_none n k new x ts fit.apart other there) in
@@ -202,19 +204,22 @@ not_new n id new s (e ∷ ts) r apart others found =
           (sym (passed_over id e.1.splits (splits_of ts) none) ∙ found)
     ] refl
 
--- a split that isn't lost is found again, with its account and its quantity
+-- a split that isn't lost is found again, with its account and its quantity, and it is not voided
 found_again :
     (found later : Option Split) (split : Split) → found ≡ Some split → is_lost_split found later ≡ false
     → (new : Split) × (later ≡ Some new) × (new.account ≡ split.account) × (new.quantity ≡ split.quantity)
+    × (is_voided split.mark ≡ false → is_voided new.mark ≡ false)
 found_again None later split there kept = absurd cc
 found_again (Some s) None split there kept = absurd cc
 found_again (Some s) (Some new) split there kept =
-    let same = and_parts (new.account == s.account) (int_eq new.quantity s.quantity) (not-false _ kept) in
+    let same = and_parts (new.account == s.account) _ (not-false _ kept) in
+    let more = and_parts (int_eq new.quantity s.quantity) (not (is_voided new.mark)) same.1 in
     let one : s ≡ split = cc in (
       new,
       refl,
       eqb-true new.account s.account same.0 ∙ ap (λ (x : Split). x.account) one,
-      (Decides-int_eq new.quantity s.quantity).0 same.1 ∙ ap (λ (x : Split). x.quantity) one,
+      (Decides-int_eq new.quantity s.quantity).0 more.0 ∙ ap (λ (x : Split). x.quantity) one,
+      λ was. not-true _ more.1,
     )
 
 -- where no transaction stood there
@@ -228,6 +233,7 @@ split_alone n id new ts r none apart = record {
         split_beside n id new ts r other ∙ ap (split_at id) (without_absent n ts none) ∙ found,
         refl,
         refl,
+        λ unvoided. unvoided,
       );
 }
 
@@ -241,14 +247,15 @@ split_in_place n id old new ts r there free apart kept = record {
   each = λ split found.
       let later = with_entry n new ts in
       let Among : Bool → Type 0 = λ t. is_among (numbers_of old.splits) id ≡ t
-      → (s : Split) × (split_at id later ≡ Some s) × (s.account ≡ split.account) × (s.quantity ≡ split.quantity) in
+      → (s : Split) × (split_at id later ≡ Some s) × (s.account ≡ split.account) × (s.quantity ≡ split.quantity)
+      × (is_voided split.mark ≡ false → is_voided s.mark ≡ false) in
       elim (is_among (numbers_of old.splits) id) as Among [
         | true ↦ λ among.
             let own = sym (split_of_one n id old ts r there free among) ∙ found in
             let s = found_again (split_among id old.splits) (split_among id new.splits) split own kept in
             let after = split_of_one n id new later (rises_with n new ts r) (value_here n n new ts refl)
             (own_free n new ts r apart) (found_among id new.splits s.0 s.1) in
-            (s.0, after ∙ s.1, s.2, s.3)
+            (s.0, after ∙ s.1, s.2, s.3, s.4)
         | false ↦ λ none.
             let other = not_new n id new split ts r apart
             (λ x is. subst (λ (t : Txn). is_among (numbers_of t.splits) id ≡ false)
@@ -257,6 +264,7 @@ split_in_place n id old new ts r there free apart kept = record {
               split_beside n id new ts r other ∙ sym (split_past n id old ts r there none) ∙ found,
               refl,
               refl,
+              λ unvoided. unvoided,
             )
       ] refl;
 }

@@ -68,13 +68,13 @@ are_remarked [] (new ∷ news) = false
 are_remarked (old ∷ olds) [] = false
 are_remarked (old ∷ olds) (new ∷ news) = is_remarked old new && are_remarked olds news
 
--- Whether there is a transaction that has the currency of a new one, and its splits but for their marks and texts, and
--- those of the new one are rightly marked, and it is not voided.
+-- Whether there is a transaction that has the currency of a new one, and its splits but for their marks and texts,
+-- neither is voided, and the splits of the new one are rightly marked.
 abbrev pub only_marks : List (ℕ × Recon) → Txn → Option Txn → Bool
 only_marks reconciliations new None = false
 only_marks reconciliations new (Some old) =
     (new.currency == old.currency) && (are_remarked old.splits new.splits
-    && (list_all (is_rightly_marked reconciliations) new.splits && is_none new.voided))
+    && (list_all (is_rightly_marked reconciliations) new.splits && (is_none old.voided && is_none new.voided)))
 
 -- Whether there is a line, and it has the key and the statement of a new one.
 abbrev pub is_same_line : Line → Option Line → Bool

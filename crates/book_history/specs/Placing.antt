@@ -1,7 +1,7 @@
 -- Which things may be put into a sound book, which then stays sound. That is seen from the thing, from a walk along the
 -- transactions of the book, and from one along its lines.
 use Rattle.std.specs.Prelude.{ℕ, ◌+◌, ◌==◌, nat_lt, not, Bool, true, false, ◌&&◌, ◌||◌, List, [], length, Option}
-use Rattle.std.specs.Prelude.{Some, None, is_none}
+use Rattle.std.specs.Prelude.{Some, None}
 use Rattle.std.specs.List.{list_all}
 use Rattle.book_commodity.specs.Table.{value_of}
 use Rattle.book_splits.specs.Balance.{splits_of}
@@ -11,8 +11,9 @@ use Rattle.book_splits.specs.declared.transaction.Txn.{Txn}
 use Rattle.book_statement.specs.declared.line.Line.{Line}
 use Rattle.book_statement.specs.declared.line_state.LineState.{LineState}
 use Rattle.book_statement.specs.declared.line_state.LineState.TheVariants.{Open, Matched, Dismissed}
+use Rattle.book_void.specs.Voiding.{keeps_each, restored}
 use Rattle.book_sound.specs.LineRules.{fits_line, split_at}
-use Rattle.book_sound.specs.MarkedTransactionRules.{is_rightly_marked}
+use Rattle.book_sound.specs.MarkedTransactionRules.{are_rightly_marked}
 use Rattle.book_sound.specs.Tests.{passes_check}
 use Rattle.book_check.specs.LineWalk.{is_matched_with}
 use Rattle.book_undo.specs.Book.{Book}
@@ -25,12 +26,14 @@ use Rattle.book_history.specs.Leaving.{is_same_line, none_loses}
 abbrev pub are_drawn : ℕ → List Split → Bool
 are_drawn next splits = list_all (λ split. nat_lt split.id next) splits
 
--- Whether a transaction keeps the rules that ask for no other: it passes the check of transactions, each of its splits
--- has a number that no other of them has, each is rightly marked, and it is not voided.
+-- Whether a transaction keeps the rules that ask for no other: as it is brought back where it is voided, it passes the
+-- check of transactions; each of its splits has a number that no other of them has; they are as its state says; and
+-- where it is voided the amounts of each are kept.
 abbrev pub keeps_own_rules : Book → Txn → Bool
 keeps_own_rules book transaction =
-    passes_check book.commodities book.accounts transaction && (are_once (numbers_of transaction.splits)
-    && (list_all (is_rightly_marked book.reconciliations) transaction.splits && is_none transaction.voided))
+    passes_check book.commodities book.accounts (restored transaction) && (are_once (numbers_of transaction.splits)
+    && (are_rightly_marked book.reconciliations transaction.voided transaction.splits
+    && keeps_each transaction.voided transaction.splits))
 
 -- Whether there is room for a transaction more with so many splits.
 abbrev pub has_room : List (ℕ × Txn) → ℕ → Bool
@@ -47,13 +50,17 @@ abbrev pub splits_found : Option Txn → List Split
 splits_found None = []
 splits_found (Some transaction) = transaction.splits
 
--- Whether a transaction fits under a number: that and the numbers of its splits are below the next, it keeps its rules,
--- there is room for it, and no line loses the split that it is matched with.
-abbrev pub fits_under : ℕ → Book → ℕ → Txn → Bool
-fits_under next book number new =
-    (nat_lt number next && are_drawn next new.splits) && (keeps_own_rules book new
-    && (has_room book.transactions (length new.splits) && (is_apart number new book.transactions
+-- Whether a number and those of the splits of a transaction are below the next, there is room for the transaction under
+-- the number, no other has a split with a number of its, and no line loses the split that it is matched with.
+abbrev pub has_place : ℕ → Book → ℕ → Txn → Bool
+has_place next book number new =
+    nat_lt number next && (are_drawn next new.splits && (has_room book.transactions (length new.splits)
+    && (is_apart number new book.transactions
     && none_loses (splits_found (value_of number book.transactions)) new.splits book.lines)))
+
+-- Whether a transaction fits under a number: it has its place there, and keeps its rules.
+abbrev pub fits_under : ℕ → Book → ℕ → Txn → Bool
+fits_under next book number new = has_place next book number new && keeps_own_rules book new
 
 -- Whether no line but that of a number is matched with a split.
 abbrev pub is_free : ℕ → ℕ → List (ℕ × Line) → Bool

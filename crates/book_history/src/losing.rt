@@ -5,7 +5,7 @@ ghost use Rattle.book_sound.specs.LineRules.{split_among};
 ghost use Rattle.book_history.specs.Leaving.{none_loses};
 
 use book_commodity::Table;
-use book_splits::Split;
+use book_splits::{Mark, Split};
 use book_statement::{Line, LineState};
 
 /// Whether no line loses the split that it is matched with, where the new splits stand in the place of the old ones.
@@ -29,7 +29,7 @@ fn loses_split(old: &[Split], new: &[Split], line: &Line) -> bool
     }
 }
 
-/// Whether there was a split that is gone, or whose account or quantity is another.
+/// Whether there was a split that is gone, whose account or quantity is another, or that is voided.
 fn is_lost_split(old: Option<&Split>, new: Option<&Split>) -> bool
     ensures { result ≡ is_lost_split (option_copied old.entry) (option_copied new.entry) }
 {
@@ -39,12 +39,16 @@ fn is_lost_split(old: Option<&Split>, new: Option<&Split>) -> bool
     }
 }
 
-/// Whether there is a later split, and it has the account and the quantity of this one.
+/// Whether there is a later split, it has the account and the quantity of this one, and it is not voided.
 fn stays_as(split: &Split, new: Option<&Split>) -> bool
     ensures { result ≡ stays_as split.now (option_copied new.entry) }
 {
     match new {
-        Some(later) => later.account == split.account && later.quantity == split.quantity,
+        Some(later) => {
+            later.account == split.account
+                && later.quantity == split.quantity
+                && later.mark != Mark::Voided
+        }
         None => false,
     }
 }

@@ -2,15 +2,16 @@ ghost use Rattle.std.specs.Prelude.{◌≡◌};
 ghost use Rattle.std.specs.List.{list_all, list_any};
 ghost use Rattle.std.specs.Option.{option_copied};
 ghost use Rattle.book_commodity.specs.Table.{value_of};
-ghost use Rattle.book_sound.specs.MarkedTransactionRules.{has_marked, is_marked_as, is_named_rightly};
-ghost use Rattle.book_sound.specs.MarkedTransactionRules.{is_rightly_marked};
+ghost use Rattle.book_sound.specs.MarkedTransactionRules.{are_rightly_marked, has_marked, is_marked_as};
+ghost use Rattle.book_sound.specs.MarkedTransactionRules.{is_named_rightly, is_rightly_marked};
 ghost use Rattle.book_history.specs.Leaving.{are_remarked, is_remarked, only_marks};
 
 use book_commodity::Table;
 use book_splits::{Mark, MarkedSplit, Recon, Split, Txn};
+use book_void::are_rightly_voided;
 
 /// Whether there is a transaction that has the currency of the new one, and its splits but for their marks and texts,
-/// and those of the new one are rightly marked, and it is not voided.
+/// neither is voided, and the splits of the new one are rightly marked.
 pub(crate) fn only_marks(reconciliations: &Table<Recon>, new: &Txn, found: Option<&Txn>) -> bool
     ensures { result ≡ only_marks reconciliations.now.entries new.now (option_copied found.entry) }
 {
@@ -19,7 +20,8 @@ pub(crate) fn only_marks(reconciliations: &Table<Recon>, new: &Txn, found: Optio
             let splits = new.splits.as_slice();
             new.currency == old.currency
                 && are_remarked(old.splits.as_slice(), splits)
-                && are_rightly_marked(reconciliations, splits)
+                && are_marked(reconciliations, splits)
+                && old.voided.is_none()
                 && new.voided.is_none()
         }
         None => false,
@@ -51,8 +53,20 @@ fn is_remarked(old: &Split, new: &Split) -> bool
         && new.quantity == old.quantity
 }
 
+/// Whether the splits of the transaction are as its state says: where it is voided each is rightly voided, and else
+/// each is rightly marked.
+pub(crate) fn are_rightly_marked(reconciliations: &Table<Recon>, transaction: &Txn) -> bool
+    ensures { result ≡ are_rightly_marked reconciliations.now.entries transaction.now.voided transaction.now.splits }
+{
+    let splits = transaction.splits.as_slice();
+    match transaction.voided {
+        Some(_) => are_rightly_voided(splits),
+        None => are_marked(reconciliations, splits),
+    }
+}
+
 /// Whether each split is reconciled exactly where it names a reconciliation that has marked it, and none is voided.
-pub(crate) fn are_rightly_marked(reconciliations: &Table<Recon>, splits: &[Split]) -> bool
+fn are_marked(reconciliations: &Table<Recon>, splits: &[Split]) -> bool
     ensures { result ≡ list_all (is_rightly_marked reconciliations.now.entries) splits.now }
 {
     splits

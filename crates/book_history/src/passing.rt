@@ -160,34 +160,38 @@ fn make(
     ensures known { IfOk result (λ standing. IsTrue standing.known
         → IsSoundBook (book_of plain.new) × AreDrawn (book_of plain.new) next) }
 {
-    let later = known_after(plain, next, edit, standing);
+    let later = known_after(alloc, plain, next, edit, standing)?;
     let copy = edit.copy(alloc)?;
     go(plain, copy)?;
     Ok(later)
 }
 
 /// What is known after the change: that the book is sound, where it is before it and the change leaves it so.
-fn known_after(plain: &Plain, next: u64, edit: &Edit, standing: Standing) -> Standing
+fn known_after(
+    alloc: Global,
+    plain: &Plain,
+    next: u64,
+    edit: &Edit,
+    standing: Standing,
+) -> Result<Standing, OutOfMemory>
     requires { IsTrue standing.known → IsSoundBook (book_of plain.now) × AreDrawn (book_of plain.now) next }
-    ensures { IsTrue result.known
-        → IsSoundBook (edited edit.now (book_of plain.now)) × AreDrawn (edited edit.now (book_of plain.now)) next }
+    ensures { IfOk result (λ standing. IsTrue standing.known
+        → IsSoundBook (edited edit.now (book_of plain.now)) × AreDrawn (edited edit.now (book_of plain.now)) next) }
 {
     if !standing.known {
-        return standing;
+        return Ok(standing);
     }
     if leaves_sound(plain, edit) {
-        return standing;
+        return Ok(standing);
     }
-    match standing.walks.checked_sub(1) {
-        Some(walks) => Standing {
-            known: fits_there(plain, next, edit),
-            walks,
-        },
-        None => Standing {
+    let Some(walks) = standing.walks.checked_sub(1) else {
+        return Ok(Standing {
             known: false,
             walks: 0,
-        },
-    }
+        });
+    };
+    let known = fits_there(alloc, plain, next, edit)?;
+    Ok(Standing { known, walks })
 }
 
 /// Whether the edit only deletes a line, or puts one that is matched with no split.

@@ -1,18 +1,21 @@
-ghost use Rattle.std.specs.Prelude.{◌≡◌, ◌==◌, ◌≤◌, length};
+ghost use Rattle.std.specs.Prelude.{◌≡◌, ◌==◌, ◌≤◌, ◌&&◌, IfOk, length};
 ghost use Rattle.std.specs.List.{list_any};
 ghost use Rattle.std.specs.Option.{option_copied};
-ghost use Rattle.book_sound.specs.Tests.{passes_check};
 ghost use Rattle.book_splits.specs.Balance.{splits_of};
 ghost use Rattle.book_splits.specs.TransactionRules.{are_once, is_among, numbers_of, share_numbers};
+ghost use Rattle.book_sound.specs.MarkedTransactionRules.{are_rightly_marked};
 ghost use Rattle.book_undo.specs.Book.{book_of};
-ghost use Rattle.book_history.specs.Placing.{are_drawn, fits_there, fits_under, has_room, is_apart, keeps_own_rules};
-ghost use Rattle.book_history.specs.Placing.{splits_found, thing_fits};
+ghost use Rattle.book_history.specs.Placing.{are_drawn, fits_there, fits_under, has_place, has_room, is_apart};
+ghost use Rattle.book_history.specs.Placing.{keeps_own_rules, splits_found, thing_fits};
 
 use crate::losing::none_loses;
 use crate::marking::are_rightly_marked;
 use crate::restating::{is_same_line, may_be};
-use book_splits::{Split, Txn, Txns, check_txn};
+use book_commodity::OutOfMemory;
+use book_splits::{Split, Txn, Txns};
 use book_undo::{Edit, Plain, Thing};
+use book_void::{keeps_each, passes_restored};
+use std::alloc::Global;
 
 /// How many transactions a book has at most.
 const MOST: usize = 200_000;
@@ -23,40 +26,68 @@ const MOST_SPLITS: u64 = 1_000_000;
 /// Whether the edit only puts a thing that fits under its number: a transaction that keeps all rules there, or a line
 /// in the place of one with its key and its statement, which may be in its state. The transactions of the book are
 /// walked along once, and its lines.
-pub(crate) fn fits_there(plain: &Plain, next: u64, edit: &Edit) -> bool
+pub(crate) fn fits_there(
+    alloc: Global,
+    plain: &Plain,
+    next: u64,
+    edit: &Edit,
+) -> Result<bool, OutOfMemory>
     requires { length (splits_of (book_of plain.now).transactions) ≤ 1000000 }
-    ensures { result ≡ fits_there next (book_of plain.now) edit.now }
+    ensures { IfOk result (λ fits. fits ≡ fits_there next (book_of plain.now) edit.now) }
 {
     match edit {
-        Edit::Put(number, thing) => thing_fits(plain, next, *number, thing),
-        Edit::Currency(_) | Edit::Gone(_, _) | Edit::All(_) => false,
+        Edit::Put(number, thing) => thing_fits(alloc, plain, next, *number, thing),
+        Edit::Currency(_) | Edit::Gone(_, _) | Edit::All(_) => Ok(false),
     }
 }
 
 /// Whether the thing fits under the number.
-fn thing_fits(plain: &Plain, next: u64, number: u64, thing: &Thing) -> bool
+fn thing_fits(
+    alloc: Global,
+    plain: &Plain,
+    next: u64,
+    number: u64,
+    thing: &Thing,
+) -> Result<bool, OutOfMemory>
     requires { length (splits_of (book_of plain.now).transactions) ≤ 1000000 }
-    ensures { result ≡ thing_fits next (book_of plain.now) number thing.now }
+    ensures { IfOk result (λ fits. fits ≡ thing_fits next (book_of plain.now) number thing.now) }
 {
     match thing {
-        Thing::Txn(new) => fits_under(plain, next, number, new),
+        Thing::Txn(new) => fits_under(alloc, plain, next, number, new),
         Thing::Line(new) => {
-            is_same_line(new, plain.lines.find(number)) && may_be(plain, number, new)
+            Ok(is_same_line(new, plain.lines.find(number)) && may_be(plain, number, new))
         }
-        _ => false,
+        _ => Ok(false),
     }
 }
 
 /// Whether the transaction fits under the number: that and the numbers of its splits are below the next, it keeps its
 /// rules, there is room for it, and no line loses the split that it is matched with.
-fn fits_under(plain: &Plain, next: u64, number: u64, new: &Txn) -> bool
+fn fits_under(
+    alloc: Global,
+    plain: &Plain,
+    next: u64,
+    number: u64,
+    new: &Txn,
+) -> Result<bool, OutOfMemory>
     requires { length (splits_of (book_of plain.now).transactions) ≤ 1000000 }
-    ensures { result ≡ fits_under next (book_of plain.now) number new.now }
+    ensures { IfOk result (λ fits. fits ≡ fits_under next (book_of plain.now) number new.now) }
+{
+    if !has_place(plain, next, number, new) {
+        return Ok(false);
+    }
+    keeps_own_rules(alloc, plain, new)
+}
+
+/// Whether the number and those of the splits are below the next, there is room for the transaction under its number,
+/// and no line loses the split that it is matched with.
+fn has_place(plain: &Plain, next: u64, number: u64, new: &Txn) -> bool
+    requires { length (splits_of (book_of plain.now).transactions) ≤ 1000000 }
+    ensures { result ≡ has_place next (book_of plain.now) number new.now }
 {
     let splits = new.splits.as_slice();
     number < next
         && are_drawn(splits, next)
-        && keeps_own_rules(plain, new)
         && has_room(&plain.transactions, splits.len())
         && is_apart(&plain.transactions, number, new)
         && none_loses(
@@ -73,23 +104,28 @@ fn are_drawn(splits: &[Split], next: u64) -> bool
     splits.iter().all(|split| split.id < next)
 }
 
-/// Whether the transaction keeps the rules that ask for no other: it passes the check of transactions, and its splits
-/// have numbers of their own and are rightly marked, and it is not voided.
-fn keeps_own_rules(plain: &Plain, transaction: &Txn) -> bool
-    ensures { result ≡ keeps_own_rules (book_of plain.now) transaction.now }
+/// Whether the transaction keeps the rules that ask for no other: as it is brought back where it is voided, it passes
+/// the check of transactions; its splits have numbers of their own and are as its state says; and where it is voided the
+/// amounts of each are kept.
+fn keeps_own_rules(alloc: Global, plain: &Plain, transaction: &Txn) -> Result<bool, OutOfMemory>
+    ensures { IfOk result (λ keeps. keeps ≡ keeps_own_rules (book_of plain.now) transaction.now) }
 {
-    let splits = transaction.splits.as_slice();
-    passes_check(plain, transaction)
-        && are_once(splits)
-        && are_rightly_marked(&plain.reconciliations, splits)
-        && transaction.voided.is_none()
+    if !keeps_each(transaction) {
+        return Ok(false);
+    }
+    if !has_right_splits(plain, transaction) {
+        return Ok(false);
+    }
+    passes_restored(alloc, &plain.commodities, &plain.accounts, transaction)
 }
 
-/// Whether the transaction breaks no rule of transactions.
-fn passes_check(plain: &Plain, transaction: &Txn) -> bool
-    ensures { result ≡ passes_check plain.now.commodities.entries plain.now.accounts.entries transaction.now }
+/// Whether each split has a number that no other of them has, and they are as the transaction's state says.
+fn has_right_splits(plain: &Plain, transaction: &Txn) -> bool
+    ensures { result ≡ (are_once (numbers_of transaction.now.splits)
+        && are_rightly_marked plain.now.reconciliations.entries transaction.now.voided transaction.now.splits) }
 {
-    check_txn(&plain.commodities, &plain.accounts, transaction).is_ok()
+    are_once(transaction.splits.as_slice())
+        && are_rightly_marked(&plain.reconciliations, transaction)
 }
 
 /// Whether each split has a number that no other of them has.

@@ -9,7 +9,7 @@ ghost use Rattle.book_history.specs.Placing.{is_free, may_be};
 
 use crate::losing::find_split;
 use book_commodity::Table;
-use book_splits::{Split, Txns};
+use book_splits::{Mark, Split, Txns};
 use book_statement::{Line, LineState};
 use book_undo::Plain;
 
@@ -77,7 +77,11 @@ fn fits_line(line: &Line, found: Option<&Split>) -> bool
     ensures { result ≡ fits_line line.now (option_copied found.entry) }
 {
     match found {
-        Some(split) => split.account == line.account && split.quantity == line.body.amount,
+        Some(split) => {
+            split.account == line.account
+                && split.quantity == line.body.amount
+                && split.mark != Mark::Voided
+        }
         None => false,
     }
 }

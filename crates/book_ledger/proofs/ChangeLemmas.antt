@@ -1,8 +1,8 @@
 -- What becomes of the rows where those of one transaction are taken out and those of another put in.
 use Rattle.std.proofs.Common.{◌≡◌, ℕ, ◌+◌, ◌≤◌, ◌==◌, ◌&&◌, nat_lt, Bool, true, false, cond, if◌then◌else◌}
-use Rattle.std.proofs.Common.{List, length, Option, Some, None, option_map, slice_get, refl, sym, ap, ◌∙◌}
+use Rattle.std.proofs.Common.{List, length, Option, Some, None, slice_get, refl, sym, ap, ◌∙◌}
 use Rattle.std.proofs.Common.{arith, inl, inr, ℤ}
-use Rattle.std.specs.Option.{option_or}
+use Rattle.std.specs.Option.{option_and_then, option_or}
 use Rattle.std.specs.Ordering.{int_eq}
 use Rattle.std.proofs.lemmas.Bool.{cases_order, eqb-true, and_parts}
 use Rattle.std.proofs.lemmas.Bool.Decides.{nat_tests, Decides-int_eq}
@@ -16,9 +16,10 @@ use Rattle.book_register.specs.declared.entry.Entry.{Entry}
 use Rattle.book_register.specs.declared.entry.Mark2.{Mark2}
 use Rattle.book_register.specs.declared.entry.Mark2.TheVariants.{Plain, Cleared, Reconciled}
 use Rattle.book_register.specs.Register.{RowKey}
+use Rattle.book_splits.specs.TransactionRules.{is_voided}
 use Rattle.book_splits.specs.declared.split.Split.{Split}
 use Rattle.book_splits.specs.declared.transaction.Txn.{Txn}
-use Rattle.book_ledger.specs.Change.{row_at, placed, is_same_mark, is_same, left_of, left_at, pick, left_before, cut}
+use Rattle.book_ledger.specs.Change.{row_at, placed, placed_split, is_same_mark, is_same, left_of, left_at, pick, left_before, cut}
 use Rattle.book_ledger.specs.Change.{row_in, Holds, IsTaken, IsPut, AllPut, AllTaken, AreTaken, ArePut, IsChanged}
 use Rattle.book_ledger.specs.Ledger.{row_of}
 use Rattle.book_ledger.proofs.FoundLemmas.{false_of, key_is, key_itself, or_assoc, or_none, place_is, txn_is}
@@ -115,14 +116,17 @@ placed_apart account key number place (Some t) other = here (slice_get t.splits 
     fails true u x is = ap (λ b. cond b (Some x) None) is
     fails false u x is = refl
 
-    here :
-        (o : Option Split)
-        → pick account key (option_map (λ split. (split.account, row_of number t place split)) o) ≡ None
+    here : (o : Option Split) → pick account key (option_and_then (placed_split number t place) o) ≡ None
     here None = refl
     here (Some split) =
         let row = row_of number t place split in
-        fails (split.account == account) (has_key key row) row
-        (false_of (has_key key row) (λ is. other (place_is key row is)))
+        elim (is_voided split.mark) as
+        (λ v. pick account key (if v then None else Some (split.account, row)) ≡ None) [
+          | true ↦ refl
+          | false ↦
+              fails (split.account == account) (has_key key row) row
+              (false_of (has_key key row) (λ is. other (place_is key row is)))
+        ]
 
 -- and none of another transaction
 pub placed_other :
@@ -135,14 +139,17 @@ placed_other account key number place (Some t) other = here (slice_get t.splits 
     fails true u x is = ap (λ b. cond b (Some x) None) is
     fails false u x is = refl
 
-    here :
-        (o : Option Split)
-        → pick account key (option_map (λ split. (split.account, row_of number t place split)) o) ≡ None
+    here : (o : Option Split) → pick account key (option_and_then (placed_split number t place) o) ≡ None
     here None = refl
     here (Some split) =
         let row = row_of number t place split in
-        fails (split.account == account) (has_key key row) row
-        (false_of (has_key key row) (λ is. other (txn_is key row is)))
+        elim (is_voided split.mark) as
+        (λ v. pick account key (if v then None else Some (split.account, row)) ≡ None) [
+          | true ↦ refl
+          | false ↦
+              fails (split.account == account) (has_key key row) row
+              (false_of (has_key key row) (λ is. other (txn_is key row is)))
+        ]
 
 -- what is left of a row is that row or none
 left_none :
@@ -279,8 +286,7 @@ left_all account key number t other = here (nat_lt key.place (length t.splits)) 
         let past : length t.splits ≤ key.place = grind (arith, nat_tests, is) in
         let none = slice_get_past t.splits key.place past in
         sym (ap (λ (o : Option Split). pick account key (left_of
-        (option_map (λ split. (split.account, row_of number t key.place split)) o)
-        (placed number other key.place))) none)
+        (option_and_then (placed_split number t key.place) o) (placed number other key.place))) none)
 
 pub all_taken :
     (number : ℕ) (t : Txn) (other : Option Txn) (old new : List (ℕ × Page))

@@ -1,8 +1,8 @@
 -- How far the changes of each register rise, where the rows of one transaction come in the place of those of another.
 use Rattle.std.proofs.Common.{◌≡◌, ℕ, ◌+◌, ◌-◌, ◌^◌, ◌<◌, ◌≤◌, ◌==◌, ◌&&◌, min, nat_lt, Bool, true, false}
-use Rattle.std.proofs.Common.{if◌then◌else◌, List, ◌++◌, Option, Some, None, is_some, find, option_map, slice_get}
+use Rattle.std.proofs.Common.{if◌then◌else◌, List, ◌++◌, Option, Some, None, is_some, find, slice_get}
 use Rattle.std.proofs.Common.{refl, sym, ap, ◌∙◌, subst, arith}
-use Rattle.std.specs.Option.{option_or}
+use Rattle.std.specs.Option.{option_and_then, option_or}
 use Rattle.std.proofs.lemmas.Bool.{eqb-true}
 use Rattle.std.proofs.lemmas.Bool.Decides.{nat_tests}
 use Rattle.book_commodity.specs.Table.{value_of, with_entry}
@@ -10,12 +10,13 @@ use Rattle.book_commodity.proofs.TableLemmas.{value_of_with}
 use Rattle.book_register.specs.Register.{IsSorted, RowKey, has_key, key_of}
 use Rattle.book_ledger.specs.Page.{Page}
 use Rattle.book_register.specs.declared.entry.Entry.{Entry}
+use Rattle.book_splits.specs.TransactionRules.{is_voided}
 use Rattle.book_splits.specs.declared.split.Split.{Split}
 use Rattle.book_splits.specs.declared.transaction.Txn.{Txn}
 use Rattle.book_undo.specs.Book.{Book}
 use Rattle.book_undo.specs.Edit.{Leaf}
 use Rattle.book_ledger.specs.Change.{AllTaken, AreTaken, ArePut, Holds, IsReplaced, cut, is_same, left_at, left_before}
-use Rattle.book_ledger.specs.Change.{left_of, pick, placed, row_at}
+use Rattle.book_ledger.specs.Change.{left_of, pick, placed, placed_split, row_at}
 use Rattle.book_ledger.specs.Changes.{AreBounded, RisesBy, changes_in, changes_of, differing, has_row}
 use Rattle.book_ledger.specs.Counts.{AreFree, CountsFrom, CountsOn, HasRow, HasRowsOf, IsFree, LacksRow}
 use Rattle.book_ledger.specs.Ledger.{Keeps, register_of, row_of, rows_at, rows_in}
@@ -177,15 +178,21 @@ placed_is number place None at is = absurd cc
 placed_is number place (Some t) at is = here (slice_get t.splits place) is
   where
     here :
-        (o : Option Split)
-        → option_map (λ (split : Split). (split.account, row_of number t place split)) o ≡ Some at
+        (o : Option Split) → option_and_then (placed_split number t place) o ≡ Some at
         → ((key_of at.1).txn ≡ number) × ((key_of at.1).place ≡ place)
     here None is = absurd cc
     here (Some split) is =
-        let same : (split.account, row_of number t place split) ≡ at = cc in (
-          sym (ap (λ (x : ℕ × Entry). (key_of x.1).txn) same),
-          sym (ap (λ (x : ℕ × Entry). (key_of x.1).place) same),
-        )
+        let own : ℕ × Entry = (split.account, row_of number t place split) in
+        elim (is_voided split.mark) as
+        (λ v. (if v then None else Some own) ≡ Some at
+        → ((key_of at.1).txn ≡ number) × ((key_of at.1).place ≡ place)) [
+          | true ↦ λ none. absurd cc
+          | false ↦ λ some.
+              let same : own ≡ at = cc in (
+                sym (ap (λ (x : ℕ × Entry). (key_of x.1).txn) same),
+                sym (ap (λ (x : ℕ × Entry). (key_of x.1).place) same),
+              )
+        ] is
 
 -- what is left of a row is that row, and not the other
 left_parts :

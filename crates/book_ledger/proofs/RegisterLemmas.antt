@@ -1,9 +1,9 @@
 -- The register of an account: what is found in it at a key, that it is in order, and its sum.
-use Rattle.std.proofs.Common.{◌≡◌, ℕ, zero, suc, ◌+◌, ◌<◌, ◌==◌, ◌&&◌, Bool, true, false, cond, if◌then◌else◌}
+use Rattle.std.proofs.Common.{◌≡◌, ℕ, zero, suc, ◌+◌, ◌<◌, ◌==◌, ◌&&◌, not, Bool, true, false, cond, if◌then◌else◌}
 use Rattle.std.proofs.Common.{List, [], ◌∷◌, ◌++◌, Option, Some, None, is_some, find, option_map, slice_get, refl}
 use Rattle.std.proofs.Common.{sym, ap, ◌∙◌}
 use Rattle.std.proofs.Common.{◌+ℤ◌, arith, map}
-use Rattle.std.specs.Option.{option_or}
+use Rattle.std.specs.Option.{option_and_then, option_or}
 use Rattle.std.specs.Prelude.{filter}
 use Rattle.std.proofs.Math.IntN.{+ℤ_assoc, +ℤ_idl}
 use Rattle.std.proofs.lemmas.Bool.{eqb-true}
@@ -14,12 +14,13 @@ use Rattle.book_register.specs.Register.{IsSorted, RowKey, has_key, key_of}
 use Rattle.book_ledger.specs.Page.{Page}
 use Rattle.book_register.specs.Register as rows
 use Rattle.book_register.specs.declared.entry.Entry.{Entry}
-use Rattle.book_splits.specs.Balance.{balance, quantity_on, splits_of, total}
+use Rattle.book_splits.specs.Balance.{balance, counts_on, quantity_on, splits_of, total}
+use Rattle.book_splits.specs.TransactionRules.{is_voided}
 use Rattle.book_splits.specs.declared.split.Split.{Split}
 use Rattle.book_splits.specs.declared.transaction.Txn.{Txn}
 use Rattle.book_splits.proofs.BalanceLemmas.{quantity_on-append}
 use Rattle.book_undo.specs.Book.{Book}
-use Rattle.book_ledger.specs.Change.{pick, placed, row_in}
+use Rattle.book_ledger.specs.Change.{pick, placed, placed_split, row_in}
 use Rattle.book_ledger.specs.Ledger.{Keeps, live_register, register_of, row_of, rows_at, rows_from, rows_in}
 use Rattle.book_ledger.specs.Ledger.{rows_on}
 use Rattle.book_ledger.proofs.FoundLemmas.{false_of, find_append, find_either, or_none, place_is, txn_is}
@@ -36,8 +37,8 @@ found_before account number t key place (split ∷ more) before =
     let other = false_of (has_key key row)
     (λ is. let same = place_is key row is in absurd (omega (arith, same, before))) in
     let rest = found_before account number t key (place + 1) more (omega (arith, before)) in
-    find_either (has_key key) (split.account == account) row (rows_from account number t (place + 1) more)
-    ∙ fails (split.account == account) (has_key key row) row _ other ∙ rest
+    find_either (has_key key) (counts_on account split) row (rows_from account number t (place + 1) more)
+    ∙ fails (counts_on account split) (has_key key row) row _ other ∙ rest
   where
     fails :
         (s u : Bool) (x : Entry) (o : Option Entry) → u ≡ false → cond (s && u) (Some x) o ≡ o
@@ -52,8 +53,8 @@ found_other account number t key place [] other = refl
 found_other account number t key place (split ∷ more) other =
     let row = row_of number t place split in
     let none = false_of (has_key key row) (λ is. other (txn_is key row is)) in
-    find_either (has_key key) (split.account == account) row (rows_from account number t (place + 1) more)
-    ∙ fails (split.account == account) (has_key key row) row _ none
+    find_either (has_key key) (counts_on account split) row (rows_from account number t (place + 1) more)
+    ∙ fails (counts_on account split) (has_key key row) row _ none
     ∙ found_other account number t key (place + 1) more other
   where
     fails :
@@ -61,26 +62,42 @@ found_other account number t key place (split ∷ more) other =
     fails true u x o is = ap (λ b. cond b (Some x) o) is
     fails false u x o is = refl
 
--- at a place stands the row of the split there, where that is on the account and on the day
+-- a row is picked where it is that of an account and stands at a key, and its split isn't voided
+picked :
+    (account : ℕ) (key : RowKey) (at : ℕ × Entry) (voided : Bool)
+    → cond (((at.0 == account) && not voided) && has_key key at.1) (Some at.1) None
+    ≡ pick account key (if voided then None else Some at)
+picked account key at true =
+    elim (at.0 == account) as (λ b. cond ((b && false) && has_key key at.1) (Some at.1) None ≡ None) [
+      | true ↦ refl
+      | false ↦ refl
+    ]
+picked account key at false =
+    elim (at.0 == account) as
+    (λ b. cond ((b && true) && has_key key at.1) (Some at.1) None
+    ≡ (if b && has_key key at.1 then Some at.1 else None)) [ true ↦ refl | false ↦ refl ]
+
+-- at a place stands the row of the split there, where that counts on the account and is on the day
 found_from :
     (account number : ℕ) (t : Txn) (key : RowKey) (place k : ℕ) (splits : List Split) → key.place ≡ place + k
     → find (has_key key) (rows_from account number t place splits)
-    ≡ pick account key (option_map (λ split. (split.account, row_of number t key.place split)) (slice_get splits k))
+    ≡ pick account key (option_and_then (placed_split number t key.place) (slice_get splits k))
 found_from account number t key place k [] is = refl
 found_from account number t key place zero (split ∷ more) is =
     let here : key.place ≡ place = omega (arith, is) in
     let rest = found_before account number t key (place + 1) more (omega (arith, here)) in
-    find_either (has_key key) (split.account == account) (row_of number t place split)
+    find_either (has_key key) (counts_on account split) (row_of number t place split)
     (rows_from account number t (place + 1) more)
-    ∙ ap (λ (o : Option Entry). cond ((split.account == account) && has_key key (row_of number t place split))
+    ∙ ap (λ (o : Option Entry). cond ((counts_on account split) && has_key key (row_of number t place split))
     (Some (row_of number t place split)) o) rest
-    ∙ ap (λ (n : ℕ). pick account key (Some (split.account, row_of number t n split))) (sym here)
+    ∙ picked account key (split.account, row_of number t place split) (is_voided split.mark)
+    ∙ ap (λ (n : ℕ). pick account key (placed_split number t n split)) (sym here)
 found_from account number t key place (suc k) (split ∷ more) is =
     let row = row_of number t place split in
     let other = false_of (has_key key row) (λ same. let at = place_is key row same in absurd (omega (arith, at, is))) in
     let next : key.place ≡ (place + 1) + k = omega (arith, is) in
-    find_either (has_key key) (split.account == account) row (rows_from account number t (place + 1) more)
-    ∙ fails (split.account == account) (has_key key row) row _ other
+    find_either (has_key key) (counts_on account split) row (rows_from account number t (place + 1) more)
+    ∙ fails (counts_on account split) (has_key key row) row _ other
     ∙ found_from account number t key (place + 1) k more next
   where
     fails :
@@ -133,7 +150,7 @@ apart_from account number t place (split ∷ more) rest apart none =
     let row = row_of number t place split in
     let later = rows_from account number t (place + 1) more in
     let tail = apart_from account number t (place + 1) more rest apart none in
-    elim (split.account == account) as (λ b. AreApart ((if b then row ∷ later else later) ++ rest)) [
+    elim (counts_on account split) as (λ b. AreApart ((if b then row ∷ later else later) ++ rest)) [
       | true ↦ (
         find_append (has_key (key_of row)) later rest
             ∙ ap (λ (o : Option Entry). option_or o (find (has_key (key_of row)) rest))
@@ -168,10 +185,10 @@ balance_from account number t place (split ∷ more) =
     let row = row_of number t place split in
     let later = rows_from account number t (place + 1) more in
     let rest = balance_from account number t (place + 1) more in
-    elim (split.account == account) as
+    elim (counts_on account split) as
     (λ b. rows.balance (if b then row ∷ later else later)
-    ≡ total (map (λ (s : Split). s.quantity) (if b then split ∷ filter (λ (s : Split). s.account == account) more
-    else filter (λ (s : Split). s.account == account) more))) [
+    ≡ total (map (λ (s : Split). s.quantity) (if b then split ∷ filter (counts_on account) more
+    else filter (counts_on account) more))) [
       | true ↦ ap (λ z. split.quantity +ℤ z) rest
       | false ↦ rest
     ]

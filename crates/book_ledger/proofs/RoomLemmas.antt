@@ -1,16 +1,18 @@
 -- The room that the rows of a transaction need, place by place.
 use Rattle.std.proofs.Common.{◌≡◌, ℕ, zero, suc, ◌+◌, ◌<◌, ◌≤◌, ◌==◌, ◌&&◌, Bool, true, false, if◌then◌else◌}
-use Rattle.std.proofs.Common.{List, [], ◌∷◌, length, drop, Option, Some, None, option_map, slice_get, refl, sym, ap}
+use Rattle.std.proofs.Common.{List, [], ◌∷◌, length, drop, Option, Some, None, slice_get, refl, sym, ap}
 use Rattle.std.proofs.Common.{◌∙◌}
 use Rattle.std.proofs.Common.{subst, arith}
+use Rattle.std.specs.Option.{option_and_then}
 use Rattle.std.proofs.lemmas.Bool.Decides.{nat_tests}
 use Rattle.std.proofs.lemmas.List.Sums.{sum_by-cons}
 use Rattle.book_commodity.proofs.ListLemmas.{drop_at}
 use Rattle.book_ledger.specs.Page.{Page}
 use Rattle.book_register.specs.declared.entry.Entry.{Entry}
+use Rattle.book_splits.specs.TransactionRules.{is_voided}
 use Rattle.book_splits.specs.declared.split.Split.{Split}
 use Rattle.book_splits.specs.declared.transaction.Txn.{Txn}
-use Rattle.book_ledger.specs.Change.{is_same, left_at, left_of, placed}
+use Rattle.book_ledger.specs.Change.{is_same, left_at, left_of, placed, placed_split}
 use Rattle.book_ledger.specs.Ledger.{row_of}
 use Rattle.book_ledger.specs.Room.{HasRoomForRow, one_on, room_of, splits_on}
 
@@ -34,6 +36,30 @@ left_room registers at (Some other) room =
     elim ((at.0 == other.0) && is_same at.1 other.1) as
     (λ t. HasRoomForRow (if t then None else Some at) registers) [ true ↦ tt | false ↦ room ]
 
+-- the same of the row of a split, of which there is none where it is voided
+placed_one :
+    (account number place : ℕ) (t : Txn) (split : Split) (other : Option (ℕ × Entry))
+    → one_on account (left_of (placed_split number t place split) other) ≤ (if split.account == account then 1 else 0)
+placed_one account number place t split other =
+    let at : ℕ × Entry = (split.account, row_of number t place split) in
+    elim (is_voided split.mark) as
+    (λ v. one_on account (left_of (if v then None else Some at) other) ≤ (if split.account == account then 1 else 0)) [
+      | true ↦ omega arith
+      | false ↦ left_one account at other
+    ]
+
+placed_room :
+    (registers : List (ℕ × Page)) (number place : ℕ) (t : Txn) (split : Split) (other : Option (ℕ × Entry))
+    → 1 ≤ room_of split.account registers
+    → HasRoomForRow (left_of (placed_split number t place split) other) registers
+placed_room registers number place t split other room =
+    let at : ℕ × Entry = (split.account, row_of number t place split) in
+    elim (is_voided split.mark) as
+    (λ v. HasRoomForRow (left_of (if v then None else Some at) other) registers) [
+      | true ↦ tt
+      | false ↦ left_room registers at other room
+    ]
+
 some_within : {X : Type 0} (xs : List X) (i : ℕ) → i < length xs → (x : X) × (slice_get xs i ≡ Some x)
 some_within [] i lt = absurd (omega (arith, lt))
 some_within (x ∷ xs) zero lt = (x, refl)
@@ -51,10 +77,10 @@ splits_from account place splits split there =
 left_is :
     (number place : ℕ) (t : Txn) (other : Option Txn) (split : Split) → slice_get t.splits place ≡ Some split
     → left_at number (Some t) other place
-    ≡ left_of (Some (split.account, row_of number t place split)) (placed number other place)
+    ≡ left_of (placed_split number t place split) (placed number other place)
 left_is number place t other split there =
-    ap (λ (o : Option Split). left_of (option_map (λ (s : Split). (s.account, row_of number t place s)) o)
-    (placed number other place)) there
+    ap (λ (o : Option Split). left_of (option_and_then (placed_split number t place) o) (placed number other place))
+    there
 
 -- a row that is put at a place takes the room of the split there
 pub one_less :
@@ -63,9 +89,8 @@ pub one_less :
     → one_on account row + splits_on account (drop (place + 1) t.splits) ≤ splits_on account (drop place t.splits)
 one_less account number place t other row is lt =
     let found = some_within t.splits place lt in
-    let at : ℕ × Entry = (found.0.account, row_of number t place found.0) in
     let one = ap (one_on account) (is ∙ left_is number place t other found.0 found.1) in
-    let less = left_one account at (placed number other place) in
+    let less = placed_one account number place t found.0 (placed number other place) in
     omega (arith, splits_from account place t.splits found.0 found.1, one, less)
 
 -- and there is room for it
@@ -83,4 +108,4 @@ room_for_row number place t other row registers is lt room =
     omega (arith, splits_from account place t.splits found.0 found.1, one, room account) in
     subst (λ (o : Option (ℕ × Entry)). HasRoomForRow o registers)
     (sym (is ∙ left_is number place t other found.0 found.1))
-    (left_room registers (account, row_of number t place found.0) (placed number other place) enough)
+    (placed_room registers number place t found.0 (placed number other place) enough)

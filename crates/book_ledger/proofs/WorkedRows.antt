@@ -1,10 +1,10 @@
 -- Worked rows: salary and a market on two accounts, and the market moved to an earlier day; how many rows differ where
--- it is put, taken back, noted and moved.
+-- it is put, taken back, noted, voided and moved.
 use Rattle.std.proofs.Common.{◌≡◌, ℕ, ◌-◌, ◌^◌, List, [], ◌∷◌, ℤ, pos, negsuc, None, map, refl}
 use Rattle.book_register.specs.Register.{balance as sum_of}
 use Rattle.book_register.specs.declared.entry.Entry.{Entry}
 use Rattle.book_splits.specs.Balance.{balance}
-use Rattle.book_splits.specs.declared.split.Mark.TheVariants.{New}
+use Rattle.book_splits.specs.declared.split.Mark.TheVariants.{New, Voided}
 use Rattle.book_splits.specs.declared.split.Split.{Split}
 use Rattle.book_splits.specs.declared.transaction.Txn.{Txn}
 use Rattle.book_ledger.specs.Changes.{RisesBy, differing}
@@ -64,6 +64,16 @@ sum_is_balance = refl
 balance_is : balance (book (pos 2)) 3 ≡ pos 244850
 balance_is = refl
 
+-- the market with its splits voided
+abbrev voided_market : ℤ → Txn
+voided_market day =
+    transaction day (map (λ (s : Split). record s { mark = Voided; value = pos 0; quantity = pos 0 }) (market day).splits)
+
+-- a voided split has no row
+voided_out : (register_of 6 (salary ∷ (20, voided_market (pos 9)) ∷ []) ≡ [])
+    × (places 3 (salary ∷ (20, voided_market (pos 9)) ∷ []) ≡ (5, 0) ∷ [])
+voided_out = (refl, refl)
+
 -- ---- rows that differ
 -- how many rows of an account differ between two lists of transactions
 abbrev differ : ℕ → List (ℕ × Txn) → List (ℕ × Txn) → ℕ
@@ -86,6 +96,11 @@ made_again = (refl, refl)
 -- a note is in no row
 noted : differ 3 (book (pos 9)) (salary ∷ (20, record (market (pos 9)) { description = 65 ∷ [] }) ∷ []) ≡ 0
 noted = refl
+
+-- where it is voided its rows are taken out
+voided : (differ 3 (book (pos 9)) (salary ∷ (20, voided_market (pos 9)) ∷ []) ≡ 1)
+    × (differ 6 (book (pos 9)) (salary ∷ (20, voided_market (pos 9)) ∷ []) ≡ 1)
+voided = (refl, refl)
 
 -- on another day the row is another
 moved : (differ 3 (book (pos 9)) (book (pos 2)) ≡ 2) × (differ 6 (book (pos 9)) (book (pos 2)) ≡ 2)

@@ -1,7 +1,7 @@
 -- What becomes different in the registers where one transaction stands in the place of another.
 use Rattle.std.specs.Prelude.{◌≡◌, ℕ, ◌==◌, ◌&&◌, nat_lt, Bool, true, false, if◌then◌else◌, List}
-use Rattle.std.specs.Prelude.{Option, Some, None, is_some, option_map, find, slice_get}
-use Rattle.std.specs.Option.{option_or}
+use Rattle.std.specs.Prelude.{Option, Some, None, is_some, find, slice_get}
+use Rattle.std.specs.Option.{option_and_then, option_or}
 use Rattle.std.specs.Ordering.{int_eq}
 use Rattle.book_commodity.specs.Table.{value_of}
 use Rattle.book_register.specs.Register.{has_key, key_of}
@@ -10,6 +10,8 @@ use Rattle.book_register.specs.declared.entry.Entry.{Entry}
 use Rattle.book_register.specs.declared.entry.Mark2.{Mark2}
 use Rattle.book_register.specs.declared.entry.Mark2.TheVariants.{Plain, Cleared, Reconciled}
 use Rattle.book_register.specs.Register.{RowKey}
+use Rattle.book_splits.specs.TransactionRules.{is_voided}
+use Rattle.book_splits.specs.declared.split.Split.{Split}
 use Rattle.book_splits.specs.declared.transaction.Txn.{Txn}
 use Rattle.book_ledger.specs.Ledger.{rows_at, row_of}
 
@@ -21,11 +23,17 @@ row_at account key registers = find (has_key key) (rows_at account registers)
 abbrev pub is_there : {T : Type 0} → ℕ → List (ℕ × T) → Bool
 is_there account kept = is_some (value_of account kept)
 
--- The row that a transaction has at a place, with its account; none where there is no transaction, or no such place.
+-- The row of the split at a place of a transaction, with its account; none where the split is voided.
+abbrev pub placed_split : ℕ → Txn → ℕ → Split → Option (ℕ × Entry)
+placed_split number transaction place split =
+    if is_voided split.mark then None else Some (split.account, row_of number transaction place split)
+
+-- The row that a transaction has at a place, with its account; none where there is no transaction, no such place, or a
+-- voided split there.
 abbrev pub placed : ℕ → Option Txn → ℕ → Option (ℕ × Entry)
 placed number None place = None
 placed number (Some transaction) place =
-    option_map (λ split. (split.account, row_of number transaction place split)) (slice_get transaction.splits place)
+    option_and_then (placed_split number transaction place) (slice_get transaction.splits place)
 
 -- Whether two marks are the same.
 abbrev pub is_same_mark : Mark2 → Mark2 → Bool

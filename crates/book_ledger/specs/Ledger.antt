@@ -1,6 +1,6 @@
 -- The ledger of a book: the register of each account, computed afresh from the transactions (GnuCash Concepts Guide,
 -- account registers; the order among rows of one day is this project's own).
-use Rattle.std.specs.Prelude.{◌≡◌, ℕ, ◌+◌, ◌^◌, ◌≤◌, ◌==◌, true, if◌then◌else◌, length, List, [], ◌∷◌, ◌++◌}
+use Rattle.std.specs.Prelude.{◌≡◌, ℕ, ◌+◌, ◌^◌, ◌≤◌, true, if◌then◌else◌, length, List, [], ◌∷◌, ◌++◌}
 use Rattle.std.specs.Prelude.{Option, Some, None, is_some}
 use Rattle.book_commodity.specs.Table.{value_of}
 use Rattle.book_register.specs.Register.{key_of, precedes}
@@ -8,13 +8,14 @@ use Rattle.book_ledger.specs.Page.{Page}
 use Rattle.book_register.specs.declared.entry.Entry.{Entry}
 use Rattle.book_register.specs.declared.entry.Mark2.{Mark2}
 use Rattle.book_register.specs.declared.entry.Mark2.TheVariants as kept
+use Rattle.book_splits.specs.Balance.{counts_on}
 use Rattle.book_splits.specs.declared.split.Mark.{Mark}
 use Rattle.book_splits.specs.declared.split.Mark.TheVariants as mark
 use Rattle.book_splits.specs.declared.split.Split.{Split}
 use Rattle.book_splits.specs.declared.transaction.Txn.{Txn}
 use Rattle.book_undo.specs.Book.{Book}
 
--- How far a split is reconciled: n, c or y (GnuCash Manual, reconciling accounts). A sound book has no voided split.
+-- How far a split is reconciled: n, c or y (GnuCash Manual, reconciling accounts). A voided split has no row.
 abbrev pub mark_of : Mark → Mark2
 mark_of mark.New = kept.Plain
 mark_of mark.Cleared = kept.Cleared
@@ -34,15 +35,15 @@ row_of number transaction place split = record {
   mark = mark_of split.mark;
 }
 
--- The rows on an account of some splits of a transaction, of which the first stands at a place.
+-- The rows on an account of some splits of a transaction, of which the first stands at a place. A voided split has none.
 abbrev pub rows_from : ℕ → ℕ → Txn → ℕ → List Split → List Entry
 rows_from account number transaction place [] = []
 rows_from account number transaction place (split ∷ more) =
-    if split.account == account
+    if counts_on account split
     then row_of number transaction place split ∷ rows_from account number transaction (place + 1) more
     else rows_from account number transaction (place + 1) more
 
--- The rows of an account, one for each of its splits, by the number of the transaction and the place in it.
+-- The rows of an account, one for each split that counts on it, by the number of the transaction and the place in it.
 abbrev pub rows_on : ℕ → List (ℕ × Txn) → List Entry
 rows_on account [] = []
 rows_on account (entry ∷ more) = rows_from account entry.0 entry.1 0 entry.1.splits ++ rows_on account more

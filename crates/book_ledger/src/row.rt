@@ -45,20 +45,20 @@ fn is_same(one: &Entry, other: &Entry) -> bool
     one == other
 }
 
-/// The row that a transaction has at a place, with its account; `None` where it has no such place.
+/// The row that a transaction has at a place, with its account; `None` where it has no such place, and where the split
+/// there is voided.
 fn placed(number: u64, transaction: &Txn, place: usize) -> Option<(u64, Entry)>
     requires { length transaction.now.splits ≤ 2 ^ 32 }
     ensures { result ≡ placed_at number (Some transaction.now) place }
 {
-    let splits = transaction.splits.as_slice();
-    if place < splits.len() {
-        let split = &splits[place];
-        return Some((
-            split.account,
-            row_of(number, transaction, place as u32, split),
-        ));
+    let split = transaction.splits.as_slice().get(place)?;
+    if split.mark == Mark::Voided {
+        return None;
     }
-    None
+    Some((
+        split.account,
+        row_of(number, transaction, place as u32, split),
+    ))
 }
 
 /// The row that a transaction has at a place, with its account, unless the other transaction has the same there.

@@ -1,9 +1,9 @@
 -- The lines with which splits are matched, in a table by the numbers of the splits.
 use Rattle.std.proofs.Common.{◌≡◌, ℕ, ◌==◌, ◌++◌, Bool, true, false, if◌then◌else◌, List, [], ◌∷◌, Option, Some, None}
-use Rattle.std.proofs.Common.{arith, eqb, refl, sym, ap, ◌∙◌, is_some}
+use Rattle.std.proofs.Common.{arith, refl, sym, ap, ◌∙◌, is_some}
 use Rattle.std.proofs.lemmas.Bool.Decides.{nat_tests}
 use Rattle.std.specs.Option.{option_or}
-use Rattle.book_commodity.specs.Table.{value_of, with_entry}
+use Rattle.book_commodity.specs.Table.{with_entry}
 use Rattle.book_commodity.proofs.TableLemmas.{value_of_with}
 use Rattle.book_listings.specs.Account.{line_of}
 

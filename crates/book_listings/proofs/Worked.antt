@@ -1,4 +1,4 @@
--- Worked texts: a book with a broker's account, a hidden account, and an entry of three splits.
+-- Worked texts: a book with a broker's account, a hidden account, an entry of three splits, and one that is voided.
 use Rattle.std.proofs.Common.{◌≡◌, ℕ, ℤ, pos, negsuc, Bool, true, false, List, [], ◌∷◌, ◌++◌, Some, None, codes, refl}
 use Rattle.std.specs.Fmt.{digits}
 use Rattle.book_accounts.specs.Order.{with_generations}
@@ -9,7 +9,7 @@ use Rattle.book_accounts.specs.declared.kind.AccountKind.TheVariants.{Bank, Expe
 use Rattle.book_commodity.specs.Amount.{amount_text, decimals_of}
 use Rattle.book_commodity.specs.Day.{day_text}
 use Rattle.book_commodity.specs.declared.commodity.Commodity.{Commodity}
-use Rattle.book_splits.specs.declared.split.Mark.TheVariants.{New}
+use Rattle.book_splits.specs.declared.split.Mark.TheVariants.{New, Voided}
 use Rattle.book_splits.specs.declared.split.Split.{Split}
 use Rattle.book_splits.specs.declared.transaction.Txn.{Txn}
 use Rattle.book_undo.specs.Book.{Book, empty_book}
@@ -97,6 +97,31 @@ rows_of_buy :
     ∷ []
 unfolding amount_text decimals_of with_generations nearest_parents digits
 rows_of_buy = refl
+
+-- a voided transaction says why among the memos, and its splits have a mark of their own
+abbrev voided : Txn
+voided = record {
+  currency = 1;
+  day = pos 41;
+  num = [];
+  description = codes "Twice";
+  splits = record (split 12 6 (codes "fee") (pos 0) (pos 0)) { mark = Voided }
+      ∷ record (split 13 5 [] (pos 0) (pos 0)) { mark = Voided } ∷ [];
+  voided = Some (record {
+    reason = codes "entered twice";
+    kept = record { value = pos 150; quantity = pos 150 } ∷ record { value = negsuc 149; quantity = negsuc 149 } ∷ [];
+  });
+}
+
+rows_of_voided :
+    rows_of Plain book 11 voided
+    ≡ (day_text (pos 41) ∷ codes "11" ∷ [] ∷ codes "EUR" ∷ [] ∷ [] ∷ [] ∷ codes "Twice"
+    ∷ codes "voided: entered twice" ∷ [])
+    ∷ ([] ∷ codes "12" ∷ codes "v" ∷ codes "0.00" ∷ [] ∷ [] ∷ codes "6" ∷ codes "Fees" ∷ codes "fee" ∷ [])
+    ∷ ([] ∷ codes "13" ∷ codes "v" ∷ codes "0.00" ∷ [] ∷ [] ∷ codes "5" ∷ codes "Cash" ∷ [] ∷ [])
+    ∷ []
+unfolding amount_text decimals_of with_generations nearest_parents digits
+rows_of_voided = refl
 
 -- the two characters of U+4E1C and U+4EAC
 abbrev wide : List ℕ

@@ -1,7 +1,6 @@
 -- The register of an account with the numbers by which commands name its transactions and splits (GnuCash Concepts
 -- Guide, account registers).
-use Rattle.std.specs.Prelude.{ℕ, ◌==◌, ◌++◌, ℤ, not, if◌then◌else◌, List, [], ◌∷◌, filter, map, codes, Option, Some}
-use Rattle.std.specs.Prelude.{None}
+use Rattle.std.specs.Prelude.{ℕ, ◌==◌, ◌++◌, ℤ, not, if◌then◌else◌, List, [], ◌∷◌, filter, map, codes, Option}
 use Rattle.std.specs.Prelude.{option_map, slice_get}
 use Rattle.std.specs.Fmt.{decimal}
 use Rattle.std.specs.List.{flat_map}

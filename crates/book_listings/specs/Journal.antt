@@ -18,6 +18,7 @@ use Rattle.book_splits.specs.declared.split.Mark.{Mark}
 use Rattle.book_splits.specs.declared.split.Mark.TheVariants as mark
 use Rattle.book_splits.specs.declared.split.Split.{Split}
 use Rattle.book_splits.specs.declared.transaction.Txn.{Txn}
+use Rattle.book_splits.specs.declared.void.Void.{Void}
 use Rattle.book_undo.specs.Book.{Book}
 use Rattle.book_listings.specs.Accounts.{name_in}
 use Rattle.book_table.specs.Columns.{table_text}
@@ -67,7 +68,13 @@ other_quantity book transaction split =
     else amount_in book (commodity_of book split.account) split.quantity
     ++ 32 ∷ name_of book.commodities (commodity_of book split.account)
 
--- The row of a transaction itself: its day, its number, its currency, its num and its description.
+-- That a transaction is voided, and why; nothing of one that isn't (GnuCash Manual, voiding a transaction).
+abbrev pub void_note : Option Void → List ℕ
+void_note None = []
+void_note (Some void) = codes "voided: " ++ void.reason
+
+-- The row of a transaction itself: its day, its number, its currency, its num, its description, and where it is voided
+-- that it is, and why, among the memos.
 abbrev pub head_row : Book → ℕ → Txn → List (List ℕ)
 head_row book number transaction =
     day_text transaction.day
@@ -78,7 +85,7 @@ head_row book number transaction =
     ∷ transaction.num
     ∷ []
     ∷ transaction.description
-    ∷ []
+    ∷ void_note transaction.voided
     ∷ []
 
 -- The row of a split below it: its number, its mark, its value, its quantity, its action, the number of its account,

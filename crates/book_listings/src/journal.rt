@@ -1,14 +1,14 @@
 ghost use Rattle.std.specs.Prelude.{◌≡◌, ◌∷◌, ◌++◌, IfOk, OnOk, map};
 ghost use Rattle.std.specs.List.{flat_map};
 ghost use Rattle.book_listings.specs.Journal.{IsJournal, columns, head_row, listed, mark_letter, other_quantity};
-ghost use Rattle.book_listings.specs.Journal.{plain_rows, record_row, rows_at, rows_of, split_row};
+ghost use Rattle.book_listings.specs.Journal.{plain_rows, record_row, rows_at, rows_of, split_row, void_note};
 
 use crate::accounts::name_in;
 use crate::order::by_day;
 use crate::{Days, PresentBook};
 use book_commodity::{Many, OutOfMemory, Text, amount_text};
 use book_reports::Form;
-use book_splits::{Mark, Split, Txn};
+use book_splits::{Mark, Split, Txn, Void};
 use book_table::{Cells, Side, row_of, table_text};
 use std::alloc::Global;
 
@@ -188,6 +188,7 @@ fn head_row(
 ) -> Result<Many<Text>, OutOfMemory>
     ensures { IfOk result (λ row. row ≡ head_row book.now number transaction.now) }
 {
+    let note = void_note(alloc, &transaction.voided)?;
     let mut cells = Cells::new(alloc);
     cells.day(transaction.day)?;
     cells.number(number)?;
@@ -197,8 +198,20 @@ fn head_row(
     cells.text(transaction.num.as_str())?;
     cells.text("")?;
     cells.text(transaction.description.as_str())?;
-    cells.text("")?;
+    cells.text(note.as_str())?;
     Ok(cells.row())
+}
+
+/// That a transaction is voided, and why; nothing of one that isn't.
+fn void_note(alloc: Global, voided: &Option<Void>) -> Result<Text, OutOfMemory>
+    ensures { IfOk result (λ text. text ≡ void_note voided.now) }
+{
+    let Some(void) = voided else {
+        return Ok(Text::new(alloc));
+    };
+    let mut text = String::from_str(alloc, "voided: ")?;
+    text.push_str(void.reason.as_str())?;
+    Ok(Text::of(text))
 }
 
 /// The row of a split below it.

@@ -1,6 +1,6 @@
 -- Rows of lots one after another, and the sum of gains.
 use Rattle.std.proofs.Common.{◌≡◌, ℕ, zero, suc, ◌+◌, ◌*◌, ◌<◌, ℤ, pos, ◌+ℤ◌, List, [], ◌∷◌, ◌++◌, length, take}
-use Rattle.std.proofs.Common.{get_or, refl, sym, ap, ◌∙◌, arith, append_assoc, codes}
+use Rattle.std.proofs.Common.{get_or, sym, ap, ◌∙◌, arith, append_assoc, codes}
 use Rattle.std.specs.List.{All, flat_map}
 use Rattle.std.proofs.lemmas.Int.{ints}
 use Rattle.std.proofs.lemmas.List.{take_more, append-nil}
@@ -11,7 +11,6 @@ use Rattle.book_lots.specs.declared.pair.Pair.{Pair}
 use Rattle.book_lots.proofs.BoundLemmas.{AreGains, IsUpTo, gains_small}
 use Rattle.book_lots.proofs.ShareLemmas.{gain_of-append}
 use Rattle.book_lots.specs.Lots.{adjustments_of, all_gains, cost_of, lots_of}
-use Rattle.book_lots.specs.declared.open_lot.OpenLot.{OpenLot}
 use Rattle.book_ledger.specs.Ledger.{register_of}
 use Rattle.book_undo.specs.Book.{Book}
 use Rattle.book_limits.specs.Limits.{largest_split_amount}

@@ -11,7 +11,6 @@ use Rattle.book_commodity.specs.Day.{day_text}
 use Rattle.book_commodity.specs.declared.commodity.Commodity.{Commodity}
 use Rattle.book_lots.specs.Lots.{bought_in, lots_of, pairs_of, sold_in}
 use Rattle.book_splits.specs.declared.split.Mark.TheVariants.{New}
-use Rattle.book_splits.specs.declared.split.Split.{Split}
 use Rattle.book_splits.specs.declared.transaction.Txn.{Txn}
 use Rattle.book_undo.specs.Book.{Book, empty_book}
 use Rattle.csv.specs.Writing.{escaped, fields_text, is_blank}

@@ -14,7 +14,7 @@ use Rattle.book_register.specs.Register.{balance, key_of, precedes}
 use Rattle.book_register.specs.declared.entry.Entry.{Entry}
 use Rattle.book_sound.proofs.SoundFacts.{IsAtMost, amounts_are_small, sum_is_small}
 use Rattle.book_sound.specs.Soundness.{IsSoundBook}
-use Rattle.book_splits.specs.Balance.{splits_of, total}
+use Rattle.book_splits.specs.Balance.{counts_on, splits_of, total}
 use Rattle.book_splits.specs.Check.{HasAmounts}
 use Rattle.book_splits.specs.declared.split.Split.{Split}
 use Rattle.book_splits.specs.declared.transaction.Txn.{Txn}
@@ -39,7 +39,7 @@ small_from account number t place (split ∷ more) all =
     let row = row_of number t place split in
     let later = rows_from account number t (place + 1) more in
     let rest = small_from account number t (place + 1) more (All-tail HasAmounts split more all) in
-    elim (split.account == account) as (λ b. All IsSmallRow (if b then row ∷ later else later)) [
+    elim (counts_on account split) as (λ b. All IsSmallRow (if b then row ∷ later else later)) [
       | true ↦ All-cons IsSmallRow row later (All-head HasAmounts split more all) rest
       | false ↦ rest
     ]
@@ -83,7 +83,7 @@ few_from account number t place (split ∷ more) =
     let row = row_of number t place split in
     let later = rows_from account number t (place + 1) more in
     let rest = few_from account number t (place + 1) more in
-    elim (split.account == account) as (λ b. length (if b then row ∷ later else later) ≤ suc (length more)) [
+    elim (counts_on account split) as (λ b. length (if b then row ∷ later else later) ≤ suc (length more)) [
       | true ↦ omega (arith, rest)
       | false ↦ omega (arith, rest)
     ]

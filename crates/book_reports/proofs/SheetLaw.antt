@@ -9,7 +9,7 @@ use Rattle.std.specs.Option.{option_map_or}
 use Rattle.std.specs.Ordering.{int_eq}
 use Rattle.std.proofs.lemmas.Bool.Decides.{Decides-int_eq, nat_tests}
 use Rattle.std.proofs.lemmas.Int.{ints}
-use Rattle.std.proofs.lemmas.List.Elements.{All-append, All-cons, All-head, All-nil, All-tail}
+use Rattle.std.proofs.lemmas.List.Elements.{All-append, All-cons, All-head, All-nil, All-tail, All-weaker}
 use Rattle.std.proofs.lemmas.Nat.{div-mul-add}
 use Rattle.book_accounts.specs.AccountRules.{is_placeholder_if_root, is_root}
 use Rattle.book_accounts.specs.Order.{depth_first}
@@ -45,8 +45,9 @@ use Rattle.book_reports.specs.declared.section.Section.{Section}
 use Rattle.book_reports.specs.declared.section.Section.TheVariants.{Assets, Earnings, Equity, Liabilities}
 use Rattle.book_reports.proofs.MeasureLemmas.{fraction_in_range}
 use Rattle.book_reports.proofs.RowLemmas.{can_be_summed, period_small}
-use Rattle.book_reports.proofs.SplitFacts.{FitsAccount, accounts_are_listed, splits_fit}
-use Rattle.book_reports.proofs.SumLemmas.{empty_or, total_of_registers, total_of_zeros, total_same, total_zero}
+use Rattle.book_reports.proofs.SplitFacts.{FitsAccount, IsZeroVoided, accounts_are_listed, splits_fit, voided_are_zero}
+use Rattle.book_reports.proofs.SumLemmas.{AllGiveUnvoided, GivesUnvoided, empty_or, total_of_registers, total_of_zeros}
+use Rattle.book_reports.proofs.SumLemmas.{total_same, total_zero}
 
 -- ---- an amount is worth itself in its own commodity
 
@@ -299,6 +300,15 @@ given_none period t same balanced =
       | false ↦ total_zero t.splits
     ]
 
+-- a split without a quantity gives nothing
+quantity_none :
+    (period : Period) (t : Txn) (split : Split) → split.quantity ≡ pos 0 → quantity_given period t split ≡ pos 0
+quantity_none period t split none =
+    elim (is_in period t.day) as (λ b. (if b then split.quantity else pos 0) ≡ pos 0) [
+      | true ↦ none
+      | false ↦ refl
+    ]
+
 -- The value of each split is its quantity.
 abbrev AreSame : List Split → Type 0
 AreSame splits = All (λ (s : Split). s.value ≡ s.quantity) splits
@@ -349,6 +359,10 @@ quantities_cancel book period is one =
     (λ a. quantity_total period (register_of a book.transactions)) (depth_first book.accounts)
     ∙ total_of_registers (quantity_of period) (quantity_given period) (λ n t place split. refl)
     (depth_first book.accounts) book.transactions (accounts_are_listed book is)
+    (all_of_each (AllGiveUnvoided (quantity_given period)) book.transactions is.transactions.rise
+    (λ n t there.
+    All-weaker IsZeroVoided (GivesUnvoided (quantity_given period) t)
+    (λ split zero voided. quantity_none period t split (zero voided).1) t.splits (voided_are_zero book n t is there)))
     ∙ total_of_zeros (quantity_given period) book.transactions
     (quantities_none book period book.transactions (splits_fit book is) one.transactions one.accounts
     (all_of_each (λ (e : ℕ × Txn). sum_of_values e.1.splits ≡ pos 0) book.transactions is.transactions.rise

@@ -1,8 +1,9 @@
 -- What a sound book says of each of its splits: where its account is listed, and what it has as quantity.
-use Rattle.std.proofs.Common.{◌≡◌, ℕ, ◌+◌, ◌==◌, nat_eq, ◌&&◌, not, Bool, true, false, if◌then◌else◌, List, [], ◌∷◌, All}
+use Rattle.std.proofs.Common.{◌≡◌, ℕ, ◌+◌, ◌==◌, nat_eq, ◌&&◌, not, pos, Bool, true, false, if◌then◌else◌, List, [], ◌∷◌, All, length}
 use Rattle.std.proofs.Common.{Option, Some, None, is_some, refl, sym, ap, ◌∙◌, arith}
+use Rattle.std.specs.List.{list_all}
 use Rattle.std.specs.Ordering.{int_eq}
-use Rattle.std.proofs.lemmas.Bool.{not-false}
+use Rattle.std.proofs.lemmas.Bool.{and_parts, eqb-true, not-false}
 use Rattle.std.proofs.lemmas.Bool.Decides.{Decides-int_eq, nat_tests}
 use Rattle.std.proofs.lemmas.List.Elements.{All-append, All-cons, All-head, All-nil, All-tail, All-weaker}
 use Rattle.std.proofs.lemmas.List.Sums.{length-filter}
@@ -12,17 +13,26 @@ use Rattle.book_accounts.proofs.OnceLemmas.{listed_once}
 use Rattle.book_commodity.specs.Rules.{AllKept}
 use Rattle.book_commodity.specs.Table.{value_of}
 use Rattle.book_commodity.proofs.RuleLemmas.{kept_back, kept_front, not-broken}
+use Rattle.book_sound.proofs.MarkLemmas.{right_is_unvoided}
 use Rattle.book_sound.proofs.OwnFrames.{all_of_each}
 use Rattle.book_sound.proofs.SoundFacts.{accounts_are_rooted, transactions_balance}
+use Rattle.book_sound.proofs.VoidFrames.{voided_of}
 use Rattle.book_ledger.specs.Ledger.{HasPlaces}
+use Rattle.book_sound.specs.MarkedTransactionRules.{are_rightly_marked, is_rightly_marked, is_rightly_voided}
+use Rattle.book_sound.specs.MarkedTransactionRules.{keeps_each}
 use Rattle.book_sound.specs.Soundness.{IsSoundBook}
 use Rattle.book_splits.specs.Balance.{splits_of}
 use Rattle.book_splits.specs.Check.{rules_of_splits, split_rules}
+use Rattle.book_splits.specs.TransactionRules.{is_voided}
+use Rattle.book_splits.specs.declared.reconciliation.Recon.{Recon}
 use Rattle.book_splits.specs.declared.split.Split.{Split}
 use Rattle.book_splits.specs.declared.transaction.Txn.{Txn}
+use Rattle.book_splits.specs.declared.void.KeptSplit.{KeptSplit}
+use Rattle.book_splits.specs.declared.void.Void.{Void}
 use Rattle.book_splits.proofs.CheckLemmas.{parts_of}
 use Rattle.book_splits.proofs.TransactionRuleLemmas.{is_none_of}
 use Rattle.book_undo.specs.Book.{Book}
+use Rattle.book_void.specs.Voiding.{restored, restored_split, restored_splits, restored_with}
 use Rattle.book_reports.proofs.SumLemmas.{IsListedOnce}
 
 -- A split of a transaction in a currency stands on an account that takes splits, and its value is its quantity where
@@ -55,6 +65,63 @@ fits_found accounts currency place split (Some account) there kept = record {
       (Decides-int_eq split.value split.quantity).0 (not-false _ differs);
 }
 
+-- a voided split fits its account where it does as it is brought back
+fits_voided :
+    (accounts : List (ℕ × Account)) (currency : ℕ) (splits : List Split) (kept : List KeptSplit)
+    → length kept ≡ length splits → list_all is_rightly_voided splits ≡ true
+    → All (FitsAccount accounts currency) (restored_splits splits kept) → All (FitsAccount accounts currency) splits
+fits_voided accounts currency [] kept same voided fits = All-nil (FitsAccount accounts currency)
+fits_voided accounts currency (split ∷ more) [] same voided fits = absurd (omega (arith, same))
+fits_voided accounts currency (split ∷ more) (first ∷ kept) same voided fits =
+    let Fits : Split → Type 0 = FitsAccount accounts currency in
+    let rest = restored_splits more kept in
+    let parts = and_parts (is_rightly_voided split) (list_all is_rightly_voided more) voided in
+    let is = voided_of split parts.0 in
+    let one = All-head Fits (restored_split split first) rest fits in
+    All-cons Fits split more
+    (record {
+      account = one.account;
+      there = one.there;
+      open_for = one.open_for;
+      same = λ holds. is.value ∙ sym is.quantity;
+    })
+    (fits_voided accounts currency more kept (omega (arith, same)) parts.1
+    (All-tail Fits (restored_split split first) rest fits))
+
+fits_with :
+    (accounts : List (ℕ × Account)) (reconciliations : List (ℕ × Recon)) (t : Txn) (voided : Option Void)
+    → All (FitsAccount accounts (restored_with t voided).currency) (restored_with t voided).splits
+    → are_rightly_marked reconciliations voided t.splits ≡ true → keeps_each voided t.splits ≡ true
+    → All (FitsAccount accounts t.currency) t.splits
+fits_with accounts reconciliations t None fits marks keeps = fits
+fits_with accounts reconciliations t (Some void) fits marks keeps =
+    fits_voided accounts t.currency t.splits void.kept (eqb-true (length void.kept) (length t.splits) keeps) marks fits
+
+-- A split has no amounts where it is voided.
+abbrev pub IsZeroVoided : Split → Type 0
+IsZeroVoided split = is_voided split.mark ≡ true → (split.value ≡ pos 0) × (split.quantity ≡ pos 0)
+
+zero_voided :
+    (reconciliations : List (ℕ × Recon)) (voided : Option Void) (splits : List Split)
+    → are_rightly_marked reconciliations voided splits ≡ true → All IsZeroVoided splits
+zero_voided reconciliations voided [] marks = All-nil IsZeroVoided
+zero_voided reconciliations None (split ∷ more) marks =
+    let right = is_rightly_marked reconciliations in
+    let parts = and_parts (right split) (list_all right more) marks in
+    All-cons IsZeroVoided split more (λ is. absurd (let none = right_is_unvoided reconciliations split parts.0 in cc))
+    (zero_voided reconciliations None more parts.1)
+zero_voided reconciliations (Some void) (split ∷ more) marks =
+    let parts = and_parts (is_rightly_voided split) (list_all is_rightly_voided more) marks in
+    All-cons IsZeroVoided split more (λ is. let zero = voided_of split parts.0 in (zero.value, zero.quantity))
+    (zero_voided reconciliations (Some void) more parts.1)
+
+-- A voided split of a sound book has no amounts.
+pub voided_are_zero :
+    (book : Book) (n : ℕ) (t : Txn) → IsSoundBook book → value_of n book.transactions ≡ Some t
+    → All IsZeroVoided t.splits
+voided_are_zero book n t is there =
+    zero_voided book.reconciliations t.voided t.splits (is.transactions.keep.each n t there).1.1.1.0
+
 fit_all :
     (accounts : List (ℕ × Account)) (currency place : ℕ) (splits : List Split)
     → AllKept (rules_of_splits accounts currency place splits) → All (FitsAccount accounts currency) splits
@@ -81,8 +148,9 @@ splits_fit book is =
     is.transactions.rise
     (λ n t there.
     let kept = is.transactions.keep.each n t there in
-    fit_all book.accounts t.currency 0 t.splits
-    (parts_of book.commodities book.accounts t (is_none_of _ kept.0)).splits)
+    let parts = parts_of book.commodities book.accounts (restored t) (is_none_of _ kept.0) in
+    fits_with book.accounts book.reconciliations t t.voided
+    (fit_all book.accounts (restored t).currency 0 (restored t).splits parts.splits) kept.1.1.1.0 kept.1.1.1.1.0)
 
 all_splits :
     (P : Split → Type 0) (ts : List (ℕ × Txn)) → All (λ (e : ℕ × Txn). All P e.1.splits) ts → All P (splits_of ts)

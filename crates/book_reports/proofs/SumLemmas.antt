@@ -1,8 +1,8 @@
--- Sums over the rows of the registers of all accounts: each split is a row of one of them, so they are those over all
--- splits.
-use Rattle.std.proofs.Common.{◌≡◌, ℕ, ◌+◌, ◌==◌, nat_eq, ℤ, pos, ◌+ℤ◌, Bool, true, false, if◌then◌else◌}
-use Rattle.std.proofs.Common.{List, [], ◌∷◌, ◌++◌, All, length, map, filter, ◌⊎◌, inl, inr, refl, ap, subst, ◌∙◌, arith}
-use Rattle.std.proofs.lemmas.Bool.{eqb-true}
+-- Sums over the rows of the registers of all accounts: each split that isn't voided is a row of one of them, so they are
+-- those over all splits, of which the voided give nothing.
+use Rattle.std.proofs.Common.{◌≡◌, ℕ, ◌+◌, ◌==◌, nat_eq, ◌&&◌, not, ℤ, pos, ◌+ℤ◌, Bool, true, false, if◌then◌else◌}
+use Rattle.std.proofs.Common.{List, [], ◌∷◌, ◌++◌, All, length, map, filter, ◌⊎◌, inl, inr, refl, sym, ap, subst, ◌∙◌, arith}
+use Rattle.std.proofs.lemmas.Bool.{and_parts, eqb-true}
 use Rattle.std.proofs.lemmas.Int.{ints}
 use Rattle.std.proofs.lemmas.List.{map-append}
 use Rattle.std.proofs.lemmas.List.Elements.{All-head, All-tail}
@@ -11,7 +11,8 @@ use Rattle.book_ledger.specs.Ledger.{register_of, row_of, rows_from, rows_on, so
 use Rattle.book_register.specs.Register.{key_of, precedes}
 use Rattle.book_register.specs.declared.entry.Entry.{Entry}
 use Rattle.book_splits.proofs.BalanceLemmas.{total-append}
-use Rattle.book_splits.specs.Balance.{splits_of, total}
+use Rattle.book_splits.specs.Balance.{counts_on, splits_of, total}
+use Rattle.book_splits.specs.TransactionRules.{is_voided}
 use Rattle.book_splits.specs.declared.split.Split.{Split}
 use Rattle.book_splits.specs.declared.transaction.Txn.{Txn}
 
@@ -65,6 +66,23 @@ once_of n z (a ∷ order) once =
       | false ↦ λ same. let is = rest same in omega (arith, ints, is)
     ] once
 
+-- that of a split which may be voided, and then gives nothing
+counted_once :
+    (n : ℕ) (z : ℤ) (voided : Bool) (order : List ℕ) → length (filter (nat_eq n) order) ≡ 1
+    → (voided ≡ true → z ≡ pos 0)
+    → total (map (λ (a : ℕ). if (n == a) && not voided then z else pos 0) order) ≡ z
+counted_once n z true order once nothing =
+    total_same (λ (a : ℕ). if (n == a) && false then z else pos 0) (λ (a : ℕ). pos 0)
+    (λ a. elim (n == a) as (λ b. (if b && false then z else pos 0) ≡ pos 0) [ true ↦ refl | false ↦ refl ]) order
+    ∙ total_zero order ∙ sym (nothing refl)
+counted_once n z false order once nothing =
+    total_same (λ (a : ℕ). if (n == a) && true then z else pos 0) (λ (a : ℕ). if n == a then z else pos 0)
+    (λ a. elim (n == a) as (λ b. (if b && true then z else pos 0) ≡ (if b then z else pos 0)) [
+      | true ↦ refl
+      | false ↦ refl
+    ]) order
+    ∙ once_of n z order once
+
 -- ---- rows
 
 -- The order of rows changes no sum.
@@ -91,12 +109,12 @@ total_sorted amount (row ∷ rows) =
 rows_of_split :
     (amount : Entry → ℤ) (account n : ℕ) (t : Txn) (place : ℕ) (split : Split) (more : List Split)
     → total (map amount (rows_from account n t place (split ∷ more)))
-    ≡ (if split.account == account then amount (row_of n t place split) else pos 0)
+    ≡ (if counts_on account split then amount (row_of n t place split) else pos 0)
     +ℤ total (map amount (rows_from account n t (place + 1) more))
 rows_of_split amount account n t place split more =
     let row = row_of n t place split in
     let later = rows_from account n t (place + 1) more in
-    elim (split.account == account) as
+    elim (counts_on account split) as
     (λ b. total (map amount (if b then row ∷ later else later))
     ≡ (if b then amount row else pos 0) +ℤ total (map amount later)) [
       | true ↦ refl
@@ -112,30 +130,41 @@ abbrev pub IsOfSplit : (Entry → ℤ) → (Txn → Split → ℤ) → Type 0
 IsOfSplit amount of =
     (n : ℕ) (t : Txn) (place : ℕ) (split : Split) → amount (row_of n t place split) ≡ of t split
 
+-- A split gives nothing where it is voided.
+abbrev pub GivesUnvoided : (Txn → Split → ℤ) → Txn → Split → Type 0
+GivesUnvoided of t split = is_voided split.mark ≡ true → of t split ≡ pos 0
+
+-- The voided splits of a transaction give nothing.
+abbrev pub AllGiveUnvoided : (Txn → Split → ℤ) → ℕ × Txn → Type 0
+AllGiveUnvoided of e = All (GivesUnvoided of e.1) e.1.splits
+
 total_from :
     (amount : Entry → ℤ) (of : Txn → Split → ℤ) → IsOfSplit amount of → (order : List ℕ) (n : ℕ) (t : Txn) (place : ℕ)
-    (splits : List Split) → All (IsListedOnce order) splits
+    (splits : List Split) → All (IsListedOnce order) splits → All (GivesUnvoided of t) splits
     → total (map (λ (a : ℕ). total (map amount (rows_from a n t place splits))) order) ≡ total (map (of t) splits)
-total_from amount of same order n t place [] all = total_zero order
-total_from amount of same order n t place (split ∷ more) all =
-    let own : ℕ → ℤ = λ a. if split.account == a then amount (row_of n t place split) else pos 0 in
+total_from amount of same order n t place [] all none = total_zero order
+total_from amount of same order n t place (split ∷ more) all none =
+    let own : ℕ → ℤ = λ a. if counts_on a split then amount (row_of n t place split) else pos 0 in
+    let nothing = All-head (GivesUnvoided of t) split more none in
     let later : ℕ → ℤ = λ a. total (map amount (rows_from a n t (place + 1) more)) in
     let all_of : ℕ → ℤ = λ a. total (map amount (rows_from a n t place (split ∷ more))) in
     total_same all_of (λ (a : ℕ). own a +ℤ later a) (λ a. rows_of_split amount a n t place split more) order
     ∙ total_sum own later order
     ∙ ap (λ (z : ℤ). z +ℤ total (map later order))
-    (once_of split.account (amount (row_of n t place split)) order (All-head (IsListedOnce order) split more all)
+    (counted_once split.account (amount (row_of n t place split)) (is_voided split.mark) order
+    (All-head (IsListedOnce order) split more all) (λ voided. same n t place split ∙ nothing voided)
     ∙ same n t place split)
     ∙ ap (λ (z : ℤ). of t split +ℤ z)
-    (total_from amount of same order n t (place + 1) more (All-tail (IsListedOnce order) split more all))
+    (total_from amount of same order n t (place + 1) more (All-tail (IsListedOnce order) split more all)
+    (All-tail (GivesUnvoided of t) split more none))
 
 total_on :
     (amount : Entry → ℤ) (of : Txn → Split → ℤ) → IsOfSplit amount of → (order : List ℕ) (ts : List (ℕ × Txn))
-    → All (IsListedOnce order) (splits_of ts)
+    → All (IsListedOnce order) (splits_of ts) → All (AllGiveUnvoided of) ts
     → total (map (λ (a : ℕ). total (map amount (rows_on a ts))) order)
     ≡ total (map (λ (e : ℕ × Txn). total (map (of e.1) e.1.splits)) ts)
-total_on amount of same order [] all = total_zero order
-total_on amount of same order (e ∷ ts) all =
+total_on amount of same order [] all none = total_zero order
+total_on amount of same order (e ∷ ts) all none =
     let own : ℕ → ℤ = λ a. total (map amount (rows_from a e.0 e.1 0 e.1.splits)) in
     let later : ℕ → ℤ = λ a. total (map amount (rows_on a ts)) in
     total_same (λ (a : ℕ). total (map amount (rows_on a (e ∷ ts)))) (λ (a : ℕ). own a +ℤ later a)
@@ -143,20 +172,22 @@ total_on amount of same order (e ∷ ts) all =
     ∙ total-append (map amount (rows_from a e.0 e.1 0 e.1.splits)) (map amount (rows_on a ts))) order
     ∙ total_sum own later order
     ∙ ap (λ (z : ℤ). z +ℤ total (map later order))
-    (total_from amount of same order e.0 e.1 0 e.1.splits (all_front (IsListedOnce order) e.1.splits (splits_of ts) all))
+    (total_from amount of same order e.0 e.1 0 e.1.splits (all_front (IsListedOnce order) e.1.splits (splits_of ts) all)
+    (All-head (AllGiveUnvoided of) e ts none))
     ∙ ap (λ (z : ℤ). total (map (of e.1) e.1.splits) +ℤ z)
-    (total_on amount of same order ts (all_back (IsListedOnce order) e.1.splits (splits_of ts) all))
+    (total_on amount of same order ts (all_back (IsListedOnce order) e.1.splits (splits_of ts) all)
+    (All-tail (AllGiveUnvoided of) e ts none))
 
--- The amounts of the rows of all registers add up to those of all splits.
+-- The amounts of the rows of all registers add up to those of all splits, where the voided give nothing.
 pub total_of_registers :
     (amount : Entry → ℤ) (of : Txn → Split → ℤ) → IsOfSplit amount of → (order : List ℕ) (ts : List (ℕ × Txn))
-    → All (IsListedOnce order) (splits_of ts)
+    → All (IsListedOnce order) (splits_of ts) → All (AllGiveUnvoided of) ts
     → total (map (λ (a : ℕ). total (map amount (register_of a ts))) order)
     ≡ total (map (λ (e : ℕ × Txn). total (map (of e.1) e.1.splits)) ts)
-total_of_registers amount of same order ts all =
+total_of_registers amount of same order ts all none =
     total_same (λ (a : ℕ). total (map amount (register_of a ts))) (λ (a : ℕ). total (map amount (rows_on a ts)))
     (λ a. total_sorted amount (rows_on a ts)) order
-    ∙ total_on amount of same order ts all
+    ∙ total_on amount of same order ts all none
 
 -- Where those of each transaction add up to zero, so do all.
 pub total_of_zeros :
@@ -181,10 +212,12 @@ none_from P account n t place (split ∷ more) all =
     let row = row_of n t place split in
     let later = rows_from account n t (place + 1) more in
     let rest = none_from P account n t (place + 1) more (All-tail On split more all) in
-    let Here : Bool → Type 0 = λ b. (split.account == account) ≡ b
+    let Here : Bool → Type 0 = λ b. counts_on account split ≡ b
     → ((if b then row ∷ later else later) ≡ []) ⊎ P account in
-    elim (split.account == account) as Here [
-      | true ↦ λ same. inr (subst P (eqb-true split.account account same) (All-head On split more all))
+    elim (counts_on account split) as Here [
+      | true ↦ λ counts.
+          let same = (and_parts (split.account == account) (not (is_voided split.mark)) counts).0 in
+          inr (subst P (eqb-true split.account account same) (All-head On split more all))
       | false ↦ λ other. rest
     ] refl
 

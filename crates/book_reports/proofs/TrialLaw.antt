@@ -7,6 +7,7 @@ use Rattle.std.specs.List.{cons_option, filter_map}
 use Rattle.std.specs.Ordering.{int_eq}
 use Rattle.std.proofs.lemmas.Bool.Decides.{Decides-int_eq, nat_tests}
 use Rattle.std.proofs.lemmas.Int.{ints}
+use Rattle.std.proofs.lemmas.List.Elements.{All-weaker}
 use Rattle.book_accounts.specs.Order.{depth_first}
 use Rattle.book_accounts.specs.Path.{path}
 use Rattle.book_ledger.specs.Ledger.{register_of}
@@ -24,8 +25,8 @@ use Rattle.book_reports.specs.Trial.{IsBalanced, credits, debits, line_of, lines
 use Rattle.book_reports.specs.declared.period.Period.{Period}
 use Rattle.book_reports.specs.declared.trial_balance.TrialLine.{TrialLine}
 use Rattle.book_reports.proofs.RowLemmas.{amount_of}
-use Rattle.book_reports.proofs.SplitFacts.{accounts_are_listed}
-use Rattle.book_reports.proofs.SumLemmas.{total_of_registers, total_of_zeros, total_same, total_zero}
+use Rattle.book_reports.proofs.SplitFacts.{IsZeroVoided, accounts_are_listed, voided_are_zero}
+use Rattle.book_reports.proofs.SumLemmas.{AllGiveUnvoided, GivesUnvoided, total_of_registers, total_of_zeros, total_same, total_zero}
 
 positive_suc : (n : ℕ) → positive (pos (suc n)) ≡ pos (suc n)
 positive_suc n =
@@ -101,6 +102,20 @@ given_none period currency t balanced =
       | false ↦ total_zero t.splits
     ]
 
+-- a split without a value gives nothing
+value_none :
+    (period : Period) (currency : ℕ) (t : Txn) (split : Split) → split.value ≡ pos 0
+    → value_given period currency t split ≡ pos 0
+value_none period currency t split none =
+    elim (is_in period t.day) as
+    (λ b. (if b then (if t.currency == currency then split.value else pos 0) else pos 0) ≡ pos 0) [
+      | true ↦ elim (t.currency == currency) as (λ b. (if b then split.value else pos 0) ≡ pos 0) [
+        | true ↦ none
+        | false ↦ refl
+      ]
+      | false ↦ refl
+    ]
+
 -- What the accounts change by in a period in one currency adds up to nothing.
 values_cancel :
     (book : Book) (period : Period) (currency : ℕ) → IsSoundBook book
@@ -112,6 +127,11 @@ values_cancel book period currency is =
     (λ a. value_total period currency (register_of a book.transactions)) (depth_first book.accounts)
     ∙ total_of_registers (amount_of period currency) (value_given period currency) (λ n t place split. refl)
     (depth_first book.accounts) book.transactions (accounts_are_listed book is)
+    (all_of_each (AllGiveUnvoided (value_given period currency)) book.transactions is.transactions.rise
+    (λ n t there.
+    All-weaker IsZeroVoided (GivesUnvoided (value_given period currency) t)
+    (λ split zero voided. value_none period currency t split (zero voided).0) t.splits
+    (voided_are_zero book n t is there)))
     ∙ total_of_zeros (value_given period currency) book.transactions
     (all_of_each (λ (e : ℕ × Txn). total (map (value_given period currency e.1) e.1.splits) ≡ pos 0)
     book.transactions is.transactions.rise

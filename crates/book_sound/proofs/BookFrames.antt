@@ -256,7 +256,9 @@ transaction_put book n new are fit few splits is =
       commodities = is.commodities;
       accounts = is.accounts;
       transactions = transactions_posted book.commodities book.accounts book.reconciliations n new 200000
-          book.transactions are.transactions are.splits fit few is.transactions;
+          book.transactions are.transactions are.splits
+          (transaction.right_of_fit book.commodities book.accounts book.reconciliations n [] new fit) few
+          is.transactions;
       prices = is.prices;
       schedules = is.schedules;
       statements = is.statements;
@@ -271,16 +273,16 @@ transaction_put book n new are fit few splits is =
 
 -- ---- a transaction in the place of one
 
-pub transaction_replaced :
+pub transaction_changed :
     (book : Book) (n limit : ℕ) (old new : Txn) → value_of n book.transactions ≡ Some old → AreDrawn book limit
-    → transaction.IsFit book.commodities book.accounts book.reconciliations limit (numbers_of old.splits) new
+    → transaction.IsRight book.commodities book.accounts book.reconciliations limit (numbers_of old.splits) new
     → length (splits_of (with_entry n new book.transactions)) ≤ 1000000 → IsSoundBook book
     → IsSoundBook
     (record book {
       transactions = with_entry n new book.transactions;
       lines = lines_after old.splits new.splits book.lines;
     })
-transaction_replaced book n limit old new there are fit few is =
+transaction_changed book n limit old new there are fit few is =
     let later = with_entry n new book.transactions in
     let replaced = transactions_replaced book.commodities book.accounts book.reconciliations limit n old new 200000
     book.transactions there are.splits fit is.transactions in
@@ -309,6 +311,20 @@ transaction_replaced book n limit old new there are fit few is =
       root = is.root;
       currency = is.currency;
     }
+
+-- The same of one that is not voided.
+pub transaction_replaced :
+    (book : Book) (n limit : ℕ) (old new : Txn) → value_of n book.transactions ≡ Some old → AreDrawn book limit
+    → transaction.IsFit book.commodities book.accounts book.reconciliations limit (numbers_of old.splits) new
+    → length (splits_of (with_entry n new book.transactions)) ≤ 1000000 → IsSoundBook book
+    → IsSoundBook
+    (record book {
+      transactions = with_entry n new book.transactions;
+      lines = lines_after old.splits new.splits book.lines;
+    })
+transaction_replaced book n limit old new there are fit =
+    transaction_changed book n limit old new there are
+    (transaction.right_of_fit book.commodities book.accounts book.reconciliations limit (numbers_of old.splits) new fit)
 
 -- ---- a transaction that is taken
 

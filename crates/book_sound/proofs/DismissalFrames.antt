@@ -11,7 +11,7 @@ use Rattle.book_commodity.proofs.DrawnLemmas.{value_here}
 use Rattle.book_commodity.proofs.TableLemmas.{rises_with}
 use Rattle.book_accounts.specs.declared.account.Account.{Account}
 use Rattle.book_splits.specs.Balance.{splits_of}
-use Rattle.book_splits.specs.TransactionRules.{is_among, numbers_of, share_numbers}
+use Rattle.book_splits.specs.TransactionRules.{is_among, is_voided, numbers_of, share_numbers}
 use Rattle.book_splits.specs.declared.split.Split.{Split}
 use Rattle.book_splits.specs.declared.transaction.Txn.{Txn}
 use Rattle.book_splits.proofs.ReplacedLemmas.{IsFrom, not_among_from}
@@ -160,19 +160,22 @@ pub record IsReplaced (limit n : ℕ) (old new : Txn) (ts : List (ℕ × Txn)) :
   pub below : All (λ (split : Split). split.id < limit) (splits_of ts)
   pub from : All (IsFrom limit (numbers_of old.splits)) (numbers_of new.splits)
 
--- a split that isn't lost is found again, with its account and its quantity
+-- a split that isn't lost is found again, with its account and its quantity, and it is not voided
 stayed :
     (found later : Option Split) (split : Split) → found ≡ Some split → is_lost_split found later ≡ false
     → (new : Split) × (later ≡ Some new) × (new.account ≡ split.account) × (new.quantity ≡ split.quantity)
+    × (is_voided split.mark ≡ false → is_voided new.mark ≡ false)
 stayed None later split there kept = absurd cc
 stayed (Some s) None split there kept = absurd cc
 stayed (Some s) (Some new) split there kept =
-    let same = and_parts (new.account == s.account) (int_eq new.quantity s.quantity) (not-false _ kept) in
+    let same = and_parts (new.account == s.account) _ (not-false _ kept) in
+    let more = and_parts (int_eq new.quantity s.quantity) (not (is_voided new.mark)) same.1 in
     let one : s ≡ split = cc in (
       new,
       refl,
       eqb-true new.account s.account same.0 ∙ ap (λ (x : Split). x.account) one,
-      (Decides-int_eq new.quantity s.quantity).0 same.1 ∙ ap (λ (x : Split). x.quantity) one,
+      (Decides-int_eq new.quantity s.quantity).0 more.0 ∙ ap (λ (x : Split). x.quantity) one,
+      λ was. not-true _ more.1,
     )
 
 split_replaced :
@@ -184,7 +187,8 @@ split_replaced limit n id old new ts is kept = record {
       let Below : Split → Type 0 = λ s. s.id < limit in
       let later = with_entry n new ts in
       let Among : Bool → Type 0 = λ b. is_among (numbers_of old.splits) id ≡ b
-      → (s : Split) × (split_at id later ≡ Some s) × (s.account ≡ split.account) × (s.quantity ≡ split.quantity) in
+      → (s : Split) × (split_at id later ≡ Some s) × (s.account ≡ split.account) × (s.quantity ≡ split.quantity)
+      × (is_voided split.mark ≡ false → is_voided s.mark ≡ false) in
       elim (is_among (numbers_of old.splits) id) as Among [
         | true ↦ λ among.
             let own = sym (split_of_one n id old ts is.rise is.there is.was_free among) ∙ found in
@@ -192,7 +196,7 @@ split_replaced limit n id old new ts is kept = record {
             let there = value_here n n new ts refl in
             let after = split_of_one n id new later (rises_with n new ts is.rise) there is.is_free
             (found_among id new.splits s.0 s.1) in
-            (s.0, after ∙ s.1, s.2, s.3)
+            (s.0, after ∙ s.1, s.2, s.3, s.4)
         | false ↦ λ none.
             let number = found_number id (splits_of ts) split found in
             let below : id < limit =
@@ -202,6 +206,7 @@ split_replaced limit n id old new ts is kept = record {
               split_beside n id new ts is.rise apart ∙ sym (split_past n id old ts is.rise is.there none) ∙ found,
               refl,
               refl,
+              λ unvoided. unvoided,
             )
       ] refl;
 }
@@ -232,13 +237,13 @@ split_dropped n id old ts r there free kept = record {
   each = λ split found.
       let Among : Bool → Type 0 = λ b. is_among (numbers_of old.splits) id ≡ b
       → (s : Split) × (split_at id (without_entry n ts) ≡ Some s) × (s.account ≡ split.account)
-      × (s.quantity ≡ split.quantity) in
+      × (s.quantity ≡ split.quantity) × (is_voided split.mark ≡ false → is_voided s.mark ≡ false) in
       elim (is_among (numbers_of old.splits) id) as Among [
         | true ↦ λ among.
             let own = sym (split_of_one n id old ts r there free among) ∙ found in
             let s = stayed (split_among id old.splits) None split own kept in
             absurd (let none = s.1 in cc)
-        | false ↦ λ none. (split, sym (split_past n id old ts r there none) ∙ found, refl, refl)
+        | false ↦ λ none. (split, sym (split_past n id old ts r there none) ∙ found, refl, refl, λ unvoided. unvoided)
       ] refl;
 }
 

@@ -18,6 +18,8 @@ pub mod SplitFrames
 pub mod StatementFrames
 pub mod TableFrames
 pub mod TransactionFrames
+pub mod VoidFrames
+pub mod VoidedSound
 pub mod WalkLemmas
 pub mod Worked
 pub mod WorkedBook

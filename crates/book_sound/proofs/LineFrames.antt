@@ -1,12 +1,14 @@
 -- What the rules of statements' lines see of the accounts, the statements and the transactions: those that they name.
-use Rattle.std.proofs.Common.{◌≡◌, ℕ, ◌<◌, ◌==◌, ◌&&◌, ℤ, Bool, true, false, cond, All, List, [], ◌∷◌, ◌++◌, Option}
+use Rattle.std.proofs.Common.{◌≡◌, ℕ, ◌<◌, ◌==◌, not, ℤ, Bool, true, false, cond, All, List, [], ◌∷◌, ◌++◌, Option}
 use Rattle.std.proofs.Common.{Some, None, IsTrue, refl, ap, ◌∙◌, eq-eqb}
 use Rattle.std.specs.Ordering.{int_eq}
+use Rattle.std.proofs.lemmas.Bool.{and_from, and_parts, not-true, not_from_false}
 use Rattle.book_commodity.specs.Rules.{IsSoundTable}
 use Rattle.book_commodity.specs.Table.{value_of, with_entry}
 use Rattle.book_commodity.proofs.DrawnLemmas.{Stays, some_stays, with_last}
 use Rattle.book_accounts.specs.declared.account.Account.{Account}
 use Rattle.book_splits.specs.Balance.{splits_of}
+use Rattle.book_splits.specs.TransactionRules.{is_voided}
 use Rattle.book_splits.specs.declared.split.Split.{Split}
 use Rattle.book_splits.specs.declared.transaction.Txn.{Txn}
 use Rattle.book_splits.proofs.BalanceLemmas.{splits_of-added}
@@ -49,10 +51,10 @@ lines_under accounts old new transactions most lines stays =
 
 -- ---- where transactions change
 
--- Where there was a split, there is one that stands in its account and has its quantity.
+-- Where there was a split, there is one that stands in its account, has its quantity, and is not voided if that was not.
 pub record SplitSuits (found later : Option Split) : Type 0 where
   pub each : (old : Split) → found ≡ Some old → (new : Split) × (later ≡ Some new) × (new.account ≡ old.account)
-      × (new.quantity ≡ old.quantity)
+      × (new.quantity ≡ old.quantity) × (is_voided old.mark ≡ false → is_voided new.mark ≡ false)
 
 fits_still :
     (line : Line) (found later : Option Split) → SplitSuits found later → IsTrue (fits_line line found)
@@ -60,10 +62,12 @@ fits_still :
 fits_still line None later suits fits = absurd cc
 fits_still line (Some old) later suits fits =
     let new = suits.each old refl in
-    ap (fits_line line) new.1
-    ∙ ap (λ (account : ℕ). (account == line.account) && int_eq new.0.quantity line.body.amount) new.2
-    ∙ ap (λ (quantity : ℤ). (old.account == line.account) && int_eq quantity line.body.amount) new.3
-    ∙ fits
+    let parts = and_parts (old.account == line.account) _ fits in
+    let more = and_parts (int_eq old.quantity line.body.amount) (not (is_voided old.mark)) parts.1 in
+    let account = ap (λ (account : ℕ). account == line.account) new.2 ∙ parts.0 in
+    let quantity = ap (λ (quantity : ℤ). int_eq quantity line.body.amount) new.3 ∙ more.0 in
+    let unvoided = not_from_false _ (new.4 (not-true _ more.1)) in
+    ap (fits_line line) new.1 ∙ and_from _ _ account (and_from _ _ quantity unvoided)
 
 -- a line that is matched with a split as its state says still is, where the split suits
 pub state_still :
@@ -110,6 +114,7 @@ split_still n new ts split below = record {
         ap (split_among split) last ∙ found_before split (splits_of ts) new.splits old found,
         refl,
         refl,
+        λ unvoided. unvoided,
       );
 }
 

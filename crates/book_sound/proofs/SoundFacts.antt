@@ -21,6 +21,7 @@ use Rattle.book_splits.specs.declared.split.Split.{Split}
 use Rattle.book_splits.specs.declared.transaction.Txn.{Txn}
 use Rattle.book_splits.proofs.CheckLemmas.{sound_of}
 use Rattle.book_splits.proofs.TransactionRuleLemmas.{is_none_of}
+use Rattle.book_void.specs.Voiding.{restored}
 use Rattle.book_prices.specs.Rate.{AreKept, AreOnce, IsSound, is_same}
 use Rattle.book_prices.specs.declared.price.Price.{Price}
 use Rattle.book_undo.specs.Book.{Book, IsRising}
@@ -29,6 +30,7 @@ use Rattle.book_sound.specs.Soundness.{IsSoundBook}
 use Rattle.book_sound.specs.Tests.{is_within}
 use Rattle.book_sound.proofs.OwnFrames.{all_of_each}
 use Rattle.book_sound.proofs.SplitFrames.{above_there}
+use Rattle.book_sound.proofs.VoidFrames.{sound_as_restored}
 
 -- The numbers of each table of a sound book rise.
 pub tables_rise : (book : Book) → IsSoundBook book → IsRising book
@@ -58,7 +60,9 @@ pub transactions_balance :
     (book : Book) (n : ℕ) (t : Txn) → IsSoundBook book → value_of n book.transactions ≡ Some t
     → transaction.IsSound t.splits
 transactions_balance book n t is there =
-    let kept = is.transactions.keep.each n t there in sound_of book.commodities book.accounts t (is_none_of _ kept.0)
+    let kept = is.transactions.keep.each n t there in
+    let restored_sound = sound_of book.commodities book.accounts (restored t) (is_none_of _ kept.0) in
+    sound_as_restored book.reconciliations t restored_sound kept.1.1.1.0 kept.1.1.1.1.0
 
 -- ---- sums
 

@@ -22,12 +22,15 @@ use Rattle.book_splits.specs.declared.split.Split.{Split}
 use Rattle.book_splits.specs.declared.transaction.Txn.{Txn}
 use Rattle.book_splits.proofs.ReplacedLemmas.{IsFrom, all_of_one, none_shared_by, numbers_below, shares_none}
 use Rattle.book_splits.proofs.TransactionRuleLemmas.{Suits, has_of_one}
-use Rattle.book_sound.specs.MarkedTransactionRules.{fits_mark, has_marked, is_named_rightly}
-use Rattle.book_sound.specs.MarkedTransactionRules.{is_rightly_marked, marked_transaction_rules}
+use Rattle.book_void.specs.Voiding.{restored}
+use Rattle.book_sound.specs.MarkedTransactionRules.{are_rightly_marked, fits_mark, has_marked, is_named_rightly}
+use Rattle.book_sound.specs.MarkedTransactionRules.{is_rightly_marked, keeps_each, marked_transaction_rules}
 use Rattle.book_sound.specs.Naming.{is_on_some}
 use Rattle.book_sound.specs.Tests.{passes_check}
 use Rattle.book_sound.proofs.CheckFrames.{check_beside, check_on}
 use Rattle.book_sound.proofs.TableFrames.{all_still, sound_still}
+use Rattle.book_sound.proofs.VoidFrames.{keeps_unvoided, marks_still, marks_unvoided, restored_on_some}
+use Rattle.book_sound.proofs.VoidFrames.{restored_unvoided}
 
 -- Transactions stay sound where commodities are added.
 pub transactions_beside :
@@ -38,7 +41,7 @@ pub transactions_beside :
 transactions_beside old new accounts reconciliations most ts stays =
     sound_still (marked_transaction_rules old accounts reconciliations ts)
     (marked_transaction_rules new accounts reconciliations ts) most ts
-    (λ k t there kept. (check_beside old new accounts t stays kept.0, kept.1))
+    (λ k t there kept. (check_beside old new accounts (restored t) stays kept.0, kept.1))
 
 -- Transactions stay sound where the accounts that have splits take them as before.
 pub transactions_on :
@@ -51,9 +54,9 @@ transactions_on commodities old new reconciliations most ts suits =
     sound_still (marked_transaction_rules commodities old reconciliations ts)
     (marked_transaction_rules commodities new reconciliations ts) most ts
     (λ k t there kept.
-    let named = λ (account : ℕ) (has : is_on_some account t.splits ≡ true). suits account
-    (has_of_one k account t ts there has) in
-    (check_on commodities old new t named kept.0, kept.1))
+    let named = λ (account : ℕ) (has : is_on_some account (restored t).splits ≡ true). suits account
+    (has_of_one k account t ts there (restored_on_some account t has)) in
+    (check_on commodities old new (restored t) named kept.0, kept.1))
 
 -- ---- where reconciliations are added
 
@@ -88,14 +91,27 @@ transactions_under commodities accounts old new most ts stays =
     sound_still (marked_transaction_rules commodities accounts old ts)
     (marked_transaction_rules commodities accounts new ts) most ts
     (λ k t there kept.
-    let marks = all_still (is_rightly_marked old) (is_rightly_marked new) t.splits
-    (λ split. mark_still old new split split.mark stays) kept.1.1.1.0 in
+    let marks = marks_still old new t.voided t.splits
+    (all_still (is_rightly_marked old) (is_rightly_marked new) t.splits
+    (λ split. mark_still old new split split.mark stays)) kept.1.1.1.0 in
     (kept.0, (kept.1.0, (kept.1.1.0, (marks, kept.1.1.1.1)))))
 
 -- ---- where a transaction is put
 
--- What a transaction brings that is put: it breaks no rule; its splits have numbers of their own, which are some that
--- were there or are drawn from the limit on; they are rightly marked; and it is not voided.
+-- What a transaction brings that is put: as it is brought back it breaks no rule; its splits have numbers of their own,
+-- which are some that were there or are drawn from the limit on; they are as its state says; and where it is voided the
+-- amounts of each are kept.
+pub record IsRight
+    (commodities : List (ℕ × Commodity)) (accounts : List (ℕ × Account)) (reconciliations : List (ℕ × Recon))
+    (limit : ℕ) (olds : List ℕ) (new : Txn)
+    : Type 0 where
+  pub check : passes_check commodities accounts (restored new) ≡ true
+  pub once : are_once (numbers_of new.splits) ≡ true
+  pub from : All (IsFrom limit olds) (numbers_of new.splits)
+  pub marks : are_rightly_marked reconciliations new.voided new.splits ≡ true
+  pub keeps : keeps_each new.voided new.splits ≡ true
+
+-- The same of one that is not voided: it breaks no rule, and its splits are rightly marked.
 pub record IsFit
     (commodities : List (ℕ × Commodity)) (accounts : List (ℕ × Account)) (reconciliations : List (ℕ × Recon))
     (limit : ℕ) (olds : List ℕ) (new : Txn)
@@ -105,6 +121,18 @@ pub record IsFit
   pub from : All (IsFrom limit olds) (numbers_of new.splits)
   pub marks : list_all (is_rightly_marked reconciliations) new.splits ≡ true
   pub unvoided : is_none new.voided ≡ true
+
+pub right_of_fit :
+    (commodities : List (ℕ × Commodity)) (accounts : List (ℕ × Account)) (reconciliations : List (ℕ × Recon))
+    (limit : ℕ) (olds : List ℕ) (new : Txn) → IsFit commodities accounts reconciliations limit olds new
+    → IsRight commodities accounts reconciliations limit olds new
+right_of_fit commodities accounts reconciliations limit olds new fit = record {
+  check = ap (passes_check commodities accounts) (restored_unvoided new fit.unvoided) ∙ fit.check;
+  once = fit.once;
+  from = fit.from;
+  marks = marks_unvoided reconciliations new.voided new.splits fit.unvoided ∙ fit.marks;
+  keeps = keeps_unvoided new.voided new.splits fit.unvoided;
+}
 
 -- numbers above one are drawn from it on
 pub drawn_from : (n : ℕ) (numbers : List ℕ) → All (λ (m : ℕ). n < m) numbers → All (IsFrom n []) numbers
@@ -146,7 +174,7 @@ pub transactions_posted :
     (commodities : List (ℕ × Commodity)) (accounts : List (ℕ × Account)) (reconciliations : List (ℕ × Recon)) (n : ℕ)
     (new : Txn) (most : ℕ) (ts : List (ℕ × Txn))
     → All (λ (e : ℕ × Txn). e.0 < n) ts → All (λ (split : Split). split.id < n) (splits_of ts)
-    → IsFit commodities accounts reconciliations n [] new → length ts + 1 ≤ most
+    → IsRight commodities accounts reconciliations n [] new → length ts + 1 ≤ most
     → IsSoundTable (marked_transaction_rules commodities accounts reconciliations ts) most ts
     → IsSoundTable (marked_transaction_rules commodities accounts reconciliations (with_entry n new ts)) most
     (with_entry n new ts)
@@ -158,7 +186,7 @@ transactions_posted commodities accounts reconciliations n new most ts below ids
       rise = rises_with n new ts is.rise;
       keep = each_with (marked_transaction_rules commodities accounts reconciliations ts)
           (marked_transaction_rules commodities accounts reconciliations later) n new ts
-          (fit.check, (fit.once, (not_from_false _ own, (fit.marks, (fit.unvoided, tt)))))
+          (fit.check, (fit.once, (not_from_false _ own, (fit.marks, (fit.keeps, tt)))))
           (λ k t other there kept.
           let drawn = drawn_below k n t ts below there in
           let once = none_before_with (share_numbers t) k n new ts (λ before. absurd (omega (arith, before, drawn)))
@@ -172,7 +200,7 @@ pub transactions_replaced :
     (commodities : List (ℕ × Commodity)) (accounts : List (ℕ × Account)) (reconciliations : List (ℕ × Recon))
     (limit n : ℕ) (old new : Txn) (most : ℕ) (ts : List (ℕ × Txn))
     → value_of n ts ≡ Some old → All (λ (split : Split). split.id < limit) (splits_of ts)
-    → IsFit commodities accounts reconciliations limit (numbers_of old.splits) new
+    → IsRight commodities accounts reconciliations limit (numbers_of old.splits) new
     → IsSoundTable (marked_transaction_rules commodities accounts reconciliations ts) most ts
     → IsSoundTable (marked_transaction_rules commodities accounts reconciliations (with_entry n new ts)) most
     (with_entry n new ts)
@@ -186,7 +214,7 @@ transactions_replaced commodities accounts reconciliations limit n old new most 
       rise = rises_with n new ts is.rise;
       keep = each_with (marked_transaction_rules commodities accounts reconciliations ts)
           (marked_transaction_rules commodities accounts reconciliations later) n new ts
-          (fit.check, (fit.once, (not_from_false _ own, (fit.marks, (fit.unvoided, tt)))))
+          (fit.check, (fit.once, (not_from_false _ own, (fit.marks, (fit.keeps, tt)))))
           (λ k t other found kept.
           let free = not-true _ kept.1.1.0 in
           let numbers = numbers_below limit t.splits (all_of_one Below k t ts found below) in

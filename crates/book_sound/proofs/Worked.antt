@@ -1,6 +1,6 @@
 -- The rules, computed on a small book: each kept once, and each broken once. What is named is the places, from 0, of
 -- the rules that are broken.
-use Rattle.std.proofs.Common.{◌≡◌, ℕ, ◌+◌, pos, negsuc, Bool, true, false, List, [], ◌∷◌, Some, None, codes}
+use Rattle.std.proofs.Common.{◌≡◌, ℕ, ◌+◌, ℤ, pos, negsuc, Bool, true, false, List, [], ◌∷◌, Some, None, codes}
 use Rattle.std.proofs.Common.{map, replicate, refl, arith}
 use Rattle.book_commodity.specs.CommodityRules.{commodity_rules}
 use Rattle.book_accounts.specs.AccountRules.{account_rules}
@@ -9,6 +9,8 @@ use Rattle.book_splits.specs.declared.reconciliation.MarkedSplit.{MarkedSplit}
 use Rattle.book_splits.specs.declared.split.Mark.TheVariants.{New, Cleared, Reconciled, Voided}
 use Rattle.book_splits.specs.declared.split.Split.{Split}
 use Rattle.book_splits.specs.declared.transaction.Txn.{Txn}
+use Rattle.book_splits.specs.declared.void.KeptSplit.{KeptSplit}
+use Rattle.book_void.specs.Voiding.{restored, voided_for}
 use Rattle.book_schedule.specs.declared.timing.End.TheVariants.{Until, After}
 use Rattle.book_statement.specs.declared.held.Held.{Held}
 use Rattle.book_statement.specs.declared.line.Line.{Line}
@@ -118,15 +120,70 @@ txn_other_account :
     of_opening (txn (split 12 3 (negsuc 999) New None ∷ split 11 4 (pos 1000) Reconciled (Some 19) ∷ [])) ≡ 3 ∷ []
 txn_other_account = refl
 
--- a split that is voided in a transaction that isn't, and a transaction that is voided
+-- a split that is voided in a transaction that isn't
 txn_voided_split : of_txn (txn (split 14 3 (pos 0) Voided None ∷ [])) ≡ 3 ∷ []
 txn_voided_split = refl
 
-abbrev voided : Txn → Txn
-voided transaction = record transaction { voided = Some (record { reason = []; kept = [] }) }
+-- a transaction that is voided, and one that is brought back
+abbrev wrong : Txn
+wrong = voided_for (codes "wrong") rent
 
-txn_voided : of_txn (voided rent) ≡ 4 ∷ []
+txn_voided : of_txn wrong ≡ []
 txn_voided = refl
+
+txn_restored : of_txn (restored wrong) ≡ []
+txn_restored = refl
+
+-- one whose reconciled split was voided
+txn_opening_voided : of_opening (voided_for [] opening) ≡ []
+txn_opening_voided = refl
+
+-- one of which a split is not voided, has a value, has a quantity, or names a reconciliation
+abbrev with_first : Split → Txn
+with_first first = record wrong { splits = first ∷ split 15 4 (pos 0) Voided None ∷ [] }
+
+txn_voided_but_for_one : of_txn (with_first (split 14 3 (pos 0) New None)) ≡ 3 ∷ []
+txn_voided_but_for_one = refl
+
+txn_voided_with_amounts : of_txn (with_first (split 14 3 (pos 1) Voided None)) ≡ 3 ∷ []
+txn_voided_with_amounts = refl
+
+txn_voided_with_a_quantity :
+    of_txn (with_first (record (split 14 3 (pos 0) Voided None) { quantity = pos 1 })) ≡ 3 ∷ []
+txn_voided_with_a_quantity = refl
+
+txn_voided_and_marked : of_opening (with_first (split 11 3 (pos 0) Voided (Some 19))) ≡ 3 ∷ []
+txn_voided_and_marked = refl
+
+-- one of which the amounts of no split are kept, of a split too few, or of one too many
+abbrev keeping : List KeptSplit → Txn
+keeping kept = record wrong { voided = Some (record { reason = []; kept = kept }) }
+
+abbrev nothing : KeptSplit
+nothing = record { value = pos 0; quantity = pos 0 }
+
+txn_voided_keeps_none : of_txn (keeping []) ≡ 0 ∷ 4 ∷ []
+txn_voided_keeps_none = refl
+
+txn_voided_keeps_one : of_txn (keeping (nothing ∷ [])) ≡ 4 ∷ []
+txn_voided_keeps_one = refl
+
+txn_voided_keeps_three : of_txn (keeping (nothing ∷ nothing ∷ nothing ∷ [])) ≡ 4 ∷ []
+txn_voided_keeps_three = refl
+
+-- one whose kept amounts don't balance, or are above the limit
+txn_voided_unbalanced : of_txn (keeping (record { value = pos 1; quantity = pos 1 } ∷ nothing ∷ [])) ≡ 0 ∷ []
+txn_voided_unbalanced = refl
+
+abbrev keeping_so : ℤ → ℤ → Txn
+keeping_so value other =
+    keeping (record { value = value; quantity = value } ∷ record { value = other; quantity = other } ∷ [])
+
+txn_voided_at_the_limit : of_txn (keeping_so (pos 10000000000000) (negsuc 9999999999999)) ≡ []
+txn_voided_at_the_limit = refl
+
+txn_voided_past_the_limit : of_txn (keeping_so (pos 10000000000001) (negsuc 10000000000000)) ≡ 0 ∷ []
+txn_voided_past_the_limit = refl
 
 -- ---- reconciliations
 
@@ -181,7 +238,8 @@ schedule_until = refl
 schedule_far_ahead : of_schedule (schedule (record timing { advance = 367 }) template) ≡ 3 ∷ []
 schedule_far_ahead = refl
 
-schedule_voided : of_schedule (schedule timing (voided template)) ≡ 6 ∷ []
+schedule_voided :
+    of_schedule (schedule timing (record template { voided = Some (record { reason = []; kept = [] }) })) ≡ 6 ∷ []
 schedule_voided = refl
 
 schedule_unbalanced : of_schedule (schedule timing (txn (split 0 3 (pos 1) New None ∷ []))) ≡ 4 ∷ []
@@ -282,6 +340,11 @@ line_on_another_account = refl
 line_on_a_taken_split : of_line (line 1 (negsuc 199) (Matched 14)) ≡ 5 ∷ []
 line_on_a_taken_split = refl
 
+-- a voided split fits no line, not even one with an amount of zero
+line_on_a_voided_split :
+    broken (line_rules accounts ((20, statement) ∷ []) ((13, wrong) ∷ []) [] 23 (line 1 (pos 0) (Matched 14))) ≡ 4 ∷ []
+line_on_a_voided_split = refl
+
 -- ---- bindings
 
 binding_kept : broken (binding_rules accounts ((24, binding 3) ∷ []) 24 (binding 3)) ≡ []
@@ -344,6 +407,17 @@ another_quantity = refl
 
 another_mark : states_after (split 14 3 (negsuc 199) New None ∷ []) ≡ Matched 14 ∷ Matched 11 ∷ []
 another_mark = refl
+
+voided_split : states_after (split 14 3 (negsuc 199) Voided None ∷ []) ≡ Dismissed ∷ Matched 11 ∷ []
+voided_split = refl
+
+-- a line with an amount of zero loses a split of zero that is voided
+voided_zero :
+    map (λ entry. entry.1.state)
+    (lines_after (split 14 3 (pos 0) New None ∷ []) (split 14 3 (pos 0) Voided None ∷ [])
+    ((22, line 0 (pos 0) (Matched 14)) ∷ []))
+    ≡ Dismissed ∷ []
+voided_zero = refl
 
 -- ---- the whole book is sound
 

@@ -2,6 +2,7 @@
 use Rattle.std.specs.Prelude.{ℕ, ◌==◌, not, Bool, false, ◌&&◌, if◌then◌else◌, List, [], ◌∷◌, map, Option}
 use Rattle.std.specs.Prelude.{Some, None}
 use Rattle.std.specs.Ordering.{int_eq}
+use Rattle.book_splits.specs.TransactionRules.{is_voided}
 use Rattle.book_splits.specs.declared.split.Split.{Split}
 use Rattle.book_statement.specs.declared.line.Line.{Line}
 use Rattle.book_statement.specs.declared.line_state.LineState.TheVariants.{Dismissed}
@@ -9,12 +10,13 @@ use Rattle.book_undo.specs.declared.edit.Edit.{Edit, Put}
 use Rattle.book_undo.specs.declared.thing.Thing.TheVariants as thing
 use Rattle.book_sound.specs.LineRules.{matched_split, split_among}
 
--- Whether there is a later split, and it has the account and the quantity of this one.
+-- Whether there is a later split, it has the account and the quantity of this one, and it is not voided.
 abbrev pub stays_as : Split → Option Split → Bool
 stays_as split None = false
-stays_as split (Some later) = (later.account == split.account) && int_eq later.quantity split.quantity
+stays_as split (Some later) =
+    (later.account == split.account) && (int_eq later.quantity split.quantity && not (is_voided later.mark))
 
--- Whether there was a split that is gone, or whose account or quantity is another.
+-- Whether there was a split that is gone, whose account or quantity is another, or that is voided.
 abbrev pub is_lost_split : Option Split → Option Split → Bool
 is_lost_split None later = false
 is_lost_split (Some split) later = not (stays_as split later)

@@ -6,6 +6,7 @@ use Rattle.std.specs.Ordering.{int_eq}
 use Rattle.book_commodity.specs.Rules.{stands_before}
 use Rattle.book_accounts.specs.declared.account.Account.{Account}
 use Rattle.book_splits.specs.Balance.{splits_of}
+use Rattle.book_splits.specs.TransactionRules.{is_voided}
 use Rattle.book_splits.specs.declared.split.Split.{Split}
 use Rattle.book_splits.specs.declared.transaction.Txn.{Txn}
 use Rattle.book_statement.specs.Keys.{key, same_text}
@@ -41,11 +42,12 @@ split_among number splits = find (λ split. split.id == number) splits
 abbrev pub split_at : ℕ → List (ℕ × Txn) → Option Split
 split_at number transactions = split_among number (splits_of transactions)
 
--- Whether there is a split, and it is what the line says: it stands in the line's account and has the line's amount as
--- its quantity.
+-- Whether there is a split, and it is what the line says: it stands in the line's account, has the line's amount as its
+-- quantity, and is not voided.
 abbrev pub fits_line : Line → Option Split → Bool
 fits_line line None = false
-fits_line line (Some split) = (split.account == line.account) && int_eq split.quantity line.body.amount
+fits_line line (Some split) =
+    (split.account == line.account) && (int_eq split.quantity line.body.amount && not (is_voided split.mark))
 
 -- Whether a line is matched with a split of the book that is what the line says, if it is in the state of a matched
 -- one.
@@ -71,7 +73,7 @@ is_over_limit amount = nat_lt largest_amount (unsigned_abs amount)
 
 -- The rules of a line: its account and its statement are in the book; its amount is at most 10^12 in size (a limit of
 -- this project); no line before it has its key; where it is matched, a split of the book stands in its account and has
--- its amount as quantity, and no line before it is matched with that split (rules of this project).
+-- its amount as quantity, is not voided, and no line before it is matched with that split (rules of this project).
 abbrev pub line_rules :
     List (ℕ × Account) → List (ℕ × Held) → List (ℕ × Txn) → List (ℕ × Line) → ℕ → Line → List Bool
 line_rules accounts statements transactions lines number line =

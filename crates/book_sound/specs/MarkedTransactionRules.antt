@@ -13,6 +13,9 @@ use Rattle.book_splits.specs.declared.split.Mark.{Mark}
 use Rattle.book_splits.specs.declared.split.Mark.TheVariants.{New, Cleared, Reconciled, Voided}
 use Rattle.book_splits.specs.declared.split.Split.{Split}
 use Rattle.book_splits.specs.declared.transaction.Txn.{Txn}
+use Rattle.book_splits.specs.declared.void.Void.{Void}
+pub use Rattle.book_void.specs.Voiding.{is_rightly_voided, keeps_each}
+use Rattle.book_void.specs.Voiding.{restored}
 use Rattle.book_sound.specs.Tests.{passes_check}
 
 -- Whether it is the mark of a split that was reconciled with a bank statement (GnuCash SQL schema, column
@@ -37,28 +40,37 @@ abbrev pub is_named_rightly : List (ℕ × Recon) → Split → Option ℕ → B
 is_named_rightly reconciliations split None = false
 is_named_rightly reconciliations split (Some number) = has_marked split (value_of number reconciliations)
 
--- Whether a mark is one that the split may have: where it is reconciled, the split names a reconciliation that has marked
--- it; where it is new or cleared, the split names none. No split is voided (GnuCash Manual, reconciling).
+-- Whether a mark is one that a split of a transaction may have which is not voided: where it is reconciled, the split
+-- names a reconciliation that has marked it; where it is new or cleared, the split names none (GnuCash Manual,
+-- reconciling). It is not the mark of a voided split.
 abbrev pub fits_mark : List (ℕ × Recon) → Split → Mark → Bool
 fits_mark reconciliations split New = is_none split.recon
 fits_mark reconciliations split Cleared = is_none split.recon
 fits_mark reconciliations split Reconciled = is_named_rightly reconciliations split split.recon
 fits_mark reconciliations split Voided = false
 
--- Whether a split is rightly marked.
+-- Whether a split is rightly marked, where its transaction is not voided.
 abbrev pub is_rightly_marked : List (ℕ × Recon) → Split → Bool
 is_rightly_marked reconciliations split = fits_mark reconciliations split split.mark
 
--- The rules of a transaction: it passes the check of transactions among the commodities and the accounts of the book;
--- each of its splits has a number that no other of them has, and none of a transaction before it; each is reconciled
--- exactly where it names a reconciliation of its account that has marked it; and the transaction is not voided (GnuCash
--- Manual, reconciling and voiding).
+-- Whether the splits of a transaction are as its state says: where it is voided each is rightly voided, and else each
+-- is rightly marked.
+abbrev pub are_rightly_marked : List (ℕ × Recon) → Option Void → List Split → Bool
+are_rightly_marked reconciliations None splits = list_all (is_rightly_marked reconciliations) splits
+are_rightly_marked reconciliations (Some void) splits = list_all is_rightly_voided splits
+
+-- The rules of a transaction: as it is, or as it is brought back where it is voided, it passes the check of
+-- transactions among the commodities and the accounts of the book; each of its splits has a number that no other of
+-- them has, and none of a transaction before it; where it is not voided, no split is, and each is reconciled exactly
+-- where it names a reconciliation of its account that has marked it; where it is voided, each split is, with amounts of
+-- zero and no reconciliation, and the amounts of each are kept (GnuCash Manual, reconciling, and voiding a
+-- transaction).
 abbrev pub marked_transaction_rules :
     List (ℕ × Commodity) → List (ℕ × Account) → List (ℕ × Recon) → List (ℕ × Txn) → ℕ → Txn → List Bool
 marked_transaction_rules commodities accounts reconciliations transactions number transaction =
-    passes_check commodities accounts transaction
+    passes_check commodities accounts (restored transaction)
     ∷ are_once (numbers_of transaction.splits)
     ∷ not (stands_before (share_numbers transaction) number transactions)
-    ∷ list_all (is_rightly_marked reconciliations) transaction.splits
-    ∷ is_none transaction.voided
+    ∷ are_rightly_marked reconciliations transaction.voided transaction.splits
+    ∷ keeps_each transaction.voided transaction.splits
     ∷ []

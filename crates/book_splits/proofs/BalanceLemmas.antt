@@ -9,7 +9,7 @@ use Rattle.std.proofs.Math.IntN.{+ℤ_assoc, +ℤ_comm, +ℤ_idl, +ℤ_idr}
 use Rattle.book_commodity.specs.Table.{AllAbove, Rises, with_entry}
 use Rattle.book_commodity.proofs.DrawnLemmas.{with_last}
 use Rattle.book_commodity.proofs.TableLemmas.{above_less}
-use Rattle.book_splits.specs.Balance.{total, quantity_on, splits_beside, splits_of}
+use Rattle.book_splits.specs.Balance.{counts_on, total, quantity_on, splits_beside, splits_of}
 use Rattle.book_splits.specs.declared.split.Split.{Split}
 use Rattle.book_splits.specs.declared.transaction.Txn.{Txn}
 
@@ -23,23 +23,21 @@ quantity_on-append account [] ys = sym (+ℤ_idl (quantity_on account ys))
 quantity_on-append account (x ∷ xs) ys =
     let P : Bool → Type 0 = λ t.
     total (map (λ split. split.quantity)
-    (if t then x ∷ filter (λ split. split.account == account) (xs ++ ys) else filter
-    (λ split. split.account == account) (xs ++ ys)))
+    (if t then x ∷ filter (counts_on account) (xs ++ ys) else filter (counts_on account) (xs ++ ys)))
     ≡ total (map (λ split. split.quantity)
-    (if t then x ∷ filter (λ split. split.account == account) xs else filter
-    (λ split. split.account == account) xs)) +ℤ quantity_on account ys in
-    elim (x.account == account) as P [
+    (if t then x ∷ filter (counts_on account) xs else filter (counts_on account) xs)) +ℤ quantity_on account ys in
+    elim (counts_on account x) as P [
       | true ↦ ap (λ z. x.quantity +ℤ z) (quantity_on-append account xs ys)
           ∙ sym (+ℤ_assoc x.quantity (quantity_on account xs) (quantity_on account ys))
       | false ↦ quantity_on-append account xs ys
     ]
 
 pub quantity_on-one : (account : ℕ) (split : Split)
-    → quantity_on account (split ∷ []) ≡ (if split.account == account then split.quantity else pos 0)
+    → quantity_on account (split ∷ []) ≡ (if counts_on account split then split.quantity else pos 0)
 quantity_on-one account split =
     let P : Bool → Type 0 = λ t. total (map (λ split. split.quantity) (if t then split ∷ [] else []))
     ≡ (if t then split.quantity else pos 0) in
-    elim (split.account == account) as P [ true ↦ +ℤ_idr split.quantity | false ↦ refl ]
+    elim (counts_on account split) as P [ true ↦ +ℤ_idr split.quantity | false ↦ refl ]
 
 pub splits_of-append : (xs ys : List (ℕ × Txn)) → splits_of (xs ++ ys) ≡ splits_of xs ++ splits_of ys
 splits_of-append [] ys = refl

@@ -1,7 +1,8 @@
 -- Sums over splits, computed afresh from the transactions (GnuCash Concepts Guide, account registers).
-use Rattle.std.specs.Prelude.{ℕ, ◌*◌, ◌^◌, ℤ, pos, ◌+ℤ◌, ◌-ℤ◌, ◌≤ℤ◌, ◌==◌, Bool, not, List, [], ◌∷◌, ◌++◌, map}
-use Rattle.std.specs.Prelude.{filter}
+use Rattle.std.specs.Prelude.{ℕ, ◌*◌, ◌^◌, ℤ, pos, ◌+ℤ◌, ◌-ℤ◌, ◌≤ℤ◌, ◌==◌, Bool, not, ◌&&◌, List, [], ◌∷◌, ◌++◌}
+use Rattle.std.specs.Prelude.{filter, map}
 use Rattle.std.specs.List.{list_any}
+use Rattle.book_splits.specs.TransactionRules.{is_voided}
 use Rattle.book_splits.specs.declared.split.Split.{Split}
 use Rattle.book_splits.specs.declared.transaction.Txn.{Txn}
 
@@ -27,9 +28,13 @@ splits_beside number transactions = splits_of (filter (λ entry. not (number == 
 abbrev pub has_splits : List (ℕ × Txn) → ℕ → Bool
 has_splits transactions account = list_any (λ split. split.account == account) (splits_of transactions)
 
--- What the splits give to an account: the sum of the quantities of those that name it.
+-- Whether a split counts on an account: it names the account, and its transaction is not voided.
+abbrev pub counts_on : ℕ → Split → Bool
+counts_on account split = (split.account == account) && not (is_voided split.mark)
+
+-- What the splits give to an account: the sum of the quantities of those that count on it.
 abbrev pub quantity_on : ℕ → List Split → ℤ
-quantity_on account splits = total (map (λ split. split.quantity) (filter (λ split. split.account == account) splits))
+quantity_on account splits = total (map (λ split. split.quantity) (filter (counts_on account) splits))
 
 -- What these splits give to the accounts of some splits, by place.
 abbrev pub balances_in : List Split → List Split → List ℤ

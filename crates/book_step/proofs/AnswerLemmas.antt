@@ -40,7 +40,7 @@ use Rattle.book_step.specs.Importing.{added_by, adds_nothing, file_rules, import
 use Rattle.book_step.specs.Importing.{room_rules, said}
 use Rattle.book_step.specs.LineMatching as line_matching
 use Rattle.book_step.specs.LineMatching.{line_match_at, line_match_of}
-use Rattle.book_step.specs.Marking.{book_marked, keeps_mark, mark_asked, mark_at}
+use Rattle.book_step.specs.Marking.{book_marked, keeps_mark, mark_asked, mark_at, mark_of}
 use Rattle.book_step.specs.Outcome.{Outcome, Broken, Done, but_balances, changed, changing, leaving, numbers}
 use Rattle.book_step.specs.Outcome.{unless_broken}
 use Rattle.book_step.specs.Posting.{new_transaction, post_answer, post_rules}
@@ -64,12 +64,16 @@ use Rattle.book_step.specs.Soundness.{IsSound}
 use Rattle.book_splits.proofs.ReplacedLemmas.{with_there}
 use Rattle.book_step.specs.State.{State}
 use Rattle.book_step.specs.Step.{outcome}
+use Rattle.book_step.specs.VoidRules.{already_voided, not_voided, voided_with}
+use Rattle.book_step.specs.Voiding.{book_restored, unvoid_at, void_at}
+use Rattle.book_step.proofs.SoundOutcome.{unless_done}
+use Rattle.book_void.specs.Voiding.{voided_for}
 use Rattle.book_command.specs.declared.answer.Answer.{Answer}
 use Rattle.book_command.specs.declared.answer.Answer.TheVariants as answer
 use Rattle.book_command.specs.declared.command.GivenAccount.{GivenAccount}
 use Rattle.book_command.specs.declared.command.Update.{Update}
 use Rattle.book_command.specs.declared.command.Update.TheVariants.{BookCurrency, CommodityAdd, AccountAdd}
-use Rattle.book_command.specs.declared.command.Update.TheVariants.{AccountEdit, AccountDrop, Drop, Edit, Post}
+use Rattle.book_command.specs.declared.command.Update.TheVariants.{AccountEdit, AccountDrop, Drop, Edit, Post, Unvoid, Void}
 use Rattle.book_command.specs.declared.command.Update.TheVariants.{PriceDrop, PriceSet, ScheduleAdd, ScheduleDrop}
 use Rattle.book_command.specs.declared.command.Update.TheVariants.{ScheduleRun}
 use Rattle.book_command.specs.declared.command.Update.TheVariants.{LineAdd}
@@ -166,6 +170,7 @@ given_answered state n force day given (Some old) new reply there e =
     let left = edit_answer state.book n transaction in
     let made = edit_answer book n transaction in
     let entries = with_entry n transaction ts in
+    let done = unless_done (already_voided n old) (editing.edit_of state n force day given old) new reply e in
     let same = same_transaction transaction old in
     let Chosen : Bool → Type 0 = λ t. same.is ≡ t
     → (if t then leaving state rules left else changing state rules book drawn made) ≡ Done new reply
@@ -179,15 +184,30 @@ given_answered state n force day given (Some old) new reply there e =
       | false ↦ λ other done.
           changing_answered state rules book drawn made new reply
           ((λ r. (transaction, refl)), ap (balances_at entries) (sym (value_here n n transaction ts refl))) done
-    ] refl e
+    ] refl done.1
 
 taken_answered :
     (state : State) (n : ℕ) (force : Bool) (found : Option Txn) (new : State) (reply : Answer)
     → drop_at state n force found ≡ Done new reply → HasBalances state new reply
 taken_answered state n force None new reply e = absurd cc
 taken_answered state n force (Some old) new reply e =
-    changing_answered state (reconciled force old.splits [] ∷ []) (book_without state.book n old) 0 answer.Drop new
-    reply tt e
+    changing_answered state (already_voided n old ∷ reconciled force old.splits [] ∷ []) (book_without state.book n old) 0
+    answer.Drop new reply tt e
+
+voided_answered :
+    (state : State) (n : ℕ) (reason : List ℕ) (force : Bool) (found : Option Txn) (new : State) (reply : Answer)
+    → void_at state n reason force found ≡ Done new reply → HasBalances state new reply
+voided_answered state n reason force None new reply e = absurd cc
+voided_answered state n reason force (Some old) new reply e =
+    changing_answered state (already_voided n old ∷ reconciled force old.splits [] ∷ [])
+    (book_with state.book n old (voided_for reason old)) 0 answer.Void new reply tt e
+
+restored_answered :
+    (state : State) (n : ℕ) (found : Option Txn) (new : State) (reply : Answer)
+    → unvoid_at state n found ≡ Done new reply → HasBalances state new reply
+restored_answered state n None new reply e = absurd cc
+restored_answered state n (Some old) new reply e =
+    changing_answered state (not_voided n old ∷ []) (book_restored state.book n old) 0 answer.Unvoid new reply tt e
 
 priced_answered :
     (state : State) (price : Price) (found : Option (ℕ × Price)) (new : State) (reply : Answer)
@@ -316,16 +336,21 @@ marked_answered :
     → mark_at state number to force found ≡ Done new reply → HasBalances state new reply
 marked_answered state number to force None new reply e = absurd cc
 marked_answered state number to force (Some split) new reply e =
+    let done = unless_done (voided_with state.book.transactions number) (mark_of state number to force split) new reply
+    e in
     either_answered (is_mark split.mark to) state (keeps_mark force number split ∷ []) (book_marked number to state.book)
-    answer.Mark new reply (λ s. tt) e
+    answer.Mark new reply (λ s. tt) done.1
 
 paired_answered :
     (state : State) (n : ℕ) (line : Line) (wanted : ℕ) (found : Option Split) (new : State) (reply : Answer)
     → line_match_of state n line wanted found ≡ Done new reply → HasBalances state new reply
 paired_answered state n line wanted None new reply e = absurd cc
 paired_answered state n line wanted (Some split) new reply e =
-    changing_answered state (line_matching.match_rules state.book.lines n line wanted split)
-    (line_matching.book_paired n line wanted split state.book) 0 answer.LineMatch new reply tt e
+    let rules = line_matching.match_rules state.book.lines n line wanted split in
+    let later = line_matching.book_paired n line wanted split state.book in
+    let done = unless_done (voided_with state.book.transactions wanted) (changing state rules later 0 answer.LineMatch) new
+    reply e in
+    changing_answered state rules later 0 answer.LineMatch new reply tt done.1
 
 matched_answered :
     (state : State) (n wanted : ℕ) (found : Option Line) (new : State) (reply : Answer)
@@ -361,6 +386,9 @@ answered state (Edit n force day given) new reply e =
     given_answered state n force day given (value_of n state.book.transactions) new reply refl e
 answered state (Drop n force) new reply e =
     taken_answered state n force (value_of n state.book.transactions) new reply e
+answered state (Void n reason force) new reply e =
+    voided_answered state n reason force (value_of n state.book.transactions) new reply e
+answered state (Unvoid n) new reply e = restored_answered state n (value_of n state.book.transactions) new reply e
 answered state (PriceSet price) new reply e =
     priced_answered state price (price_of_day state.book.prices price) new reply e
 answered state (PriceDrop n) new reply e =
@@ -405,6 +433,8 @@ filled old new answer.AccountDrop has = refl
 filled old new (answer.Post n splits balances) has = ap (λ (bs : List ℤ). answer.Post n splits bs) (sym has.1)
 filled old new (answer.Edit n splits balances) has = ap (λ (bs : List ℤ). answer.Edit n splits bs) (sym has.1)
 filled old new answer.Drop has = refl
+filled old new answer.Void has = refl
+filled old new answer.Unvoid has = refl
 filled old new answer.Mark has = refl
 filled old new (answer.PriceSet n) has = refl
 filled old new answer.PriceDrop has = refl
@@ -430,6 +460,7 @@ filled old new (answer.ReconcileStatement n marked) has = refl
 filled old new (answer.Lines lines) has = refl
 filled old new (answer.Statements statements) has = refl
 filled old new (answer.Recons recons) has = refl
+filled old new (answer.Voided voided) has = refl
 filled old new (answer.Due days) has = refl
 filled old new answer.Undo has = refl
 filled old new answer.Redo has = refl
@@ -444,6 +475,8 @@ filled_again book answer.AccountDrop = refl
 filled_again book (answer.Post n splits balances) = refl
 filled_again book (answer.Edit n splits balances) = refl
 filled_again book answer.Drop = refl
+filled_again book answer.Void = refl
+filled_again book answer.Unvoid = refl
 filled_again book answer.Mark = refl
 filled_again book (answer.PriceSet n) = refl
 filled_again book answer.PriceDrop = refl
@@ -469,6 +502,7 @@ filled_again book (answer.ReconcileStatement n marked) = refl
 filled_again book (answer.Lines lines) = refl
 filled_again book (answer.Statements statements) = refl
 filled_again book (answer.Recons recons) = refl
+filled_again book (answer.Voided voided) = refl
 filled_again book (answer.Due days) = refl
 filled_again book answer.Undo = refl
 filled_again book answer.Redo = refl
@@ -514,6 +548,8 @@ puts_whole state new change answer.AccountDrop is book has = tt
 puts_whole state new change (answer.Post n splits balances) is book has = puts state new change n balances is book has
 puts_whole state new change (answer.Edit n splits balances) is book has = puts state new change n balances is book has
 puts_whole state new change answer.Drop is book has = tt
+puts_whole state new change answer.Void is book has = tt
+puts_whole state new change answer.Unvoid is book has = tt
 puts_whole state new change answer.Mark is book has = tt
 puts_whole state new change (answer.PriceSet n) is book has = tt
 puts_whole state new change answer.PriceDrop is book has = tt
@@ -539,6 +575,7 @@ puts_whole state new change (answer.ReconcileStatement n marked) is book has = t
 puts_whole state new change (answer.Lines lines) is book has = tt
 puts_whole state new change (answer.Statements statements) is book has = tt
 puts_whole state new change (answer.Recons recons) is book has = tt
+puts_whole state new change (answer.Voided voided) is book has = tt
 puts_whole state new change (answer.Due days) is book has = tt
 puts_whole state new change answer.Undo is book has = tt
 puts_whole state new change answer.Redo is book has = tt

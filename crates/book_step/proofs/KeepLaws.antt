@@ -20,6 +20,7 @@ use Rattle.book_statement.specs.declared.line_state.LineState.TheVariants.{Open,
 use Rattle.book_statement.specs.declared.statement.Statement.{Statement}
 use Rattle.book_sound.specs.Dismissal.{loses_split}
 use Rattle.book_sound.specs.LineRules.{is_same_key, key_of_line, split_at}
+use Rattle.book_void.specs.Voiding.{voided_for}
 use Rattle.book_undo.specs.Book.{with_currency, with_thing, without_thing}
 use Rattle.book_undo.specs.Edit.{edited}
 use Rattle.book_undo.specs.declared.thing.Thing.TheVariants as thing
@@ -34,7 +35,7 @@ use Rattle.book_command.specs.declared.command.GivenSchedule.{GivenSchedule}
 use Rattle.book_command.specs.declared.command.GivenTxn.{GivenTxn}
 use Rattle.book_command.specs.declared.command.Update.{Update}
 use Rattle.book_command.specs.declared.command.Update.TheVariants.{BookCurrency, CommodityAdd, AccountAdd, AccountEdit}
-use Rattle.book_command.specs.declared.command.Update.TheVariants.{AccountDrop, Drop, Edit, Post}
+use Rattle.book_command.specs.declared.command.Update.TheVariants.{AccountDrop, Drop, Edit, Post, Unvoid, Void}
 use Rattle.book_command.specs.declared.command.Update.TheVariants.{PriceDrop, PriceSet, ScheduleAdd, ScheduleDrop}
 use Rattle.book_command.specs.declared.command.Update.TheVariants.{ScheduleRun}
 use Rattle.book_command.specs.declared.command.Update.TheVariants.{LineAdd}
@@ -66,6 +67,8 @@ use Rattle.book_step.specs.Schedules as schedules
 use Rattle.book_step.specs.Soundness.{IsSound}
 use Rattle.book_step.specs.State.{State}
 use Rattle.book_step.specs.Step.{outcome}
+use Rattle.book_step.specs.VoidRules.{already_voided, not_voided}
+use Rattle.book_step.specs.Voiding as voiding
 use Rattle.book_step.specs.declared.step.Step.{Step}
 use Rattle.book_step.proofs.AnswerLemmas.{whole_of}
 use Rattle.book_step.proofs.KeepLemmas.{Keeps, added-behind, after-change, after-either, after-leaving, line-in-state}
@@ -139,10 +142,11 @@ edit-keeps state n force day given (Some old) new answered e =
     let edited = editing.edited_transaction old state.next day given in
     let rules = editing.edit_rules state.book n force given old edited in
     let later = editing.book_with state.book n old edited in
+    let done = unless_done (already_voided n old) (editing.edit_of state n force day given old) new answered e in
     after-either (same_transaction edited old).is state rules rules later
     (editing.drawn_by old.splits given.splits) (editing.edit_answer state.book n edited)
     (editing.edit_answer later n edited) new answered
-    (lines-dismissed state.book later (loses_split old.splits edited.splits) refl refl) e
+    (lines-dismissed state.book later (loses_split old.splits edited.splits) refl refl) done.1
 
 drop-keeps :
     (state : State) (n : ℕ) (force : Bool) (found : Option Txn) (new : State) (answered : Answer)
@@ -150,8 +154,27 @@ drop-keeps :
 drop-keeps state n force None new answered e = absurd cc
 drop-keeps state n force (Some old) new answered e =
     let later = editing.book_without state.book n old in
-    after-change state (editing.reconciled force old.splits [] ∷ []) later 0 answer.Drop new answered
-    (lines-dismissed state.book later (loses_split old.splits []) refl refl) e
+    after-change state (already_voided n old ∷ editing.reconciled force old.splits [] ∷ []) later 0 answer.Drop new
+    answered (lines-dismissed state.book later (loses_split old.splits []) refl refl) e
+
+void-keeps :
+    (state : State) (n : ℕ) (reason : List ℕ) (force : Bool) (found : Option Txn) (new : State) (answered : Answer)
+    → voiding.void_at state n reason force found ≡ Done new answered → Keeps state.book new.book
+void-keeps state n reason force None new answered e = absurd cc
+void-keeps state n reason force (Some old) new answered e =
+    let voided = voided_for reason old in
+    let later = editing.book_with state.book n old voided in
+    after-change state (already_voided n old ∷ editing.reconciled force old.splits [] ∷ []) later 0 answer.Void new
+    answered (lines-dismissed state.book later (loses_split old.splits voided.splits) refl refl) e
+
+unvoid-keeps :
+    (state : State) (n : ℕ) (found : Option Txn) (new : State) (answered : Answer)
+    → voiding.unvoid_at state n found ≡ Done new answered → Keeps state.book new.book
+unvoid-keeps state n None new answered e = absurd cc
+unvoid-keeps state n (Some old) new answered e =
+    let later = voiding.book_restored state.book n old in
+    after-change state (not_voided n old ∷ []) later 0 answer.Unvoid new answered
+    (untouched state.book later refl refl) e
 
 -- ---- schedules
 
@@ -271,6 +294,10 @@ outcome-keeps state (Edit transaction force day given) new answered e =
     edit-keeps state transaction force day given (value_of transaction state.book.transactions) new answered e
 outcome-keeps state (Drop transaction force) new answered e =
     drop-keeps state transaction force (value_of transaction state.book.transactions) new answered e
+outcome-keeps state (Void transaction reason force) new answered e =
+    void-keeps state transaction reason force (value_of transaction state.book.transactions) new answered e
+outcome-keeps state (Unvoid transaction) new answered e =
+    unvoid-keeps state transaction (value_of transaction state.book.transactions) new answered e
 outcome-keeps state (PriceSet price) new answered e =
     price_set-keeps state price (prices.price_of_day state.book.prices price) new answered e
 outcome-keeps state (PriceDrop price) new answered e =

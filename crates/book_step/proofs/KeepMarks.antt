@@ -19,12 +19,14 @@ use Rattle.book_step.specs.AutoMatching as auto
 use Rattle.book_step.specs.Laws.{SaysSame}
 use Rattle.book_step.specs.LineMatching as matching
 use Rattle.book_step.specs.Marking as marking
-use Rattle.book_step.specs.Outcome.{Done}
+use Rattle.book_step.specs.Outcome.{Done, changing}
 use Rattle.book_step.specs.Reconciling as reconciling
 use Rattle.book_step.specs.SameTransaction.{is_mark}
 use Rattle.book_step.specs.State.{State}
+use Rattle.book_step.specs.VoidRules.{voided_with}
 use Rattle.book_step.proofs.KeepLemmas.{Keeps, after-change, after-either, keeps-through, line-in-state, lines-each}
 use Rattle.book_step.proofs.KeepLemmas.{says-same, untouched}
+use Rattle.book_step.proofs.SoundOutcome.{unless_done}
 
 pub mark-keeps :
     (state : State) (n : ℕ) (mark : Mark) (force : Bool) (found : Option Split) (new : State) (answered : Answer)
@@ -33,8 +35,10 @@ mark-keeps state n mark force None new answered e = absurd cc
 mark-keeps state n mark force (Some split) new answered e =
     let rules = marking.keeps_mark force n split ∷ [] in
     let later = marking.book_marked n mark state.book in
+    let done = unless_done (voided_with state.book.transactions n) (marking.mark_of state n mark force split) new answered
+    e in
     after-either (is_mark split.mark mark) state rules rules later 0 answer.Mark answer.Mark new answered
-    (untouched state.book later refl refl) e
+    (untouched state.book later refl refl) done.1
 
 -- a book in which a split is cleared, or not
 cleared-keeps :
@@ -58,9 +62,12 @@ pair-keeps state n line wanted (Some split) new answered there e =
     let clears = is_mark split.mark New in
     let cleared = matching.book_cleared wanted split state.book in
     let later = matching.book_paired n line wanted split state.book in
-    after-change state (matching.match_rules state.book.lines n line wanted split) later 0 answer.LineMatch new answered
+    let rules = matching.match_rules state.book.lines n line wanted split in
+    let done = unless_done (voided_with state.book.transactions wanted)
+    (changing state rules later 0 answer.LineMatch) new answered e in
+    after-change state rules later 0 answer.LineMatch new answered
     (keeps-through state.book cleared later (cleared-keeps clears wanted state.book)
-    (line-in-state cleared n line (Matched wanted) (cleared-line clears wanted state.book n line there))) e
+    (line-in-state cleared n line (Matched wanted) (cleared-line clears wanted state.book n line there))) done.1
 
 pub line_match-keeps :
     (state : State) (n wanted : ℕ) (found : Option Line) (new : State) (answered : Answer)

@@ -60,10 +60,13 @@ pub mod SoundReconciling
 pub mod SoundRuns
 pub mod SoundSchedules
 pub mod SoundStep
+pub mod SoundVoiding
 pub mod SplitSearchLemmas
 pub mod TableWalkLemmas
 pub mod ThereLemmas
 pub mod UnderLemmas
+pub mod VoidRuleLemmas
+pub mod VoidingLemmas
 pub mod Worked
 pub mod WorkedImport
 pub mod WorkedMarks

@@ -3,10 +3,11 @@
 use Rattle.std.proofs.Common.{◌≡◌, ◌≢◌, ℕ, ◌<◌, ◌≤◌, nat_eq, false, Option, Some, None, IsTrue, refl, ap, subst, ◌∙◌}
 use Rattle.std.proofs.Common.{eq-eqb, arith}
 use Rattle.std.specs.Option.{option_eq}
-use Rattle.std.proofs.lemmas.Bool.{and_from}
+use Rattle.std.proofs.lemmas.Bool.{and_from, not_from_false}
 use Rattle.std.proofs.lemmas.Bool.Decides.{Decides-int_eq, nat_tests}
 use Rattle.book_commodity.specs.Table.{value_of, with_entry}
 use Rattle.book_splits.specs.Balance.{splits_of}
+use Rattle.book_splits.specs.TransactionRules.{is_voided}
 use Rattle.book_splits.specs.declared.split.Split.{Split}
 use Rattle.book_statement.specs.declared.line.Line.{Line}
 use Rattle.book_statement.specs.declared.line_state.LineState.{LineState}
@@ -18,12 +19,14 @@ use Rattle.book_sound.proofs.BookChanges.{line_moved}
 use Rattle.book_sound.proofs.SplitFrames.{found_holds, found_number}
 use Rattle.book_step.specs.LineAdding.{matched_with}
 
--- A split fits a line: it stands in the book, in the line's account, and has the line's amount as its quantity.
+-- A split fits a line: it stands in the book, in the line's account, has the line's amount as its quantity, and is not
+-- voided.
 pub record Fits (book : Book) (line : Line) (number : ℕ) : Type 0 where
   pub split : Split
   pub there : split_at number book.transactions ≡ Some split
   pub account : split.account ≡ line.account
   pub quantity : split.quantity ≡ line.body.amount
+  pub unvoided : is_voided split.mark ≡ false
 
 -- No other line than the one of this number is matched with the split.
 pub record IsFree (book : Book) (n number : ℕ) : Type 0 where
@@ -46,7 +49,8 @@ pub matched-sound :
 matched-sound book n number line found fits free is =
     let split = fits.split in
     let same = and_from _ _ (eq-eqb split.account line.account fits.account)
-    ((Decides-int_eq split.quantity line.body.amount).1 fits.quantity) in
+    (and_from _ _ ((Decides-int_eq split.quantity line.body.amount).1 fits.quantity)
+    (not_from_false _ fits.unvoided)) in
     line_moved book n line (Matched number) found (ap (fits_line line) fits.there ∙ same)
     (λ k x other there. not_shared number x.state (free.each k x other there)) is
 

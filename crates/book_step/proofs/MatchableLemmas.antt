@@ -5,6 +5,9 @@ use Rattle.std.proofs.Common.{List, [], ◌∷◌, filter, flat_map, Some, refl,
 use Rattle.std.proofs.lemmas.Bool.{and_parts, eqb-true, not-true}
 use Rattle.std.proofs.lemmas.List.Elements.{All-append, All-cons, All-head, All-map, All-nil, All-tail, All-weaker}
 use Rattle.book_commodity.specs.Table.{Rises, value_of}
+use Rattle.book_splits.specs.TransactionRules.{is_voided}
+use Rattle.book_splits.specs.declared.split.Mark.{Mark}
+use Rattle.book_splits.specs.declared.split.Mark.TheVariants.{New, Cleared, Reconciled, Voided}
 use Rattle.book_splits.specs.declared.split.Split.{Split}
 use Rattle.book_splits.specs.declared.transaction.Txn.{Txn}
 use Rattle.book_statement.specs.declared.line.Line.{Line}
@@ -19,7 +22,7 @@ use Rattle.book_sound.proofs.OwnFrames.{all_of_each}
 use Rattle.book_sound.proofs.SplitFrames.{found_among, split_of_one}
 use Rattle.book_undo.specs.Book.{Book}
 use Rattle.book_step.specs.BankLines.{is_open}
-use Rattle.book_free.specs.FreeSplits.{free_among, free_of, free_split, is_free}
+use Rattle.book_free.specs.FreeSplits.{free_among, free_of, free_split, is_free, is_never_free}
 use Rattle.book_free.proofs.FreeLemmas.{found_by_number, own_numbers}
 use Rattle.book_step.specs.Matchable.{is_open_on, line_view, open_lines}
 use Rattle.book_step.proofs.ProposalLemmas.{filter-holds}
@@ -33,6 +36,14 @@ pub record IsFreeIn (taken : ℕ → Bool) (ts : List (ℕ × Txn)) (free : Free
   pub account : split.account ≡ free.account
   pub amount : split.quantity ≡ free.amount
   pub untaken : taken free.split ≡ false
+  pub unvoided : is_voided split.mark ≡ false
+
+-- a split that may be matched is not voided
+free_unvoided : (mark : Mark) → is_never_free mark ≡ false → is_voided mark ≡ false
+free_unvoided New free = refl
+free_unvoided Cleared free = refl
+free_unvoided Reconciled free = absurd cc
+free_unvoided Voided free = absurd cc
 
 own_free :
     (book : Book) (taken : ℕ → Bool) (k : ℕ) (t : Txn) → IsSoundBook book → value_of k book.transactions ≡ Some t
@@ -50,6 +61,7 @@ own_free book taken k t is there =
       account = refl;
       amount = refl;
       untaken = not-true _ (and_parts _ (not (taken s.id)) has.1).1;
+      unvoided = free_unvoided s.mark (not-true _ (and_parts _ (not (taken s.id)) has.1).0);
     })
     (filter (is_free taken) t.splits)
     (filter-holds Found (is_free taken) t.splits (found_by_number t.splits own.0)))
@@ -83,6 +95,7 @@ pub record IsFreeSplit (taken : ℕ → Bool) (account : ℕ) (ts : List (ℕ ×
   pub of_account : split.account ≡ account
   pub amount : split.quantity ≡ view.quantity
   pub untaken : taken view.split ≡ false
+  pub unvoided : is_voided split.mark ≡ false
 
 pub splits_hold :
     (book : Book) (taken : ℕ → Bool) (account : ℕ) → IsSoundBook book
@@ -105,6 +118,7 @@ splits_hold book taken account is =
       of_account = has.0.account ∙ eqb-true f.account account has.1;
       amount = has.0.amount;
       untaken = has.0.untaken;
+      unvoided = has.0.unvoided;
     })
     (filter on frees) (filter-holds InBook on frees all))
 

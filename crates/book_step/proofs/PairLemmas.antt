@@ -4,11 +4,12 @@ use Rattle.std.proofs.Common.{◌≡◌, ◌≢◌, ℕ, ◌==◌, Bool, true, f
 use Rattle.std.proofs.Common.{◌∷◌, find, Option, Some, option_map, IsTrue, refl, sym, ap, subst, ◌∙◌, eq-eqb}
 use Rattle.std.specs.Ordering.{int_eq}
 use Rattle.std.specs.Prelude.{nat_le}
-use Rattle.std.proofs.lemmas.Bool.{and_from, and_parts, eqb-true, or_parts}
+use Rattle.std.proofs.lemmas.Bool.{and_from, and_parts, eqb-true, not_from_false, or_parts}
 use Rattle.std.proofs.lemmas.Bool.Decides.{Decides-int_eq}
 use Rattle.std.proofs.lemmas.List.Elements.{All-head, All-tail}
 use Rattle.book_commodity.specs.Table.{value_of}
 use Rattle.book_commodity.proofs.ListLemmas.{mapped_some}
+use Rattle.book_splits.specs.TransactionRules.{is_voided}
 use Rattle.book_splits.specs.declared.split.Split.{Split}
 use Rattle.book_statement.specs.declared.line.Line.{Line}
 use Rattle.book_statement.specs.declared.line_state.LineState.{LineState}
@@ -145,11 +146,11 @@ has_itself split = eq-eqb split split refl
 
 fits_split :
     (line : Line) (split : Split) (found : Option Split) → found ≡ Some split → split.account ≡ line.account
-    → split.quantity ≡ line.body.amount → IsTrue (fits_line line found)
-fits_split line split found there account quantity =
+    → split.quantity ≡ line.body.amount → is_voided split.mark ≡ false → IsTrue (fits_line line found)
+fits_split line split found there account quantity unvoided =
     ap (fits_line line) there
     ∙ and_from _ _ (eq-eqb split.account line.account account)
-    ((Decides-int_eq split.quantity line.body.amount).1 quantity)
+    (and_from _ _ ((Decides-int_eq split.quantity line.body.amount).1 quantity) (not_from_false _ unvoided))
 
 -- Each line that takes a split of the pairs is open,
 pub pairs_open :
@@ -178,7 +179,7 @@ pairs_free book account window is = record {
       (sym (ap (λ (k : ℕ). split_at k book.transactions) number) ∙ own.there)
       (own.of_account ∙ sym fits.of_line.of_account ∙ ap (λ (l : Line). l.account) same)
       (own.amount ∙ (Decides-int_eq fits.split.quantity fits.line.amount).0 candidate.0
-      ∙ sym fits.of_line.amount ∙ ap (λ (l : Line). l.body.amount) same);
+      ∙ sym fits.of_line.amount ∙ ap (λ (l : Line). l.body.amount) same) own.unvoided;
   untaken = λ n split k line some there matched.
       let took = takes_pair book account window n split is some in
       let fits = took.fits in

@@ -22,12 +22,14 @@ use Rattle.book_splits.specs.declared.transaction.Txn.{Txn}
 use Rattle.book_splits.proofs.ReplacedLemmas.{all_of_one, fails_among}
 use Rattle.book_undo.specs.Book.{Book}
 use Rattle.book_sound.specs.LineRules.{split_among, split_at}
-use Rattle.book_sound.specs.MarkedTransactionRules.{is_reconciled, is_rightly_marked}
+use Rattle.book_sound.specs.MarkedTransactionRules.{are_rightly_marked, is_reconciled, is_rightly_marked}
 use Rattle.book_sound.specs.Soundness.{IsSoundBook, AreDrawn}
 use Rattle.book_sound.proofs.DrawnFrames.{transaction_drawn}
-use Rattle.book_sound.proofs.MarkFrames.{AreRemarked, IsRemarked, transaction_marked}
+use Rattle.book_sound.proofs.MarkFrames.{AreRemarked, IsRemarked}
 use Rattle.book_sound.proofs.MarkLemmas.{unreconciled_is_right}
 use Rattle.book_sound.proofs.SplitFrames.{above_there, found_among, split_of_one}
+use Rattle.book_sound.proofs.VoidFrames.{marks_unvoided}
+use Rattle.book_sound.proofs.VoidedSound.{transaction_remarked}
 use Rattle.book_step.specs.Marking.{Held, IsHeld, book_marked, marked_among, marked_as, marked_where, remarked}
 
 -- ---- a transaction in the place of one that differs in marks and reconciliations alone
@@ -48,14 +50,14 @@ remarked_below next (old ∷ olds) (new ∷ news) stay all =
 -- the marks and the reconciliations of its splits alone, and its splits are rightly marked.
 pub remarked-sound :
     (book : Book) (n limit : ℕ) (old new : Txn) → value_of n book.transactions ≡ Some old
-    → old.currency ≡ new.currency → AreRemarked old.splits new.splits
-    → list_all (is_rightly_marked book.reconciliations) new.splits ≡ true → is_none new.voided ≡ true
+    → old.currency ≡ new.currency → old.voided ≡ new.voided → AreRemarked old.splits new.splits
+    → are_rightly_marked book.reconciliations new.voided new.splits ≡ true
     → AreDrawn book limit → IsSoundBook book
     → IsSoundBook (record book { transactions = with_entry n new book.transactions })
     × AreDrawn (record book { transactions = with_entry n new book.transactions }) limit
-remarked-sound book n limit old new there currency stay marks unvoided are is =
+remarked-sound book n limit old new there currency voided stay marks are is =
     let below = all_of_one (λ (s : Split). s.id < limit) n old book.transactions there are.splits in (
-      transaction_marked book n limit old new there are currency unvoided stay marks is,
+      transaction_remarked book n limit old new there are currency voided stay marks is,
       transaction_drawn book n limit new (drawn_below n limit old book.transactions are.transactions there)
           (remarked_below limit old.splits new.splits stay below) are,
     )
@@ -289,12 +291,16 @@ marked_is_put book number mark held is has =
 -- A book stays sound, and its numbers drawn, where one of its splits is marked as new or as cleared.
 pub marked-sound :
     (book : Book) (number limit : ℕ) (mark : Mark) (held : Held) → IsHeld book.transactions number held
-    → is_reconciled mark ≡ false → is_voided mark ≡ false → AreDrawn book limit → IsSoundBook book
+    → is_none held.transaction.voided ≡ true → is_reconciled mark ≡ false → is_voided mark ≡ false
+    → AreDrawn book limit → IsSoundBook book
     → IsSoundBook (book_marked number mark book) × AreDrawn (book_marked number mark book) limit
-marked-sound book number limit mark held has not_yet unvoided are is =
+marked-sound book number limit mark held has alive not_yet unvoided are is =
     let t = held.transaction in
+    let r = book.reconciliations in
+    let new = remarked number mark t in
     let kept = is.transactions.keep.each held.number t has.0 in
-    let put = remarked-sound book held.number limit t (remarked number mark t) has.0 refl
-    (all_remarked number mark t.splits)
-    (all_right book.reconciliations number mark t.splits not_yet unvoided kept.1.1.1.0) kept.1.1.1.1.0 are is in
+    let marks = sym (marks_unvoided r t.voided t.splits alive) ∙ kept.1.1.1.0 in
+    let later = marks_unvoided r t.voided new.splits alive ∙ all_right r number mark t.splits not_yet unvoided marks in
+    let put = remarked-sound book held.number limit t new has.0 refl refl (all_remarked number mark t.splits) later are
+    is in
     subst (λ (b : Book). IsSoundBook b × AreDrawn b limit) (sym (marked_is_put book number mark held is has)) put

@@ -26,10 +26,11 @@ use Rattle.book_undo.specs.declared.rule.EditRule.TheVariants.{OutOfOrder, TooDe
 use Rattle.book_undo.specs.declared.thing.Thing.TheVariants as thing
 use Rattle.book_undo.proofs.ExactLaws.{AllChange, Changes, exact_of}
 use Rattle.book_undo.proofs.ThreeRules.{three_none}
-use Rattle.book_sound.specs.MarkedTransactionRules.{is_rightly_marked}
+use Rattle.book_sound.specs.MarkedTransactionRules.{are_rightly_marked}
 use Rattle.book_sound.proofs.DrawnFrames.{transaction_drawn}
-use Rattle.book_sound.proofs.MarkFrames.{AreRemarked, transaction_marked}
+use Rattle.book_sound.proofs.MarkFrames.{AreRemarked}
 use Rattle.book_sound.proofs.SplitFrames.{above_there}
+use Rattle.book_sound.proofs.VoidedSound.{transaction_remarked}
 use Rattle.book_step.specs.Importing.{whole_edit}
 use Rattle.book_step.specs.Remarking.{ChangesMarksAlone, ChangesWhere, all_remarked, has_touched, newly_remarked}
 use Rattle.book_step.specs.Remarking.{remarked, remarked_where, remarking}
@@ -319,7 +320,7 @@ abbrev AreMarkedRightly : Book → (ℤ → Split → Split) → List (ℕ × Tx
 AreMarkedRightly book rule [] = ⊤
 AreMarkedRightly book rule (e ∷ ts) =
     ((value_of e.0 book.transactions ≡ Some e.1)
-    × (list_all (is_rightly_marked book.reconciliations) (map (rule e.1.day) e.1.splits) ≡ true))
+    × (are_rightly_marked book.reconciliations e.1.voided (map (rule e.1.day) e.1.splits) ≡ true))
     × AreMarkedRightly book rule ts
 
 -- they still do after another is put
@@ -342,7 +343,7 @@ marked_there :
     (book : Book) (rule : ℤ → Split → Split) (ts : List (ℕ × Txn)) → Rises ts
     → ((k : ℕ) (x : Txn) → value_of k ts ≡ Some x → value_of k book.transactions ≡ Some x)
     → ((k : ℕ) (x : Txn) → value_of k book.transactions ≡ Some x
-    → list_all (is_rightly_marked book.reconciliations) (map (rule x.day) x.splits) ≡ true)
+    → are_rightly_marked book.reconciliations x.voided (map (rule x.day) x.splits) ≡ true)
     → AreMarkedRightly book rule ts
 marked_there book rule [] r there marks = tt
 marked_there book rule (e ∷ ts) r there marks =
@@ -368,8 +369,7 @@ puts_sound book rule limit (e ∷ ts) alone r marks are is =
     let own = drawn_below e.0 limit e.1 book.transactions are.transactions marks.0.0 in
     let ids = all_of_one Below e.0 e.1 book.transactions marks.0.0 are.splits in
     let drawn = transaction_drawn book e.0 limit new own (ids_below rule e.1.day limit e.1.splits alone ids) are in
-    let unvoided = (is.transactions.keep.each e.0 e.1 marks.0.0).1.1.1.1.0 in
-    let sound = transaction_marked book e.0 limit e.1 new marks.0.0 are refl unvoided
+    let sound = transaction_remarked book e.0 limit e.1 new marks.0.0 are refl refl
     (splits_remarked rule e.1.day e.1.splits alone) marks.0.1 is in
     puts_sound later rule limit ts alone r.1 (marked_beside book rule e.0 new ts r.0 marks.1) drawn sound
 
@@ -382,7 +382,7 @@ all_put rule (e ∷ ts) = ap (λ (more : List (ℕ × Txn)). (e.0, remarked rule
 pub all_remarked-sound :
     (book : Book) (rule : ℤ → Split → Split) (limit : ℕ) → ChangesMarksAlone rule → AreDrawn book limit
     → ((n : ℕ) (t : Txn) → value_of n book.transactions ≡ Some t
-    → list_all (is_rightly_marked book.reconciliations) (map (rule t.day) t.splits) ≡ true)
+    → are_rightly_marked book.reconciliations t.voided (map (rule t.day) t.splits) ≡ true)
     → IsSoundBook book
     → IsSoundBook (record book { transactions = all_remarked rule book.transactions })
 all_remarked-sound book rule limit alone are marks is =

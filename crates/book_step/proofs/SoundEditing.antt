@@ -1,6 +1,7 @@
 -- The edit and the deletion of a transaction lead from sound states to sound states: what stands in the book then keeps
 -- the rules of transactions, since it keeps those of the command.
-use Rattle.std.proofs.Common.{◌≡◌, ℕ, ◌+◌, ◌<◌, ℤ, Bool, [], ◌∷◌, Option, Some, None, is_none, refl, ap, arith}
+use Rattle.std.proofs.Common.{◌≡◌, ℕ, ◌+◌, ◌<◌, ℤ, Bool, [], ◌∷◌, Option, Some, None, is_none, true, refl, sym, ap, ◌∙◌}
+use Rattle.std.proofs.Common.{arith}
 use Rattle.std.proofs.lemmas.Bool.Decides.{nat_tests}
 use Rattle.book_commodity.specs.Rules.{AllKept, first_broken}
 use Rattle.book_commodity.specs.Table.{value_of, with_entry, without_entry}
@@ -18,6 +19,7 @@ use Rattle.book_sound.proofs.BookFrames.{transaction_replaced, transaction_taken
 use Rattle.book_sound.proofs.DrawnFrames.{dismissed_lines_drawn, drawn_later, transaction_drawn}
 use Rattle.book_sound.proofs.DrawnFrames.{transaction_left_drawn}
 use Rattle.book_sound.proofs.TransactionFrames.{IsFit}
+use Rattle.book_sound.proofs.VoidFrames.{marks_unvoided}
 use Rattle.book_command.specs.Lifted.{of_txn_rule}
 use Rattle.book_command.specs.declared.answer.Answer.{Answer}
 use Rattle.book_command.specs.declared.answer.Answer.TheVariants as answer
@@ -30,8 +32,10 @@ use Rattle.book_step.specs.Posting.{broken_by}
 use Rattle.book_step.specs.SameTransaction.{same_transaction}
 use Rattle.book_step.specs.Soundness.{IsSoundBook, AreDrawn, IsSound}
 use Rattle.book_step.specs.State.{State}
+use Rattle.book_step.specs.VoidRules.{already_voided}
 use Rattle.book_step.proofs.EditedSplits.{edited_below, edited_from, edited_once, edited_right}
-use Rattle.book_step.proofs.SoundOutcome.{changing_done, either_sound, sound_after}
+use Rattle.book_step.proofs.SoundOutcome.{changing_done, either_sound, sound_after, unless_done}
+use Rattle.book_step.proofs.VoidRuleLemmas.{unvoided_of}
 
 -- What an edit keeps.
 record KeepsEdit (book : Book) (number : ℕ) (given : GivenTxn) (old new : Txn) : Type 0 where
@@ -53,11 +57,12 @@ edit_keeps book number force given old new kept =
 
 replaces :
     (book : Book) (number next : ℕ) (day : ℤ) (given : GivenTxn) (old : Txn)
-    → value_of number book.transactions ≡ Some old → AreDrawn book next → IsSoundBook book
+    → value_of number book.transactions ≡ Some old → is_none old.voided ≡ true → AreDrawn book next
+    → IsSoundBook book
     → KeepsEdit book number given old (edited_transaction old next day given)
     → IsFit book.commodities book.accounts book.reconciliations next (numbers_of old.splits)
     (edited_transaction old next day given)
-replaces book number next day given old there are is keeps =
+replaces book number next day given old there unvoided are is keeps =
     let new = edited_transaction old next day given in
     let was = is.transactions.keep.each number old there in
     let below = all_of_one (λ (split : Split). split.id < next) number old book.transactions there are.splits in
@@ -66,28 +71,29 @@ replaces book number next day given old there are is keeps =
           (mapped_none of_txn_rule (first_broken (txn_rules book.commodities book.accounts new)) keeps.check);
       once = edited_once next next old.splits [] given.splits below (omega arith) keeps.numbers;
       from = edited_from next next old.splits given.splits (omega arith);
-      marks = edited_right book.reconciliations next old.splits given.splits was.1.1.1.0;
+      marks = edited_right book.reconciliations next old.splits given.splits
+          (sym (marks_unvoided book.reconciliations old.voided old.splits unvoided) ∙ was.1.1.1.0);
       unvoided = refl;
     }
 
 edited_book :
     (book : Book) (number next : ℕ) (force : Bool) (day : ℤ) (given : GivenTxn) (old : Txn)
-    → value_of number book.transactions ≡ Some old → AreDrawn book next
+    → value_of number book.transactions ≡ Some old → is_none old.voided ≡ true → AreDrawn book next
     → AllKept (edit_rules book number force given old (edited_transaction old next day given)) → IsSoundBook book
     → IsSoundBook (book_with book number old (edited_transaction old next day given))
-edited_book book number next force day given old there are kept is =
+edited_book book number next force day given old there unvoided are kept is =
     let new = edited_transaction old next day given in
     let keeps = edit_keeps book number force given old new kept in
     let few = not-broken _ _ keeps.few_splits in
     transaction_replaced book number next old new there are
-    (replaces book number next day given old there are is keeps) (grind (arith, nat_tests, few)) is
+    (replaces book number next day given old there unvoided are is keeps) (grind (arith, nat_tests, few)) is
 
 edit_of-sound :
     (state : State) (n : ℕ) (force : Bool) (day : ℤ) (given : GivenTxn) (old : Txn) (new : State) (answered : Answer)
-    → value_of n state.book.transactions ≡ Some old → IsSound state
+    → value_of n state.book.transactions ≡ Some old → is_none old.voided ≡ true → IsSound state
     → edit_of state n force day given old ≡ Done new answered
     → IsSound new
-edit_of-sound state n force day given old new answered there is e =
+edit_of-sound state n force day given old new answered there unvoided is e =
     let book = state.book in
     let transaction = edited_transaction old state.next day given in
     let later = book_with book n old transaction in
@@ -102,7 +108,7 @@ edit_of-sound state n force day given old new answered there is e =
     (edit_answer book n transaction) (edit_answer later n transaction) answered is
     (λ change.
     sound_after state rules later drawn new change
-    (edited_book book n state.next force day given old there is.drawn change.kept is.book)
+    (edited_book book n state.next force day given old there unvoided is.drawn change.kept is.book)
     (dismissed_lines_drawn (record book { transactions = with_entry n transaction book.transactions })
     (loses_split old.splits transaction.splits) (state.next + drawn) numbered)) e
 
@@ -114,7 +120,8 @@ edit_at-sound :
     → IsSound new
 edit_at-sound state n force day given None new answered there is e = absurd cc
 edit_at-sound state n force day given (Some old) new answered there is e =
-    edit_of-sound state n force day given old new answered there is e
+    let done = unless_done (already_voided n old) (edit_of state n force day given old) new answered e in
+    edit_of-sound state n force day given old new answered there (unvoided_of n old done.0) is done.1
 
 pub edit_transaction-sound :
     (state : State) (n : ℕ) (force : Bool) (day : ℤ) (given : GivenTxn) (new : State) (answered : Answer)
@@ -131,7 +138,7 @@ drop_at-sound state n force None new answered there is e = absurd cc
 drop_at-sound state n force (Some old) new answered there is e =
     let book = state.book in
     let left = book_without book n old in
-    let rules = reconciled force old.splits [] ∷ [] in
+    let rules = already_voided n old ∷ reconciled force old.splits [] ∷ [] in
     let change = changing_done state rules left 0 answer.Drop new answered e in
     let later = drawn_later book state.next (state.next + 0) (omega arith) is.drawn in
     sound_after state rules left 0 new change (transaction_taken book n old there is.book)

@@ -110,7 +110,7 @@ first_fits book n commodity line others description is =
     let rules = is.transactions.keep.each n new there in
     let found = split_of_one n (n + 1) new later is.transactions.rise there (not-true _ rules.1.1.0)
     (found_among (n + 1) new.splits own first) in
-    record { split = own; there = found ∙ first; account = refl; quantity = refl }
+    record { split = own; there = found ∙ first; account = refl; quantity = refl; unvoided = refl }
 
 line_added :
     (book : Book) (next n commodity : ℕ) (line : Line) (others : List GivenOther) (description : Option (List ℕ))

@@ -1,15 +1,16 @@
 -- The command that matches a line with a split leads from sound states to sound states: the line fits the split, which
 -- no other line has.
-use Rattle.std.proofs.Common.{◌≡◌, ◌≢◌, ℕ, ◌+◌, ◌==◌, nat_eq, Bool, true, false, if◌then◌else◌, List, [], ◌∷◌, Option}
+use Rattle.std.proofs.Common.{◌≡◌, ◌≢◌, ℕ, ◌+◌, ◌==◌, nat_eq, not, Bool, true, false, if◌then◌else◌, List, [], ◌∷◌, Option}
 use Rattle.std.proofs.Common.{Some, None, option_map, refl, sym, ap, ◌∙◌, eq-eqb, arith}
 use Rattle.std.specs.Option.{option_eq}
 use Rattle.std.specs.Ordering.{int_eq}
-use Rattle.std.proofs.lemmas.Bool.{and_parts, eqb-true, not-false}
+use Rattle.std.proofs.lemmas.Bool.{and_parts, eqb-true, not-false, not-true}
 use Rattle.std.proofs.lemmas.Bool.Decides.{Decides-int_eq}
 use Rattle.book_commodity.specs.Table.{value_of}
 use Rattle.book_commodity.proofs.DrawnLemmas.{drawn_below}
 use Rattle.book_commodity.proofs.ListLemmas.{mapped_none}
 use Rattle.book_commodity.proofs.RuleLemmas.{not-broken}
+use Rattle.book_splits.specs.TransactionRules.{is_voided}
 use Rattle.book_splits.specs.declared.split.Mark.TheVariants.{New, Cleared}
 use Rattle.book_splits.specs.declared.split.Split.{Split}
 use Rattle.book_statement.specs.declared.line.Line.{Line}
@@ -26,13 +27,15 @@ use Rattle.book_step.specs.LineAdding.{matched_with}
 use Rattle.book_step.specs.LineMatching.{book_cleared, book_paired, is_matched_with, line_match, line_match_at}
 use Rattle.book_step.specs.LineMatching.{line_match_of, line_of_split, match_rules}
 use Rattle.book_step.specs.Marking.{book_marked, marked_as}
-use Rattle.book_step.specs.Outcome.{Done}
+use Rattle.book_step.specs.Outcome.{Done, changing}
 use Rattle.book_step.specs.SameTransaction.{is_mark}
 use Rattle.book_step.specs.Soundness.{IsSoundBook, AreDrawn, IsSound}
 use Rattle.book_step.specs.State.{State}
+use Rattle.book_step.specs.VoidRules.{voided_with}
 use Rattle.book_step.proofs.LineLemmas.{Fits, matched-sound}
 use Rattle.book_step.proofs.RemarkLemmas.{held_of, marked-sound, split_marked}
-use Rattle.book_step.proofs.SoundOutcome.{changing_done, sound_after}
+use Rattle.book_step.proofs.SoundOutcome.{changing_done, sound_after, unless_done}
+use Rattle.book_step.proofs.VoidRuleLemmas.{unvoided_held}
 
 -- ---- no line has the split
 
@@ -73,10 +76,14 @@ fits_cleared :
     → Fits (book_cleared wanted split book) line wanted
 fits_cleared book line wanted split there fits = go (is_mark split.mark New)
   where
-    parts : (split.account ≡ line.account) × (split.quantity ≡ line.body.amount)
+    parts : (split.account ≡ line.account) × (split.quantity ≡ line.body.amount) × (is_voided split.mark ≡ false)
     parts =
-        let both = and_parts (split.account == line.account) (int_eq split.quantity line.body.amount) fits in
-        (eqb-true split.account line.account both.0, (Decides-int_eq split.quantity line.body.amount).0 both.1)
+        let both = and_parts (split.account == line.account) _ fits in
+        let more = and_parts (int_eq split.quantity line.body.amount) (not (is_voided split.mark)) both.1 in (
+          eqb-true split.account line.account both.0,
+          (Decides-int_eq split.quantity line.body.amount).0 more.0,
+          not-true _ more.1,
+        )
 
     go : (new : Bool) → Fits (if new then book_marked wanted Cleared book else book) line wanted
     go true = record {
@@ -84,8 +91,9 @@ fits_cleared book line wanted split there fits = go (is_mark split.mark New)
       there = split_marked wanted Cleared book ∙ ap (option_map (marked_as Cleared)) there;
       account = parts.0;
       quantity = parts.1;
+      unvoided = refl;
     }
-    go false = record { split = split; there = there; account = parts.0; quantity = parts.1 }
+    go false = record { split = split; there = there; account = parts.0; quantity = parts.1; unvoided = parts.2 }
 
 -- it is sound, and its lines are those of the book
 record Clears (book later : Book) (limit : ℕ) : Type 0 where
@@ -95,14 +103,15 @@ record Clears (book later : Book) (limit : ℕ) : Type 0 where
 
 cleared-sound :
     (book : Book) (wanted limit : ℕ) (split : Split) → split_at wanted book.transactions ≡ Some split
-    → AreDrawn book limit → IsSoundBook book
+    → voided_with book.transactions wanted ≡ None → AreDrawn book limit → IsSoundBook book
     → Clears book (book_cleared wanted split book) limit
-cleared-sound book wanted limit split there are is = go (is_mark split.mark New)
+cleared-sound book wanted limit split there unvoided are is = go (is_mark split.mark New)
   where
     go : (new : Bool) → Clears book (if new then book_marked wanted Cleared book else book) limit
     go true =
         let found = held_of wanted split book.transactions is.transactions.rise there in
-        let both = marked-sound book wanted limit Cleared found.held found.has refl refl are is in
+        let alive = unvoided_held book wanted found.held is found.has unvoided in
+        let both = marked-sound book wanted limit Cleared found.held found.has alive refl refl are is in
         record { sound = both.0; drawn = both.1; lines = refl }
     go false = record { sound = is; drawn = are; lines = refl }
 
@@ -120,11 +129,13 @@ match_of-sound state n line wanted (Some split) new answered there at is e =
     let cleared = book_cleared wanted split book in
     let later = book_paired n line wanted split book in
     let next = state.next + 0 in
-    let change = changing_done state rules later 0 answer.LineMatch new answered e in
+    let done = unless_done (voided_with book.transactions wanted) (changing state rules later 0 answer.LineMatch) new
+    answered e in
+    let change = changing_done state rules later 0 answer.LineMatch new answered done.1 in
     let free = mapped_none (λ (e : ℕ × Line). LineTaken e.0) (line_of_split wanted book.lines) change.kept.1.0 in
     let fits = not-false (fits_line line (Some split)) (not-broken _ _ change.kept.1.1.0) in
-    let clears = cleared-sound book wanted next split at (drawn_later book state.next next (omega arith) is.drawn)
-    is.book in
+    let clears = cleared-sound book wanted next split at done.0
+    (drawn_later book state.next next (omega arith) is.drawn) is.book in
     let stands = ap (value_of n) clears.lines ∙ there in
     let own = drawn_below n next line cleared.lines clears.drawn.lines stands in
     sound_after state rules later 0 new change

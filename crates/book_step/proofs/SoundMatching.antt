@@ -1,15 +1,16 @@
 -- The command that matches the open lines of an account leads from sound states to sound states.
 use Rattle.std.proofs.Common.{◌≡◌, ℕ, ◌+◌, ◌==◌, Bool, true, false, if◌then◌else◌, List, [], ◌∷◌, length, map}
-use Rattle.std.proofs.Common.{refl, arith}
+use Rattle.std.proofs.Common.{◌&&◌, ap, refl, arith}
 use Rattle.std.specs.List.{list_all}
 use Rattle.std.proofs.lemmas.Bool.{and_from, and_parts}
-use Rattle.book_splits.specs.TransactionRules.{is_new}
+use Rattle.book_splits.specs.TransactionRules.{is_new, is_voided}
 use Rattle.book_splits.specs.declared.reconciliation.Recon.{Recon}
 use Rattle.book_splits.specs.declared.split.Mark.{Mark}
 use Rattle.book_splits.specs.declared.split.Mark.TheVariants.{Cleared, New, Reconciled, Voided}
 use Rattle.book_splits.specs.declared.split.Split.{Split}
-use Rattle.book_sound.specs.MarkedTransactionRules.{fits_mark, is_rightly_marked}
+use Rattle.book_sound.specs.MarkedTransactionRules.{fits_mark, is_rightly_marked, is_rightly_voided}
 use Rattle.book_sound.proofs.DrawnFrames.{drawn_later}
+use Rattle.book_sound.proofs.VoidFrames.{marks_remarked, voided_of}
 use Rattle.book_undo.specs.Book.{Book}
 use Rattle.book_command.specs.declared.answer.Answer.{Answer}
 use Rattle.book_command.specs.declared.answer.Answer.TheVariants as answer
@@ -60,6 +61,19 @@ all_rightly taken reconciliations (s ∷ splits) right =
     and_from _ _ (rightly_still taken reconciliations s parts.0)
     (all_rightly taken reconciliations splits parts.1)
 
+-- a voided split is not new, and stays as it is
+voided_not_new : (mark : Mark) → is_voided mark ≡ true → is_new mark ≡ false
+voided_not_new New is = absurd cc
+voided_not_new Cleared is = absurd cc
+voided_not_new Reconciled is = absurd cc
+voided_not_new Voided is = refl
+
+voided_stays :
+    (taken : ℕ → Bool) (split : Split) → is_rightly_voided split ≡ true → split_paired taken split ≡ split
+voided_stays taken split voided =
+    ap (λ (b : Bool). if b && taken split.id then cleared split else split)
+    (voided_not_new split.mark (voided_of split voided).mark)
+
 -- ---- the book
 
 book_paired-sound :
@@ -71,7 +85,9 @@ book_paired-sound book account window next are is =
     let first : Book = record book { lines = lines_paired (split_of pairs) book.lines } in
     all_remarked-sound first rule next (clearing_alone (has_pair pairs)) (paired-drawn book (split_of pairs) next are)
     (λ n t there.
-    all_rightly (has_pair pairs) book.reconciliations t.splits (is.transactions.keep.each n t there).1.1.1.0)
+    marks_remarked book.reconciliations book.reconciliations (split_paired (has_pair pairs)) t.voided t.splits
+    (voided_stays (has_pair pairs)) (all_rightly (has_pair pairs) book.reconciliations t.splits)
+    (is.transactions.keep.each n t there).1.1.1.0)
     (paired-sound book (split_of pairs) (pairs_free book account window is) is)
 
 book_paired-drawn :

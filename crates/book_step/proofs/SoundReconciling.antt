@@ -1,8 +1,8 @@
 -- Each command that reconciles an account leads from a sound state to a sound one.
 use Rattle.std.proofs.Common.{◌≡◌, ℕ, ◌+◌, ◌≤◌, ◌==◌, ℤ, pos, ◌+ℤ◌, int_le, Bool, true, false, if◌then◌else◌, List, []}
-use Rattle.std.proofs.Common.{◌∷◌, ◌++◌, length, map, Option, Some, None, refl, sym, ◌∙◌, arith}
+use Rattle.std.proofs.Common.{◌∷◌, ◌++◌, length, map, Option, Some, None, ◌&&◌, refl, sym, ap, ◌∙◌, arith}
 use Rattle.std.specs.List.{list_all, list_any}
-use Rattle.std.proofs.lemmas.Bool.{and_from, and_parts, eqb-true, not-false}
+use Rattle.std.proofs.lemmas.Bool.{and_from, and_parts, and_right, eqb-true, not-false}
 use Rattle.std.proofs.lemmas.Bool.Decides.{Decides-int_eq, nat_tests}
 use Rattle.book_commodity.specs.Rules.{AllHold}
 use Rattle.book_commodity.specs.Table.{value_of, with_entry}
@@ -10,19 +10,23 @@ use Rattle.book_commodity.proofs.DrawnLemmas.{length_drawn, value_here}
 use Rattle.book_commodity.proofs.ListLemmas.{some_there}
 use Rattle.book_commodity.proofs.RuleLemmas.{kept_back, not-broken}
 use Rattle.book_splits.specs.declared.reconciliation.Recon.{Recon}
-use Rattle.book_splits.specs.declared.split.Mark.TheVariants.{Cleared}
+use Rattle.book_splits.specs.TransactionRules.{is_voided}
+use Rattle.book_splits.specs.declared.split.Mark.{Mark}
+use Rattle.book_splits.specs.declared.split.Mark.TheVariants.{New, Cleared, Reconciled, Voided}
 use Rattle.book_splits.specs.declared.split.Split.{Split}
 use Rattle.book_splits.specs.declared.transaction.Txn.{Txn}
 use Rattle.book_statement.specs.declared.held.Held.{Held}
 use Rattle.book_reconcile.specs.Reconciliation.{difference, has_mark, is_mark}
 use Rattle.book_reconcile.proofs.OrderLemmas.{closes}
-use Rattle.book_sound.specs.MarkedTransactionRules.{is_marked_as, is_rightly_marked}
+use Rattle.book_sound.specs.MarkedTransactionRules.{are_rightly_marked, is_marked_as, is_rightly_marked}
+use Rattle.book_sound.specs.MarkedTransactionRules.{is_rightly_voided}
 use Rattle.book_sound.specs.ReconciliationRules.{marked_numbers, marked_sum, reconciliation_rules}
 use Rattle.book_sound.specs.Tests.{is_live}
 use Rattle.book_sound.proofs.BookChanges.{reconciliation_put}
 use Rattle.book_sound.proofs.DrawnChanges.{reconciliation_drawn}
 use Rattle.book_sound.proofs.DrawnFrames.{drawn_later}
 use Rattle.book_sound.proofs.MarkLemmas.{marked_is_right}
+use Rattle.book_sound.proofs.VoidFrames.{marks_remarked, voided_of}
 use Rattle.book_undo.specs.Book.{Book}
 use Rattle.book_command.specs.declared.answer.Answer.{Answer}
 use Rattle.book_command.specs.declared.answer.Answer.TheVariants as answer
@@ -76,6 +80,21 @@ all_right reconciliations n account upto day recon (s ∷ splits) there same lis
     let both = and_parts (has_mark Cleared account s) (int_le day upto) is in (listed both.1).0 both.0) parts.0)
     (all_right reconciliations n account upto day recon splits there same (λ early. (listed early).1) parts.1)
 
+-- a voided split is not cleared, and stays as it is
+voided_uncleared : (mark : Mark) → is_voided mark ≡ true → is_mark mark Cleared ≡ false
+voided_uncleared New is = absurd cc
+voided_uncleared Cleared is = absurd cc
+voided_uncleared Reconciled is = absurd cc
+voided_uncleared Voided is = refl
+
+voided_stays :
+    (n account : ℕ) (upto day : ℤ) (split : Split) → is_rightly_voided split ≡ true
+    → marked_under n account upto day split ≡ split
+voided_stays n account upto day split voided =
+    let other = voided_uncleared split.mark (voided_of split voided).mark in
+    let unmarked : has_mark Cleared account split ≡ false = and_right (split.account == account) _ other in
+    ap (λ (b : Bool). if b && int_le day upto then reconciled_under n split else split) unmarked
+
 -- ---- the record
 
 finish_keeps :
@@ -120,13 +139,15 @@ reconciled_right :
       reconciliations = with_entry n (finished book account day closing) book.reconciliations;
     })
     → (k : ℕ) (t : Txn) → value_of k book.transactions ≡ Some t
-    → list_all (is_rightly_marked (with_entry n (finished book account day closing) book.reconciliations))
+    → are_rightly_marked (with_entry n (finished book account day closing) book.reconciliations) t.voided
     (map (marked_under n account day t.day) t.splits) ≡ true
 reconciled_right book n account day closing is k t there =
     let recon = finished book account day closing in
-    all_right (with_entry n recon book.reconciliations) n account day t.day recon t.splits
-    (value_here n n recon book.reconciliations refl) refl
-    (cleared_are_listed account day k t book.transactions there)
+    let later = with_entry n recon book.reconciliations in
+    marks_remarked later later (marked_under n account day t.day) t.voided t.splits
+    (voided_stays n account day t.day)
+    (all_right later n account day t.day recon t.splits (value_here n n recon book.reconciliations refl) refl
+    (cleared_are_listed account day k t book.transactions there))
     (is.transactions.keep.each k t there).1.1.1.0
 
 pub reconcile_of-sound :

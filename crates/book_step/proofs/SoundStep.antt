@@ -24,7 +24,7 @@ use Rattle.book_sound.specs.StatementRules.{statement_rules}
 use Rattle.book_command.specs.declared.answer.Answer.{Answer}
 use Rattle.book_command.specs.declared.command.Update.{Update}
 use Rattle.book_command.specs.declared.command.Update.TheVariants.{BookCurrency, CommodityAdd, AccountAdd, AccountEdit}
-use Rattle.book_command.specs.declared.command.Update.TheVariants.{AccountDrop, Drop, Edit, Post}
+use Rattle.book_command.specs.declared.command.Update.TheVariants.{AccountDrop, Drop, Edit, Post, Unvoid, Void}
 use Rattle.book_command.specs.declared.command.Update.TheVariants.{PriceDrop, PriceSet, ScheduleAdd, ScheduleDrop}
 use Rattle.book_command.specs.declared.command.Update.TheVariants.{ScheduleRun}
 use Rattle.book_command.specs.declared.command.Update.TheVariants.{LineAdd}
@@ -52,6 +52,7 @@ use Rattle.book_step.proofs.SoundPrices.{price_drop-sound, price_set-sound}
 use Rattle.book_step.proofs.SoundReconciling.{reconcile-sound, reconcile_statement-sound}
 use Rattle.book_step.proofs.SoundRuns.{schedule_run-sound}
 use Rattle.book_step.proofs.SoundSchedules.{schedule_add-sound, schedule_drop-sound}
+use Rattle.book_step.proofs.SoundVoiding.{unvoid_transaction-sound, void_transaction-sound}
 
 -- A change that is done leads from a sound state to a sound one.
 pub outcome-sound :
@@ -69,6 +70,10 @@ outcome-sound state (Edit transaction force day given) new answered is e =
     edit_transaction-sound state transaction force day given new answered is e
 outcome-sound state (Drop transaction force) new answered is e =
     drop_transaction-sound state transaction force new answered is e
+outcome-sound state (Void transaction reason force) new answered is e =
+    void_transaction-sound state transaction reason force new answered is e
+outcome-sound state (Unvoid transaction) new answered is e =
+    unvoid_transaction-sound state transaction new answered is e
 outcome-sound state (PriceSet price) new answered is e = price_set-sound state price new answered is e
 outcome-sound state (PriceDrop price) new answered is e = price_drop-sound state price new answered is e
 outcome-sound state (ScheduleAdd given) new answered is e = schedule_add-sound state given new answered is e

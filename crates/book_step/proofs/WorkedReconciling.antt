@@ -5,6 +5,8 @@ use Rattle.std.proofs.Common.{refl}
 use Rattle.book_commodity.specs.declared.kind.Kind.TheVariants as kind
 use Rattle.book_accounts.specs.declared.account.Account.{Account}
 use Rattle.book_accounts.specs.declared.kind.AccountKind.TheVariants.{Bank}
+use Rattle.book_commodity.specs.Table.{value_of}
+use Rattle.book_splits.specs.Balance.{balance}
 use Rattle.book_splits.specs.declared.split.Mark.{Mark}
 use Rattle.book_splits.specs.declared.split.Mark.TheVariants.{New, Cleared, Reconciled}
 use Rattle.book_splits.specs.declared.split.Split.{Split}
@@ -15,13 +17,16 @@ use Rattle.book_command.specs.declared.answer.Answer.TheVariants as answer
 use Rattle.book_command.specs.declared.answer.ReconShown.{ReconShown}
 use Rattle.book_command.specs.declared.command.GivenSplit.{GivenSplit}
 use Rattle.book_command.specs.declared.command.Update.{Update}
-use Rattle.book_command.specs.declared.command.Update.TheVariants.{Edit, Reconcile, ReconcileStatement}
+use Rattle.book_command.specs.declared.command.Update.TheVariants.{Drop, Edit, Mark as MarkSplit, Reconcile}
+use Rattle.book_command.specs.declared.command.Update.TheVariants.{ReconcileStatement, Unvoid, Void}
 use Rattle.book_command.specs.declared.rule.Rule.{Rule}
+use Rattle.book_command.specs.declared.rule.Rule.TheVariants as rule
 use Rattle.book_command.specs.declared.rule.Rule.TheVariants.{Difference, NoClosing, Unknown}
 use Rattle.book_step.specs.Outcome.{Outcome, Broken, Done}
 use Rattle.book_step.specs.Reconciling.{recons_of}
 use Rattle.book_step.specs.State.{State, fresh_state}
 use Rattle.book_step.specs.Step.{outcome}
+use Rattle.book_step.specs.Voiding.{voided_of}
 
 -- what an outcome says: a rule, or an answer with the version after
 data Reply : Type 0 where
@@ -185,3 +190,58 @@ a_cent_more = Edit 10 true (pos 19723) (record {
 
 shown_not_intact : recons_of 3 (after reconciled (outcome reconciled a_cent_more)).book ≡ shown false ∷ []
 shown_not_intact = refl
+
+-- ---- a reconciled transaction that is voided
+
+abbrev voiding : ℕ → Bool → Update
+voiding number force = Void number (codes "wrong") force
+
+not_without_force : reply (outcome reconciled (voiding 13 false)) ≡ Refused (rule.Reconciled 14)
+not_without_force = refl
+
+voids : reply (outcome reconciled (voiding 13 true)) ≡ Answered answer.Void 6
+voids = refl
+
+abbrev voided : State
+voided = after reconciled (outcome reconciled (voiding 13 true))
+
+voided_not_intact : recons_of 3 voided.book ≡ shown false ∷ []
+voided_not_intact = refl
+
+voided_listed :
+    voided_of 3 voided.book.transactions
+    ≡ record { transaction = 13; split = 14; value = negsuc 19999; quantity = negsuc 19999; reason = codes "wrong" } ∷ []
+voided_listed = refl
+
+voided_leaves : balance voided.book.transactions 3 ≡ pos 105000
+voided_leaves = refl
+
+not_twice : reply (outcome voided (voiding 13 true)) ≡ Refused (rule.Voided 13)
+not_twice = refl
+
+voided_stays : reply (outcome voided (Drop 13 true)) ≡ Refused (rule.Voided 13)
+voided_stays = refl
+
+voided_mark_stays : reply (outcome voided (MarkSplit 14 true true)) ≡ Refused (rule.Voided 13)
+voided_mark_stays = refl
+
+no_transaction_to_void : reply (outcome voided (voiding 14 true)) ≡ Refused (Unknown kind.Transaction 14)
+no_transaction_to_void = refl
+
+comes_back : reply (outcome voided (Unvoid 13)) ≡ Answered answer.Unvoid 7
+comes_back = refl
+
+-- its split is new, and the reconciliation is not intact
+abbrev restored : State
+restored = after voided (outcome voided (Unvoid 13))
+
+new_again :
+    value_of 13 restored.book.transactions
+    ≡ value_of 13 (on 13 (pos 19753) (split 14 3 New None (negsuc 19999) ∷ split 15 4 New None (pos 20000) ∷ []) ∷ [])
+new_again = refl
+
+restored_not_intact : recons_of 3 restored.book ≡ shown false ∷ []
+restored_not_intact = refl
+
+not_voided : reply (outcome restored (Unvoid 13)) ≡ Refused (rule.NotVoided 13)
+not_voided = refl

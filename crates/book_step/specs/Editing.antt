@@ -17,10 +17,11 @@ use Rattle.book_undo.specs.Book.{Book}
 use Rattle.book_sound.specs.Dismissal.{lines_after}
 pub use Rattle.book_sound.specs.MarkedTransactionRules.{is_reconciled}
 use Rattle.book_step.specs.AnswerBalances.{balances_at}
-use Rattle.book_step.specs.Outcome.{Outcome, Broken, changing, leaving}
+use Rattle.book_step.specs.Outcome.{Outcome, Broken, changing, leaving, unless_broken}
 use Rattle.book_step.specs.Posting.{broken_by, new_split}
 use Rattle.book_step.specs.SameTransaction.{same_transaction}
 use Rattle.book_step.specs.State.{State}
+use Rattle.book_step.specs.VoidRules.{already_voided}
 use Rattle.book_command.specs.declared.answer.Answer.{Answer}
 use Rattle.book_command.specs.declared.answer.Answer.TheVariants as answer
 use Rattle.book_command.specs.declared.command.GivenSplit.{GivenSplit}
@@ -162,7 +163,7 @@ book_with book number old new = record book {
   lines = lines_after old.splits new.splits book.lines;
 }
 
--- The edit of a transaction that is there. One that leaves the book as it is leaves the version too.
+-- The edit of a transaction that is there and not voided. One that leaves the book as it is leaves the version too.
 abbrev pub edit_of : State → ℕ → Bool → ℤ → GivenTxn → Txn → Outcome
 edit_of state number force day given old =
     let new = edited_transaction old state.next day given in
@@ -171,10 +172,11 @@ edit_of state number force day given old =
     if (same_transaction new old).is then leaving state rules (edit_answer state.book number new)
     else changing state rules book (drawn_by old.splits given.splits) (edit_answer book number new)
 
--- The edit of a transaction, if it is there.
+-- The edit of a transaction, if it is there and not voided.
 abbrev pub edit_at : State → ℕ → Bool → ℤ → GivenTxn → Option Txn → Outcome
 edit_at state number force day given None = Broken (Unknown kind.Transaction number)
-edit_at state number force day given (Some old) = edit_of state number force day given old
+edit_at state number force day given (Some old) =
+    unless_broken (already_voided number old) (edit_of state number force day given old)
 
 -- A transaction of the book is given anew.
 abbrev pub edit_transaction : State → ℕ → Bool → ℤ → GivenTxn → Outcome
@@ -190,11 +192,12 @@ book_without book number old = record book {
   lines = lines_after old.splits [] book.lines;
 }
 
--- The deletion of a transaction, if it is there: without force it has no reconciled split.
+-- The deletion of a transaction, if it is there: it is not voided, and without force it has no reconciled split.
 abbrev pub drop_at : State → ℕ → Bool → Option Txn → Outcome
 drop_at state number force None = Broken (Unknown kind.Transaction number)
 drop_at state number force (Some old) =
-    changing state (reconciled force old.splits [] ∷ []) (book_without state.book number old) 0 answer.Drop
+    changing state (already_voided number old ∷ reconciled force old.splits [] ∷ [])
+    (book_without state.book number old) 0 answer.Drop
 
 -- A transaction of the book is deleted.
 abbrev pub drop_transaction : State → ℕ → Bool → Outcome

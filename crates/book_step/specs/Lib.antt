@@ -25,3 +25,5 @@ pub mod Soundness
 pub mod State
 pub mod Step
 pub mod UnderNumbers
+pub mod VoidRules
+pub mod Voiding

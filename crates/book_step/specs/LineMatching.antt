@@ -18,9 +18,10 @@ use Rattle.book_command.specs.declared.rule.Rule.TheVariants.{LineAmount, LineTa
 use Rattle.book_step.specs.BankLines.{line_taken}
 use Rattle.book_step.specs.LineAdding.{matched_with}
 use Rattle.book_step.specs.Marking.{book_marked, remarked}
-use Rattle.book_step.specs.Outcome.{Outcome, Broken, changing}
+use Rattle.book_step.specs.Outcome.{Outcome, Broken, changing, unless_broken}
 use Rattle.book_step.specs.SameTransaction.{is_mark}
 use Rattle.book_step.specs.State.{State}
+use Rattle.book_step.specs.VoidRules.{voided_with}
 
 -- ---- the rules
 
@@ -36,7 +37,7 @@ line_of_split split lines = find (λ entry. is_matched_with split entry.1) lines
 abbrev pub split_taken : ℕ → List (ℕ × Line) → Option Rule
 split_taken split lines = option_map (λ entry. LineTaken entry.0) (line_of_split split lines)
 
--- The split isn't in the line's account, or its quantity isn't the line's amount (a rule of this project).
+-- The split isn't in the line's account, its quantity isn't the line's amount, or it is voided (a rule of this project).
 abbrev pub line_amount : ℕ → Line → Split → Option Rule
 line_amount number line split = broken_where (not (fits_line line (Some split))) (LineAmount number)
 
@@ -67,12 +68,13 @@ pairing_edit number line wanted own transaction split =
 
 -- ---- the command
 
--- The command on a line of the book and a split, if that is there.
+-- The command on a line of the book and a split, if that is there and its transaction is not voided.
 abbrev pub line_match_of : State → ℕ → Line → ℕ → Option Split → Outcome
 line_match_of state number line wanted None = Broken (Unknown kind.Split wanted)
 line_match_of state number line wanted (Some split) =
-    changing state (match_rules state.book.lines number line wanted split)
-    (book_paired number line wanted split state.book) 0 answer.LineMatch
+    unless_broken (voided_with state.book.transactions wanted)
+    (changing state (match_rules state.book.lines number line wanted split)
+    (book_paired number line wanted split state.book) 0 answer.LineMatch)
 
 -- The command on a line, if it is there.
 abbrev pub line_match_at : State → ℕ → ℕ → Option Line → Outcome

@@ -14,9 +14,10 @@ use Rattle.book_sound.specs.MarkedTransactionRules.{is_reconciled}
 use Rattle.book_command.specs.declared.answer.Answer.TheVariants as answer
 use Rattle.book_command.specs.declared.rule.Rule.{Rule}
 use Rattle.book_command.specs.declared.rule.Rule.TheVariants.{Reconciled, Unknown}
-use Rattle.book_step.specs.Outcome.{Outcome, Broken, changing, leaving}
+use Rattle.book_step.specs.Outcome.{Outcome, Broken, changing, leaving, unless_broken}
 use Rattle.book_step.specs.SameTransaction.{is_mark}
 use Rattle.book_step.specs.State.{State}
+use Rattle.book_step.specs.VoidRules.{voided_with}
 
 -- The split isn't one of the book's (GnuCash SQL schema, table splits).
 abbrev pub unknown_split : List (ℕ × Txn) → ℕ → Option Rule
@@ -69,13 +70,19 @@ mark_asked cleared = if cleared then Cleared else New
 abbrev pub keeps_mark : Bool → ℕ → Split → Option Rule
 keeps_mark force number split = broken_where (not force && is_reconciled split.mark) (Reconciled number)
 
--- The command on a split, if it is there. One that has the mark leaves the book as it is.
-abbrev pub mark_at : State → ℕ → Mark → Bool → Option Split → Outcome
-mark_at state number mark force None = Broken (Unknown kind.Split number)
-mark_at state number mark force (Some split) =
+-- The command on a split that is there and whose transaction is not voided. One that has the mark leaves the book as it
+-- is.
+abbrev pub mark_of : State → ℕ → Mark → Bool → Split → Outcome
+mark_of state number mark force split =
     let rules = keeps_mark force number split ∷ [] in
     if is_mark split.mark mark then leaving state rules answer.Mark
     else changing state rules (book_marked number mark state.book) 0 answer.Mark
+
+-- The command on a split, if it is there and its transaction is not voided.
+abbrev pub mark_at : State → ℕ → Mark → Bool → Option Split → Outcome
+mark_at state number mark force None = Broken (Unknown kind.Split number)
+mark_at state number mark force (Some split) =
+    unless_broken (voided_with state.book.transactions number) (mark_of state number mark force split)
 
 -- A split of the book is marked.
 abbrev pub mark : State → ℕ → Bool → Bool → Outcome

@@ -19,9 +19,11 @@ use Rattle.book_step.specs.Prices.{price_drop, price_set}
 use Rattle.book_step.specs.ScheduleRuns.{schedule_run}
 use Rattle.book_step.specs.Schedules.{schedule_add, schedule_drop}
 use Rattle.book_step.specs.State.{State}
+use Rattle.book_step.specs.Voiding.{unvoid_transaction, void_transaction}
 use Rattle.book_command.specs.declared.command.Update.{Update}
 use Rattle.book_command.specs.declared.command.Update.TheVariants.{BookCurrency, CommodityAdd, AccountAdd}
 use Rattle.book_command.specs.declared.command.Update.TheVariants.{AccountEdit, AccountDrop, Post, Edit, Drop}
+use Rattle.book_command.specs.declared.command.Update.TheVariants.{Void, Unvoid}
 use Rattle.book_command.specs.declared.command.Update.TheVariants.{PriceSet, PriceDrop, ScheduleAdd, ScheduleDrop}
 use Rattle.book_command.specs.declared.command.Update.TheVariants.{ScheduleRun}
 use Rattle.book_command.specs.declared.command.Update.TheVariants.{LineAdd}
@@ -49,6 +51,8 @@ outcome state (AccountDrop account) = account_drop state account
 outcome state (Post day given) = post state day given
 outcome state (Edit number force day given) = edit_transaction state number force day given
 outcome state (Drop number force) = drop_transaction state number force
+outcome state (Void number reason force) = void_transaction state number reason force
+outcome state (Unvoid number) = unvoid_transaction state number
 outcome state (PriceSet price) = price_set state price
 outcome state (PriceDrop number) = price_drop state number
 outcome state (ScheduleAdd given) = schedule_add state given

@@ -10,7 +10,7 @@ ghost use Rattle.book_step.specs.Editing.{book_with, book_without};
 use crate::edited_splits::find_split;
 use crate::present::Present;
 use book_commodity::{Many, OutOfMemory, Table};
-use book_splits::{Split, Txn};
+use book_splits::{Mark, Split, Txn};
 use book_statement::{Line, LineState};
 use book_undo::{Edit, Thing, ThingKind};
 use std::alloc::Global;
@@ -93,7 +93,7 @@ fn loses_split(old: &[Split], new: &[Split], line: &Line) -> bool
     }
 }
 
-/// Whether there was a split that is gone, or whose account or quantity is another.
+/// Whether there was a split that is gone, whose account or quantity is another, or that is voided.
 fn is_lost_split(old: Option<&Split>, new: Option<&Split>) -> bool
     ensures { result ≡ is_lost_split (option_copied old.entry) (option_copied new.entry) }
 {
@@ -103,12 +103,16 @@ fn is_lost_split(old: Option<&Split>, new: Option<&Split>) -> bool
     }
 }
 
-/// Whether there is a later split, and it has the account and the quantity of this one.
+/// Whether there is a later split, it has the account and the quantity of this one, and it is not voided.
 fn stays_as(split: &Split, new: Option<&Split>) -> bool
     ensures { result ≡ stays_as split.now (option_copied new.entry) }
 {
     match new {
-        Some(later) => later.account == split.account && later.quantity == split.quantity,
+        Some(later) => {
+            later.account == split.account
+                && later.quantity == split.quantity
+                && later.mark != Mark::Voided
+        }
         None => false,
     }
 }

@@ -14,6 +14,7 @@ use crate::edited_splits::{check_given_numbers, edited_splits, is_reconciled};
 use crate::posting::{MAX_SPLITS, check_transaction};
 use crate::present::Present;
 use crate::same_transaction::is_same;
+use crate::voiding::{check_removable, check_unvoided};
 use crate::{Answer, GivenTxn, Refusal, Rule, Step};
 use book_commodity::{Counted, Day, Kind, Many, OutOfMemory};
 use book_splits::{Split, Txn};
@@ -30,10 +31,11 @@ pub(crate) fn edit(
     ensures { StepsTo present.now (edit_transaction present.now number force day given) result }
 {
     let old = known(present, number)?;
+    check_unvoided(number, old)?;
     edit_of(present, number, force, day, given, old)
 }
 
-/// The same of a transaction that was found.
+/// The same of a transaction that was found and is not voided.
 fn edit_of(
     present: &Present,
     number: u64,
@@ -105,13 +107,13 @@ pub(crate) fn drop(present: &Present, number: u64, force: bool) -> Result<Step, 
     ensures { StepsTo present.now (drop_transaction present.now number force) result }
 {
     let old = known(present, number)?;
-    check_reconciled(force, old.splits.as_slice(), &[])?;
+    check_removable(number, force, old)?;
     let edit = deleting(present, number, old)?;
     Step::changing(present, 0, edit, Answer::Drop)
 }
 
 /// The transaction of this number, which is one of the book's.
-fn known<'a>(present: &Present<'a>, number: u64) -> Result<&'a Txn, Rule>
+pub(crate) fn known<'a>(present: &Present<'a>, number: u64) -> Result<&'a Txn, Rule>
     ensures there { IfOk result (λ old. value_of number present.now.book.transactions ≡ Some old.now) }
     ensures unknown { ReportsFirst (unknown_transaction present.now.book.transactions number ∷ []) result }
 {
@@ -125,7 +127,7 @@ fn known<'a>(present: &Present<'a>, number: u64) -> Result<&'a Txn, Rule>
 }
 
 /// Without force, none of the splits that is reconciled is lost among the later ones.
-fn check_reconciled(force: bool, splits: &[Split], later: &[Split]) -> Result<(), Rule>
+pub(crate) fn check_reconciled(force: bool, splits: &[Split], later: &[Split]) -> Result<(), Rule>
     ensures { ReportsFirst (reconciled force splits.now later.now ∷ []) result }
 {
     if force {

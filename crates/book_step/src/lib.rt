@@ -2,9 +2,9 @@
 //! the state that it is asked in; `step_of` reports what it comes to in a book, and changes nothing. `check_version`
 //! asks of any command whether it is for the present version. `rate_answer` answers what a commodity is worth on a
 //! day, `due_answer` which days of the schedules are due, `lines_answer` and `statements_answer` what the bank
-//! statements of an account are, and `recons_answer` what its reconciliations are. The types of commands, answers and
-//! rules come from `book_command`. Public are these, `Step`, `step_of`, `check_version` and the five functions that
-//! answer.
+//! statements of an account are, `recons_answer` what its reconciliations are, and `voided_answer` which of its splits are
+//! voided. The types of commands, answers and rules come from `book_command`. Public are these, `Step`, `step_of`,
+//! `check_version` and the six functions that answer.
 #![tactic(auto)]
 
 mod account_edit;
@@ -37,13 +37,16 @@ mod schedules;
 mod split_search;
 mod statement_files;
 mod step;
+mod voided_splits;
+mod voiding;
 
 pub use bank_questions::{lines_answer, statements_answer};
 pub use book_command::{
     Answer, Command, DueDay, GivenAccount, GivenOther, GivenSchedule, GivenSplit, GivenTxn,
-    HeldShown, LineShown, ReconShown, Refusal, Rule, Update, What,
+    HeldShown, LineShown, ReconShown, Refusal, Rule, Update, VoidedShown, What,
 };
 pub use due_schedules::due_answer;
 pub use prices::rate_answer;
 pub use reconciling::recons_answer;
 pub use step::{Step, check_version, step_of};
+pub use voided_splits::voided_answer;

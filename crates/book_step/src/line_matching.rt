@@ -11,6 +11,7 @@ use crate::marking::remarked;
 use crate::present::Present;
 use crate::same_transaction::is_mark;
 use crate::split_search::{Held, known_split};
+use crate::voiding::check_holder;
 use crate::{Answer, Refusal, Rule, Step};
 use book_commodity::{Many, OutOfMemory, Table};
 use book_splits::{Mark, Split};
@@ -19,13 +20,14 @@ use book_undo::{Edit, Thing};
 use std::alloc::Global;
 
 /// The open line of this number is matched with the split, which becomes cleared where it was new. Broken where the
-/// book has no such line or split, where the line isn't open, where a line has the split, and where the split doesn't
-/// fit.
+/// book has no such line or split, where the split's transaction is voided, where the line isn't open, where a line has
+/// the split, and where the split doesn't fit.
 pub(crate) fn line_match(present: &Present, number: u64, split: u64) -> Result<Step, Refusal>
     ensures { StepsTo present.now (line_match present.now number split) result }
 {
     let line = known_line(present, number)?;
     let held = known_split(present, split)?;
+    check_holder(present, split, &held)?;
     check_match(present, number, line, split, held.split)?;
     let edit = pairing_edit(present.alloc, number, line, split, &held)?;
     Step::changing(present, 0, edit, Answer::LineMatch)
@@ -68,7 +70,7 @@ fn is_matched_with(line: &Line, split: u64) -> bool
     }
 }
 
-/// The split stands in the line's account and has the line's amount as its quantity.
+/// The split stands in the line's account, has the line's amount as its quantity, and is not voided.
 fn check_amount(number: u64, line: &Line, split: &Split) -> Result<(), Rule>
     ensures { ReportsFirst (line_amount number line.now split.now ∷ []) result }
 {
@@ -79,11 +81,13 @@ fn check_amount(number: u64, line: &Line, split: &Split) -> Result<(), Rule>
     }
 }
 
-/// Whether the split stands in the line's account and has the line's amount as its quantity.
+/// Whether the split stands in the line's account, has the line's amount as its quantity, and is not voided.
 fn fits_line(line: &Line, split: &Split) -> bool
     ensures { result ≡ fits_line line.now (Some split.now) }
 {
-    split.account == line.account && split.quantity == line.body.amount
+    split.account == line.account
+        && split.quantity == line.body.amount
+        && split.mark != Mark::Voided
 }
 
 /// The edit that matches the line with the split, and clears the split where it is new. Its parts are in the order of

@@ -7,6 +7,7 @@ use crate::edited_splits::is_reconciled;
 use crate::present::Present;
 use crate::same_transaction::is_mark;
 use crate::split_search::known_split;
+use crate::voiding::check_holder;
 use crate::{Answer, Refusal, Rule, Step};
 use book_commodity::{Many, OutOfMemory};
 use book_splits::{Mark, Split, Txn};
@@ -14,8 +15,8 @@ use book_undo::{Edit, Thing};
 use std::alloc::Global;
 
 /// The split of this number becomes cleared, or new where it isn't to be cleared, and names no reconciliation then. One
-/// that has the mark leaves the book as it is. Broken where the book has no such split, and, without force, where it is
-/// reconciled.
+/// that has the mark leaves the book as it is. Broken where the book has no such split, where its transaction is voided,
+/// and, without force, where it is reconciled.
 pub(crate) fn mark(
     present: &Present,
     number: u64,
@@ -26,6 +27,7 @@ pub(crate) fn mark(
 {
     let mark = mark_asked(cleared);
     let held = known_split(present, number)?;
+    check_holder(present, number, &held)?;
     check_kept(force, number, held.split)?;
     if is_mark(held.split.mark, mark) {
         return Ok(Step::leaving(present, Answer::Mark));

@@ -1,3 +1,5 @@
+ghost use Rattle.book_step.specs.Soundness.{IsSound};
+
 use book_undo::Plain;
 use std::alloc::Global;
 use std::marker::Model;
@@ -21,4 +23,13 @@ impl<'a> Model for Present<'a> {
     ghost view = { λ p. state_of p.plain.now p.next p.version };
 
     ghost invariant = { λ p. IsSound (state_of p.plain.now p.next p.version) };
+}
+
+impl<'a> Present<'a> {
+    /// The state is sound.
+    pub(crate) fn known(&self)
+        ensures { IsSound self.now }
+    {
+        let _ = self.plain.transactions.len();
+    }
 }

@@ -30,6 +30,7 @@ use crate::prices::{price_drop, price_set};
 use crate::reconciling::{reconcile, reconcile_statement};
 use crate::schedule_runs::schedule_run;
 use crate::schedules::{schedule_add, schedule_drop};
+use crate::voiding::{unvoid, void};
 use crate::{Answer, Refusal, Rule, Update};
 use book_commodity::{Counted, discard};
 use book_ledger::Registers;
@@ -147,6 +148,12 @@ fn step_at(
             given,
         } => edit(present, transaction, force, day, given),
         Update::Drop { transaction, force } => drop(present, transaction, force),
+        Update::Void {
+            transaction,
+            reason,
+            force,
+        } => void(present, transaction, reason, force),
+        Update::Unvoid { transaction } => unvoid(present, transaction),
         Update::PriceSet { price } => price_set(present, price),
         Update::PriceDrop { price } => price_drop(present, price),
         Update::ScheduleAdd { given } => schedule_add(present, given),

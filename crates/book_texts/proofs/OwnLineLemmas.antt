@@ -20,6 +20,7 @@ use Rattle.book_command.specs.declared.answer.Answer.TheVariants.{Bind, Import, 
 use Rattle.book_command.specs.declared.answer.Answer.TheVariants.{Lines, Statements}
 use Rattle.book_command.specs.declared.answer.Answer.TheVariants.{Mark, LineMatch, MatchAuto}
 use Rattle.book_command.specs.declared.answer.Answer.TheVariants.{Reconcile, ReconcileStatement, Recons}
+use Rattle.book_command.specs.declared.answer.Answer.TheVariants.{Void, Unvoid, Voided}
 use Rattle.book_command.specs.declared.rule.Rule.{Rule}
 use Rattle.book_command.specs.declared.rule.Rule.TheVariants.{Basis, BasisShape, Cycle, FractionShape, InUse, Limit}
 use Rattle.book_command.specs.declared.rule.Rule.TheVariants.{NameTaken, NotEmpty, ParentKind, Placeholder, Root}
@@ -28,6 +29,7 @@ use Rattle.book_command.specs.declared.rule.Rule.TheVariants.{NothingToRedo, Not
 use Rattle.book_command.specs.declared.rule.Rule.TheVariants.{DayRange, PriceShape, RecurrenceShape, WrongCurrency}
 use Rattle.book_command.specs.declared.rule.Rule.TheVariants.{BadStatement, LineTaken, Unbound}
 use Rattle.book_command.specs.declared.rule.Rule.TheVariants.{LineAmount, NoClosing, Difference}
+use Rattle.book_command.specs.declared.rule.Rule.TheVariants.{Voided as IsVoided, NotVoided}
 use Rattle.book_command.specs.declared.wire_error.WireError.{WireError}
 use Rattle.book_command.specs.declared.wire_error.WireError.TheVariants.{NotJson, NotCommand, OutOfMemory}
 use Rattle.book_json.proofs.OneLine.{compact_text-one_line}
@@ -78,6 +80,8 @@ answer-letter AccountDrop version = refl
 answer-letter (Post transaction splits balances) version = refl
 answer-letter (Edit transaction splits balances) version = refl
 answer-letter Drop version = refl
+answer-letter Void version = refl
+answer-letter Unvoid version = refl
 answer-letter Mark version = refl
 answer-letter (PriceSet number) version = refl
 answer-letter PriceDrop version = refl
@@ -103,6 +107,7 @@ answer-letter (ReconcileStatement reconciliation marked) version = refl
 answer-letter (Lines lines) version = refl
 answer-letter (Statements statements) version = refl
 answer-letter (Recons recons) version = refl
+answer-letter (Voided voided) version = refl
 answer-letter (Due days) version = refl
 answer-letter Undo version = refl
 answer-letter Redo version = refl
@@ -150,6 +155,8 @@ rule-letter (Basis account) version = refl
 rule-letter (ValueNotQuantity place) version = refl
 rule-letter (Unbalanced sum) version = refl
 rule-letter (Reconciled split) version = refl
+rule-letter (IsVoided transaction) version = refl
+rule-letter (NotVoided transaction) version = refl
 rule-letter (BadStatement fault) version = bad-letter fault.line version fault.bad
 rule-letter (Unbound text) version = refl
 rule-letter (LineTaken line) version = refl

@@ -10,13 +10,16 @@ use Rattle.serde_json.specs.Find.{get_member}
 use Rattle.book_command.specs.declared.answer.HeldShown.{HeldShown}
 use Rattle.book_command.specs.declared.answer.LineShown.{LineShown}
 use Rattle.book_command.specs.declared.answer.ReconShown.{ReconShown}
+use Rattle.book_command.specs.declared.answer.VoidedShown.{VoidedShown}
 use Rattle.book_command.specs.declared.answer.Answer.TheVariants.{Edit, Import, Lines, Price, Redo, Sheet}
 use Rattle.book_command.specs.declared.answer.Answer.TheVariants.{Statements, Status}
 use Rattle.book_command.specs.declared.answer.Answer.TheVariants.{Mark, LineMatch, MatchAuto}
 use Rattle.book_command.specs.declared.answer.Answer.TheVariants.{Reconcile, ReconcileStatement, Recons}
+use Rattle.book_command.specs.declared.answer.Answer.TheVariants.{Void, Unvoid, Voided}
 use Rattle.book_command.specs.declared.rule.Rule.TheVariants.{BadStatement, NothingToRedo, Reconciled, Unbound}
 use Rattle.book_command.specs.declared.rule.Rule.TheVariants.{Unknown}
 use Rattle.book_command.specs.declared.rule.Rule.TheVariants.{LineAmount, NoClosing, Difference}
+use Rattle.book_command.specs.declared.rule.Rule.TheVariants.{Voided as IsVoided, NotVoided}
 use Rattle.book_command.specs.declared.wire_error.WireError.TheVariants.{NotCommand}
 use Rattle.book_commodity.specs.Day.{day_text}
 use Rattle.book_commodity.specs.declared.counted.Counted.TheVariants.{Numbers}
@@ -270,6 +273,36 @@ april_shown = refl
 recons_bytes : answer_bytes (Recons []) 10 ≡ codes "{\"ok\":\"recons\",\"recons\":[],\"version\":10}"
 unfolding digits word_text serde_json_on_literals
 recons_bytes = refl
+
+void_bytes : answer_bytes Void 11 ≡ codes "{\"ok\":\"void\",\"version\":11}"
+unfolding digits word_text serde_json_on_literals
+void_bytes = refl
+
+unvoid_bytes : answer_bytes Unvoid 12 ≡ codes "{\"ok\":\"unvoid\",\"version\":12}"
+unfolding digits word_text serde_json_on_literals
+unvoid_bytes = refl
+
+abbrev wrong : VoidedShown
+wrong = record { transaction = 13; split = 14; value = negsuc 19999; quantity = negsuc 19999; reason = codes "wrong" }
+
+-- each entry is a split, with what was kept of it
+voided_bytes : answer_bytes (Voided (wrong ∷ [])) 11
+    ≡ codes "{\"ok\":\"voided\",\"version\":11,\"voided\":[[13,14,-20000,-20000,\"wrong\"]]}"
+unfolding digits word_text serde_json_on_literals
+voided_bytes = refl
+
+none_voided_bytes : answer_bytes (Voided []) 11 ≡ codes "{\"ok\":\"voided\",\"version\":11,\"voided\":[]}"
+unfolding digits word_text serde_json_on_literals
+none_voided_bytes = refl
+
+is_voided_bytes : rule_bytes (IsVoided 13) 11 ≡ codes "{\"broken\":\"Voided\",\"transaction\":13,\"version\":11}"
+unfolding digits serde_json_on_literals
+is_voided_bytes = refl
+
+not_voided_bytes : rule_bytes (NotVoided 13) 11
+    ≡ codes "{\"broken\":\"NotVoided\",\"transaction\":13,\"version\":11}"
+unfolding digits serde_json_on_literals
+not_voided_bytes = refl
 
 line_amount_bytes : rule_bytes (LineAmount 7) 6 ≡ codes "{\"broken\":\"LineAmount\",\"line\":7,\"version\":6}"
 unfolding digits serde_json_on_literals

@@ -12,6 +12,7 @@ use Rattle.book_command.specs.declared.answer.Answer.TheVariants.{Bind, Import, 
 use Rattle.book_command.specs.declared.answer.Answer.TheVariants.{Lines, Statements}
 use Rattle.book_command.specs.declared.answer.Answer.TheVariants.{Mark, LineMatch, MatchAuto}
 use Rattle.book_command.specs.declared.answer.Answer.TheVariants.{Reconcile, ReconcileStatement, Recons}
+use Rattle.book_command.specs.declared.answer.Answer.TheVariants.{Void, Unvoid, Voided}
 use Rattle.book_texts.specs.Accounts.{account_add, account_edit, account_drop}
 use Rattle.book_texts.specs.Commodities.{book_currency, commodity_add}
 use Rattle.book_texts.specs.Fields.{line_of}
@@ -24,6 +25,7 @@ use Rattle.book_texts.specs.Reports.{gains, report}
 use Rattle.book_texts.specs.Schedules.{schedule_add, schedule_drop, schedule_run, due}
 use Rattle.book_texts.specs.Statements.{bind, import, line_add, line_dismiss, line_reopen, lines, statements}
 use Rattle.book_texts.specs.Statements.{line_match, match_auto}
+use Rattle.book_texts.specs.Voiding.{void, unvoid, voided}
 
 -- The answer of each command, with the version after it.
 abbrev pub answer_members : Answer → ℕ → Members
@@ -35,6 +37,8 @@ answer_members AccountDrop = account_drop
 answer_members (Post transaction splits balances) = post transaction splits balances
 answer_members (Edit transaction splits balances) = edit splits balances
 answer_members Drop = drop
+answer_members Void = void
+answer_members Unvoid = unvoid
 answer_members Mark = mark
 answer_members (PriceSet number) = price_set number
 answer_members PriceDrop = price_drop
@@ -60,6 +64,7 @@ answer_members (ReconcileStatement number marked) = reconciled word.ReconcileSta
 answer_members (Lines shown) = lines shown
 answer_members (Statements shown) = statements shown
 answer_members (Recons shown) = recons shown
+answer_members (Voided shown) = voided shown
 answer_members (Due days) = due days
 answer_members Undo = undo
 answer_members Redo = redo

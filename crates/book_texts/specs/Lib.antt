@@ -13,4 +13,5 @@ pub mod Schedules
 pub mod Shown
 pub mod StatementFaults
 pub mod Statements
+pub mod Voiding
 pub mod Words

@@ -9,7 +9,7 @@ use Rattle.book_command.specs.declared.rule.Rule.TheVariants.{BasisShape, SplitC
 use Rattle.book_command.specs.declared.rule.Rule.TheVariants.{ValueNotQuantity, Unbalanced, Reconciled, PriceShape}
 use Rattle.book_command.specs.declared.rule.Rule.TheVariants.{DayRange, RecurrenceShape, NothingToUndo}
 use Rattle.book_command.specs.declared.rule.Rule.TheVariants.{NothingToRedo, Limit, BadStatement, Unbound, LineTaken}
-use Rattle.book_command.specs.declared.rule.Rule.TheVariants.{LineAmount, NoClosing, Difference}
+use Rattle.book_command.specs.declared.rule.Rule.TheVariants.{LineAmount, NoClosing, Difference, Voided, NotVoided}
 use Rattle.book_texts.specs.Fields.{broken, line_of}
 use Rattle.book_texts.specs.Shown.{number_data, sum_data}
 use Rattle.book_texts.specs.StatementFaults.{bad_statement}
@@ -39,6 +39,9 @@ rule_members (Basis account) = broken (codes "Basis") ((codes "account", number_
 rule_members (ValueNotQuantity place) = broken (codes "ValueNotQuantity") ((codes "place", number_data place) ∷ [])
 rule_members (Unbalanced sum) = broken (codes "Unbalanced") ((codes "sum", sum_data sum) ∷ [])
 rule_members (Reconciled split) = broken (codes "Reconciled") ((codes "split", number_data split) ∷ [])
+rule_members (Voided transaction) = broken (codes "Voided") ((codes "transaction", number_data transaction) ∷ [])
+rule_members (NotVoided transaction) = broken (codes "NotVoided")
+    ((codes "transaction", number_data transaction) ∷ [])
 rule_members (BadStatement fault) = bad_statement fault
 rule_members (Unbound text) = broken (codes "Unbound") ((codes "text", string text) ∷ [])
 rule_members (LineTaken line) = broken (codes "LineTaken") ((codes "line", number_data line) ∷ [])

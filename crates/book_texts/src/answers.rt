@@ -12,6 +12,7 @@ use crate::reconciliations::{listed_recons, reconciled};
 use crate::reports::{gains, report};
 use crate::schedules::{due, schedule_add, schedule_run};
 use crate::statements::{import, line_add, listed_lines, listed_statements, match_auto};
+use crate::voiding::listed_voided;
 use book_command::{Answer, Word};
 use book_commodity::{Bytes, OutOfMemory};
 use std::alloc::{AllocError, Global};
@@ -44,6 +45,8 @@ fn answer_fields(alloc: Global, answer: &Answer, version: u64) -> Result<Fields,
             balances,
         } => edit(alloc, splits, balances, version),
         Answer::Drop => Fields::answered(alloc, Word::Drop, version),
+        Answer::Void => Fields::answered(alloc, Word::Void, version),
+        Answer::Unvoid => Fields::answered(alloc, Word::Unvoid, version),
         Answer::Mark => Fields::answered(alloc, Word::Mark, version),
         Answer::PriceSet { price } => price_set(alloc, *price, version),
         Answer::PriceDrop => Fields::answered(alloc, Word::PriceDrop, version),
@@ -88,6 +91,7 @@ fn answer_fields(alloc: Global, answer: &Answer, version: u64) -> Result<Fields,
         Answer::Lines { lines } => listed_lines(alloc, lines, version),
         Answer::Statements { statements } => listed_statements(alloc, statements, version),
         Answer::Recons { recons } => listed_recons(alloc, recons, version),
+        Answer::Voided { voided } => listed_voided(alloc, voided, version),
         Answer::Due { due: days } => due(alloc, days, version),
         Answer::Undo => Fields::answered(alloc, Word::Undo, version),
         Answer::Redo => Fields::answered(alloc, Word::Redo, version),

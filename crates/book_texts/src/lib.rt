@@ -18,6 +18,7 @@ mod schedules;
 mod shown;
 mod statement_faults;
 mod statements;
+mod voiding;
 mod words;
 
 pub use answers::answer_text;

@@ -1,6 +1,8 @@
 -- Voiding a transaction, and bringing it back (GnuCash Manual, voiding a transaction; GnuCash SQL schema, column
 -- reconcile_state of splits).
-use Rattle.std.specs.Prelude.{ℕ, pos, List, [], ◌∷◌, map, Option, Some, None}
+use Rattle.std.specs.Prelude.{ℕ, ◌==◌, pos, Bool, true, ◌&&◌, List, [], ◌∷◌, length, map, Option, Some, None, is_none}
+use Rattle.std.specs.Ordering.{int_eq}
+use Rattle.book_splits.specs.TransactionRules.{is_voided}
 use Rattle.book_splits.specs.declared.split.Mark.TheVariants.{New, Voided}
 use Rattle.book_splits.specs.declared.split.Split.{Split}
 use Rattle.book_splits.specs.declared.transaction.Txn.{Txn}
@@ -51,3 +53,13 @@ new_again split = record split { mark = New; recon = None }
 -- A transaction of which each split is new again, and which is not voided.
 abbrev pub all_new : Txn → Txn
 all_new transaction = record transaction { splits = map new_again transaction.splits; voided = None }
+
+-- Whether a split is rightly voided: it has the mark, it names no reconciliation, and its amounts are zero.
+abbrev pub is_rightly_voided : Split → Bool
+is_rightly_voided split =
+    is_voided split.mark && (is_none split.recon && (int_eq split.value (pos 0) && int_eq split.quantity (pos 0)))
+
+-- Whether the amounts of each split are kept, by place, where a transaction is voided.
+abbrev pub keeps_each : Option Void → List Split → Bool
+keeps_each None splits = true
+keeps_each (Some void) splits = length void.kept == length splits

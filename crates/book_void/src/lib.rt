@@ -4,7 +4,9 @@
 #![tactic(auto)]
 
 mod restoring;
+mod rules;
 mod voiding;
 
 pub use restoring::restored;
+pub use rules::{are_rightly_voided, keeps_each, passes_restored};
 pub use voiding::voided_for;

@@ -5,7 +5,7 @@ use Rattle.serde_json.specs.Data.{Members, null, number, string, array, object, 
 use Rattle.serde_json.specs.Data.{boolean}
 use Rattle.book_command.specs.declared.command.Update.TheVariants as update
 use Rattle.book_command.specs.declared.command.What.TheVariants.{Redo, Update}
-use Rattle.book_command.specs.declared.command.What.TheVariants.{Recons}
+use Rattle.book_command.specs.declared.command.What.TheVariants.{Recons, Voided}
 use Rattle.book_command.specs.declared.command.Format.TheVariants.{QifDayFirst}
 use Rattle.book_wire.specs.Asked.{Asks, NotCommand, asked_of_data}
 use Rattle.book_wire.specs.Commands.{word_form}
@@ -229,3 +229,57 @@ recons_asked : asked_of_data
     ≡ Asks (record { at = None; what = Recons 3 })
 unfolding needed optional ends word_form whole
 recons_asked = refl
+
+abbrev void_wrong : Members
+void_wrong =
+    member (codes "do") (string (codes "void"))
+    (member (codes "force") (boolean true)
+    (member (codes "reason") (string (codes "wrong")) (member (codes "transaction") (number (unsigned 13)) no_members)))
+
+void_by_force : asked_of_data (object void_wrong)
+    ≡ Asks (record { at = None; what = Update (update.Void 13 (codes "wrong") true) })
+unfolding needed optional flag ends word_form whole
+void_by_force = refl
+
+-- where nothing is said of force, nothing is voided by force
+void_unforced : asked_of_data
+    (object
+    (member (codes "do") (string (codes "void"))
+    (member (codes "reason") (string (codes "wrong"))
+    (member (codes "transaction") (number (unsigned 13)) no_members))))
+    ≡ Asks (record { at = None; what = Update (update.Void 13 (codes "wrong") false) })
+unfolding needed optional flag ends word_form whole
+void_unforced = refl
+
+-- a reason has to be given, and it is read before the force
+reason_before_force : asked_of_data
+    (object
+    (member (codes "do") (string (codes "void"))
+    (member (codes "force") null (member (codes "transaction") (number (unsigned 13)) no_members))))
+    ≡ NotCommand (codes "reason")
+unfolding needed optional word_form whole
+reason_before_force = refl
+
+unvoid_asked : asked_of_data
+    (object
+    (member (codes "do") (string (codes "unvoid"))
+    (member (codes "transaction") (number (unsigned 13)) no_members)))
+    ≡ Asks (record { at = None; what = Update (update.Unvoid 13) })
+unfolding needed optional ends word_form whole
+unvoid_asked = refl
+
+-- `unvoid` has no member `force`, since no split of a voided transaction is reconciled
+unvoid_by_force : asked_of_data
+    (object
+    (member (codes "do") (string (codes "unvoid"))
+    (member (codes "force") (boolean true) (member (codes "transaction") (number (unsigned 13)) no_members))))
+    ≡ NotCommand (codes "force")
+unfolding needed optional ends word_form whole
+unvoid_by_force = refl
+
+voided_asked : asked_of_data
+    (object
+    (member (codes "account") (number (unsigned 3)) (member (codes "do") (string (codes "voided")) no_members)))
+    ≡ Asks (record { at = None; what = Voided 3 })
+unfolding needed optional ends word_form whole
+voided_asked = refl

@@ -2,11 +2,13 @@
 use Rattle.std.specs.Prelude.{None, codes, unwrap_or}
 use Rattle.std.specs.Prelude.{ℕ, Bool, false, true, List, [], ◌∷◌}
 use Rattle.book_json.specs.Members.{Form, Reader, needed, optional, text, flag, gives, ◌>>=◌}
-use Rattle.book_json.specs.Forms.{whole, whole_signed, day_form, list, inner, among}
+use Rattle.book_json.specs.Forms.{whole, whole_signed, day_form, text_form, list, inner, among}
 use Rattle.book_command.specs.declared.command.GivenSplit.{GivenSplit}
 use Rattle.book_command.specs.declared.command.GivenTxn.{GivenTxn}
 use Rattle.book_command.specs.declared.command.Update.{Update}
 use Rattle.book_command.specs.declared.command.Update.TheVariants as update
+use Rattle.book_command.specs.declared.command.What.{What}
+use Rattle.book_command.specs.declared.command.What.TheVariants as what
 
 -- A split without a number; where it gives no quantity, its quantity is its value.
 unfoldable pub split : Reader GivenSplit
@@ -73,6 +75,26 @@ drop_transaction = do
   number ← needed whole (codes "transaction")
   force ← flag (codes "force")
   gives (update.Drop number force)
+
+-- The transaction that is voided, and why. An absent `force` is false.
+abbrev pub void : Reader Update
+void = do
+  number ← needed whole (codes "transaction")
+  reason ← needed text_form (codes "reason")
+  force ← flag (codes "force")
+  gives (update.Void number reason force)
+
+-- The voided transaction that is brought back.
+abbrev pub unvoid : Reader Update
+unvoid = do
+  number ← needed whole (codes "transaction")
+  gives (update.Unvoid number)
+
+-- The account whose splits of voided transactions are asked for.
+abbrev pub voided : Reader What
+voided = do
+  account ← needed whole (codes "account")
+  gives (what.Voided account)
 
 -- The split that is marked. An absent `force` is false.
 abbrev pub mark : Reader Update

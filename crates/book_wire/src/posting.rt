@@ -2,9 +2,9 @@ ghost use Rattle.std.specs.Prelude.{codes};
 ghost use Rattle.book_json.specs.Members.{flag, needed};
 ghost use Rattle.book_json.specs.Reads.{rest, Gives};
 ghost use Rattle.book_wire.specs.Posting.{drop_transaction, edit, kept_split, mark, post, split, transaction};
-ghost use Rattle.book_wire.specs.Posting.{mark_form};
+ghost use Rattle.book_wire.specs.Posting.{mark_form, unvoid, void, voided};
 
-use book_command::{GivenSplit, GivenTxn, Update};
+use book_command::{GivenSplit, GivenTxn, Update, What};
 use book_json::{Fault, Object, Reading};
 
 /// The words for the marks that are set by hand, and whether the split is cleared.
@@ -39,6 +39,33 @@ pub(crate) fn drop_transaction(members: &mut Reading) -> Result<Update, Fault>
     let transaction = members.needed("transaction")?;
     let force = forced(members)?;
     Ok(Update::Drop { transaction, force })
+}
+
+pub(crate) fn void(members: &mut Reading) -> Result<Update, Fault>
+    ensures { Gives (void (rest members.old)) result (rest members.new) }
+{
+    let transaction = members.needed("transaction")?;
+    let reason = members.needed("reason")?;
+    let force = forced(members)?;
+    Ok(Update::Void {
+        transaction,
+        reason,
+        force,
+    })
+}
+
+pub(crate) fn unvoid(members: &mut Reading) -> Result<Update, Fault>
+    ensures { Gives (unvoid (rest members.old)) result (rest members.new) }
+{
+    let transaction = members.needed("transaction")?;
+    Ok(Update::Unvoid { transaction })
+}
+
+pub(crate) fn voided(members: &mut Reading) -> Result<What, Fault>
+    ensures { Gives (voided (rest members.old)) result (rest members.new) }
+{
+    let account = members.needed("account")?;
+    Ok(What::Voided { account })
 }
 
 pub(crate) fn mark(members: &mut Reading) -> Result<Update, Fault>

@@ -1,10 +1,10 @@
-use Rattle.std.proofs.Common.{◌≡◌, ◌==◌, ℤ, ◌+ℤ◌, ◌-ℤ◌, ◌++◌, ◌∷◌, [], FitsSigned, sym, ap, subst, ◌∙◌, rules}
+use Rattle.std.proofs.Common.{◌≡◌, ℤ, ◌+ℤ◌, ◌-ℤ◌, ◌++◌, ◌∷◌, [], FitsSigned, sym, ap, subst, ◌∙◌, rules}
 use Rattle.std.specs.Option.{option_copied}
 use mir.Syntax.{w128}
 use Rattle.std.proofs.lemmas.Int.{to_z-of_z}
 use Rattle.book_commodity.specs.Table.{with_entry}
 use Rattle.book_sound.proofs.SoundFacts.{IsAtMost, sums_are_small, tables_rise}
-use Rattle.book_splits.specs.Balance.{quantity_on, splits_of}
+use Rattle.book_splits.specs.Balance.{counts_on, quantity_on, splits_of}
 use Rattle.book_splits.specs.declared.split.Split.{Split}
 use Rattle.book_undo.specs.Book.{book_of}
 use Rattle.book_limits.specs.Limits.{largest_sum}
@@ -23,7 +23,7 @@ moved_balance-requires-clause-balance c =
     let fits : FitsSigned w128 c.balance-balance.result = search rules in
     subst (λ (z : ℤ). IsAtMost largest_sum z)
     (sym (to_z-of_z w128 c.balance-balance.result fits ∙ c.balance-balance.ensures book c.requires.kept))
-    (sums_are_small book (λ (s : Split). s.account == account) c.requires.sound)
+    (sums_are_small book (counts_on account) c.requires.sound)
 
 pub moved_balance-requires-clause-lost : goal.moved_balance-requires-clause-lost
 moved_balance-requires-clause-lost c =

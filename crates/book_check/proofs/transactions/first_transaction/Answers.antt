@@ -45,22 +45,22 @@ returns-then-is_past c =
     (limit_test place c.loop-place.sum c.len-count.result (length t.splits) 200000 1000000 c.is_past.result
     c.len-count.ensures c.is_past.ensures ∙ ap not c.if-is_past.true))
 
-pub returns-then-not-is_kept : goal.returns-then-not-is_kept
-returns-then-not-is_kept c =
+pub returns-then-not-kept : goal.returns-then-not-kept
+returns-then-not-kept c =
     let es = c.args.transactions.now.entries in
     let place = c.loop-place.place in
     let n = c.number_at-number.result in
     let t = c.value_at-transaction.result.now in
     let there = entry_at es place n t c.number_at-number.ensures c.value_at-transaction.ensures in
-    let fails : c.is_kept.result ≡ false = (let test = c.if-not-is_kept.true in grind (arith, nat_tests, test)) in
+    let fails : c.in_ok-kept.kept ≡ false = (let test = c.if-not-kept.true in grind (arith, nat_tests, test)) in
     sym (c.loop-place.invariant.walk
     ∙ weighed_fails
     (marked_transaction_rules c.args.commodities.now.entries c.args.accounts.now.entries
     c.args.reconciliations.now.entries es)
     200000 splits_in 1000000 place c.loop-place.sum n t es there
     (rules_asked c.args.commodities.now.entries c.args.accounts.now.entries c.args.reconciliations.now.entries
-    c.loop-place.seen es place n t c.is_kept.result (are_new c.loop-place.seen (numbers_of t.splits))
-    c.len-place-end.ensures.rises there c.loop-place.invariant.numbers c.is_kept.ensures refl
+    c.loop-place.seen es place n t c.in_ok-kept.kept (are_new c.loop-place.seen (numbers_of t.splits))
+    c.len-place-end.ensures.rises there c.loop-place.invariant.numbers c.in_ok-kept.ensures refl
     ∙ ap (λ (b : Bool). b && are_new c.loop-place.seen (numbers_of t.splits)) fails))
 
 pub returns-then-not-branch : goal.returns-then-not-branch
@@ -72,15 +72,15 @@ returns-then-not-branch c =
     let there = entry_at es place n t c.number_at-number.ensures c.value_at-transaction.ensures in
     let new = c.in_ok-add_new.ensures.new
     ∙ ap (λ (splits : List Split). are_new c.loop-place.seen (numbers_of splits)) c.as_slice.ensures in
-    let kept : c.is_kept.result ≡ true = (let test = c.if-not-is_kept.false in grind (arith, nat_tests, test)) in
+    let kept : c.in_ok-kept.kept ≡ true = (let test = c.if-not-kept.false in grind (arith, nat_tests, test)) in
     sym (c.loop-place.invariant.walk
     ∙ weighed_fails
     (marked_transaction_rules c.args.commodities.now.entries c.args.accounts.now.entries
     c.args.reconciliations.now.entries es)
     200000 splits_in 1000000 place c.loop-place.sum n t es there
     (rules_asked c.args.commodities.now.entries c.args.accounts.now.entries c.args.reconciliations.now.entries
-    c.loop-place.seen es place n t c.is_kept.result c.in_ok-add_new.field-0
-    c.len-place-end.ensures.rises there c.loop-place.invariant.numbers c.is_kept.ensures new
+    c.loop-place.seen es place n t c.in_ok-kept.kept c.in_ok-add_new.field-0
+    c.len-place-end.ensures.rises there c.loop-place.invariant.numbers c.in_ok-kept.ensures new
     ∙ ap (λ (b : Bool). b && c.in_ok-add_new.field-0) kept ∙ c.if-not-branch.true))
 
 -- within the limits, the sum is
@@ -102,13 +102,13 @@ loop-place-preserved c =
     let there = entry_at es place n t c.number_at-number.ensures c.value_at-transaction.ensures in
     let new = c.in_ok-add_new.ensures.new
     ∙ ap (λ (splits : List Split). are_new c.loop-place.seen (numbers_of splits)) c.as_slice.ensures in
-    let kept : c.is_kept.result ≡ true = (let test = c.if-not-is_kept.false in grind (arith, nat_tests, test)) in
+    let kept : c.in_ok-kept.kept ≡ true = (let test = c.if-not-kept.false in grind (arith, nat_tests, test)) in
     let limits = limit_test place sum c.len-count.result (length t.splits) 200000 1000000 c.is_past.result
     c.len-count.ensures c.is_past.ensures ∙ ap not c.if-is_past.false in
     let holds =
     rules_asked c.args.commodities.now.entries c.args.accounts.now.entries c.args.reconciliations.now.entries
-    c.loop-place.seen es place n t c.is_kept.result c.in_ok-add_new.field-0
-    c.len-place-end.ensures.rises there c.loop-place.invariant.numbers c.is_kept.ensures new
+    c.loop-place.seen es place n t c.in_ok-kept.kept c.in_ok-add_new.field-0
+    c.len-place-end.ensures.rises there c.loop-place.invariant.numbers c.in_ok-kept.ensures new
     ∙ ap (λ (b : Bool). b && c.in_ok-add_new.field-0) kept ∙ c.if-not-branch.false in
     let added : AddsAll c.loop-place.seen (numbers_of t.splits) c.add_new.new.seen =
     subst (λ (splits : List Split). AddsAll c.loop-place.seen (numbers_of splits) c.add_new.new.seen)

@@ -7,6 +7,7 @@ use Rattle.book_command.specs.Rates.{rate_on}
 use Rattle.book_opening.specs.State.{state_of}
 use Rattle.book_step.specs.BankLines.{account_asked, lines_of, statements_of}
 use Rattle.book_step.specs.Reconciling.{recons_of}
+use Rattle.book_step.specs.Voiding.{voided_of}
 use Rattle.book_engine.specs.Books.{machine_of}
 use Rattle.book_engine.specs.Machine.{Done, reply, unless_broken}
 use Rattle.book_engine.specs.Planned.{IsPlanTo, IsRefusal, Planned}
@@ -85,6 +86,24 @@ returns-in-Statements-clause-refused c =
     (found-refused state (account_asked state.book account)
     (answer.Statements (statements_of account state.book.statements)) c.plan_statements.result
     c.plan_statements.ensures)
+
+pub returns-in-Voided-clause-planned : goal.returns-in-Voided-clause-planned
+returns-in-Voided-clause-planned c =
+    let state = state_of c.args.state.now in
+    let account = c.in-Voided.account in
+    subst (λ (w : What). IfOk c.plan_voided.result (IsPlanTo state c.args.saved (reply (machine_of state) w)))
+    (sym c.in-Voided.is)
+    (found-planned state c.args.saved (account_asked state.book account)
+    (answer.Voided (voided_of account state.book.transactions)) c.plan_voided.result c.requires.whole
+    c.plan_voided.ensures)
+
+pub returns-in-Voided-clause-refused : goal.returns-in-Voided-clause-refused
+returns-in-Voided-clause-refused c =
+    let state = state_of c.args.state.now in
+    let account = c.in-Voided.account in
+    subst (λ (w : What). IfErr c.plan_voided.result (IsRefusal (reply (machine_of state) w))) (sym c.in-Voided.is)
+    (found-refused state (account_asked state.book account)
+    (answer.Voided (voided_of account state.book.transactions)) c.plan_voided.result c.plan_voided.ensures)
 
 pub returns-in-Recons-clause-planned : goal.returns-in-Recons-clause-planned
 returns-in-Recons-clause-planned c =

@@ -10,7 +10,7 @@ returns-then-leaves_sound c = λ known.
     sound_left c.args.next (book_of c.args.plain.now) c.args.edit.now (c.requires known)
     (sym c.leaves_sound.ensures ∙ c.if-leaves_sound.true)
 
-pub returns-in-Some : goal.returns-in-Some
-returns-in-Some c = λ fits.
+pub returns : goal.returns
+returns c = λ fits.
     sound_placed c.args.next (book_of c.args.plain.now) c.args.edit.now
-    (c.requires (not-false _ c.if-not-standing.false)) (sym c.fits_there.ensures ∙ fits)
+    (c.requires (not-false _ c.if-not-standing.false)) (sym c.in_ok-known.ensures ∙ fits)

@@ -1,4 +1,4 @@
-use Rattle.std.proofs.Common.{◌≡◌, ◌++◌, ◌∙◌, ap, string_bytes}
+use Rattle.std.proofs.Common.{◌++◌, ◌∙◌, ap, string_bytes}
 use Rattle.book_lots.specs.declared.pair.Pair.{Pair}
 use Rattle.book_reports.specs.LotsText.{pair_row}
 use Rattle.book_reports.proofs.LotsLemmas.{one_more}

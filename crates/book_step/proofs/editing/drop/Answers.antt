@@ -1,6 +1,4 @@
-use Rattle.std.proofs.Common.{◌≡◌, List, [], ◌∷◌, Option, None, refl, ap, subst, sym, ◌∙◌}
-use Rattle.book_commodity.specs.Rules.{first_broken}
-use Rattle.book_splits.specs.declared.split.Split.{Split}
+use Rattle.std.proofs.Common.{[], ◌∷◌, Option, refl, ap, subst, sym, ◌∙◌}
 use Rattle.book_splits.specs.declared.transaction.Txn.{Txn}
 use Rattle.book_undo.specs.Book.{Book}
 use Rattle.book_undo.specs.Edit.{is_nothing}
@@ -11,6 +9,7 @@ use Rattle.book_sound.specs.Dismissal.{dismissing}
 use Rattle.book_sound.proofs.DismissalExact.{something_together}
 use Rattle.book_step.specs.Editing.{book_without, drop_at, reconciled}
 use Rattle.book_step.specs.Outcome.{StepsTo, changing}
+use Rattle.book_step.specs.VoidRules.{already_voided}
 use Rattle.book_command.specs.declared.answer.Answer.TheVariants as answer
 use Rattle.book_step.proofs.ExactLemmas.{transaction_gone}
 use Rattle.book_step.proofs.OutcomeLemmas.{past-changing}
@@ -23,9 +22,8 @@ returns c =
     let later = book_without state.book c.args.number old in
     subst (λ (found : Option Txn). StepsTo state (drop_at state c.args.number c.args.force found) c.changing.result)
     (sym c.in_ok-old.ensures.there)
-    (past-changing state (reconciled c.args.force old.splits [] ∷ []) later 0 answer.Drop c.changing.result
-    (subst (λ (splits : List Split). first_broken (reconciled c.args.force splits [] ∷ []) ≡ None) c.as_slice.ensures
-    c.in_ok-check_reconciled.ensures)
+    (past-changing state (already_voided c.args.number old ∷ reconciled c.args.force old.splits [] ∷ []) later 0 answer.Drop
+    c.changing.result c.in_ok-check_removable.ensures.rules
     (subst (λ (b : Book). StepsTo state (changing state [] b 0 answer.Drop) c.changing.result)
     c.in_ok-edit.ensures.leads (c.changing.ensures answer.Drop refl)))
 
