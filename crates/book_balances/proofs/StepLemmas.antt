@@ -71,7 +71,7 @@ use Rattle.book_step.specs.Schedules as schedules
 use Rattle.book_step.specs.Schedules.{Run, new_schedule, runs_of, schedule_add_from, unknown_schedule}
 use Rattle.book_step.specs.State.{State}
 use Rattle.book_step.specs.Step.{outcome}
-use Rattle.book_step.specs.VoidRules.{already_voided, not_voided, voided_with}
+use Rattle.book_step.specs.VoidRules.{voided_transaction, not_voided, voided_transaction_of}
 use Rattle.book_step.specs.Voiding.{book_restored, unvoid_at, void_at}
 use Rattle.book_void.specs.Voiding.{voided_for}
 use Rattle.book_step.proofs.SoundOutcome.{changing_done, leaving_done, unless_done}
@@ -125,7 +125,7 @@ edit_moves state n force day given None new reply e = absurd cc
 edit_moves state n force day given (Some old) new reply e =
     let transaction = edited_transaction old state.next day given in
     let book = book_with state.book n old transaction in
-    let done = unless_done (already_voided n old) (editing.edit_of state n force day given old) new reply e in
+    let done = unless_done (voided_transaction n old) (editing.edit_of state n force day given old) new reply e in
     either_moves (same_transaction transaction old).is state
     (editing.edit_rules state.book n force given old transaction) book (drawn_by old.splits given.splits)
     (edit_answer state.book n transaction) (edit_answer book n transaction) new reply done.1
@@ -135,7 +135,7 @@ drop_moves :
     → drop_at state n force found ≡ Done new reply → Moves state new
 drop_moves state n force None new reply e = absurd cc
 drop_moves state n force (Some old) new reply e =
-    changing_moves state (already_voided n old ∷ reconciled force old.splits [] ∷ []) (book_without state.book n old) 0
+    changing_moves state (voided_transaction n old ∷ reconciled force old.splits [] ∷ []) (book_without state.book n old) 0
     answer.Drop new reply e
 
 void_moves :
@@ -143,7 +143,7 @@ void_moves :
     → void_at state n reason force found ≡ Done new reply → Moves state new
 void_moves state n reason force None new reply e = absurd cc
 void_moves state n reason force (Some old) new reply e =
-    changing_moves state (already_voided n old ∷ reconciled force old.splits [] ∷ [])
+    changing_moves state (voided_transaction n old ∷ reconciled force old.splits [] ∷ [])
     (book_with state.book n old (voided_for reason old)) 0 answer.Void new reply e
 
 unvoid_moves :
@@ -267,7 +267,7 @@ mark_moves :
     → mark_at state number to force found ≡ Done new reply → Moves state new
 mark_moves state number to force None new reply e = absurd cc
 mark_moves state number to force (Some split) new reply e =
-    let done = unless_done (voided_with state.book.transactions number) (mark_of state number to force split) new reply
+    let done = unless_done (voided_transaction_of state.book.transactions number) (mark_of state number to force split) new reply
     e in
     either_moves (is_mark split.mark to) state (keeps_mark force number split ∷ []) (book_marked number to state.book) 0
     answer.Mark answer.Mark new reply done.1
@@ -279,7 +279,7 @@ pair_moves state n line wanted None new reply e = absurd cc
 pair_moves state n line wanted (Some split) new reply e =
     let rules = line_matching.match_rules state.book.lines n line wanted split in
     let later = line_matching.book_paired n line wanted split state.book in
-    let done = unless_done (voided_with state.book.transactions wanted) (changing state rules later 0 answer.LineMatch) new
+    let done = unless_done (voided_transaction_of state.book.transactions wanted) (changing state rules later 0 answer.LineMatch) new
     reply e in
     changing_moves state rules later 0 answer.LineMatch new reply done.1
 

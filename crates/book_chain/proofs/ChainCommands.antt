@@ -69,7 +69,7 @@ use Rattle.book_step.specs.ScheduleRuns as runs
 use Rattle.book_step.specs.Schedules as schedules
 use Rattle.book_step.specs.State.{State}
 use Rattle.book_step.specs.Step.{outcome}
-use Rattle.book_step.specs.VoidRules.{already_voided, not_voided, voided_with}
+use Rattle.book_step.specs.VoidRules.{voided_transaction, not_voided, voided_transaction_of}
 use Rattle.book_step.specs.Voiding as voiding
 use Rattle.book_step.proofs.SoundOutcome.{changing_done, unless_done}
 use Rattle.book_chain.specs.Chain.{is_reconciling}
@@ -147,7 +147,7 @@ edit-leaves state n force day given (Some old) new answered there e =
     let edited = editing.edited_transaction old state.next day given in
     let rules = editing.edit_rules state.book n force given old edited in
     let later = editing.book_with state.book n old edited in
-    let done = unless_done (already_voided n old) (editing.edit_of state n force day given old) new answered e in
+    let done = unless_done (voided_transaction n old) (editing.edit_of state n force day given old) new answered e in
     after-either (same_transaction edited old).is state rules rules later
     (editing.drawn_by old.splits given.splits) (editing.edit_answer state.book n edited)
     (editing.edit_answer later n edited) new answered
@@ -162,7 +162,7 @@ drop-leaves :
 drop-leaves state n force None new answered e = absurd cc
 drop-leaves state n force (Some old) new answered e =
     let later = editing.book_without state.book n old in
-    after-change state (already_voided n old ∷ editing.reconciled force old.splits [] ∷ []) later 0 answer.Drop new
+    after-change state (voided_transaction n old ∷ editing.reconciled force old.splits [] ∷ []) later 0 answer.Drop new
     answered (record { transactions = none-left state.next n state.book.transactions; reconciliations = refl }) e
 
 void-leaves :
@@ -171,7 +171,7 @@ void-leaves :
 void-leaves state n reason force None new answered e = absurd cc
 void-leaves state n reason force (Some old) new answered e =
     let later = editing.book_with state.book n old (voided_for reason old) in
-    after-change state (already_voided n old ∷ editing.reconciled force old.splits [] ∷ []) later 0 answer.Void new
+    after-change state (voided_transaction n old ∷ editing.reconciled force old.splits [] ∷ []) later 0 answer.Void new
     answered (record {
       transactions = none-voided state.next n reason old state.book.transactions;
       reconciliations = refl;
@@ -314,7 +314,7 @@ mark-leaves state n mark force None new answered not_yet e = absurd cc
 mark-leaves state n mark force (Some split) new answered not_yet e =
     let rules = marking.keeps_mark force n split ∷ [] in
     let later = marking.book_marked n mark state.book in
-    let done = unless_done (voided_with state.book.transactions n) (marking.mark_of state n mark force split) new answered
+    let done = unless_done (voided_transaction_of state.book.transactions n) (marking.mark_of state n mark force split) new answered
     e in
     after-either (is_mark split.mark mark) state rules rules later 0 answer.Mark answer.Mark new answered
     (marked-leaves state.next n mark state.book not_yet) done.1
@@ -338,7 +338,7 @@ pair-leaves state n line wanted None new answered e = absurd cc
 pair-leaves state n line wanted (Some split) new answered e =
     let rules = matching.match_rules state.book.lines n line wanted split in
     let later = matching.book_paired n line wanted split state.book in
-    let done = unless_done (voided_with state.book.transactions wanted) (changing state rules later 0 answer.LineMatch) new
+    let done = unless_done (voided_transaction_of state.book.transactions wanted) (changing state rules later 0 answer.LineMatch) new
     answered e in
     after-change state rules later 0 answer.LineMatch new answered
     (paired-leaves (is_mark split.mark New) state.next n wanted line state.book) done.1

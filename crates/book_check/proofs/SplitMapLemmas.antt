@@ -9,14 +9,14 @@ use Rattle.book_splits.specs.Balance.{splits_of}
 use Rattle.book_splits.specs.declared.split.Split.{Split}
 use Rattle.book_splits.specs.declared.transaction.Txn.{Txn}
 use Rattle.book_sound.specs.LineRules.{split_among}
-use Rattle.book_check.specs.Splits.{HasSplits, PutsBefore, quantity_of}
-use Rattle.book_check.specs.declared.splits.Quantity.{Quantity}
+use Rattle.book_check.specs.Splits.{HasSplits, PutsBefore, facts_of}
+use Rattle.book_check.specs.declared.splits.SplitFacts.{SplitFacts}
 use Rattle.book_check.specs.declared.splits.Splits.{Splits}
 
 chosen :
     (t : Bool) (split : Split) (other : Option Split)
-    → cond t (Some (quantity_of split)) (option_map quantity_of other)
-    ≡ option_map quantity_of (cond t (Some split) other)
+    → cond t (Some (facts_of split)) (option_map facts_of other)
+    ≡ option_map facts_of (cond t (Some split) other)
 chosen true split other = refl
 chosen false split other = refl
 
@@ -24,12 +24,12 @@ chosen false split other = refl
 pub puts_first :
     (split : Split) (rest : List Split) (old new : Splits) → HasSplits rest old
     → ((q : ℕ) → get nat_cmp new.quantities q
-    ≡ cond (is_eq (nat_cmp split.id q)) (Some (quantity_of split)) (get nat_cmp old.quantities q))
+    ≡ cond (is_eq (nat_cmp split.id q)) (Some (facts_of split)) (get nat_cmp old.quantities q))
     → HasSplits (split ∷ rest) new
 puts_first split rest old new has puts q =
     puts q
-    ∙ ap (λ (t : Bool). cond t (Some (quantity_of split)) (get nat_cmp old.quantities q)) (unsigned_tied split.id q)
-    ∙ ap (λ (o : Option Quantity). cond (split.id == q) (Some (quantity_of split)) o) (has q)
+    ∙ ap (λ (t : Bool). cond t (Some (facts_of split)) (get nat_cmp old.quantities q)) (unsigned_tied split.id q)
+    ∙ ap (λ (o : Option SplitFacts). cond (split.id == q) (Some (facts_of split)) o) (has q)
     ∙ chosen (split.id == q) split (split_among q rest)
 
 -- the splits from a place on are put, with the one at the place
@@ -37,7 +37,7 @@ pub puts_more :
     (splits : List Split) (i : ℕ) (split : Split) (first old new : Splits) → drop i splits ≡ split ∷ drop (i + 1) splits
     → PutsBefore (drop (i + 1) splits) first old
     → ((q : ℕ) → get nat_cmp new.quantities q
-    ≡ cond (is_eq (nat_cmp split.id q)) (Some (quantity_of split)) (get nat_cmp old.quantities q))
+    ≡ cond (is_eq (nat_cmp split.id q)) (Some (facts_of split)) (get nat_cmp old.quantities q))
     → PutsBefore (drop i splits) first new
 puts_more splits i split first old new is before puts rest has =
     subst (λ (l : List Split). HasSplits (l ++ rest) new) (sym is)

@@ -50,7 +50,7 @@ impl<'a> Checked for AccountWalk<'a> {
     fn keeps(&mut self, place: usize) -> Result<bool, OutOfMemory> {
         let number = self.accounts.number_at(place);
         let account = self.accounts.value_at(place);
-        if !is_kept(self.commodities, self.accounts, self.root, number, account) {
+        if !keeps_rules(self.commodities, self.accounts, self.root, number, account) {
             return Ok(false);
         }
         let is_taken = self.keys.insert(key_of(account))?;
@@ -103,7 +103,7 @@ fn is_root(kind: AccountKind) -> bool
 }
 
 /// Whether the account keeps the rules that ask for no other account with its name.
-fn is_kept(
+fn keeps_rules(
     commodities: &Commodities,
     accounts: &Tree,
     root: Option<u64>,

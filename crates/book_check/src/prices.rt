@@ -47,7 +47,7 @@ impl<'a> Checked for PriceWalk<'a> {
 
     fn keeps(&mut self, place: usize) -> Result<bool, OutOfMemory> {
         let price = self.prices.value_at(place);
-        if !is_kept(self.commodities, price) {
+        if !keeps_rules(self.commodities, price) {
             return Ok(false);
         }
         let is_taken = self.keys.insert(key_of(price))?;
@@ -81,7 +81,7 @@ fn key_of(price: &Price) -> (u64, u64, i32)
 }
 
 /// Whether the price is of a commodity and a currency of the book that differ, and its numbers are in range.
-fn is_kept(commodities: &Commodities, price: &Price) -> bool
+fn keeps_rules(commodities: &Commodities, price: &Price) -> bool
     ensures { result ≡ all_hold (is_live commodities.now.entries price.now.commodity
         ∷ is_currency_of (value_of price.now.currency commodities.now.entries)
         ∷ has_ratio price.now ∷ has_pair price.now ∷ []) }

@@ -43,7 +43,7 @@ impl<'a> Checked for ReconciliationWalk<'a> {
 
     fn keeps(&mut self, place: usize) -> Result<bool, OutOfMemory> {
         let reconciliation = self.reconciliations.value_at(place);
-        is_kept(self.alloc, self.accounts, reconciliation)
+        keeps_rules(self.alloc, self.accounts, reconciliation)
     }
 }
 
@@ -65,7 +65,7 @@ pub(crate) fn first_reconciliation(
 }
 
 /// Whether the reconciliation keeps its rules, whatever its number.
-fn is_kept(alloc: Global, accounts: &Tree, reconciliation: &Recon) -> Result<bool, OutOfMemory>
+fn keeps_rules(alloc: Global, accounts: &Tree, reconciliation: &Recon) -> Result<bool, OutOfMemory>
     ensures { IfOk result (λ kept. (number : _)
         → kept ≡ all_hold (reconciliation_rules accounts.now.entries number reconciliation.now)) }
 {

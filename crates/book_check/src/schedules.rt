@@ -44,7 +44,7 @@ impl<'a> Checked for ScheduleWalk<'a> {
 
     fn keeps(&mut self, place: usize) -> Result<bool, OutOfMemory> {
         let schedule = self.schedules.value_at(place);
-        Ok(is_kept(self.commodities, self.accounts, schedule))
+        Ok(keeps_rules(self.commodities, self.accounts, schedule))
     }
 }
 
@@ -66,7 +66,7 @@ pub(crate) fn first_schedule(
 }
 
 /// Whether the schedule keeps its rules, whatever its number.
-fn is_kept(commodities: &Commodities, accounts: &Tree, schedule: &Schedule) -> bool
+fn keeps_rules(commodities: &Commodities, accounts: &Tree, schedule: &Schedule) -> bool
     ensures { (number : _)
         → result ≡ all_hold (schedule_rules commodities.now.entries accounts.now.entries number schedule.now) }
 {

@@ -2,7 +2,7 @@ ghost use Rattle.std.specs.Prelude.{◌≡◌, OnOk, IfOk};
 ghost use Rattle.std.specs.BTreeMap.{get};
 ghost use Rattle.std.specs.Ordering.{nat_cmp};
 ghost use Rattle.book_splits.specs.Balance.{splits_of};
-ghost use Rattle.book_check.specs.Splits.{fits_quantity, HasSplits, PutsBefore, quantity_of};
+ghost use Rattle.book_check.specs.Splits.{fits_facts, HasSplits, PutsBefore, facts_of};
 
 use book_commodity::OutOfMemory;
 use book_splits::{Mark, Split, Txns};
@@ -11,7 +11,7 @@ use std::collections::BTreeMap;
 
 /// What a split gives to an account, in smallest units of the account's commodity, and whether it is voided.
 #[derive(Clone, Copy, Debug, PartialEq, Eq)]
-pub(crate) struct Quantity {
+pub(crate) struct SplitFacts {
     pub(crate) account: u64,
     pub(crate) quantity: i64,
     pub(crate) voided: bool,
@@ -20,7 +20,7 @@ pub(crate) struct Quantity {
 /// What the splits of a book give to accounts, by the numbers of the splits.
 #[derive(Drop)]
 pub(crate) struct Splits {
-    quantities: BTreeMap<u64, Quantity>,
+    quantities: BTreeMap<u64, SplitFacts>,
 }
 
 impl Splits {
@@ -39,7 +39,7 @@ impl Splits {
 
     /// Whether the split with the number is there, gives this quantity to the account, and is not voided.
     pub(crate) fn fits(&self, number: u64, account: u64, quantity: i64) -> bool
-        ensures { result ≡ fits_quantity account quantity (get nat_cmp self.now.quantities number) }
+        ensures { result ≡ fits_facts account quantity (get nat_cmp self.now.quantities number) }
     {
         match self.quantities.get(&number) {
             Some(split) => {
@@ -55,17 +55,17 @@ impl Splits {
     {
         for place in (0..splits.len()).rev() {
             let split = &splits[place];
-            self.quantities.insert(split.id, quantity_of(split))?;
+            self.quantities.insert(split.id, facts_of(split))?;
         }
         Ok(())
     }
 }
 
 /// What the split gives to its account, and whether it is voided.
-fn quantity_of(split: &Split) -> Quantity
-    ensures { result ≡ quantity_of split.now }
+fn facts_of(split: &Split) -> SplitFacts
+    ensures { result ≡ facts_of split.now }
 {
-    Quantity {
+    SplitFacts {
         account: split.account,
         quantity: split.quantity,
         voided: split.mark == Mark::Voided,

@@ -46,7 +46,7 @@ pub(crate) fn first_transaction(
         if is_past(place, sum, count) {
             return Ok(Some(number));
         }
-        let kept = is_kept(
+        let kept = keeps_rules(
             alloc,
             commodities,
             accounts,
@@ -75,7 +75,7 @@ fn is_past(place: usize, sum: usize, count: usize) -> bool
 
 /// Whether the transaction, as it is brought back where it is voided, passes the check of transactions, its splits are
 /// as its state says, and where it is voided the amounts of each are kept.
-fn is_kept(
+fn keeps_rules(
     alloc: Global,
     commodities: &Commodities,
     accounts: &Tree,

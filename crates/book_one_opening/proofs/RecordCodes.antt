@@ -22,7 +22,7 @@ use Rattle.book_splits.specs.declared.reconciliation.Recon.{Recon}
 use Rattle.book_splits.specs.declared.split.Mark.TheVariants as mark
 use Rattle.book_splits.specs.declared.split.Mark.{Mark}
 use Rattle.book_splits.specs.declared.split.Split.{Split}
-use Rattle.book_splits.specs.TransactionRules.{has_voided, is_unvoided}
+use Rattle.book_splits.specs.TransactionRules.{has_voided, is_not_voided}
 use Rattle.book_splits.specs.declared.transaction.Txn.{Txn}
 use Rattle.book_splits.specs.declared.void.KeptSplit.{KeptSplit}
 use Rattle.book_splits.specs.declared.void.Void.{Void}
@@ -212,7 +212,7 @@ abbrev fields_in : Txn → Fields
 fields_in x = (x.currency, (x.day, (x.num, (x.description, x.splits))))
 
 -- A transaction that is not voided is made of these alone.
-made-unvoided : (x : Txn) → is_unvoided x ≡ true → txn_made (fields_in x, None) ≡ x
+made-unvoided : (x : Txn) → is_not_voided x ≡ true → txn_made (fields_in x, None) ≡ x
 made-unvoided x unvoided =
     let parts = and_parts (is_none x.voided) (not (has_voided x.splits)) unvoided in
     ap (λ (v : Option Void). txn_made (fields_in x, v)) (sym (is_none_of x.voided parts.0))

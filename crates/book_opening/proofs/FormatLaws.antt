@@ -2,7 +2,7 @@
 use Rattle.std.proofs.Common.{◌≡◌, ℕ, true, not, List, [], ◌∷◌, Option, Some, None, is_none, IfSome, subst, sym}
 use Rattle.std.proofs.lemmas.Bool.{and_parts}
 use Rattle.std.specs.List.{AllByRecursion}
-use Rattle.book_splits.specs.TransactionRules.{has_voided, is_unvoided}
+use Rattle.book_splits.specs.TransactionRules.{has_voided, is_not_voided}
 use Rattle.book_splits.specs.declared.transaction.Txn.{Txn}
 use Rattle.book_splits.specs.declared.void.Void.{Void}
 use Rattle.book_splits.proofs.TransactionRuleLemmas.{is_none_of}

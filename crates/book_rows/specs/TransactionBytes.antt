@@ -3,7 +3,7 @@ use Rattle.std.specs.Prelude.{◌≡◌, ℕ, ℤ, true, List, [], ◌∷◌, �
 use Rattle.book_commodity.specs.Day.{IsDay}
 use Rattle.book_codec.specs.Words.{number, signed, string, optional, listed}
 use Rattle.book_rows.specs.Values.{IsNumber, IsSigned, IsString, AreItems}
-use Rattle.book_splits.specs.TransactionRules.{is_unvoided}
+use Rattle.book_splits.specs.TransactionRules.{is_not_voided}
 use Rattle.book_splits.specs.declared.split.Mark.{Mark}
 use Rattle.book_splits.specs.declared.split.Mark.TheVariants.{New, Cleared, Reconciled, Voided}
 use Rattle.book_splits.specs.declared.split.Split.{Split}
@@ -112,7 +112,7 @@ DoFieldsFit it =
 -- A transaction that has a spelling in a format: its fields have one, and what is kept of it. Format 1 has none for a
 -- transaction that is voided, nor for a split that is.
 abbrev pub IsTxn : RowFormat → Txn → Type 0
-IsTxn One it = DoFieldsFit it × (is_unvoided it ≡ true)
+IsTxn One it = DoFieldsFit it × (is_not_voided it ≡ true)
 IsTxn Two it = DoFieldsFit it × IfSome it.voided IsVoid
 
 -- The transaction made of the fields of both formats, in the order of its bytes, and of what is kept of it.

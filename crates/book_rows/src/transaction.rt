@@ -240,7 +240,7 @@ fn read_unvoided(alloc: Global, bytes: &[u8]) -> Result<(Txn, &[u8]), DecodeErro
         Err(error) => return Err(error),
     };
     let transaction = txn_of((fields, None));
-    if !transaction.is_unvoided() {
+    if !transaction.is_not_voided() {
         return Err(DecodeError::Bad);
     }
     Ok((transaction, rest))

@@ -85,8 +85,8 @@ pub record IsVoided (split : Split) : Type 0 where
   pub value : split.value ≡ pos 0
   pub quantity : split.quantity ≡ pos 0
 
-pub voided_of : (split : Split) → is_rightly_voided split ≡ true → IsVoided split
-voided_of split is =
+pub rightly_voided_is : (split : Split) → is_rightly_voided split ≡ true → IsVoided split
+rightly_voided_is split is =
     let parts = and_parts (is_voided split.mark) _ is in
     let more = and_parts (is_none split.recon) _ parts.1 in
     let amounts = and_parts (int_eq split.value (pos 0)) (int_eq split.quantity (pos 0)) more.1 in
@@ -101,7 +101,7 @@ values_of_voided : (splits : List Split) → list_all is_rightly_voided splits �
 values_of_voided [] all = refl
 values_of_voided (s ∷ splits) all =
     let parts = and_parts (is_rightly_voided s) (list_all is_rightly_voided splits) all in
-    let first = (voided_of s parts.0).value in
+    let first = (rightly_voided_is s parts.0).value in
     let rest = values_of_voided splits parts.1 in
     omega (arith, ints, first, rest)
 
@@ -110,7 +110,7 @@ amounts_of_voided :
 amounts_of_voided [] all = All-nil transaction.HasAmounts
 amounts_of_voided (s ∷ splits) all =
     let parts = and_parts (is_rightly_voided s) (list_all is_rightly_voided splits) all in
-    let is = voided_of s parts.0 in
+    let is = rightly_voided_is s parts.0 in
     let value = ap unsigned_abs is.value in
     let quantity = ap unsigned_abs is.quantity in
     All-cons transaction.HasAmounts s splits (omega (arith, value), omega (arith, quantity))

@@ -37,7 +37,7 @@ use Rattle.book_sound.proofs.MarkFrames.{AreRemarked, all_among, none_dismissed,
 use Rattle.book_sound.proofs.MarkFrames.{transaction_marked}
 use Rattle.book_sound.proofs.OwnFrames.{all_of_each}
 use Rattle.book_sound.proofs.SplitFrames.{found_among, split_of_one}
-use Rattle.book_sound.proofs.VoidFrames.{length_restored, numbers_restored, restored_unvoided, voided_of}
+use Rattle.book_sound.proofs.VoidFrames.{length_restored, numbers_restored, restored_unvoided, rightly_voided_is}
 
 -- ---- a transaction that is voided
 
@@ -116,7 +116,7 @@ fits_none :
 fits_none line split voided fits =
     let parts = and_parts (split.account == line.account) _ fits in
     let more = and_parts (int_eq split.quantity line.body.amount) (not (is_voided split.mark)) parts.1 in
-    let is = (voided_of split voided).mark in
+    let is = (rightly_voided_is split voided).mark in
     let not_voided = not-true _ more.1 in
     absurd cc
 

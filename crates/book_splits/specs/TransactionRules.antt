@@ -42,7 +42,7 @@ is_voided _ = false
 abbrev pub has_voided : List Split → Bool
 has_voided splits = list_any (λ split. is_voided split.mark) splits
 
--- Whether a transaction is no voided one: nothing is kept of such, and no split is voided (GnuCash Manual, voiding a
--- transaction).
-abbrev pub is_unvoided : Txn → Bool
-is_unvoided transaction = is_none transaction.voided && not (has_voided transaction.splits)
+-- Whether a transaction is not voided: nothing is kept of it, and no split has the mark of a voided one (GnuCash
+-- Manual, voiding a transaction).
+abbrev pub is_not_voided : Txn → Bool
+is_not_voided transaction = is_none transaction.voided && not (has_voided transaction.splits)

@@ -1,6 +1,6 @@
 ghost use Rattle.std.specs.Prelude.{◌≡◌, ◌&&◌, not, IfOk, is_none, option_map};
 ghost use Rattle.std.specs.List.{list_any};
-ghost use Rattle.book_splits.specs.TransactionRules.{has_voided, is_unvoided, is_voided};
+ghost use Rattle.book_splits.specs.TransactionRules.{has_voided, is_not_voided, is_voided};
 
 use crate::{Mark, Split, Void};
 use book_commodity::{Day, Many, OutOfMemory, Text};
@@ -47,9 +47,9 @@ impl Txn {
         })
     }
 
-    /// Whether the transaction is no voided one: nothing is kept of such, and no split is voided.
-    pub fn is_unvoided(&self) -> bool
-        ensures { result ≡ is_unvoided self.now }
+    /// Whether the transaction is not voided: nothing is kept of it, and no split has the mark of a voided one.
+    pub fn is_not_voided(&self) -> bool
+        ensures { result ≡ is_not_voided self.now }
     {
         self.voided.is_none() && !has_voided(self.splits.as_slice())
     }

@@ -2,7 +2,8 @@ ghost use Rattle.std.specs.Prelude.{◌≡◌, IfOk};
 
 use book_commodity::{Many, OutOfMemory, Text};
 
-/// What a split had before its transaction was voided: its value and its quantity, in the units of a split.
+/// What a split had before its transaction was voided: its value, in smallest units of the transaction's currency, and
+/// its quantity, in smallest units of the account's commodity.
 #[derive(Clone, Copy, Debug, PartialEq, Eq)]
 pub struct KeptSplit {
     pub value: i64,

@@ -64,7 +64,7 @@ use Rattle.book_step.specs.Soundness.{IsSound}
 use Rattle.book_splits.proofs.ReplacedLemmas.{with_there}
 use Rattle.book_step.specs.State.{State}
 use Rattle.book_step.specs.Step.{outcome}
-use Rattle.book_step.specs.VoidRules.{already_voided, not_voided, voided_with}
+use Rattle.book_step.specs.VoidRules.{voided_transaction, not_voided, voided_transaction_of}
 use Rattle.book_step.specs.Voiding.{book_restored, unvoid_at, void_at}
 use Rattle.book_step.proofs.SoundOutcome.{unless_done}
 use Rattle.book_void.specs.Voiding.{voided_for}
@@ -170,7 +170,7 @@ given_answered state n force day given (Some old) new reply there e =
     let left = edit_answer state.book n transaction in
     let made = edit_answer book n transaction in
     let entries = with_entry n transaction ts in
-    let done = unless_done (already_voided n old) (editing.edit_of state n force day given old) new reply e in
+    let done = unless_done (voided_transaction n old) (editing.edit_of state n force day given old) new reply e in
     let same = same_transaction transaction old in
     let Chosen : Bool → Type 0 = λ t. same.is ≡ t
     → (if t then leaving state rules left else changing state rules book drawn made) ≡ Done new reply
@@ -191,7 +191,7 @@ taken_answered :
     → drop_at state n force found ≡ Done new reply → HasBalances state new reply
 taken_answered state n force None new reply e = absurd cc
 taken_answered state n force (Some old) new reply e =
-    changing_answered state (already_voided n old ∷ reconciled force old.splits [] ∷ []) (book_without state.book n old) 0
+    changing_answered state (voided_transaction n old ∷ reconciled force old.splits [] ∷ []) (book_without state.book n old) 0
     answer.Drop new reply tt e
 
 voided_answered :
@@ -199,7 +199,7 @@ voided_answered :
     → void_at state n reason force found ≡ Done new reply → HasBalances state new reply
 voided_answered state n reason force None new reply e = absurd cc
 voided_answered state n reason force (Some old) new reply e =
-    changing_answered state (already_voided n old ∷ reconciled force old.splits [] ∷ [])
+    changing_answered state (voided_transaction n old ∷ reconciled force old.splits [] ∷ [])
     (book_with state.book n old (voided_for reason old)) 0 answer.Void new reply tt e
 
 restored_answered :
@@ -336,7 +336,7 @@ marked_answered :
     → mark_at state number to force found ≡ Done new reply → HasBalances state new reply
 marked_answered state number to force None new reply e = absurd cc
 marked_answered state number to force (Some split) new reply e =
-    let done = unless_done (voided_with state.book.transactions number) (mark_of state number to force split) new reply
+    let done = unless_done (voided_transaction_of state.book.transactions number) (mark_of state number to force split) new reply
     e in
     either_answered (is_mark split.mark to) state (keeps_mark force number split ∷ []) (book_marked number to state.book)
     answer.Mark new reply (λ s. tt) done.1
@@ -348,7 +348,7 @@ paired_answered state n line wanted None new reply e = absurd cc
 paired_answered state n line wanted (Some split) new reply e =
     let rules = line_matching.match_rules state.book.lines n line wanted split in
     let later = line_matching.book_paired n line wanted split state.book in
-    let done = unless_done (voided_with state.book.transactions wanted) (changing state rules later 0 answer.LineMatch) new
+    let done = unless_done (voided_transaction_of state.book.transactions wanted) (changing state rules later 0 answer.LineMatch) new
     reply e in
     changing_answered state rules later 0 answer.LineMatch new reply tt done.1
 

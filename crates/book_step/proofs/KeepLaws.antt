@@ -67,7 +67,7 @@ use Rattle.book_step.specs.Schedules as schedules
 use Rattle.book_step.specs.Soundness.{IsSound}
 use Rattle.book_step.specs.State.{State}
 use Rattle.book_step.specs.Step.{outcome}
-use Rattle.book_step.specs.VoidRules.{already_voided, not_voided}
+use Rattle.book_step.specs.VoidRules.{voided_transaction, not_voided}
 use Rattle.book_step.specs.Voiding as voiding
 use Rattle.book_step.specs.declared.step.Step.{Step}
 use Rattle.book_step.proofs.AnswerLemmas.{whole_of}
@@ -142,7 +142,7 @@ edit-keeps state n force day given (Some old) new answered e =
     let edited = editing.edited_transaction old state.next day given in
     let rules = editing.edit_rules state.book n force given old edited in
     let later = editing.book_with state.book n old edited in
-    let done = unless_done (already_voided n old) (editing.edit_of state n force day given old) new answered e in
+    let done = unless_done (voided_transaction n old) (editing.edit_of state n force day given old) new answered e in
     after-either (same_transaction edited old).is state rules rules later
     (editing.drawn_by old.splits given.splits) (editing.edit_answer state.book n edited)
     (editing.edit_answer later n edited) new answered
@@ -154,7 +154,7 @@ drop-keeps :
 drop-keeps state n force None new answered e = absurd cc
 drop-keeps state n force (Some old) new answered e =
     let later = editing.book_without state.book n old in
-    after-change state (already_voided n old ∷ editing.reconciled force old.splits [] ∷ []) later 0 answer.Drop new
+    after-change state (voided_transaction n old ∷ editing.reconciled force old.splits [] ∷ []) later 0 answer.Drop new
     answered (lines-dismissed state.book later (loses_split old.splits []) refl refl) e
 
 void-keeps :
@@ -164,7 +164,7 @@ void-keeps state n reason force None new answered e = absurd cc
 void-keeps state n reason force (Some old) new answered e =
     let voided = voided_for reason old in
     let later = editing.book_with state.book n old voided in
-    after-change state (already_voided n old ∷ editing.reconciled force old.splits [] ∷ []) later 0 answer.Void new
+    after-change state (voided_transaction n old ∷ editing.reconciled force old.splits [] ∷ []) later 0 answer.Void new
     answered (lines-dismissed state.book later (loses_split old.splits voided.splits) refl refl) e
 
 unvoid-keeps :

@@ -23,7 +23,7 @@ use Rattle.book_step.specs.Outcome.{Done, changing}
 use Rattle.book_step.specs.Reconciling as reconciling
 use Rattle.book_step.specs.SameTransaction.{is_mark}
 use Rattle.book_step.specs.State.{State}
-use Rattle.book_step.specs.VoidRules.{voided_with}
+use Rattle.book_step.specs.VoidRules.{voided_transaction_of}
 use Rattle.book_step.proofs.KeepLemmas.{Keeps, after-change, after-either, keeps-through, line-in-state, lines-each}
 use Rattle.book_step.proofs.KeepLemmas.{says-same, untouched}
 use Rattle.book_step.proofs.SoundOutcome.{unless_done}
@@ -35,7 +35,7 @@ mark-keeps state n mark force None new answered e = absurd cc
 mark-keeps state n mark force (Some split) new answered e =
     let rules = marking.keeps_mark force n split ∷ [] in
     let later = marking.book_marked n mark state.book in
-    let done = unless_done (voided_with state.book.transactions n) (marking.mark_of state n mark force split) new answered
+    let done = unless_done (voided_transaction_of state.book.transactions n) (marking.mark_of state n mark force split) new answered
     e in
     after-either (is_mark split.mark mark) state rules rules later 0 answer.Mark answer.Mark new answered
     (untouched state.book later refl refl) done.1
@@ -63,7 +63,7 @@ pair-keeps state n line wanted (Some split) new answered there e =
     let cleared = matching.book_cleared wanted split state.book in
     let later = matching.book_paired n line wanted split state.book in
     let rules = matching.match_rules state.book.lines n line wanted split in
-    let done = unless_done (voided_with state.book.transactions wanted)
+    let done = unless_done (voided_transaction_of state.book.transactions wanted)
     (changing state rules later 0 answer.LineMatch) new answered e in
     after-change state rules later 0 answer.LineMatch new answered
     (keeps-through state.book cleared later (cleared-keeps clears wanted state.book)

@@ -26,7 +26,7 @@ use Rattle.book_step.specs.Outcome.{Broken, Outcome, StepsTo, changing, leaving,
 use Rattle.book_step.specs.SameTransaction.{is_mark}
 use Rattle.book_step.specs.Soundness.{IsSound}
 use Rattle.book_step.specs.State.{State}
-use Rattle.book_step.specs.VoidRules.{voided_with}
+use Rattle.book_step.specs.VoidRules.{voided_transaction_of}
 use Rattle.book_step.specs.declared.step.Step.{Step}
 use Rattle.book_step.proofs.ExactMarks.{pairing_leads}
 use Rattle.book_step.proofs.OutcomeLemmas.{broken-changing, either-broken, either-changed, either-left, past-changing}
@@ -37,7 +37,7 @@ use Rattle.book_step.proofs.RemarkLemmas.{marked_is_put}
 -- a split that is there and whose transaction is not voided
 mark-past :
     (state : State) (number : ℕ) (cleared force : Bool) (split : Split)
-    → split_at number state.book.transactions ≡ Some split → voided_with state.book.transactions number ≡ None
+    → split_at number state.book.transactions ≡ Some split → voided_transaction_of state.book.transactions number ≡ None
     → mark state number cleared force ≡ mark_of state number (mark_asked cleared) force split
 mark-past state number cleared force split there unvoided =
     let to = mark_asked cleared in
@@ -47,7 +47,7 @@ mark-past state number cleared force split there unvoided =
 -- one whose transaction is voided
 pub mark-voided :
     (state : State) (number : ℕ) (cleared force : Bool) (split : Split) (rule : Rule)
-    → split_at number state.book.transactions ≡ Some split → voided_with state.book.transactions number ≡ Some rule
+    → split_at number state.book.transactions ≡ Some split → voided_transaction_of state.book.transactions number ≡ Some rule
     → mark state number cleared force ≡ Broken rule
 mark-voided state number cleared force split rule there voided =
     let to = mark_asked cleared in
@@ -57,7 +57,7 @@ mark-voided state number cleared force split rule there voided =
 -- a rule that is broken is what it comes to
 pub mark-broken :
     (state : State) (number : ℕ) (cleared force : Bool) (split : Split) (rule : Rule)
-    → split_at number state.book.transactions ≡ Some split → voided_with state.book.transactions number ≡ None
+    → split_at number state.book.transactions ≡ Some split → voided_transaction_of state.book.transactions number ≡ None
     → first_broken (keeps_mark force number split ∷ []) ≡ Some rule
     → mark state number cleared force ≡ Broken rule
 mark-broken state number cleared force split rule there unvoided e =
@@ -69,7 +69,7 @@ mark-broken state number cleared force split rule there unvoided e =
 -- a split that has the mark leaves the book
 pub mark-left :
     (state : State) (number : ℕ) (cleared force : Bool) (split : Split) (result : Result Step Refusal)
-    → split_at number state.book.transactions ≡ Some split → voided_with state.book.transactions number ≡ None
+    → split_at number state.book.transactions ≡ Some split → voided_transaction_of state.book.transactions number ≡ None
     → first_broken (keeps_mark force number split ∷ []) ≡ None → is_mark split.mark (mark_asked cleared) ≡ true
     → StepsTo state (leaving state [] answer.Mark) result
     → StepsTo state (mark state number cleared force) result
@@ -85,7 +85,7 @@ pub mark-changed :
     (state : State) (number : ℕ) (cleared force : Bool) (held : Held) (new : Txn) (result : Result Step Refusal)
     → IsSound state → IsHeld state.book.transactions number held
     → split_at number state.book.transactions ≡ Some held.split
-    → voided_with state.book.transactions number ≡ None
+    → voided_transaction_of state.book.transactions number ≡ None
     → first_broken (keeps_mark force number held.split ∷ []) ≡ None
     → is_mark held.split.mark (mark_asked cleared) ≡ false
     → new ≡ remarked number (mark_asked cleared) held.transaction
@@ -126,7 +126,7 @@ match-open lines number wanted line split e =
 match-past :
     (state : State) (number wanted : ℕ) (line : Line) (split : Split)
     → value_of number state.book.lines ≡ Some line → split_at wanted state.book.transactions ≡ Some split
-    → voided_with state.book.transactions wanted ≡ None
+    → voided_transaction_of state.book.transactions wanted ≡ None
     → line_match state number wanted
     ≡ changing state (match_rules state.book.lines number line wanted split)
     (book_paired number line wanted split state.book) 0 answer.LineMatch
@@ -141,7 +141,7 @@ match-past state number wanted line split there at unvoided =
 pub match-voided :
     (state : State) (number wanted : ℕ) (line : Line) (split : Split) (rule : Rule)
     → value_of number state.book.lines ≡ Some line → split_at wanted state.book.transactions ≡ Some split
-    → voided_with state.book.transactions wanted ≡ Some rule → line_match state number wanted ≡ Broken rule
+    → voided_transaction_of state.book.transactions wanted ≡ Some rule → line_match state number wanted ≡ Broken rule
 match-voided state number wanted line split rule there at voided =
     let done = changing state (match_rules state.book.lines number line wanted split)
     (book_paired number line wanted split state.book) 0 answer.LineMatch in
@@ -152,7 +152,7 @@ match-voided state number wanted line split rule there at voided =
 pub match-broken :
     (state : State) (number wanted : ℕ) (line : Line) (split : Split) (rule : Rule)
     → value_of number state.book.lines ≡ Some line → split_at wanted state.book.transactions ≡ Some split
-    → voided_with state.book.transactions wanted ≡ None
+    → voided_transaction_of state.book.transactions wanted ≡ None
     → first_broken (match_rules state.book.lines number line wanted split) ≡ Some rule
     → line_match state number wanted ≡ Broken rule
 match-broken state number wanted line split rule there at unvoided e =
@@ -164,7 +164,7 @@ pub match-changed :
     (state : State) (number wanted : ℕ) (line : Line) (held : Held) (edit : Edit) (result : Result Step Refusal)
     → IsSound state → IsHeld state.book.transactions wanted held → value_of number state.book.lines ≡ Some line
     → split_at wanted state.book.transactions ≡ Some held.split
-    → voided_with state.book.transactions wanted ≡ None
+    → voided_transaction_of state.book.transactions wanted ≡ None
     → first_broken (match_rules state.book.lines number line wanted held.split) ≡ None
     → edit ≡ pairing_edit number line wanted held.number held.transaction held.split
     → StepsTo state (changing state [] (edited edit state.book) 0 answer.LineMatch) result

@@ -32,7 +32,7 @@ use Rattle.book_step.specs.Posting.{broken_by}
 use Rattle.book_step.specs.SameTransaction.{same_transaction}
 use Rattle.book_step.specs.Soundness.{IsSoundBook, AreDrawn, IsSound}
 use Rattle.book_step.specs.State.{State}
-use Rattle.book_step.specs.VoidRules.{already_voided}
+use Rattle.book_step.specs.VoidRules.{voided_transaction}
 use Rattle.book_step.proofs.EditedSplits.{edited_below, edited_from, edited_once, edited_right}
 use Rattle.book_step.proofs.SoundOutcome.{changing_done, either_sound, sound_after, unless_done}
 use Rattle.book_step.proofs.VoidRuleLemmas.{unvoided_of}
@@ -120,7 +120,7 @@ edit_at-sound :
     → IsSound new
 edit_at-sound state n force day given None new answered there is e = absurd cc
 edit_at-sound state n force day given (Some old) new answered there is e =
-    let done = unless_done (already_voided n old) (edit_of state n force day given old) new answered e in
+    let done = unless_done (voided_transaction n old) (edit_of state n force day given old) new answered e in
     edit_of-sound state n force day given old new answered there (unvoided_of n old done.0) is done.1
 
 pub edit_transaction-sound :
@@ -138,7 +138,7 @@ drop_at-sound state n force None new answered there is e = absurd cc
 drop_at-sound state n force (Some old) new answered there is e =
     let book = state.book in
     let left = book_without book n old in
-    let rules = already_voided n old ∷ reconciled force old.splits [] ∷ [] in
+    let rules = voided_transaction n old ∷ reconciled force old.splits [] ∷ [] in
     let change = changing_done state rules left 0 answer.Drop new answered e in
     let later = drawn_later book state.next (state.next + 0) (omega arith) is.drawn in
     sound_after state rules left 0 new change (transaction_taken book n old there is.book)

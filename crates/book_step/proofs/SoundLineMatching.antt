@@ -31,7 +31,7 @@ use Rattle.book_step.specs.Outcome.{Done, changing}
 use Rattle.book_step.specs.SameTransaction.{is_mark}
 use Rattle.book_step.specs.Soundness.{IsSoundBook, AreDrawn, IsSound}
 use Rattle.book_step.specs.State.{State}
-use Rattle.book_step.specs.VoidRules.{voided_with}
+use Rattle.book_step.specs.VoidRules.{voided_transaction_of}
 use Rattle.book_step.proofs.LineLemmas.{Fits, matched-sound}
 use Rattle.book_step.proofs.RemarkLemmas.{held_of, marked-sound, split_marked}
 use Rattle.book_step.proofs.SoundOutcome.{changing_done, sound_after, unless_done}
@@ -103,7 +103,7 @@ record Clears (book later : Book) (limit : ℕ) : Type 0 where
 
 cleared-sound :
     (book : Book) (wanted limit : ℕ) (split : Split) → split_at wanted book.transactions ≡ Some split
-    → voided_with book.transactions wanted ≡ None → AreDrawn book limit → IsSoundBook book
+    → voided_transaction_of book.transactions wanted ≡ None → AreDrawn book limit → IsSoundBook book
     → Clears book (book_cleared wanted split book) limit
 cleared-sound book wanted limit split there unvoided are is = go (is_mark split.mark New)
   where
@@ -129,7 +129,7 @@ match_of-sound state n line wanted (Some split) new answered there at is e =
     let cleared = book_cleared wanted split book in
     let later = book_paired n line wanted split book in
     let next = state.next + 0 in
-    let done = unless_done (voided_with book.transactions wanted) (changing state rules later 0 answer.LineMatch) new
+    let done = unless_done (voided_transaction_of book.transactions wanted) (changing state rules later 0 answer.LineMatch) new
     answered e in
     let change = changing_done state rules later 0 answer.LineMatch new answered done.1 in
     let free = mapped_none (λ (e : ℕ × Line). LineTaken e.0) (line_of_split wanted book.lines) change.kept.1.0 in

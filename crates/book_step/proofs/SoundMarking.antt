@@ -12,7 +12,7 @@ use Rattle.book_step.specs.Outcome.{Done}
 use Rattle.book_step.specs.SameTransaction.{is_mark}
 use Rattle.book_step.specs.Soundness.{IsSound}
 use Rattle.book_step.specs.State.{State}
-use Rattle.book_step.specs.VoidRules.{voided_with}
+use Rattle.book_step.specs.VoidRules.{voided_transaction_of}
 use Rattle.book_step.proofs.RemarkLemmas.{held_of, marked-sound}
 use Rattle.book_step.proofs.SoundOutcome.{either_sound, sound_after, unless_done}
 use Rattle.book_step.proofs.VoidRuleLemmas.{unvoided_held}
@@ -37,7 +37,7 @@ mark_at-sound state number cleared force (Some split) new answered there is e =
     let rules = keeps_mark force number split ∷ [] in
     let later = book_marked number to book in
     let held = held_of number split book.transactions is.book.transactions.rise there in
-    let done = unless_done (voided_with book.transactions number) (mark_of state number to force split) new answered e in
+    let done = unless_done (voided_transaction_of book.transactions number) (mark_of state number to force split) new answered e in
     let unvoided = unvoided_held book number held.held is.book held.has done.0 in
     let sound = marked-sound book number (state.next + 0) to held.held held.has unvoided (asked_unreconciled cleared)
     (asked_unvoided cleared) (drawn_later book state.next (state.next + 0) (omega arith) is.drawn) is.book in

@@ -22,7 +22,7 @@ use Rattle.book_step.specs.Editing.{book_with, reconciled}
 use Rattle.book_step.specs.Outcome.{Done}
 use Rattle.book_step.specs.Soundness.{IsSoundBook, AreDrawn, IsSound}
 use Rattle.book_step.specs.State.{State}
-use Rattle.book_step.specs.VoidRules.{already_voided, not_voided}
+use Rattle.book_step.specs.VoidRules.{voided_transaction, not_voided}
 use Rattle.book_step.specs.Voiding.{book_restored, unvoid_at, unvoid_transaction, void_at, void_transaction}
 use Rattle.book_step.proofs.SoundOutcome.{changing_done, sound_after}
 use Rattle.book_step.proofs.VoidRuleLemmas.{unvoided_of}
@@ -40,7 +40,7 @@ void_at-sound state n reason force (Some old) new answered there is e =
     let next = state.next + 0 in
     let voided = voided_for reason old in
     let later = book_with book n old voided in
-    let rules = already_voided n old ∷ reconciled force old.splits [] ∷ [] in
+    let rules = voided_transaction n old ∷ reconciled force old.splits [] ∷ [] in
     let change = changing_done state rules later 0 answer.Void new answered e in
     let are = drawn_later book state.next next (omega arith) is.drawn in
     let Below : Split → Type 0 = λ split. split.id < next in

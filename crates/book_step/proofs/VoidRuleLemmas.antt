@@ -14,7 +14,7 @@ use Rattle.book_sound.proofs.SplitFrames.{above_there, found_among}
 use Rattle.book_command.specs.declared.rule.Rule.{Rule}
 use Rattle.book_step.specs.Marking.{Held, IsHeld}
 use Rattle.book_step.specs.Soundness.{IsSoundBook}
-use Rattle.book_step.specs.VoidRules.{already_voided, holder_of, voided_holder, voided_with}
+use Rattle.book_step.specs.VoidRules.{voided_transaction, holder_of, voided_holder, voided_transaction_of}
 use Rattle.book_step.proofs.RemarkLemmas.{other_lacks}
 
 none_there : (voided : Option Void) → is_some voided ≡ false → is_none voided ≡ true
@@ -22,7 +22,7 @@ none_there None none = refl
 none_there (Some void) none = absurd cc
 
 -- A transaction that keeps the rule is not voided.
-pub unvoided_of : (n : ℕ) (t : Txn) → already_voided n t ≡ None → is_none t.voided ≡ true
+pub unvoided_of : (n : ℕ) (t : Txn) → voided_transaction n t ≡ None → is_none t.voided ≡ true
 unvoided_of n t kept = none_there t.voided (not-broken _ _ kept)
 
 holder_from :
@@ -56,7 +56,7 @@ holder_from number n t (e ∷ ts) r there among others =
 -- In a sound book the rule is that of the transaction which has the split.
 pub voided-held :
     (book : Book) (number : ℕ) (held : Held) → IsSoundBook book → IsHeld book.transactions number held
-    → voided_with book.transactions number ≡ already_voided held.number held.transaction
+    → voided_transaction_of book.transactions number ≡ voided_transaction held.number held.transaction
 voided-held book number held is has =
     let t = held.transaction in
     let among = found_among number t.splits held.split has.1 in
@@ -75,6 +75,6 @@ one_broken (Some rule) broken e = e
 -- Where the rule is kept, so it is by the transaction.
 pub unvoided_held :
     (book : Book) (number : ℕ) (held : Held) → IsSoundBook book → IsHeld book.transactions number held
-    → voided_with book.transactions number ≡ None → is_none held.transaction.voided ≡ true
+    → voided_transaction_of book.transactions number ≡ None → is_none held.transaction.voided ≡ true
 unvoided_held book number held is has kept =
     unvoided_of held.number held.transaction (sym (voided-held book number held is has) ∙ kept)

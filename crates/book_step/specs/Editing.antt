@@ -21,7 +21,7 @@ use Rattle.book_step.specs.Outcome.{Outcome, Broken, changing, leaving, unless_b
 use Rattle.book_step.specs.Posting.{broken_by, new_split}
 use Rattle.book_step.specs.SameTransaction.{same_transaction}
 use Rattle.book_step.specs.State.{State}
-use Rattle.book_step.specs.VoidRules.{already_voided}
+use Rattle.book_step.specs.VoidRules.{voided_transaction}
 use Rattle.book_command.specs.declared.answer.Answer.{Answer}
 use Rattle.book_command.specs.declared.answer.Answer.TheVariants as answer
 use Rattle.book_command.specs.declared.command.GivenSplit.{GivenSplit}
@@ -176,7 +176,7 @@ edit_of state number force day given old =
 abbrev pub edit_at : State → ℕ → Bool → ℤ → GivenTxn → Option Txn → Outcome
 edit_at state number force day given None = Broken (Unknown kind.Transaction number)
 edit_at state number force day given (Some old) =
-    unless_broken (already_voided number old) (edit_of state number force day given old)
+    unless_broken (voided_transaction number old) (edit_of state number force day given old)
 
 -- A transaction of the book is given anew.
 abbrev pub edit_transaction : State → ℕ → Bool → ℤ → GivenTxn → Outcome
@@ -196,7 +196,7 @@ book_without book number old = record book {
 abbrev pub drop_at : State → ℕ → Bool → Option Txn → Outcome
 drop_at state number force None = Broken (Unknown kind.Transaction number)
 drop_at state number force (Some old) =
-    changing state (already_voided number old ∷ reconciled force old.splits [] ∷ [])
+    changing state (voided_transaction number old ∷ reconciled force old.splits [] ∷ [])
     (book_without state.book number old) 0 answer.Drop
 
 -- A transaction of the book is deleted.

@@ -21,7 +21,7 @@ use Rattle.book_step.specs.Marking.{book_marked, remarked}
 use Rattle.book_step.specs.Outcome.{Outcome, Broken, changing, unless_broken}
 use Rattle.book_step.specs.SameTransaction.{is_mark}
 use Rattle.book_step.specs.State.{State}
-use Rattle.book_step.specs.VoidRules.{voided_with}
+use Rattle.book_step.specs.VoidRules.{voided_transaction_of}
 
 -- ---- the rules
 
@@ -72,7 +72,7 @@ pairing_edit number line wanted own transaction split =
 abbrev pub line_match_of : State → ℕ → Line → ℕ → Option Split → Outcome
 line_match_of state number line wanted None = Broken (Unknown kind.Split wanted)
 line_match_of state number line wanted (Some split) =
-    unless_broken (voided_with state.book.transactions wanted)
+    unless_broken (voided_transaction_of state.book.transactions wanted)
     (changing state (match_rules state.book.lines number line wanted split)
     (book_paired number line wanted split state.book) 0 answer.LineMatch)
 

@@ -17,7 +17,7 @@ use Rattle.book_command.specs.declared.rule.Rule.TheVariants.{Reconciled, Unknow
 use Rattle.book_step.specs.Outcome.{Outcome, Broken, changing, leaving, unless_broken}
 use Rattle.book_step.specs.SameTransaction.{is_mark}
 use Rattle.book_step.specs.State.{State}
-use Rattle.book_step.specs.VoidRules.{voided_with}
+use Rattle.book_step.specs.VoidRules.{voided_transaction_of}
 
 -- The split isn't one of the book's (GnuCash SQL schema, table splits).
 abbrev pub unknown_split : List (ℕ × Txn) → ℕ → Option Rule
@@ -82,7 +82,7 @@ mark_of state number mark force split =
 abbrev pub mark_at : State → ℕ → Mark → Bool → Option Split → Outcome
 mark_at state number mark force None = Broken (Unknown kind.Split number)
 mark_at state number mark force (Some split) =
-    unless_broken (voided_with state.book.transactions number) (mark_of state number mark force split)
+    unless_broken (voided_transaction_of state.book.transactions number) (mark_of state number mark force split)
 
 -- A split of the book is marked.
 abbrev pub mark : State → ℕ → Bool → Bool → Outcome

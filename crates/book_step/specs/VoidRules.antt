@@ -8,8 +8,8 @@ use Rattle.book_command.specs.declared.rule.Rule.TheVariants.{NotVoided, Voided}
 
 -- The transaction under a number is voided: so it is only looked at, or brought back (GnuCash Manual, voiding a
 -- transaction).
-abbrev pub already_voided : ℕ → Txn → Option Rule
-already_voided number transaction = broken_where (is_some transaction.voided) (Voided number)
+abbrev pub voided_transaction : ℕ → Txn → Option Rule
+voided_transaction number transaction = broken_where (is_some transaction.voided) (Voided number)
 
 -- The transaction under a number is not voided.
 abbrev pub not_voided : ℕ → Txn → Option Rule
@@ -22,8 +22,8 @@ holder_of split transactions = find (λ entry. is_among (numbers_of entry.1.spli
 -- The transaction is voided, if there is one.
 abbrev pub voided_holder : Option (ℕ × Txn) → Option Rule
 voided_holder None = None
-voided_holder (Some entry) = already_voided entry.0 entry.1
+voided_holder (Some entry) = voided_transaction entry.0 entry.1
 
 -- The transaction that has the split of a number is voided.
-abbrev pub voided_with : List (ℕ × Txn) → ℕ → Option Rule
-voided_with transactions split = voided_holder (holder_of split transactions)
+abbrev pub voided_transaction_of : List (ℕ × Txn) → ℕ → Option Rule
+voided_transaction_of transactions split = voided_holder (holder_of split transactions)

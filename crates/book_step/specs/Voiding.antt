@@ -15,7 +15,7 @@ use Rattle.book_command.specs.declared.rule.Rule.TheVariants.{Unknown}
 use Rattle.book_step.specs.Editing.{book_with, reconciled}
 use Rattle.book_step.specs.Outcome.{Outcome, Broken, changing}
 use Rattle.book_step.specs.State.{State}
-use Rattle.book_step.specs.VoidRules.{already_voided, not_voided}
+use Rattle.book_step.specs.VoidRules.{voided_transaction, not_voided}
 
 -- ---- voiding
 
@@ -24,7 +24,7 @@ use Rattle.book_step.specs.VoidRules.{already_voided, not_voided}
 abbrev pub void_at : State → ℕ → List ℕ → Bool → Option Txn → Outcome
 void_at state number reason force None = Broken (Unknown kind.Transaction number)
 void_at state number reason force (Some old) =
-    changing state (already_voided number old ∷ reconciled force old.splits [] ∷ [])
+    changing state (voided_transaction number old ∷ reconciled force old.splits [] ∷ [])
     (book_with state.book number old (voided_for reason old)) 0 answer.Void
 
 -- A transaction of the book is voided for a reason.

@@ -14,7 +14,7 @@ use crate::edited_splits::{check_given_numbers, edited_splits, is_reconciled};
 use crate::posting::{MAX_SPLITS, check_transaction};
 use crate::present::Present;
 use crate::same_transaction::is_same;
-use crate::voiding::{check_removable, check_unvoided};
+use crate::voiding::{check_changeable, check_unvoided};
 use crate::{Answer, GivenTxn, Refusal, Rule, Step};
 use book_commodity::{Counted, Day, Kind, Many, OutOfMemory};
 use book_splits::{Split, Txn};
@@ -98,7 +98,7 @@ fn check_edit(present: &Present, number: u64, force: bool, old: &Txn, new: &Txn)
     ensures few { OnOk result (length new.now.splits ≤ 500) }
 {
     check_transaction(present.plain, new)?;
-    check_kept(force, old, new)?;
+    check_reconciled_stay(force, old, new)?;
     check_splits(present, number, new)
 }
 
@@ -107,7 +107,7 @@ pub(crate) fn drop(present: &Present, number: u64, force: bool) -> Result<Step, 
     ensures { StepsTo present.now (drop_transaction present.now number force) result }
 {
     let old = known(present, number)?;
-    check_removable(number, force, old)?;
+    check_changeable(number, force, old)?;
     let edit = deleting(present, number, old)?;
     Step::changing(present, 0, edit, Answer::Drop)
 }
@@ -168,7 +168,7 @@ fn is_same_part(split: &Split, other: &Split) -> bool
 }
 
 /// Without force, no reconciled split of the transaction is lost in the new one.
-fn check_kept(force: bool, old: &Txn, new: &Txn) -> Result<(), Rule>
+fn check_reconciled_stay(force: bool, old: &Txn, new: &Txn) -> Result<(), Rule>
     ensures { ReportsFirst (reconciled force old.now.splits new.now.splits ∷ []) result }
 {
     check_reconciled(force, old.splits.as_slice(), new.splits.as_slice())

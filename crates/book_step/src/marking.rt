@@ -28,7 +28,7 @@ pub(crate) fn mark(
     let mark = mark_asked(cleared);
     let held = known_split(present, number)?;
     check_holder(present, number, &held)?;
-    check_kept(force, number, held.split)?;
+    check_unreconciled(force, number, held.split)?;
     if is_mark(held.split.mark, mark) {
         return Ok(Step::leaving(present, Answer::Mark));
     }
@@ -45,7 +45,7 @@ fn mark_asked(cleared: bool) -> Mark
 }
 
 /// The split of this number isn't reconciled, or its mark is changed with force.
-fn check_kept(force: bool, number: u64, split: &Split) -> Result<(), Rule>
+fn check_unreconciled(force: bool, number: u64, split: &Split) -> Result<(), Rule>
     ensures { ReportsFirst (keeps_mark force number split.now ∷ []) result }
 {
     if !force && is_reconciled(split.mark) {

@@ -3,7 +3,7 @@ ghost use Rattle.book_commodity.specs.Rules.{ReportsFirst};
 ghost use Rattle.book_step.specs.Editing.{reconciled};
 ghost use Rattle.book_step.specs.Outcome.{StepsTo};
 ghost use Rattle.book_step.specs.Marking.{IsHeld};
-ghost use Rattle.book_step.specs.VoidRules.{already_voided, not_voided, voided_with};
+ghost use Rattle.book_step.specs.VoidRules.{voided_transaction, not_voided, voided_transaction_of};
 ghost use Rattle.book_step.specs.Voiding.{unvoid_transaction, void_transaction};
 
 use crate::dismissing::putting;
@@ -28,7 +28,7 @@ pub(crate) fn void(
     ensures { StepsTo present.now (void_transaction present.now number reason force) result }
 {
     let old = known(present, number)?;
-    check_removable(number, force, old)?;
+    check_changeable(number, force, old)?;
     let new = voided_for(present.alloc, old, reason)?;
     let edit = putting(present, number, old, new)?;
     Step::changing(present, 0, edit, Answer::Void)
@@ -47,9 +47,9 @@ pub(crate) fn unvoid(present: &Present, number: u64) -> Result<Step, Refusal>
 }
 
 /// The transaction under the number is not voided, and without force none of its splits is reconciled.
-pub(crate) fn check_removable(number: u64, force: bool, transaction: &Txn) -> Result<(), Rule>
+pub(crate) fn check_changeable(number: u64, force: bool, transaction: &Txn) -> Result<(), Rule>
     ensures rules { ReportsFirst
-        (already_voided number transaction.now ∷ reconciled force transaction.now.splits [] ∷ []) result }
+        (voided_transaction number transaction.now ∷ reconciled force transaction.now.splits [] ∷ []) result }
     ensures unvoided { OnOk result (is_none transaction.now.voided ≡ true) }
 {
     check_unvoided(number, transaction)?;
@@ -58,7 +58,7 @@ pub(crate) fn check_removable(number: u64, force: bool, transaction: &Txn) -> Re
 
 /// The transaction under the number is not voided.
 pub(crate) fn check_unvoided(number: u64, transaction: &Txn) -> Result<(), Rule>
-    ensures rules { ReportsFirst (already_voided number transaction.now ∷ []) result }
+    ensures rules { ReportsFirst (voided_transaction number transaction.now ∷ []) result }
     ensures unvoided { OnOk result (is_none transaction.now.voided ≡ true) }
 {
     match transaction.voided {
@@ -72,7 +72,7 @@ pub(crate) fn check_unvoided(number: u64, transaction: &Txn) -> Result<(), Rule>
 /// The transaction that has the split of this number is not voided.
 pub(crate) fn check_holder(present: &Present, number: u64, held: &Held) -> Result<(), Rule>
     requires { IsHeld present.now.book.transactions number held.now }
-    ensures { ReportsFirst (voided_with present.now.book.transactions number ∷ []) result }
+    ensures { ReportsFirst (voided_transaction_of present.now.book.transactions number ∷ []) result }
 {
     present.known();
     check_unvoided(held.number, held.transaction)

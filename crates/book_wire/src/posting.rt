@@ -24,7 +24,7 @@ pub(crate) fn edit(members: &mut Reading) -> Result<Update, Fault>
     let transaction = members.needed("transaction")?;
     let force = forced(members)?;
     let day = members.needed("day")?;
-    let given = transaction_of::<KeptSplit>(members)?;
+    let given = transaction_of::<EditedSplit>(members)?;
     Ok(Update::Edit {
         transaction,
         force,
@@ -149,9 +149,9 @@ impl Object for NewSplit {
 }
 
 /// The members of a split of a transaction that is edited, which may keep its number.
-struct KeptSplit;
+struct EditedSplit;
 
-impl Object for KeptSplit {
+impl Object for EditedSplit {
     type Value = GivenSplit;
 
     ghost reader = { kept_split };

@@ -9,7 +9,7 @@ use Rattle.book_sound.specs.Dismissal.{dismissing}
 use Rattle.book_sound.proofs.DismissalExact.{something_together}
 use Rattle.book_step.specs.Editing.{book_without, drop_at, reconciled}
 use Rattle.book_step.specs.Outcome.{StepsTo, changing}
-use Rattle.book_step.specs.VoidRules.{already_voided}
+use Rattle.book_step.specs.VoidRules.{voided_transaction}
 use Rattle.book_command.specs.declared.answer.Answer.TheVariants as answer
 use Rattle.book_step.proofs.ExactLemmas.{transaction_gone}
 use Rattle.book_step.proofs.OutcomeLemmas.{past-changing}
@@ -22,8 +22,8 @@ returns c =
     let later = book_without state.book c.args.number old in
     subst (λ (found : Option Txn). StepsTo state (drop_at state c.args.number c.args.force found) c.changing.result)
     (sym c.in_ok-old.ensures.there)
-    (past-changing state (already_voided c.args.number old ∷ reconciled c.args.force old.splits [] ∷ []) later 0 answer.Drop
-    c.changing.result c.in_ok-check_removable.ensures.rules
+    (past-changing state (voided_transaction c.args.number old ∷ reconciled c.args.force old.splits [] ∷ []) later 0 answer.Drop
+    c.changing.result c.in_ok-check_changeable.ensures.rules
     (subst (λ (b : Book). StepsTo state (changing state [] b 0 answer.Drop) c.changing.result)
     c.in_ok-edit.ensures.leads (c.changing.ensures answer.Drop refl)))
 

@@ -9,7 +9,7 @@ use Rattle.book_step.specs.LineMatching.{line_match as matching, match_rules}
 use Rattle.book_step.specs.Marking.{Held}
 use Rattle.book_step.specs.Soundness.{IsSound}
 use Rattle.book_step.specs.State.{State}
-use Rattle.book_step.specs.VoidRules.{voided_with}
+use Rattle.book_step.specs.VoidRules.{voided_transaction_of}
 use Rattle.book_step.proofs.ExactMarks.{pairing_changes, pairing_exact}
 use Rattle.book_step.proofs.MarkingLemmas.{match-broken, match-changed, match-open, match-voided}
 use Rattle.book_step.proofs.OutcomeLemmas.{refused}
@@ -26,14 +26,14 @@ returns-in_err-check_holder c =
     c.from_residual-in_err-check_holder.ensures.1
     (match-voided state c.args.number c.args.split line held.split rule c.in_ok-line.ensures.there
     c.in_ok-held.ensures.split
-    (one_broken (voided_with state.book.transactions c.args.split) rule c.in_err-check_holder.ensures))
+    (one_broken (voided_transaction_of state.book.transactions c.args.split) rule c.in_err-check_holder.ensures))
 
 pub returns-in_err-check_match : goal.returns-in_err-check_match
 returns-in_err-check_match c =
     let state = c.args.present.now in
     let line = c.in_ok-line.line.now in
     let held = c.in_ok-held.held in
-    let unvoided = one_kept (voided_with state.book.transactions c.args.split) c.in_ok-check_holder.ensures in
+    let unvoided = one_kept (voided_transaction_of state.book.transactions c.args.split) c.in_ok-check_holder.ensures in
     let rule = c.in_err-check_match.field-0.0 in
     let broken = subst (λ (s : Split). first_broken (match_rules state.book.lines c.args.number line c.args.split s)
     ≡ Some rule) (ap (λ (h : Held). h.split) c.held.view_is) c.in_err-check_match.ensures in
@@ -64,7 +64,7 @@ returns c =
     let sound = subst (λ (s : State). IsSound s) c.present.view_is c.present.invariant in
     let kept = subst (λ (s : Split). first_broken (match_rules state.book.lines c.args.number line c.args.split s)
     ≡ None) (ap (λ (h : Held). h.split) c.held.view_is) c.in_ok-check_match.ensures in
-    let alive = one_kept (voided_with state.book.transactions c.args.split) c.in_ok-check_holder.ensures in
+    let alive = one_kept (voided_transaction_of state.book.transactions c.args.split) c.in_ok-check_holder.ensures in
     match-changed state c.args.number c.args.split line held c.in_ok-edit.edit c.changing.result sound
     c.in_ok-held.ensures.there c.in_ok-line.ensures.there c.in_ok-held.ensures.split alive kept c.in_ok-edit.ensures
     (c.changing.ensures answer.LineMatch refl)

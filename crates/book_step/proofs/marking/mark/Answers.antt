@@ -10,7 +10,7 @@ use Rattle.book_step.specs.Marking.{Held, IsHeld, mark as marking, remarked}
 use Rattle.book_step.specs.SameTransaction.{is_mark}
 use Rattle.book_step.specs.Soundness.{IsSound}
 use Rattle.book_step.specs.State.{State}
-use Rattle.book_step.specs.VoidRules.{voided_with}
+use Rattle.book_step.specs.VoidRules.{voided_transaction_of}
 use Rattle.book_step.proofs.ExactMarks.{mark_exact}
 use Rattle.book_step.proofs.MarkingLemmas.{mark-broken, mark-changed, mark-left, mark-voided}
 use Rattle.book_step.proofs.OutcomeLemmas.{refused}
@@ -25,30 +25,30 @@ returns-in_err-check_holder c =
     refused state (marking state c.args.number c.args.cleared c.args.force) rule
     c.from_residual-in_err-check_holder.result c.from_residual-in_err-check_holder.ensures.1
     (mark-voided state c.args.number c.args.cleared c.args.force held.split rule c.in_ok-held.ensures.split
-    (one_broken (voided_with state.book.transactions c.args.number) rule c.in_err-check_holder.ensures))
+    (one_broken (voided_transaction_of state.book.transactions c.args.number) rule c.in_err-check_holder.ensures))
 
-pub returns-in_err-check_kept : goal.returns-in_err-check_kept
-returns-in_err-check_kept c =
+pub returns-in_err-check_unreconciled : goal.returns-in_err-check_unreconciled
+returns-in_err-check_unreconciled c =
     let state = c.args.present.now in
-    let unvoided = one_kept (voided_with state.book.transactions c.args.number) c.in_ok-check_holder.ensures in
+    let unvoided = one_kept (voided_transaction_of state.book.transactions c.args.number) c.in_ok-check_holder.ensures in
     let split = c.held.inside.split.now in
     let there = subst (λ (h : Held). split_at c.args.number state.book.transactions ≡ Some h.split) (sym c.held.view_is)
     c.in_ok-held.ensures.split in
-    let rule = c.in_err-check_kept.field-0.0 in
+    let rule = c.in_err-check_unreconciled.field-0.0 in
     refused state (marking state c.args.number c.args.cleared c.args.force) rule
-    c.from_residual-in_err-check_kept.result c.from_residual-in_err-check_kept.ensures.1
-    (mark-broken state c.args.number c.args.cleared c.args.force split rule there unvoided c.in_err-check_kept.ensures)
+    c.from_residual-in_err-check_unreconciled.result c.from_residual-in_err-check_unreconciled.ensures.1
+    (mark-broken state c.args.number c.args.cleared c.args.force split rule there unvoided c.in_err-check_unreconciled.ensures)
 
 pub returns-then-is_mark : goal.returns-then-is_mark
 returns-then-is_mark c =
     let state = c.args.present.now in
-    let unvoided = one_kept (voided_with state.book.transactions c.args.number) c.in_ok-check_holder.ensures in
+    let unvoided = one_kept (voided_transaction_of state.book.transactions c.args.number) c.in_ok-check_holder.ensures in
     let split = c.held.inside.split.now in
     let there = subst (λ (h : Held). split_at c.args.number state.book.transactions ≡ Some h.split) (sym c.held.view_is)
     c.in_ok-held.ensures.split in
     let same = ap (is_mark split.mark) (sym c.mark_asked-mark.ensures) ∙ sym c.is_mark.ensures ∙ c.if-is_mark.true in
     mark-left state c.args.number c.args.cleared c.args.force split (Ok c.leaving.result) there unvoided
-    c.in_ok-check_kept.ensures same (c.leaving.ensures answer.Mark refl)
+    c.in_ok-check_unreconciled.ensures same (c.leaving.ensures answer.Mark refl)
 
 pub changing-requires-clause-exact : goal.changing-requires-clause-exact
 changing-requires-clause-exact c sound =
@@ -83,5 +83,5 @@ returns c =
     let made = c.in_ok-transaction.ensures
     ∙ ap (λ (m : Mark). remarked number m held.transaction) c.mark_asked-mark.ensures in
     mark-changed state number c.args.cleared c.args.force held c.in_ok-transaction.transaction c.changing.result sound
-    has there (one_kept (voided_with state.book.transactions number) c.in_ok-check_holder.ensures)
-    c.in_ok-check_kept.ensures differs made (c.changing.ensures answer.Mark refl)
+    has there (one_kept (voided_transaction_of state.book.transactions number) c.in_ok-check_holder.ensures)
+    c.in_ok-check_unreconciled.ensures differs made (c.changing.ensures answer.Mark refl)

@@ -11,7 +11,7 @@ use Rattle.book_sound.proofs.DismissalExact.{something_together}
 use Rattle.book_command.specs.declared.answer.Answer.TheVariants as answer
 use Rattle.book_step.specs.Editing.{book_with, reconciled}
 use Rattle.book_step.specs.Outcome.{StepsTo, changing}
-use Rattle.book_step.specs.VoidRules.{already_voided}
+use Rattle.book_step.specs.VoidRules.{voided_transaction}
 use Rattle.book_step.specs.Voiding.{void_at}
 use Rattle.book_step.proofs.OutcomeLemmas.{past-changing}
 use Rattle.book_step.proofs.VoidingLemmas.{void_exact}
@@ -32,7 +32,7 @@ changing-requires-clause-exact c sound =
     (together (Put n (thing.Txn t)) (dismissing old.splits t.splits state.book.lines)) in
     subst (λ (e : Edit). IsExact state.book e) (sym c.in_ok-edit.ensures.edit)
     (subst Exact (sym c.in_ok-new.ensures)
-    (void_exact state n c.args.reason old sound c.in_ok-old.ensures.there c.in_ok-check_removable.ensures.unvoided))
+    (void_exact state n c.args.reason old sound c.in_ok-old.ensures.there c.in_ok-check_changeable.ensures.unvoided))
 
 pub returns : goal.returns
 returns c =
@@ -46,7 +46,7 @@ returns c =
     let leads = c.in_ok-edit.ensures.leads ∙ ap (λ (t : Txn). book_with state.book n old t) c.in_ok-new.ensures in
     subst (λ (found : Option Txn). StepsTo state (void_at state n reason force found) c.changing.result)
     (sym c.in_ok-old.ensures.there)
-    (past-changing state (already_voided n old ∷ reconciled force old.splits [] ∷ []) later 0 answer.Void
-    c.changing.result c.in_ok-check_removable.ensures.rules
+    (past-changing state (voided_transaction n old ∷ reconciled force old.splits [] ∷ []) later 0 answer.Void
+    c.changing.result c.in_ok-check_changeable.ensures.rules
     (subst (λ (b : Book). StepsTo state (changing state [] b 0 answer.Void) c.changing.result) leads
     (c.changing.ensures answer.Void refl)))

@@ -7,7 +7,7 @@ use Rattle.book_check.proofs.reconciliations.ReconciliationWalkChecked.keeps.Goa
 pub returns-clause-kept : goal.returns-clause-kept
 returns-clause-kept c =
     let walk = c.args.self.now in
-    IfOk-weaker c.is_kept.result _ _
+    IfOk-weaker c.keeps_rules.result _ _
     (λ kept is. kept_alone (reconciliation_rules walk.accounts.now.entries) walk.reconciliations.now.entries
     c.args.place c.value_at-reconciliation.result.now kept c.value_at-reconciliation.ensures (λ n _. is n))
-    c.is_kept.ensures
+    c.keeps_rules.ensures

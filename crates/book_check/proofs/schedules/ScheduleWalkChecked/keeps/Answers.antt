@@ -7,5 +7,5 @@ pub returns-clause-kept : goal.returns-clause-kept
 returns-clause-kept c =
     let walk = c.args.self.now in
     kept_alone (schedule_rules walk.commodities.now.entries walk.accounts.now.entries) walk.schedules.now.entries
-    c.args.place c.value_at-schedule.result.now c.is_kept.result c.value_at-schedule.ensures
-    (λ n _. c.is_kept.ensures n)
+    c.args.place c.value_at-schedule.result.now c.keeps_rules.result c.value_at-schedule.ensures
+    (λ n _. c.keeps_rules.ensures n)

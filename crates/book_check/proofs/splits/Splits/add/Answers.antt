@@ -19,4 +19,4 @@ loop-place-preserved c =
     c.loop-place.invariant)
     (λ q. c.in_ok-insert.ensures.updates.0 q
     ∙ ap (λ v. cond (is_eq (nat_cmp c.index-splits-place.result.id q)) (Some v)
-    (get nat_cmp c.loop-place.self.quantities q)) c.quantity_of.ensures)
+    (get nat_cmp c.loop-place.self.quantities q)) c.facts_of.ensures)
