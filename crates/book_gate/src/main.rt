@@ -1,9 +1,7 @@
-//! The rows of the gate: runs of the program, pages, books that are opened again, stops of a disk, standard streams,
-//! statement files, and the work that an engine takes. Each row stands in a file beside the program, and `gate.txt`
-//! lists the files. The program makes what each row says, compares what comes with what the row wants, and says for
-//! each file how many rows it has. A row that fails is said on standard output and on standard error; then the program
-//! goes on, and ends with 1. With the words `opening COUNT` it measures instead how long a book of so many transactions
-//! takes to open.
+//! The rows of the gate: runs of the program, pages, books that are opened again, stops of a disk, standard streams and
+//! statement files. Each row stands in a file beside the program, and `gate.txt` lists the files. The program makes what
+//! each row says, compares what comes with what the row wants, and says for each file how many rows it has. A row that
+//! fails is said on standard output and on standard error; then the program goes on, and ends with 1.
 #![tactic(auto)]
 
 mod case;
@@ -11,24 +9,20 @@ mod disk;
 mod each;
 mod links;
 mod making;
-mod opening;
 mod pages;
 mod stop;
 mod stops;
 mod store;
 mod streams;
-mod work;
 
 use crate::case::{check_runs, check_wrong};
-use crate::opening::measure;
 use crate::pages::{check_commands, check_example, check_page, check_readme};
 use crate::stops::{Stops, check_stops};
 use crate::streams::check_streams;
-use crate::work::check_work;
 use gate_rows::{Place, Report, check_files};
+use std::io;
 use std::io::ErrorKind;
 use std::process::ExitCode;
-use std::{env, io};
 
 /// Does what one line of the list asks.
 fn check(report: &mut Report<'_>, line: &str, number: usize) -> io::Result<()> {
@@ -38,7 +32,6 @@ fn check(report: &mut Report<'_>, line: &str, number: usize) -> io::Result<()> {
         "runs" => check_runs(report, rest),
         "wrong" => check_wrong(report, rest),
         "files" => check_files(report, rest),
-        "work" => check_work(report, rest),
         _ => check_words(report, mark, rest, number),
     }
 }
@@ -88,18 +81,8 @@ fn compare_all(rt: &HostRuntime) -> io::Result<bool> {
     Ok(report.has_no_failure())
 }
 
-/// Does what the words ask.
-fn do_words(rt: &HostRuntime) -> io::Result<bool> {
-    let words: Vec<String> = env::args(rt)?.skip(1).collect(rt.alloc())?;
-    match words.as_slice() {
-        [] => compare_all(rt),
-        [word, count] if word.as_str() == "opening" => measure(rt, count.as_str()),
-        _ => Ok(false),
-    }
-}
-
 fn main(rt: HostRuntime) -> ExitCode {
-    match do_words(&rt) {
+    match compare_all(&rt) {
         Ok(true) => ExitCode::SUCCESS,
         _ => ExitCode::from(1),
     }
