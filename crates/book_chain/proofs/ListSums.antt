@@ -24,7 +24,7 @@ use Rattle.book_reconcile.specs.Reconciliation.{has_mark, is_intact, is_kept_by,
 use Rattle.book_reconcile.proofs.KeptLemmas.{asks-number}
 use Rattle.book_sound.specs.MarkedTransactionRules.{are_rightly_marked, is_marked_as, is_reconciled, is_rightly_marked}
 use Rattle.book_sound.specs.MarkedTransactionRules.{is_rightly_voided}
-use Rattle.book_sound.proofs.VoidFrames.{voided_of}
+use Rattle.book_sound.proofs.VoidFrames.{rightly_voided_is}
 use Rattle.book_splits.specs.declared.void.Void.{Void}
 use Rattle.book_sound.specs.ReconciliationRules.{marked_numbers, marked_sum}
 use Rattle.book_sound.specs.Soundness.{IsSoundBook}
@@ -371,7 +371,7 @@ told-of account reconciliations (Some void) splits right =
     All-weaker (λ (s : Split). is_rightly_voided s ≡ true) (IsTold account reconciliations)
     (λ s voided.
     let has : has_mark Reconciled account s ≡ false =
-    and_right (s.account == account) _ (voided-not s.mark (voided_of s voided).mark) in
+    and_right (s.account == account) _ (voided-not s.mark (rightly_voided_is s voided).mark) in
     has ∙ sym (not-of-some account reconciliations s has)) splits
     (all-pass is_rightly_voided splits right)
 

@@ -16,7 +16,7 @@ use Rattle.book_commodity.proofs.RuleLemmas.{kept_back, kept_front, not-broken}
 use Rattle.book_sound.proofs.MarkLemmas.{right_is_unvoided}
 use Rattle.book_sound.proofs.OwnFrames.{all_of_each}
 use Rattle.book_sound.proofs.SoundFacts.{accounts_are_rooted, transactions_balance}
-use Rattle.book_sound.proofs.VoidFrames.{voided_of}
+use Rattle.book_sound.proofs.VoidFrames.{rightly_voided_is}
 use Rattle.book_ledger.specs.Ledger.{HasPlaces}
 use Rattle.book_sound.specs.MarkedTransactionRules.{are_rightly_marked, is_rightly_marked, is_rightly_voided}
 use Rattle.book_sound.specs.MarkedTransactionRules.{keeps_each}
@@ -76,7 +76,7 @@ fits_voided accounts currency (split ∷ more) (first ∷ kept) same voided fits
     let Fits : Split → Type 0 = FitsAccount accounts currency in
     let rest = restored_splits more kept in
     let parts = and_parts (is_rightly_voided split) (list_all is_rightly_voided more) voided in
-    let is = voided_of split parts.0 in
+    let is = rightly_voided_is split parts.0 in
     let one = All-head Fits (restored_split split first) rest fits in
     All-cons Fits split more
     (record {
@@ -112,7 +112,7 @@ zero_voided reconciliations None (split ∷ more) marks =
     (zero_voided reconciliations None more parts.1)
 zero_voided reconciliations (Some void) (split ∷ more) marks =
     let parts = and_parts (is_rightly_voided split) (list_all is_rightly_voided more) marks in
-    All-cons IsZeroVoided split more (λ is. let zero = voided_of split parts.0 in (zero.value, zero.quantity))
+    All-cons IsZeroVoided split more (λ is. let zero = rightly_voided_is split parts.0 in (zero.value, zero.quantity))
     (zero_voided reconciliations (Some void) more parts.1)
 
 -- A voided split of a sound book has no amounts.

@@ -10,7 +10,7 @@ use Rattle.book_splits.specs.declared.split.Mark.TheVariants.{Cleared, New, Reco
 use Rattle.book_splits.specs.declared.split.Split.{Split}
 use Rattle.book_sound.specs.MarkedTransactionRules.{fits_mark, is_rightly_marked, is_rightly_voided}
 use Rattle.book_sound.proofs.DrawnFrames.{drawn_later}
-use Rattle.book_sound.proofs.VoidFrames.{marks_remarked, voided_of}
+use Rattle.book_sound.proofs.VoidFrames.{marks_remarked, rightly_voided_is}
 use Rattle.book_undo.specs.Book.{Book}
 use Rattle.book_command.specs.declared.answer.Answer.{Answer}
 use Rattle.book_command.specs.declared.answer.Answer.TheVariants as answer
@@ -72,7 +72,7 @@ voided_stays :
     (taken : ℕ → Bool) (split : Split) → is_rightly_voided split ≡ true → split_paired taken split ≡ split
 voided_stays taken split voided =
     ap (λ (b : Bool). if b && taken split.id then cleared split else split)
-    (voided_not_new split.mark (voided_of split voided).mark)
+    (voided_not_new split.mark (rightly_voided_is split voided).mark)
 
 -- ---- the book
 

@@ -26,7 +26,7 @@ use Rattle.book_sound.proofs.BookChanges.{reconciliation_put}
 use Rattle.book_sound.proofs.DrawnChanges.{reconciliation_drawn}
 use Rattle.book_sound.proofs.DrawnFrames.{drawn_later}
 use Rattle.book_sound.proofs.MarkLemmas.{marked_is_right}
-use Rattle.book_sound.proofs.VoidFrames.{marks_remarked, voided_of}
+use Rattle.book_sound.proofs.VoidFrames.{marks_remarked, rightly_voided_is}
 use Rattle.book_undo.specs.Book.{Book}
 use Rattle.book_command.specs.declared.answer.Answer.{Answer}
 use Rattle.book_command.specs.declared.answer.Answer.TheVariants as answer
@@ -91,7 +91,7 @@ voided_stays :
     (n account : ℕ) (upto day : ℤ) (split : Split) → is_rightly_voided split ≡ true
     → marked_under n account upto day split ≡ split
 voided_stays n account upto day split voided =
-    let other = voided_uncleared split.mark (voided_of split voided).mark in
+    let other = voided_uncleared split.mark (rightly_voided_is split voided).mark in
     let unmarked : has_mark Cleared account split ≡ false = and_right (split.account == account) _ other in
     ap (λ (b : Bool). if b && int_le day upto then reconciled_under n split else split) unmarked
 
