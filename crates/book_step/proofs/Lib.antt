@@ -65,6 +65,7 @@ pub mod SplitSearchLemmas
 pub mod TableWalkLemmas
 pub mod ThereLemmas
 pub mod UnderLemmas
+pub mod VoidLaws
 pub mod VoidRuleLemmas
 pub mod VoidingLemmas
 pub mod Worked

@@ -202,6 +202,10 @@ not_without_force = refl
 voids : reply (outcome reconciled (voiding 13 true)) ≡ Answered answer.Void 6
 voids = refl
 
+-- no number is issued
+no_number_issued : (after reconciled (outcome reconciled (voiding 13 true))).next ≡ reconciled.next
+no_number_issued = refl
+
 abbrev voided : State
 voided = after reconciled (outcome reconciled (voiding 13 true))
 
@@ -221,6 +225,17 @@ not_twice = refl
 
 voided_stays : reply (outcome voided (Drop 13 true)) ≡ Refused (rule.Voided 13)
 voided_stays = refl
+
+-- that it is voided is asked before its splits are looked at
+voided_before_its_splits :
+    reply (outcome voided (Edit 13 true (pos 19753) (record {
+      currency = 1;
+      num = [];
+      description = [];
+      splits = given 99 3 (pos 1) ∷ given 15 4 (negsuc 0) ∷ [];
+    })))
+    ≡ Refused (rule.Voided 13)
+voided_before_its_splits = refl
 
 voided_mark_stays : reply (outcome voided (MarkSplit 14 true true)) ≡ Refused (rule.Voided 13)
 voided_mark_stays = refl
