@@ -1,6 +1,7 @@
 -- Which rule is broken, on a small book with one thing changed.
 use Rattle.std.proofs.Common.{◌≡◌, ℕ, ℤ, pos, negsuc, Bool, true, false, List, [], ◌∷◌, Option, Some, None, codes, refl}
 use Rattle.book_commodity.specs.declared.commodity.Commodity.{Commodity}
+use Rattle.book_commodity.specs.declared.counted.Counted.TheVariants.{Amount}
 use Rattle.book_commodity.specs.declared.kind.Kind.TheVariants as kind
 use Rattle.book_accounts.specs.Tree.{nearest_parents}
 use Rattle.book_accounts.specs.declared.account.Account.{Account}
@@ -15,6 +16,7 @@ use Rattle.book_prices.specs.declared.price.Price.{Price}
 use Rattle.book_undo.specs.Book.{Book}
 use Rattle.book_opening.specs.State.{State}
 use Rattle.book_broken.specs.Broken.{broken_at, broken_thing}
+use Rattle.book_broken.specs.Words.{restored_words, transaction_words, words_on}
 use Rattle.book_broken.specs.declared.rule.BrokenRule.{BrokenRule}
 use Rattle.book_broken.specs.declared.rule.BrokenRule.TheVariants as rule
 
@@ -132,7 +134,7 @@ kept_out_of_balance :
     broken
     (with_rent (keeping (record { value = pos 1; quantity = pos 1 } ∷ record { value = pos 0; quantity = pos 0 } ∷ []))) 4
     10
-    ≡ Some (rule.Transaction (transaction.Unbalanced (pos 1)))
+    ≡ Some (rule.Restored (transaction.Unbalanced (pos 1)))
 unfolding broken_at broken_thing
 kept_out_of_balance = refl
 
@@ -171,3 +173,23 @@ price_not_drawn = refl
 price_past_the_limit : broken book 5 8 ≡ Some rule.TooMany
 unfolding broken_at broken_thing
 price_past_the_limit = refl
+
+-- ---- words
+
+at_the_limit :
+    words_on (rule.Transaction (transaction.Limit Amount 10000000000000))
+    ≡ codes "the value or the quantity of one of its splits is above 10,000,000,000,000 in size.\n"
+unfolding words_on transaction_words
+at_the_limit = refl
+
+out_of_balance_when_brought_back :
+    words_on (rule.Restored (transaction.Unbalanced (pos 1)))
+    ≡ codes "as it would be brought back, the values of its splits do not sum to zero.\n"
+unfolding words_on restored_words
+out_of_balance_when_brought_back = refl
+
+matched_with_a_voided_split :
+    words_on rule.MatchedSplit
+    ≡ codes "the split that it is matched with is not in the book, has another account or quantity, or is voided.\n"
+unfolding words_on
+matched_with_a_voided_split = refl

@@ -9,6 +9,7 @@ use Rattle.book_splits.specs.TransactionRules.{are_once, numbers_of, share_numbe
 use Rattle.book_splits.specs.declared.reconciliation.Recon.{Recon}
 use Rattle.book_splits.specs.declared.rule.TxnRule.{TxnRule}
 use Rattle.book_splits.specs.declared.transaction.Txn.{Txn}
+use Rattle.book_splits.specs.declared.void.Void.{Void}
 use Rattle.book_undo.specs.declared.schedule.Schedule.{Schedule}
 use Rattle.book_void.specs.Voiding.{keeps_each, restored}
 use Rattle.book_sound.specs.MarkedTransactionRules.{are_rightly_marked}
@@ -48,6 +49,12 @@ name_of_check None = rule.TooMany
 abbrev pub check_name : List (ℕ × Commodity) → List (ℕ × Account) → Txn → BrokenRule
 check_name commodities accounts transaction = name_of_check (first_broken (txn_rules commodities accounts transaction))
 
+-- The name of that check where a transaction is asked as it would be brought back: it says so where it is voided.
+abbrev pub name_of_restored : Option Void → Option TxnRule → BrokenRule
+name_of_restored None broken = name_of_check broken
+name_of_restored (Some void) None = rule.TooMany
+name_of_restored (Some void) (Some broken) = rule.Restored broken
+
 -- The rules of a transaction in the order in which their names are told: whether it can be brought back comes before
 -- what it is then.
 abbrev pub told_rules :
@@ -63,8 +70,9 @@ told_rules commodities accounts reconciliations transactions number transaction 
 -- Their names.
 abbrev pub transaction_names : List (ℕ × Commodity) → List (ℕ × Account) → Txn → List BrokenRule
 transaction_names commodities accounts transaction =
-    rule.Kept ∷ check_name commodities accounts (restored transaction) ∷ rule.SplitTwice ∷ rule.SplitElsewhere
-    ∷ rule.Mark ∷ []
+    rule.Kept
+    ∷ name_of_restored transaction.voided (first_broken (txn_rules commodities accounts (restored transaction)))
+    ∷ rule.SplitTwice ∷ rule.SplitElsewhere ∷ rule.Mark ∷ []
 
 -- Those of `price_rules`.
 abbrev pub price_names : List BrokenRule

@@ -31,13 +31,32 @@ transaction_words (broken.WrongCurrency commodity) =
 transaction_words (broken.Placeholder account) =
     codes "one of its splits is on an account that takes none.\n"
 transaction_words (broken.Limit which at) =
-    codes "the value or the quantity of one of its splits is above 1,000,000,000,000 in size.\n"
+    codes "the value or the quantity of one of its splits is above 10,000,000,000,000 in size.\n"
 transaction_words (broken.Basis account) =
     codes "one of its splits is on a security account whose basis is not its currency.\n"
 transaction_words (broken.ValueNotQuantity place) =
     codes "one of its splits is on an account in its currency, and its value is not its quantity.\n"
 transaction_words (broken.Unbalanced sum) =
     codes "the values of its splits do not sum to zero.\n"
+
+-- That a voided transaction, as it would be brought back, breaks a rule of transactions.
+unfoldable pub restored_words : TxnRule → List ℕ
+restored_words (broken.SplitCount count) =
+    codes "as it would be brought back, it has no split, or more than 500.\n"
+restored_words (broken.Unknown kind id) =
+    codes "as it would be brought back, its currency or the account of one of its splits is not in the book.\n"
+restored_words (broken.WrongCurrency commodity) =
+    codes "as it would be brought back, its currency is no currency.\n"
+restored_words (broken.Placeholder account) =
+    codes "as it would be brought back, one of its splits is on an account that takes none.\n"
+restored_words (broken.Limit which at) =
+    codes "as it would be brought back, the value or the quantity of one of its splits is above 10,000,000,000,000 in size.\n"
+restored_words (broken.Basis account) =
+    codes "as it would be brought back, one of its splits is on a security account whose basis is not its currency.\n"
+restored_words (broken.ValueNotQuantity place) =
+    codes "as it would be brought back, one of its splits is on an account in its currency, and its value is not its quantity.\n"
+restored_words (broken.Unbalanced sum) =
+    codes "as it would be brought back, the values of its splits do not sum to zero.\n"
 
 -- The words on a rule.
 unfoldable pub words_on : BrokenRule → List ℕ
@@ -75,6 +94,7 @@ words_on rule.SameName =
 words_on rule.NotUnderRoot =
     codes "its parents do not lead up to the root.\n"
 words_on (rule.Transaction broken) = transaction_words broken
+words_on (rule.Restored broken) = restored_words broken
 words_on rule.SplitTwice =
     codes "two of its splits have the same number.\n"
 words_on rule.SplitElsewhere =
@@ -84,7 +104,7 @@ words_on rule.Mark =
     ++ (codes "or it is not reconciled, and names a reconciliation; or it is voided, and the transaction is not;\n"
     ++ (codes "or the transaction is voided, and the split is not, or has amounts or a reconciliation.\n"))
 words_on rule.Kept =
-    codes "it is voided, and the amounts of each of its splits are not kept.\n"
+    codes "it is voided, and what is kept is not one value and one quantity for each of its splits.\n"
 words_on rule.Ratio =
     codes "its num or its denom is not from 1 to 1,000,000,000.\n"
 words_on rule.OneCommodity =
@@ -114,7 +134,7 @@ words_on rule.Amount =
 words_on rule.SameKey =
     codes "another line has its key: its account, day, amount, type, references, text and ordinal.\n"
 words_on rule.MatchedSplit =
-    codes "the split that it is matched with is not in the book, or has another account or quantity.\n"
+    codes "the split that it is matched with is not in the book, has another account or quantity, or is voided.\n"
 words_on rule.MatchedTwice =
     codes "another line is matched with the same split.\n"
 words_on rule.SameText =

@@ -1,5 +1,5 @@
 ghost use Rattle.std.specs.Prelude.{◌≡◌};
-ghost use Rattle.book_broken.specs.Words.{number_words, transaction_words, words_on};
+ghost use Rattle.book_broken.specs.Words.{number_words, restored_words, transaction_words, words_on};
 
 use book_commodity::Kind;
 use book_splits::TxnRule;
@@ -43,6 +43,8 @@ pub enum BrokenRule {
     NotUnderRoot,
     /// It breaks this rule of a transaction, or its template does.
     Transaction(TxnRule),
+    /// It is voided, and breaks this rule of a transaction as it would be brought back.
+    Restored(TxnRule),
     /// Two of its splits have one number.
     SplitTwice,
     /// A transaction before it has a split with the number of one of its splits.
@@ -50,7 +52,7 @@ pub enum BrokenRule {
     /// One of its splits is reconciled, and no reconciliation has marked it so; or it isn't, and names one; or it is
     /// voided, and the transaction isn't; or the transaction is, and the split isn't rightly so.
     Mark,
-    /// It is voided, and the amounts of each of its splits aren't kept.
+    /// It is voided, and what is kept isn't one value and one quantity for each of its splits.
     Kept,
     /// Its numbers are not from 1 to 10^9.
     Ratio,
@@ -80,7 +82,7 @@ pub enum BrokenRule {
     Amount,
     /// A line before it has its key.
     SameKey,
-    /// The split that it is matched with isn't in the book, or is of another account or quantity.
+    /// The split that it is matched with isn't in the book, is of another account or quantity, or is voided.
     MatchedSplit,
     /// A line before it is matched with the same split.
     MatchedTwice,
@@ -139,6 +141,7 @@ impl BrokenRule {
             BrokenRule::SameName => { "another account under the same parent has its name.\n" }
             BrokenRule::NotUnderRoot => { "its parents do not lead up to the root.\n" }
             BrokenRule::Transaction(rule) => transaction_words(rule),
+            BrokenRule::Restored(rule) => restored_words(rule),
             BrokenRule::SplitTwice => { "two of its splits have the same number.\n" }
             BrokenRule::SplitElsewhere => {
                 "a split of another transaction has the number of one of its splits.\n"
@@ -149,7 +152,7 @@ impl BrokenRule {
                 or the transaction is voided, and the split is not, or has amounts or a reconciliation.\n"
             }
             BrokenRule::Kept => {
-                "it is voided, and the amounts of each of its splits are not kept.\n"
+                "it is voided, and what is kept is not one value and one quantity for each of its splits.\n"
             }
             BrokenRule::Ratio => { "its num or its denom is not from 1 to 1,000,000,000.\n" }
             BrokenRule::OneCommodity => { "its commodity is its currency.\n" }
@@ -172,7 +175,7 @@ impl BrokenRule {
                 "another line has its key: its account, day, amount, type, references, text and ordinal.\n"
             }
             BrokenRule::MatchedSplit => {
-                "the split that it is matched with is not in the book, or has another account or quantity.\n"
+                "the split that it is matched with is not in the book, has another account or quantity, or is voided.\n"
             }
             BrokenRule::MatchedTwice => { "another line is matched with the same split.\n" }
             BrokenRule::SameText => { "another binding has its text.\n" }
@@ -228,7 +231,7 @@ fn transaction_words(rule: TxnRule) -> &'static str
         TxnRule::WrongCurrency { .. } => { "its currency is no currency.\n" }
         TxnRule::Placeholder { .. } => { "one of its splits is on an account that takes none.\n" }
         TxnRule::Limit { .. } => {
-            "the value or the quantity of one of its splits is above 1,000,000,000,000 in size.\n"
+            "the value or the quantity of one of its splits is above 10,000,000,000,000 in size.\n"
         }
         TxnRule::Basis { .. } => {
             "one of its splits is on a security account whose basis is not its currency.\n"
@@ -237,5 +240,38 @@ fn transaction_words(rule: TxnRule) -> &'static str
             "one of its splits is on an account in its currency, and its value is not its quantity.\n"
         }
         TxnRule::Unbalanced { .. } => { "the values of its splits do not sum to zero.\n" }
+    }
+}
+
+/// The words where a voided transaction, as it would be brought back, breaks the rule of transactions.
+#[tactic(auto, unfolding(crate::specs::Words::restored_words))]
+fn restored_words(rule: TxnRule) -> &'static str
+    ensures { result.now ≡ restored_words rule }
+{
+    match rule {
+        TxnRule::SplitCount { .. } => {
+            "as it would be brought back, it has no split, or more than 500.\n"
+        }
+        TxnRule::Unknown { .. } => {
+            "as it would be brought back, its currency or the account of one of its splits is not in the book.\n"
+        }
+        TxnRule::WrongCurrency { .. } => {
+            "as it would be brought back, its currency is no currency.\n"
+        }
+        TxnRule::Placeholder { .. } => {
+            "as it would be brought back, one of its splits is on an account that takes none.\n"
+        }
+        TxnRule::Limit { .. } => {
+            "as it would be brought back, the value or the quantity of one of its splits is above 10,000,000,000,000 in size.\n"
+        }
+        TxnRule::Basis { .. } => {
+            "as it would be brought back, one of its splits is on a security account whose basis is not its currency.\n"
+        }
+        TxnRule::ValueNotQuantity { .. } => {
+            "as it would be brought back, one of its splits is on an account in its currency, and its value is not its quantity.\n"
+        }
+        TxnRule::Unbalanced { .. } => {
+            "as it would be brought back, the values of its splits do not sum to zero.\n"
+        }
     }
 }

@@ -10,7 +10,7 @@ ghost use Rattle.book_splits.specs.Check.{txn_rules};
 ghost use Rattle.book_commodity.specs.Rules.{first_broken};
 ghost use Rattle.book_void.specs.Voiding.{keeps_each, restored};
 ghost use Rattle.book_broken.specs.Broken.{broken_in, first_failing};
-ghost use Rattle.book_broken.specs.Names.{told_rules, transaction_names};
+ghost use Rattle.book_broken.specs.Names.{name_of_restored, told_rules, transaction_names};
 ghost use Rattle.book_broken.specs.declared.rule.BrokenRule.TheVariants as rule;
 
 use crate::BrokenRule;
@@ -41,7 +41,7 @@ pub(crate) fn in_transactions(
         return Ok(Some(BrokenRule::Kept));
     }
     if let Some(rule) = broken_check(alloc, commodities, accounts, transaction)? {
-        return Ok(Some(BrokenRule::Transaction(rule)));
+        return Ok(Some(named(transaction, rule)));
     }
     Ok(Some(in_splits(
         reconciliations,
@@ -51,7 +51,17 @@ pub(crate) fn in_transactions(
     )))
 }
 
-/// The first rule of transactions that the transaction breaks, as it is brought back where it is voided. Where it is
+/// The name of the rule of transactions that the transaction breaks, as it would be brought back where it is voided.
+fn named(transaction: &Txn, rule: TxnRule) -> BrokenRule
+    ensures { result ≡ name_of_restored transaction.now.voided (Some rule) }
+{
+    match transaction.voided {
+        Some(_) => BrokenRule::Restored(rule),
+        None => BrokenRule::Transaction(rule),
+    }
+}
+
+/// The first rule of transactions that the transaction breaks, as it would be brought back where it is voided. Where it is
 /// voided, something is kept of each split.
 fn broken_check(
     alloc: Global,
