@@ -6,4 +6,5 @@ pub mod RegisterLemmas
 pub mod RowLemmas
 pub mod ScheduleFacts
 pub mod ScheduleRowLemmas
+pub mod TransactionFacts
 pub mod Worked

@@ -19,6 +19,7 @@ use Rattle.book_reports.specs.declared.form.Form.TheVariants.{Csv, Plain}
 use Rattle.unicode_width.proofs.Computing.{unicode_width}
 use Rattle.book_listings.specs.Accounts.{account_columns, account_rows, kind_word}
 use Rattle.book_table.specs.Columns.{lines, placed, table_text, width}
+use Rattle.book_listings.specs.Command.{edit_line, lines_of, unvoid_line}
 use Rattle.book_listings.specs.Journal.{dated, rows_of}
 use Rattle.book_listings.specs.Account.{line_of}
 use Rattle.book_listings.specs.Schedules.{end_text}
@@ -122,6 +123,27 @@ rows_of_voided :
     ∷ []
 unfolding amount_text decimals_of with_generations nearest_parents digits
 rows_of_voided = refl
+
+-- for a program each row says why
+csv_rows_of_voided :
+    rows_of Csv book 11 voided
+    ≡ (codes "11" ∷ day_text (pos 41) ∷ [] ∷ codes "Twice" ∷ codes "EUR" ∷ codes "12" ∷ codes "v" ∷ codes "6"
+    ∷ codes "Fees" ∷ codes "0.00" ∷ codes "0.00" ∷ codes "EUR" ∷ [] ∷ codes "fee" ∷ codes "entered twice" ∷ [])
+    ∷ (codes "11" ∷ day_text (pos 41) ∷ [] ∷ codes "Twice" ∷ codes "EUR" ∷ codes "13" ∷ codes "v" ∷ codes "5"
+    ∷ codes "Cash" ∷ codes "0.00" ∷ codes "0.00" ∷ codes "EUR" ∷ [] ∷ [] ∷ codes "entered twice" ∷ [])
+    ∷ []
+unfolding amount_text decimals_of with_generations nearest_parents digits
+csv_rows_of_voided = refl
+
+-- it is brought back first, and has then what was kept
+restored_by_two_lines :
+    lines_of 11 voided
+    ≡ unvoid_line 11
+    ++ edit_line 11 (record voided {
+      splits = split 12 6 (codes "fee") (pos 150) (pos 150) ∷ split 13 5 [] (negsuc 149) (negsuc 149) ∷ [];
+      voided = None;
+    })
+restored_by_two_lines = refl
 
 -- the two characters of U+4E1C and U+4EAC
 abbrev wide : List ℕ

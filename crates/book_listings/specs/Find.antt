@@ -1,11 +1,12 @@
 -- The transactions in which a text stands, whatever the case of its letters (The Unicode Standard, section 3.13,
 -- default case folding).
-use Rattle.std.specs.Prelude.{ℕ, ◌==◌, ◌&&◌, ◌||◌, ◌≡◌, ℤ, Bool, true, false, List, [], ◌∷◌, filter, map, chars}
+use Rattle.std.specs.Prelude.{ℕ, ◌==◌, ◌&&◌, ◌||◌, ◌≡◌, ℤ, Bool, true, false, List, [], ◌∷◌, filter, map, chars, Option, Some, None}
 use Rattle.std.specs.Prelude.{encode_utf8_all}
 use Rattle.std.specs.List.{list_any}
 use Rattle.caseless.specs.Caseless.{default_case_fold}
 use Rattle.book_reports.specs.declared.form.Form.{Form}
 use Rattle.book_splits.specs.declared.transaction.Txn.{Txn}
+use Rattle.book_splits.specs.declared.void.Void.{Void}
 use Rattle.book_undo.specs.Book.{Book}
 use Rattle.book_listings.specs.Journal.{AreByDay, listed}
 
@@ -24,12 +25,19 @@ abbrev pub holds : List ℕ → List ℕ → Bool
 holds part [] = begins part []
 holds part (byte ∷ text) = begins part (byte ∷ text) || holds part text
 
--- Whether a part without case stands in the num, the description or a memo of a transaction.
+-- Whether a part without case stands in the reason for which a transaction was voided.
+abbrev pub has_reason : List ℕ → Option Void → Bool
+has_reason part None = false
+has_reason part (Some void) = holds part (folded void.reason)
+
+-- Whether a part without case stands in the num, the description or a memo of a transaction, or in the reason for which
+-- it was voided.
 abbrev pub has_part : List ℕ → Txn → Bool
 has_part part transaction =
     holds part (folded transaction.num)
     || (holds part (folded transaction.description)
-    || list_any (λ split. holds part (folded split.memo)) transaction.splits)
+    || (has_reason part transaction.voided
+    || list_any (λ split. holds part (folded split.memo)) transaction.splits))
 
 -- The transactions that have the part, by number: the day of each, and its number.
 abbrev pub with_part : List ℕ → List (ℕ × Txn) → List (ℤ × ℕ)

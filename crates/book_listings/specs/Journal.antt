@@ -110,6 +110,11 @@ plain_rows book number transaction =
 
 -- ---- the rows for a program: one for each split, with what its transaction has
 
+-- Why a transaction is voided; nothing of one that isn't.
+abbrev pub void_reason : Option Void → List ℕ
+void_reason None = []
+void_reason (Some void) = void.reason
+
 abbrev pub record_row : Book → ℕ → Txn → Split → List (List ℕ)
 record_row book number transaction split =
     decimal number
@@ -126,6 +131,7 @@ record_row book number transaction split =
     ∷ name_of book.commodities (commodity_of book split.account)
     ∷ split.action
     ∷ split.memo
+    ∷ void_reason transaction.voided
     ∷ []
 
 abbrev pub rows_of : Form → Book → ℕ → Txn → List (List (List ℕ))
@@ -147,7 +153,7 @@ columns Plain =
 columns Csv =
     codes "transaction" ∷ codes "day" ∷ codes "num" ∷ codes "description" ∷ codes "currency" ∷ codes "split"
     ∷ codes "mark" ∷ codes "account" ∷ codes "path" ∷ codes "value" ∷ codes "quantity" ∷ codes "commodity"
-    ∷ codes "action" ∷ codes "memo" ∷ []
+    ∷ codes "action" ∷ codes "memo" ∷ codes "voided" ∷ []
 
 abbrev pub sides : List Side
 sides = Left ∷ Right ∷ Left ∷ Right ∷ Right ∷ Left ∷ Right ∷ Left ∷ Free ∷ []

@@ -1,18 +1,21 @@
-ghost use Rattle.std.specs.Prelude.{◌≡◌, IfOk, map};
+ghost use Rattle.std.specs.Prelude.{◌≡◌, IfOk, IfSome, length, map};
 ghost use Rattle.serde_json.specs.Data.{array};
 ghost use Rattle.serde_json.specs.View.{items_of, view};
 ghost use Rattle.book_commodity.specs.Day.{day_text};
-ghost use Rattle.book_listings.specs.Command.{command_text, edit_data, edit_line, split_data};
+ghost use Rattle.book_listings.specs.Command.{command_text, edit_data, edit_line, lines_of, split_data};
+ghost use Rattle.book_listings.specs.Command.{unvoid_data, unvoid_line};
 
 use crate::PresentBook;
 use book_commodity::{OutOfMemory, Text};
 use book_splits::{Split, Txn};
 use book_table::day_cell;
+use book_void::restored;
 use serde_json::{Value, json};
 use std::alloc::{AllocError, Global};
 
 /// The line of the command `edit` that gives the transaction with a number what it has, with the numbers and memos of
-/// its splits, ready to be changed; None exactly where the book has no such transaction.
+/// its splits, ready to be changed; None exactly where the book has no such transaction. A voided one takes no edit: so
+/// the line `unvoid` comes first, and the edit has the amounts that were kept.
 pub fn command_text(
     alloc: Global,
     book: &PresentBook,
@@ -20,13 +23,48 @@ pub fn command_text(
 ) -> Result<Option<Text>, OutOfMemory>
     ensures { IfOk result (λ found. found ≡ command_text book.now number) }
 {
-    match book.plain().transactions.find(number) {
-        Some(transaction) => Ok(Some(edit_line(alloc, number, transaction)?)),
+    match book.transaction(number) {
+        Some(transaction) => Ok(Some(lines_of(alloc, number, transaction)?)),
         None => Ok(None),
     }
 }
 
-/// The line of the command, with its line feed.
+/// The lines for a transaction. Where it is voided, as many amounts are kept as there are splits.
+fn lines_of(alloc: Global, number: u64, transaction: &Txn) -> Result<Text, OutOfMemory>
+    requires { IfSome transaction.now.voided (λ void. length void.kept ≡ length transaction.now.splits) }
+    ensures { IfOk result (λ lines. lines ≡ lines_of number transaction.now) }
+{
+    if transaction.voided.is_none() {
+        return edit_line(alloc, number, transaction);
+    }
+    let restored = restored(alloc, transaction)?;
+    let edit = edit_line(alloc, number, &restored)?;
+    let mut lines = unvoid_line(alloc, number)?.into_string();
+    lines.push_str(edit.as_str())?;
+    Ok(Text::of(lines))
+}
+
+/// The line of the command `unvoid`, with its line feed.
+fn unvoid_line(alloc: Global, number: u64) -> Result<Text, OutOfMemory>
+    ensures { IfOk result (λ line. line ≡ unvoid_line number) }
+{
+    let value = unvoid_value(alloc, number)?;
+    let mut line = value.to_string(alloc)?;
+    line.push('\n')?;
+    Ok(Text::of(line))
+}
+
+/// The command `unvoid` as a value.
+fn unvoid_value(alloc: Global, number: u64) -> Result<Value, AllocError>
+    ensures { IfOk result (λ value. view value ≡ unvoid_data number) }
+{
+    json!(in alloc; {
+        "do": "unvoid",
+        "transaction": number
+    })
+}
+
+/// The line of the command `edit`, with its line feed.
 fn edit_line(alloc: Global, number: u64, transaction: &Txn) -> Result<Text, OutOfMemory>
     ensures { IfOk result (λ line. line ≡ edit_line number transaction.now) }
 {

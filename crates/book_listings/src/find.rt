@@ -1,18 +1,18 @@
 ghost use Rattle.std.specs.Prelude.{◌≡◌, IfOk};
 ghost use Rattle.std.specs.List.{list_any};
-ghost use Rattle.book_listings.specs.Find.{AreFound, folded, has_part, holds, with_part};
+ghost use Rattle.book_listings.specs.Find.{AreFound, folded, has_part, has_reason, holds, with_part};
 
 use crate::PresentBook;
 use crate::journal::listed_text;
 use crate::order::sorted;
 use book_commodity::{OutOfMemory, Text};
 use book_reports::Form;
-use book_splits::{Split, Txn};
+use book_splits::{Split, Txn, Void};
 use caseless::default_case_fold_str;
 use std::alloc::Global;
 
-/// The transactions of a book in whose num, description or memos a text stands, by day; the case of letters does not
-/// matter.
+/// The transactions of a book in whose num, description, memos or reason of voiding a text stands, by day; the case of
+/// letters does not matter.
 pub fn found_text(
     alloc: Global,
     book: &PresentBook,
@@ -52,7 +52,8 @@ fn with_part(
     Ok(all)
 }
 
-/// Whether a part without case stands in the num, the description or a memo of a transaction.
+/// Whether a part without case stands in the num, the description or a memo of a transaction, or in the reason for which
+/// it was voided.
 fn has_part(alloc: Global, transaction: &Txn, part: &str) -> Result<bool, OutOfMemory>
     ensures { IfOk result (λ has. has ≡ has_part part.now transaction.now) }
 {
@@ -62,7 +63,20 @@ fn has_part(alloc: Global, transaction: &Txn, part: &str) -> Result<bool, OutOfM
     if holds(alloc, part, transaction.description.as_str())? {
         return Ok(true);
     }
+    if has_reason(alloc, &transaction.voided, part)? {
+        return Ok(true);
+    }
     has_memo(alloc, transaction.splits.as_slice(), part)
+}
+
+/// Whether a part without case stands in the reason for which a transaction was voided.
+fn has_reason(alloc: Global, voided: &Option<Void>, part: &str) -> Result<bool, OutOfMemory>
+    ensures { IfOk result (λ has. has ≡ has_reason part.now voided.now) }
+{
+    match voided {
+        Some(void) => holds(alloc, part, void.reason.as_str()),
+        None => Ok(false),
+    }
 }
 
 /// Whether a part without case stands in a memo of the splits.

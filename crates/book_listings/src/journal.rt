@@ -1,7 +1,7 @@
 ghost use Rattle.std.specs.Prelude.{◌≡◌, ◌∷◌, ◌++◌, IfOk, OnOk, map};
 ghost use Rattle.std.specs.List.{flat_map};
 ghost use Rattle.book_listings.specs.Journal.{IsJournal, columns, head_row, listed, mark_letter, other_quantity};
-ghost use Rattle.book_listings.specs.Journal.{plain_rows, record_row, rows_at, rows_of, split_row, void_note};
+ghost use Rattle.book_listings.specs.Journal.{plain_rows, record_row, rows_at, rows_of, split_row, void_note, void_reason};
 
 use crate::accounts::name_in;
 use crate::order::by_day;
@@ -27,7 +27,7 @@ const PLAIN: [&str; 9] = [
 ];
 
 /// The names of the columns for a program.
-const CSV: [&str; 14] = [
+const CSV: [&str; 15] = [
     "transaction",
     "day",
     "num",
@@ -42,6 +42,7 @@ const CSV: [&str; 14] = [
     "commodity",
     "action",
     "memo",
+    "voided",
 ];
 
 /// Where the texts of each column stand.
@@ -265,7 +266,18 @@ fn record_row(
     cells.text(book.name(commodity))?;
     cells.text(split.action.as_str())?;
     cells.text(split.memo.as_str())?;
+    cells.text(void_reason(&transaction.voided))?;
     Ok(cells.row())
+}
+
+/// Why a transaction is voided; nothing of one that isn't.
+fn void_reason(voided: &Option<Void>) -> &str
+    ensures { result.now ≡ void_reason voided.now }
+{
+    match voided {
+        Some(void) => void.reason.as_str(),
+        None => "",
+    }
 }
 
 /// The quantity of a split with its commodity; empty, where the account holds the currency of the transaction.

@@ -1,4 +1,5 @@
-ghost use Rattle.std.specs.Prelude.{◌≡◌, All, IfOk, IsSome, length};
+ghost use Rattle.std.specs.Prelude.{◌≡◌, All, IfOk, IfSome, IsSome, length};
+ghost use Rattle.std.specs.Option.{option_copied};
 ghost use Rattle.book_accounts.specs.Order.{depth_first};
 ghost use Rattle.book_accounts.specs.Path.{path};
 ghost use Rattle.book_commodity.specs.Table.{value_of};
@@ -16,6 +17,7 @@ use book_keeper::Sink;
 use book_ledger::Registers;
 use book_prices::Prices;
 use book_register::Register;
+use book_splits::Txn;
 use book_undo::{Plain, Schedule};
 use std::alloc::Global;
 use std::marker::Model;
@@ -66,6 +68,15 @@ impl PresentBook {
     {
         let _ = &self.registers;
         export(alloc, &self.plain, output)
+    }
+
+    /// The transaction with a number, if there is one. Where it is voided, as many amounts are kept as it has splits.
+    pub(crate) fn transaction(&self, number: u64) -> Option<&Txn>
+        ensures found { option_copied result ≡ value_of number self.now.transactions }
+        ensures kept { IfSome result (λ it. IfSome it.now.voided (λ void. length void.kept ≡ length it.now.splits)) }
+    {
+        let _ = &self.registers;
+        self.plain.transactions.find(number)
     }
 
     /// How many splits all transactions have together.
