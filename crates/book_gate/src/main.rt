@@ -1,8 +1,8 @@
-//! The rows of the gate: runs of the program, pages, books that are opened again, standard streams, statement files, and the work that an engine takes. Each row stands in a file beside the program, and `gate.txt`
-//! lists the files. The program makes what each row says, compares what comes with what the row wants, and says for
-//! each file how many rows it has. A row that fails is said on standard output and on standard error; then the program
-//! goes on, and ends with 1. With the words `opening COUNT` it measures instead how long a book of so many transactions
-//! takes to open.
+//! The rows of the gate: runs of the program, pages, books that are opened again, standard streams, statement files,
+//! and the work that an engine takes. Each row stands in a file beside the program, and `gate.txt` lists the files. The
+//! program makes what each row says, compares what comes with what the row wants, and says for each file how many rows
+//! it has. A row that fails is said on standard output and on standard error; then the program goes on, and ends with
+//! 1. With the words `opening COUNT` it measures instead how long a book of so many transactions takes to open.
 #![tactic(auto)]
 
 mod case;

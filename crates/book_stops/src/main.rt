@@ -1,5 +1,5 @@
 //! Runs of the program that are stopped because a file of the book fails, over a disk in memory. Each line of
-//! `stops.rows` is a row, `START LINES FILE ENDING BEFORE AFTER`; a line without text, or that begins with `#`, is none.
+//! `stops.rows` is a row, `START LINES FILE ENDING BEFORE AFTER`; one without text, or that begins with `#`, is none.
 //!
 //! - START is the file of the book that the run begins with, or `-`: then the files are empty, and the table of rows is
 //!   made in them before the lines.

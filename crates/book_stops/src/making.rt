@@ -15,8 +15,8 @@ const PIECE: usize = 4096;
 /// What a run came to.
 #[derive(Clone, Copy)]
 pub(crate) struct Made {
-    /// How many lines were answered as done, or none where the run says that it lacked memory: memory is ample here, and
-    /// a disk that failed has to be told as the keeper's failure.
+    /// How many lines were answered as done, or none where the run says that it lacked memory: memory is ample here,
+    /// and a disk that failed has to be told as the keeper's failure.
     pub(crate) done: Option<usize>,
     /// Whether all lines were done, and the run ended as done.
     pub(crate) is_whole: bool,

@@ -65,7 +65,8 @@ impl<'a> Start<'a> {
         }
     }
 
-    /// The same of a book that was empty at first: the rows are those after the lines that were done, or after one more.
+    /// The same of a book that was empty at first: the rows are those after the lines that were done, or after one
+    /// more.
     fn found_in_new(
         self,
         alloc: Global,
