@@ -4,7 +4,7 @@ use crate::start::{Found, Start};
 use book_commodity::discard;
 use book_keeper::{Keeper, Row};
 use book_sqlite::SqliteKeeper;
-use gate_rows::rows_in;
+use gate_rows::{rows_in, unread};
 use sqlite::{Connection, FileStore, Options};
 use sqlite_disk::{Fuse, Memory};
 use std::alloc::Global;
@@ -185,8 +185,26 @@ pub(crate) fn found_after(
     discard(ended, found)
 }
 
-/// What the book holds that is opened again after this run.
+/// What the book holds that is opened again after this run. An error where the run was not stopped, and does not leave
+/// all rows.
 fn found_in(
+    alloc: Global,
+    ended: &mut Ended,
+    ending: Ending,
+    start: Start<'_>,
+) -> io::Result<Found> {
+    let found = known_in(alloc, ended, ending, start)?;
+    if !(ended.made.is_whole && ended.is_closed) {
+        return Ok(found);
+    }
+    match found {
+        Found::Other => Err(unread()),
+        _ => Ok(Found::All),
+    }
+}
+
+/// Which rows the book holds that is opened again after this run. They are others where one more run does not go on.
+fn known_in(
     alloc: Global,
     ended: &mut Ended,
     ending: Ending,
@@ -200,11 +218,9 @@ fn found_in(
         return Ok(Found::Other);
     };
     let files = next_files(alloc, &mut ended.files, ending)?;
-    if !goes_on(alloc, files, start, done)? {
-        Ok(Found::Other)
-    } else if ended.made.is_whole && ended.is_closed {
-        Ok(Found::All)
-    } else {
+    if goes_on(alloc, files, start, done)? {
         Ok(found)
+    } else {
+        Ok(Found::Other)
     }
 }
