@@ -14,6 +14,14 @@ pub(crate) struct Fuses {
 }
 
 impl Fuses {
+    /// No call fails.
+    pub(crate) fn none() -> Fuses {
+        Fuses {
+            log: u64::MAX,
+            book: u64::MAX,
+        }
+    }
+
     /// The log, or else the book, fails after so many calls.
     pub(crate) fn of(is_log: bool, calls: u64) -> Fuses {
         if is_log {
@@ -39,16 +47,8 @@ pub(crate) enum Ending {
     Kept,
 }
 
-/// Two empty files with these fuses.
-pub(crate) fn empty_files(alloc: Global, fuses: Fuses) -> FusedFiles {
-    Files {
-        log: Fuse::new(Memory::new(alloc), fuses.log),
-        db: Fuse::new(Memory::new(alloc), fuses.book),
-    }
-}
-
-/// A file in memory with these bytes, which is on the disk, and whose calls don't fail.
-fn file_of(alloc: Global, bytes: &[u8]) -> io::Result<Fuse<Memory>> {
+/// A file in memory with these bytes, which is on the disk, and which fails after so many calls.
+fn file_of(alloc: Global, bytes: &[u8], calls: u64) -> io::Result<Fuse<Memory>> {
     let mut file = Memory::new(alloc);
     if !bytes.is_empty() && file.may_be_used() {
         file.write_at(0, bytes)?;
@@ -56,24 +56,33 @@ fn file_of(alloc: Global, bytes: &[u8]) -> io::Result<Fuse<Memory>> {
     if file.may_be_used() {
         file.sync()?;
     }
-    Ok(Fuse::new(file, u64::MAX))
+    Ok(Fuse::new(file, calls))
 }
 
-/// The files as the next run finds them, whose calls don't fail.
+/// Two files with these bytes, which are on the disk, and with these fuses.
+fn files_of(alloc: Global, log: &[u8], book: &[u8], fuses: Fuses) -> io::Result<FusedFiles> {
+    Ok(Files {
+        log: file_of(alloc, log, fuses.log)?,
+        db: file_of(alloc, book, fuses.book)?,
+    })
+}
+
+/// The files that a run begins with: an empty log, and the book with these bytes.
+pub(crate) fn first_files(alloc: Global, book: &[u8], fuses: Fuses) -> io::Result<FusedFiles> {
+    files_of(alloc, &[], book, fuses)
+}
+
+/// The files as the next run finds them, whose calls don't fail. Each call gives files of their own.
 pub(crate) fn next_files(
     alloc: Global,
-    mut files: FusedFiles,
+    files: &mut FusedFiles,
     ending: Ending,
 ) -> io::Result<FusedFiles> {
-    match ending {
-        Ending::Lost => {
-            files.log.crash();
-            files.db.crash();
-            Ok(files)
-        }
-        Ending::Kept => Ok(Files {
-            log: file_of(alloc, files.log.inner().bytes())?,
-            db: file_of(alloc, files.db.inner().bytes())?,
-        }),
+    if let Ending::Lost = ending {
+        files.log.crash();
+        files.db.crash();
     }
+    let log = files.log.inner().bytes();
+    let book = files.db.inner().bytes();
+    files_of(alloc, log, book, Fuses::none())
 }
