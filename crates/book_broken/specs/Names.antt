@@ -11,7 +11,7 @@ use Rattle.book_splits.specs.declared.rule.TxnRule.{TxnRule}
 use Rattle.book_splits.specs.declared.transaction.Txn.{Txn}
 use Rattle.book_splits.specs.declared.void.Void.{Void}
 use Rattle.book_undo.specs.declared.schedule.Schedule.{Schedule}
-use Rattle.book_void.specs.Voiding.{keeps_each, restored}
+use Rattle.book_void.specs.Voiding.{keeps_as_many, restored}
 use Rattle.book_sound.specs.MarkedTransactionRules.{are_rightly_marked}
 use Rattle.book_sound.specs.Tests.{passes_check}
 use Rattle.book_broken.specs.declared.rule.BrokenRule.{BrokenRule}
@@ -60,14 +60,14 @@ name_of_restored (Some void) (Some broken) = rule.Restored broken
 abbrev pub told_rules :
     List (ℕ × Commodity) → List (ℕ × Account) → List (ℕ × Recon) → List (ℕ × Txn) → ℕ → Txn → List Bool
 told_rules commodities accounts reconciliations transactions number transaction =
-    keeps_each transaction.voided transaction.splits
+    keeps_as_many transaction.voided transaction.splits
     ∷ passes_check commodities accounts (restored transaction)
     ∷ are_once (numbers_of transaction.splits)
     ∷ not (stands_before (share_numbers transaction) number transactions)
     ∷ are_rightly_marked reconciliations transaction.voided transaction.splits
     ∷ []
 
--- Their names.
+-- The names of `told_rules`.
 abbrev pub transaction_names : List (ℕ × Commodity) → List (ℕ × Account) → Txn → List BrokenRule
 transaction_names commodities accounts transaction =
     rule.Kept

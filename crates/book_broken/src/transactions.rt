@@ -8,7 +8,7 @@ ghost use Rattle.book_sound.specs.MarkedTransactionRules.{has_marked, is_marked_
 ghost use Rattle.book_sound.specs.MarkedTransactionRules.{are_rightly_marked, is_rightly_marked};
 ghost use Rattle.book_splits.specs.Check.{txn_rules};
 ghost use Rattle.book_commodity.specs.Rules.{first_broken};
-ghost use Rattle.book_void.specs.Voiding.{keeps_each, restored};
+ghost use Rattle.book_void.specs.Voiding.{keeps_as_many, restored};
 ghost use Rattle.book_broken.specs.Broken.{broken_in, first_failing};
 ghost use Rattle.book_broken.specs.Names.{name_of_restored, told_rules, transaction_names};
 ghost use Rattle.book_broken.specs.declared.rule.BrokenRule.TheVariants as rule;
@@ -17,7 +17,7 @@ use crate::BrokenRule;
 use book_accounts::Tree;
 use book_commodity::{Commodities, OutOfMemory, Table};
 use book_splits::{Mark, MarkedSplit, Recon, Split, Txn, TxnRule, Txns, check_txn};
-use book_void::{are_rightly_voided, keeps_each, restored};
+use book_void::{are_rightly_voided, keeps_as_many, restored};
 use std::alloc::Global;
 
 /// The rule that the transaction under the number breaks, if a transaction is there.
@@ -37,7 +37,7 @@ pub(crate) fn in_transactions(
     let Some(transaction) = transactions.find(number) else {
         return Ok(None);
     };
-    if !keeps_each(transaction) {
+    if !keeps_as_many(transaction) {
         return Ok(Some(BrokenRule::Kept));
     }
     if let Some(rule) = broken_check(alloc, commodities, accounts, transaction)? {
@@ -69,7 +69,7 @@ fn broken_check(
     accounts: &Tree,
     transaction: &Txn,
 ) -> Result<Option<TxnRule>, OutOfMemory>
-    requires { keeps_each transaction.now.voided transaction.now.splits ≡ true }
+    requires { keeps_as_many transaction.now.voided transaction.now.splits ≡ true }
     ensures { IfOk result (λ found. found
         ≡ first_broken (txn_rules commodities.now.entries accounts.now.entries (restored transaction.now))) }
 {

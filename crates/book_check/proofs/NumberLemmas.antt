@@ -12,7 +12,7 @@ use Rattle.book_splits.specs.declared.transaction.Txn.{Txn}
 use Rattle.book_commodity.specs.declared.commodity.Commodity.{Commodity}
 use Rattle.book_accounts.specs.declared.account.Account.{Account}
 use Rattle.book_splits.specs.declared.reconciliation.Recon.{Recon}
-use Rattle.book_void.specs.Voiding.{keeps_each, restored}
+use Rattle.book_void.specs.Voiding.{keeps_as_many, restored}
 use Rattle.book_sound.specs.MarkedTransactionRules.{are_rightly_marked, marked_transaction_rules}
 use Rattle.book_sound.specs.Tests.{passes_check}
 use Rattle.book_check.specs.FirstUnsound.{all_hold}
@@ -101,13 +101,13 @@ pub rules_asked :
     (seen : List ℕ) (es : List (ℕ × Txn)) (i n : ℕ) (t : Txn) (kept new : Bool) → Rises es
     → slice_get es i ≡ Some (n, t) → HasNumbers seen (take i es)
     → kept ≡ (passes_check commodities accounts (restored t)
-    && (are_rightly_marked reconciliations t.voided t.splits && keeps_each t.voided t.splits))
+    && (are_rightly_marked reconciliations t.voided t.splits && keeps_as_many t.voided t.splits))
     → new ≡ are_new seen (numbers_of t.splits)
     → all_hold (marked_transaction_rules commodities accounts reconciliations es n t) ≡ (kept && new)
 rules_asked commodities accounts reconciliations seen es i n t kept new rise there has asked counted =
     let passes = passes_check commodities accounts (restored t) in
     let marks = are_rightly_marked reconciliations t.voided t.splits in
-    let keeps = keeps_each t.voided t.splits in
+    let keeps = keeps_as_many t.voided t.splits in
     let once = are_once (numbers_of t.splits) in
     regrouped passes once (stands_before (share_numbers t) n es) marks keeps
     ∙ ap (λ b. (passes && (marks && keeps)) && (once && not b)) (shares_seen seen es i n t rise there has)

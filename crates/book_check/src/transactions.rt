@@ -1,7 +1,7 @@
 ghost use Rattle.std.specs.Prelude.{◌≡◌, ◌+◌, ◌≤◌, IfOk, nat_lt, not, ◌&&◌};
 ghost use Rattle.std.specs.Bool.{OnTrue};
 ghost use Rattle.book_splits.specs.TransactionRules.{numbers_of};
-ghost use Rattle.book_void.specs.Voiding.{keeps_each, restored};
+ghost use Rattle.book_void.specs.Voiding.{keeps_as_many, restored};
 ghost use Rattle.book_sound.specs.MarkedTransactionRules.{are_rightly_marked, marked_transaction_rules};
 ghost use Rattle.book_sound.specs.Tests.{passes_check};
 ghost use Rattle.book_check.specs.FirstUnsound.{first_in, splits_in};
@@ -14,7 +14,7 @@ use crate::seen::Seen;
 use book_accounts::Tree;
 use book_commodity::{Commodities, OutOfMemory, Table};
 use book_splits::{Recon, Split, Txn, Txns};
-use book_void::{keeps_each, passes_restored};
+use book_void::{keeps_as_many, passes_restored};
 use std::alloc::Global;
 
 /// How many transactions a book has at most.
@@ -87,9 +87,9 @@ fn keeps_rules(
     ensures { IfOk result (λ kept. kept ≡
         (passes_check commodities.now.entries accounts.now.entries (restored transaction.now)
         && (are_rightly_marked reconciliations.now.entries transaction.now.voided transaction.now.splits
-        && keeps_each transaction.now.voided transaction.now.splits))) }
+        && keeps_as_many transaction.now.voided transaction.now.splits))) }
 {
-    if !keeps_each(transaction) {
+    if !keeps_as_many(transaction) {
         return Ok(false);
     }
     if !are_rightly_marked(reconciliations, marks, transaction) {

@@ -19,7 +19,7 @@ use Rattle.book_splits.specs.declared.split.Split.{Split}
 use Rattle.book_splits.specs.declared.transaction.Txn.{Txn}
 use Rattle.book_splits.proofs.CountLemmas.{splits-with}
 use Rattle.book_splits.proofs.ReplacedLemmas.{fails_among}
-use Rattle.book_void.specs.Voiding.{keeps_each, restored}
+use Rattle.book_void.specs.Voiding.{keeps_as_many, restored}
 use Rattle.book_statement.specs.declared.line.Line.{Line}
 use Rattle.book_statement.specs.declared.line_state.LineState.{LineState}
 use Rattle.book_sound.specs.Dismissal.{is_lost, is_lost_split, loses_split}
@@ -83,7 +83,7 @@ record IsPut (next : ℕ) (book : Book) (n : ℕ) (new : Txn) : Type 0 where
   check : passes_check book.commodities book.accounts (restored new) ≡ true
   once : are_once (numbers_of new.splits) ≡ true
   marks : are_rightly_marked book.reconciliations new.voided new.splits ≡ true
-  keeps : keeps_each new.voided new.splits ≡ true
+  keeps : keeps_as_many new.voided new.splits ≡ true
   few : length book.transactions < 200000
   few_splits : length (splits_of book.transactions) + length new.splits ≤ 1000000
   apart : is_apart n new book.transactions ≡ true
@@ -98,7 +98,7 @@ put_of next book n new fits =
     let check = and_parts (passes_check book.commodities book.accounts (restored new)) _ parts.1 in
     let splits = and_parts (are_once (numbers_of new.splits)) _ check.1 in
     let marks = and_parts (are_rightly_marked book.reconciliations new.voided new.splits)
-    (keeps_each new.voided new.splits) splits.1 in
+    (keeps_as_many new.voided new.splits) splits.1 in
     let room = and_parts (has_room ts (length new.splits)) _ drawn.1 in
     let count = and_parts (nat_lt (length ts) 200000) _ room.0 in
     let others = and_parts (is_apart n new ts) _ room.1 in

@@ -11,7 +11,7 @@ use Rattle.book_splits.specs.declared.transaction.Txn.{Txn}
 use Rattle.book_statement.specs.declared.line.Line.{Line}
 use Rattle.book_statement.specs.declared.line_state.LineState.{LineState}
 use Rattle.book_statement.specs.declared.line_state.LineState.TheVariants.{Open, Matched, Dismissed}
-use Rattle.book_void.specs.Voiding.{keeps_each, restored}
+use Rattle.book_void.specs.Voiding.{keeps_as_many, restored}
 use Rattle.book_sound.specs.LineRules.{fits_line, split_at}
 use Rattle.book_sound.specs.MarkedTransactionRules.{are_rightly_marked}
 use Rattle.book_sound.specs.Tests.{passes_check}
@@ -33,7 +33,7 @@ abbrev pub keeps_own_rules : Book → Txn → Bool
 keeps_own_rules book transaction =
     passes_check book.commodities book.accounts (restored transaction) && (are_once (numbers_of transaction.splits)
     && (are_rightly_marked book.reconciliations transaction.voided transaction.splits
-    && keeps_each transaction.voided transaction.splits))
+    && keeps_as_many transaction.voided transaction.splits))
 
 -- Whether there is room for a transaction more with so many splits.
 abbrev pub has_room : List (ℕ × Txn) → ℕ → Bool

@@ -14,7 +14,7 @@ use crate::restating::{is_same_line, may_be};
 use book_commodity::OutOfMemory;
 use book_splits::{Split, Txn, Txns};
 use book_undo::{Edit, Plain, Thing};
-use book_void::{keeps_each, passes_restored};
+use book_void::{keeps_as_many, passes_restored};
 use std::alloc::Global;
 
 /// How many transactions a book has at most.
@@ -110,7 +110,7 @@ fn are_drawn(splits: &[Split], next: u64) -> bool
 fn keeps_own_rules(alloc: Global, plain: &Plain, transaction: &Txn) -> Result<bool, OutOfMemory>
     ensures { IfOk result (λ keeps. keeps ≡ keeps_own_rules (book_of plain.now) transaction.now) }
 {
-    if !keeps_each(transaction) {
+    if !keeps_as_many(transaction) {
         return Ok(false);
     }
     if !has_right_splits(plain, transaction) {

@@ -15,7 +15,8 @@ use Rattle.book_splits.specs.declared.split.Split.{Split}
 use Rattle.book_splits.specs.declared.transaction.Txn.{Txn}
 use Rattle.book_undo.specs.Book.{Book}
 
--- How far a split is reconciled: n, c or y (GnuCash Manual, reconciling accounts). A voided split has no row.
+-- How far a split is reconciled: n, c or y (GnuCash Manual, reconciling accounts). A voided split has no row, so what
+-- stands here for it is never asked.
 abbrev pub mark_of : Mark → Mark2
 mark_of mark.New = kept.Plain
 mark_of mark.Cleared = kept.Cleared

@@ -11,7 +11,7 @@ use book_commodity::Steps;
 use book_register::{Entry, Mark2, Register};
 use book_splits::{Mark, Split, Txn};
 
-/// How far a split is reconciled, as its register keeps it.
+/// How far a split is reconciled, as its register keeps it. A voided split has no row.
 fn mark_of(mark: Mark) -> Mark2
     ensures { result ≡ kept_mark mark }
 {

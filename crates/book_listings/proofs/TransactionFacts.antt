@@ -7,11 +7,11 @@ use Rattle.book_commodity.specs.Table.{value_of}
 use Rattle.book_splits.specs.declared.split.Split.{Split}
 use Rattle.book_splits.specs.declared.transaction.Txn.{Txn}
 use Rattle.book_splits.specs.declared.void.Void.{Void}
-use Rattle.book_void.specs.Voiding.{keeps_each}
+use Rattle.book_void.specs.Voiding.{keeps_as_many}
 use Rattle.book_undo.specs.Book.{Book}
 use Rattle.book_sound.specs.Soundness.{IsSoundBook}
 
-each_of : (voided : Option Void) (splits : List Split) → keeps_each voided splits ≡ true
+each_of : (voided : Option Void) (splits : List Split) → keeps_as_many voided splits ≡ true
     → IfSome voided (λ void. length void.kept ≡ length splits)
 each_of None splits keeps = tt
 each_of (Some void) splits keeps = eqb-true (length void.kept) (length splits) keeps

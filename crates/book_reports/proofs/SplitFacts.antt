@@ -19,7 +19,7 @@ use Rattle.book_sound.proofs.SoundFacts.{accounts_are_rooted, transactions_balan
 use Rattle.book_sound.proofs.VoidFrames.{rightly_voided_is}
 use Rattle.book_ledger.specs.Ledger.{HasPlaces}
 use Rattle.book_sound.specs.MarkedTransactionRules.{are_rightly_marked, is_rightly_marked, is_rightly_voided}
-use Rattle.book_sound.specs.MarkedTransactionRules.{keeps_each}
+use Rattle.book_sound.specs.MarkedTransactionRules.{keeps_as_many}
 use Rattle.book_sound.specs.Soundness.{IsSoundBook}
 use Rattle.book_splits.specs.Balance.{splits_of}
 use Rattle.book_splits.specs.Check.{rules_of_splits, split_rules}
@@ -91,7 +91,7 @@ fits_voided accounts currency (split ∷ more) (first ∷ kept) same voided fits
 fits_with :
     (accounts : List (ℕ × Account)) (reconciliations : List (ℕ × Recon)) (t : Txn) (voided : Option Void)
     → All (FitsAccount accounts (restored_with t voided).currency) (restored_with t voided).splits
-    → are_rightly_marked reconciliations voided t.splits ≡ true → keeps_each voided t.splits ≡ true
+    → are_rightly_marked reconciliations voided t.splits ≡ true → keeps_as_many voided t.splits ≡ true
     → All (FitsAccount accounts t.currency) t.splits
 fits_with accounts reconciliations t None fits marks keeps = fits
 fits_with accounts reconciliations t (Some void) fits marks keeps =

@@ -223,13 +223,13 @@ pub(crate) fn read_txn(
         → Gives {Y = Txn × List ℕ} (λ found. (found.0, found.1.now)) result (it, rest) }
 {
     match format {
-        RowFormat::One => read_unvoided(alloc, bytes),
+        RowFormat::One => read_in_format_one(alloc, bytes),
         RowFormat::Two => <Txn as Field<Rows>>::read(alloc, bytes),
     }
 }
 
 /// The same in format 1, which has no voided transactions.
-fn read_unvoided(alloc: Global, bytes: &[u8]) -> Result<(Txn, &[u8]), DecodeError>
+fn read_in_format_one(alloc: Global, bytes: &[u8]) -> Result<(Txn, &[u8]), DecodeError>
     ensures found { IfOk result (λ found. bytes.now ≡ txn_bytes One found.0 ++ found.1.now) }
     ensures fits { IfOk result (λ found. IsTxn One found.0) }
     ensures again { (it : Txn) (rest : List ℕ) → IsTxn One it → bytes.now ≡ txn_bytes One it ++ rest

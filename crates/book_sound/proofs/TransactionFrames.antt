@@ -24,7 +24,7 @@ use Rattle.book_splits.proofs.ReplacedLemmas.{IsFrom, all_of_one, none_shared_by
 use Rattle.book_splits.proofs.TransactionRuleLemmas.{Suits, has_of_one}
 use Rattle.book_void.specs.Voiding.{restored}
 use Rattle.book_sound.specs.MarkedTransactionRules.{are_rightly_marked, fits_mark, has_marked, is_named_rightly}
-use Rattle.book_sound.specs.MarkedTransactionRules.{is_rightly_marked, keeps_each, marked_transaction_rules}
+use Rattle.book_sound.specs.MarkedTransactionRules.{is_rightly_marked, keeps_as_many, marked_transaction_rules}
 use Rattle.book_sound.specs.Naming.{is_on_some}
 use Rattle.book_sound.specs.Tests.{passes_check}
 use Rattle.book_sound.proofs.CheckFrames.{check_beside, check_on}
@@ -109,7 +109,7 @@ pub record IsRight
   pub once : are_once (numbers_of new.splits) ≡ true
   pub from : All (IsFrom limit olds) (numbers_of new.splits)
   pub marks : are_rightly_marked reconciliations new.voided new.splits ≡ true
-  pub keeps : keeps_each new.voided new.splits ≡ true
+  pub keeps : keeps_as_many new.voided new.splits ≡ true
 
 -- The same of one that is not voided: it breaks no rule, and its splits are rightly marked.
 pub record IsFit

@@ -18,7 +18,7 @@ use Rattle.book_splits.specs.declared.void.KeptSplit.{KeptSplit}
 use Rattle.book_splits.specs.declared.void.Void.{Void}
 use Rattle.book_void.specs.Voiding.{restored, restored_splits, restored_with}
 use Rattle.book_sound.specs.MarkedTransactionRules.{are_rightly_marked, is_rightly_marked, is_rightly_voided}
-use Rattle.book_sound.specs.MarkedTransactionRules.{keeps_each}
+use Rattle.book_sound.specs.MarkedTransactionRules.{keeps_as_many}
 use Rattle.book_sound.specs.Naming.{is_on_some}
 
 -- ---- a transaction that is not voided
@@ -39,7 +39,7 @@ marks_unvoided reconciliations None splits none = refl
 marks_unvoided reconciliations (Some void) splits none = absurd cc
 
 -- Nothing has to be kept of it.
-pub keeps_unvoided : (voided : Option Void) (splits : List Split) → is_none voided ≡ true → keeps_each voided splits ≡ true
+pub keeps_unvoided : (voided : Option Void) (splits : List Split) → is_none voided ≡ true → keeps_as_many voided splits ≡ true
 keeps_unvoided None splits none = refl
 keeps_unvoided (Some void) splits none = absurd cc
 
@@ -138,7 +138,7 @@ numbers_restored (s ∷ splits) (k ∷ kept) same =
 sound_with :
     (reconciliations : List (ℕ × Recon)) (t : Txn) (voided : Option Void)
     → transaction.IsSound (restored_with t voided).splits → are_rightly_marked reconciliations voided t.splits ≡ true
-    → keeps_each voided t.splits ≡ true → transaction.IsSound t.splits
+    → keeps_as_many voided t.splits ≡ true → transaction.IsSound t.splits
 sound_with reconciliations t None is marks keeps = is
 sound_with reconciliations t (Some void) is marks keeps =
     let same = length_restored t.splits void.kept (eqb-true (length void.kept) (length t.splits) keeps) in
@@ -152,7 +152,7 @@ sound_with reconciliations t (Some void) is marks keeps =
 -- Its splits balance and keep the limits, where those of the transaction as it is brought back do.
 pub sound_as_restored :
     (reconciliations : List (ℕ × Recon)) (t : Txn) → transaction.IsSound (restored t).splits
-    → are_rightly_marked reconciliations t.voided t.splits ≡ true → keeps_each t.voided t.splits ≡ true
+    → are_rightly_marked reconciliations t.voided t.splits ≡ true → keeps_as_many t.voided t.splits ≡ true
     → transaction.IsSound t.splits
 sound_as_restored reconciliations t = sound_with reconciliations t t.voided
 

@@ -29,7 +29,7 @@ use Rattle.book_undo.specs.Book.{Book}
 use Rattle.book_sound.specs.Dismissal.{is_lost, is_lost_split, lines_after, loses_split}
 use Rattle.book_sound.specs.LineRules.{fits_in_state, fits_line, matched_split, split_among, split_at}
 use Rattle.book_sound.specs.MarkedTransactionRules.{are_rightly_marked, is_rightly_marked, is_rightly_voided}
-use Rattle.book_sound.specs.MarkedTransactionRules.{keeps_each}
+use Rattle.book_sound.specs.MarkedTransactionRules.{keeps_as_many}
 use Rattle.book_sound.specs.Soundness.{IsSoundBook, AreDrawn}
 use Rattle.book_sound.specs.Tests.{passes_check}
 use Rattle.book_sound.proofs.BookFrames.{transaction_changed}
@@ -164,7 +164,7 @@ restored_of book n limit old (Some void) there are state is_voided is =
     let voided : list_all is_rightly_voided old.splits ≡ true =
     ap (λ (v : Option Void). are_rightly_marked book.reconciliations v old.splits) (sym state) ∙ kept.1.1.1.0 in
     let each = eqb-true (length void.kept) (length old.splits)
-    (ap (λ (v : Option Void). keeps_each v old.splits) (sym state) ∙ kept.1.1.1.1.0) in
+    (ap (λ (v : Option Void). keeps_as_many v old.splits) (sym state) ∙ kept.1.1.1.1.0) in
     let numbers = sym (numbers_restored old.splits void.kept each) in
     let From = IsFrom limit (numbers_of old.splits) in
     let count = splits-with n new book.transactions is.transactions.rise in
@@ -219,7 +219,7 @@ remarked_of book n limit old new (Some void) there are currency was now stay mar
     let kept = is.transactions.keep.each n old there in
     let voided : list_all is_rightly_voided old.splits ≡ true =
     ap (λ (v : Option Void). are_rightly_marked book.reconciliations v old.splits) (sym was) ∙ kept.1.1.1.0 in
-    let keeps = ap (λ (v : Option Void). keeps_each v old.splits) (sym was) ∙ kept.1.1.1.1.0 in
+    let keeps = ap (λ (v : Option Void). keeps_as_many v old.splits) (sym was) ∙ kept.1.1.1.1.0 in
     let same = same_length old.splits new.splits stay in
     let numbers = same_numbers old.splits new.splits stay in
     let passed = subst (λ (v : Option Void). Passes (restored_with old v)) was kept.0 in
@@ -236,7 +236,7 @@ remarked_of book n limit old new (Some void) there are currency was now stay mar
       once = subst (λ (ns : List ℕ). are_once ns ≡ true) numbers kept.1.0;
       from = subst (λ (ns : List ℕ). All From ns) numbers (all_there limit (numbers_of old.splits));
       marks = ap (λ (v : Option Void). are_rightly_marked book.reconciliations v new.splits) now ∙ marks;
-      keeps = ap (λ (v : Option Void). keeps_each v new.splits) now
+      keeps = ap (λ (v : Option Void). keeps_as_many v new.splits) now
           ∙ sym (ap (λ (count : ℕ). length void.kept == count) same) ∙ keeps;
     }) few is in
     subst (λ (lines : List (ℕ × Line)).

@@ -14,7 +14,7 @@ use Rattle.book_splits.specs.declared.split.Mark.TheVariants.{New, Cleared, Reco
 use Rattle.book_splits.specs.declared.split.Split.{Split}
 use Rattle.book_splits.specs.declared.transaction.Txn.{Txn}
 use Rattle.book_splits.specs.declared.void.Void.{Void}
-pub use Rattle.book_void.specs.Voiding.{is_rightly_voided, keeps_each}
+pub use Rattle.book_void.specs.Voiding.{is_rightly_voided, keeps_as_many}
 use Rattle.book_void.specs.Voiding.{restored}
 use Rattle.book_sound.specs.Tests.{passes_check}
 
@@ -72,5 +72,5 @@ marked_transaction_rules commodities accounts reconciliations transactions numbe
     ∷ are_once (numbers_of transaction.splits)
     ∷ not (stands_before (share_numbers transaction) number transactions)
     ∷ are_rightly_marked reconciliations transaction.voided transaction.splits
-    ∷ keeps_each transaction.voided transaction.splits
+    ∷ keeps_as_many transaction.voided transaction.splits
     ∷ []

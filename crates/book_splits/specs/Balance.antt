@@ -28,7 +28,7 @@ splits_beside number transactions = splits_of (filter (λ entry. not (number == 
 abbrev pub has_splits : List (ℕ × Txn) → ℕ → Bool
 has_splits transactions account = list_any (λ split. split.account == account) (splits_of transactions)
 
--- Whether a split counts on an account: it names the account, and its transaction is not voided.
+-- Whether a split counts on an account: it names the account, and does not have the mark of a voided one.
 abbrev pub counts_on : ℕ → Split → Bool
 counts_on account split = (split.account == account) && not (is_voided split.mark)
 

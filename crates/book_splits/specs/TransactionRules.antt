@@ -1,5 +1,5 @@
--- What the rules that each transaction of a book keeps say of its splits: the numbers that they have, and whether they
--- are unmarked.
+-- What the rules that each transaction of a book keeps say of its splits: the numbers that they have, whether they are
+-- unmarked or voided, and whether the transaction is not voided.
 use Rattle.std.specs.Prelude.{ℕ, ◌==◌, not, Bool, true, false, ◌&&◌, List, [], ◌∷◌, map, is_none}
 use Rattle.std.specs.List.{list_any}
 use Rattle.book_splits.specs.declared.split.Mark.{Mark}

@@ -9,7 +9,7 @@ use Rattle.book_commodity.specs.Table.{value_of, with_entry}
 use Rattle.book_splits.specs.declared.split.Split.{Split}
 use Rattle.book_splits.specs.declared.transaction.Txn.{Txn}
 use Rattle.book_splits.specs.declared.void.Void.{Void}
-use Rattle.book_void.specs.Voiding.{keeps_each, restored, restored_with, voided_for}
+use Rattle.book_void.specs.Voiding.{keeps_as_many, restored, restored_with, voided_for}
 use Rattle.book_undo.specs.Book.{Book}
 use Rattle.book_undo.specs.Edit.{OfPut, together}
 use Rattle.book_undo.specs.Exact.{IsExact}
@@ -24,7 +24,7 @@ use Rattle.book_step.specs.State.{State}
 
 -- ---- the amounts that are kept
 
-each_of : (voided : Option Void) (splits : List Split) → keeps_each voided splits ≡ true
+each_of : (voided : Option Void) (splits : List Split) → keeps_as_many voided splits ≡ true
     → IfSome voided (λ void. length void.kept ≡ length splits)
 each_of None splits keeps = tt
 each_of (Some void) splits keeps = eqb-true (length void.kept) (length splits) keeps

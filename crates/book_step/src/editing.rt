@@ -14,7 +14,7 @@ use crate::edited_splits::{check_given_numbers, edited_splits, is_reconciled};
 use crate::posting::{MAX_SPLITS, check_transaction};
 use crate::present::Present;
 use crate::same_transaction::is_same;
-use crate::voiding::{check_changeable, check_unvoided};
+use crate::voiding::{check_changeable, check_not_voided};
 use crate::{Answer, GivenTxn, Refusal, Rule, Step};
 use book_commodity::{Counted, Day, Kind, Many, OutOfMemory};
 use book_splits::{Split, Txn};
@@ -31,7 +31,7 @@ pub(crate) fn edit(
     ensures { StepsTo present.now (edit_transaction present.now number force day given) result }
 {
     let old = known(present, number)?;
-    check_unvoided(number, old)?;
+    check_not_voided(number, old)?;
     edit_of(present, number, force, day, given, old)
 }
 

@@ -11,7 +11,7 @@ use crate::marking::remarked;
 use crate::present::Present;
 use crate::same_transaction::is_mark;
 use crate::split_search::{Held, known_split};
-use crate::voiding::check_holder;
+use crate::voiding::check_holder_not_voided;
 use crate::{Answer, Refusal, Rule, Step};
 use book_commodity::{Many, OutOfMemory, Table};
 use book_splits::{Mark, Split};
@@ -27,7 +27,7 @@ pub(crate) fn line_match(present: &Present, number: u64, split: u64) -> Result<S
 {
     let line = known_line(present, number)?;
     let held = known_split(present, split)?;
-    check_holder(present, split, &held)?;
+    check_holder_not_voided(present, split, &held)?;
     check_match(present, number, line, split, held.split)?;
     let edit = pairing_edit(present.alloc, number, line, split, &held)?;
     Step::changing(present, 0, edit, Answer::LineMatch)

@@ -7,7 +7,7 @@ use crate::edited_splits::is_reconciled;
 use crate::present::Present;
 use crate::same_transaction::is_mark;
 use crate::split_search::known_split;
-use crate::voiding::check_holder;
+use crate::voiding::check_holder_not_voided;
 use crate::{Answer, Refusal, Rule, Step};
 use book_commodity::{Many, OutOfMemory};
 use book_splits::{Mark, Split, Txn};
@@ -27,7 +27,7 @@ pub(crate) fn mark(
 {
     let mark = mark_asked(cleared);
     let held = known_split(present, number)?;
-    check_holder(present, number, &held)?;
+    check_holder_not_voided(present, number, &held)?;
     check_unreconciled(force, number, held.split)?;
     if is_mark(held.split.mark, mark) {
         return Ok(Step::leaving(present, Answer::Mark));

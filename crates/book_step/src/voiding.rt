@@ -18,7 +18,7 @@ use book_void::{restored, voided_for};
 
 /// The transaction of this number is voided for the reason, and the lines that are matched with its splits are
 /// dismissed. Broken where the book has no such transaction, where it is voided already, and, without force, where one
-/// of its splits is reconciled.
+/// of its splits is reconciled; or out of memory.
 pub(crate) fn void(
     present: &Present,
     number: u64,
@@ -35,7 +35,7 @@ pub(crate) fn void(
 }
 
 /// The voided transaction of this number is brought back with the amounts that were kept of it, and each of its splits
-/// is new. Broken where the book has no such transaction, and where it is not voided.
+/// is new. Broken where the book has no such transaction, and where it is not voided; or out of memory.
 pub(crate) fn unvoid(present: &Present, number: u64) -> Result<Step, Refusal>
     ensures { StepsTo present.now (unvoid_transaction present.now number) result }
 {
@@ -52,12 +52,12 @@ pub(crate) fn check_changeable(number: u64, force: bool, transaction: &Txn) -> R
         (voided_transaction number transaction.now ∷ reconciled force transaction.now.splits [] ∷ []) result }
     ensures unvoided { OnOk result (is_none transaction.now.voided ≡ true) }
 {
-    check_unvoided(number, transaction)?;
+    check_not_voided(number, transaction)?;
     check_reconciled(force, transaction.splits.as_slice(), &[])
 }
 
 /// The transaction under the number is not voided.
-pub(crate) fn check_unvoided(number: u64, transaction: &Txn) -> Result<(), Rule>
+pub(crate) fn check_not_voided(number: u64, transaction: &Txn) -> Result<(), Rule>
     ensures rules { ReportsFirst (voided_transaction number transaction.now ∷ []) result }
     ensures unvoided { OnOk result (is_none transaction.now.voided ≡ true) }
 {
@@ -70,12 +70,12 @@ pub(crate) fn check_unvoided(number: u64, transaction: &Txn) -> Result<(), Rule>
 }
 
 /// The transaction that has the split of this number is not voided.
-pub(crate) fn check_holder(present: &Present, number: u64, held: &Held) -> Result<(), Rule>
+pub(crate) fn check_holder_not_voided(present: &Present, number: u64, held: &Held) -> Result<(), Rule>
     requires { IsHeld present.now.book.transactions number held.now }
     ensures { ReportsFirst (voided_transaction_of present.now.book.transactions number ∷ []) result }
 {
     present.known();
-    check_unvoided(held.number, held.transaction)
+    check_not_voided(held.number, held.transaction)
 }
 
 /// The transaction under the number is voided.

@@ -59,7 +59,7 @@ abbrev pub is_rightly_voided : Split → Bool
 is_rightly_voided split =
     is_voided split.mark && (is_none split.recon && (int_eq split.value (pos 0) && int_eq split.quantity (pos 0)))
 
--- Whether the amounts of each split are kept, by place, where a transaction is voided.
-abbrev pub keeps_each : Option Void → List Split → Bool
-keeps_each None splits = true
-keeps_each (Some void) splits = length void.kept == length splits
+-- Whether as many amounts are kept as there are splits, where a transaction is voided.
+abbrev pub keeps_as_many : Option Void → List Split → Bool
+keeps_as_many None splits = true
+keeps_as_many (Some void) splits = length void.kept == length splits

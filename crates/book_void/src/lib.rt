@@ -8,5 +8,5 @@ mod rules;
 mod voiding;
 
 pub use restoring::restored;
-pub use rules::{are_rightly_voided, keeps_each, passes_restored};
+pub use rules::{are_rightly_voided, keeps_as_many, passes_restored};
 pub use voiding::voided_for;

@@ -7,7 +7,7 @@ use std::alloc::Global;
 
 /// The transaction brought back: each split has the value and the quantity that were kept of it, is new and names no
 /// reconciliation, and nothing is kept any more. The caller sees to it that as many amounts are kept as there are
-/// splits, where the transaction is voided. One that is not voided is copied as it is.
+/// splits, where the transaction is voided. One that is not voided is copied as it is. The error is out of memory.
 pub fn restored(alloc: Global, transaction: &Txn) -> Result<Txn, OutOfMemory>
     requires { IfSome transaction.now.voided (λ void. length void.kept ≡ length transaction.now.splits) }
     ensures { IfOk result (λ new. new ≡ restored transaction.now) }

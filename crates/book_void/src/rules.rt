@@ -2,7 +2,7 @@ ghost use Rattle.std.specs.Prelude.{◌≡◌, IfOk, is_none, true};
 ghost use Rattle.std.specs.List.{list_all};
 ghost use Rattle.book_commodity.specs.Rules.{first_broken};
 ghost use Rattle.book_splits.specs.Check.{txn_rules};
-ghost use Rattle.book_void.specs.Voiding.{is_rightly_voided, keeps_each, restored};
+ghost use Rattle.book_void.specs.Voiding.{is_rightly_voided, keeps_as_many, restored};
 
 use crate::restoring::restored;
 use book_accounts::Tree;
@@ -10,9 +10,9 @@ use book_commodity::{Commodities, OutOfMemory};
 use book_splits::{Mark, Split, Txn, check_txn};
 use std::alloc::Global;
 
-/// Whether the amounts of each split are kept, by place, where the transaction is voided.
-pub fn keeps_each(transaction: &Txn) -> bool
-    ensures { result ≡ keeps_each transaction.now.voided transaction.now.splits }
+/// Whether as many amounts are kept as there are splits, where the transaction is voided.
+pub fn keeps_as_many(transaction: &Txn) -> bool
+    ensures { result ≡ keeps_as_many transaction.now.voided transaction.now.splits }
 {
     match &transaction.voided {
         Some(void) => void.kept.len() == transaction.splits.len(),
@@ -35,14 +35,15 @@ fn is_rightly_voided(split: &Split) -> bool
 }
 
 /// Whether the transaction, as it is brought back where it is voided, breaks no rule of transactions among these
-/// commodities and accounts. Where it is voided, something is kept of each split.
+/// commodities and accounts. Where it is voided, as many amounts are kept as it has splits. The error is out of
+/// memory.
 pub fn passes_restored(
     alloc: Global,
     commodities: &Commodities,
     accounts: &Tree,
     transaction: &Txn,
 ) -> Result<bool, OutOfMemory>
-    requires { keeps_each transaction.now.voided transaction.now.splits ≡ true }
+    requires { keeps_as_many transaction.now.voided transaction.now.splits ≡ true }
     ensures { IfOk result (λ passes. passes ≡ is_none
         (first_broken (txn_rules commodities.now.entries accounts.now.entries (restored transaction.now)))) }
 {

@@ -7,7 +7,7 @@ use std::alloc::Global;
 
 /// The transaction voided for the reason: each split is voided, has a value and a quantity of zero and names no
 /// reconciliation, and what it had is kept. A mark is not kept. The transaction is not voided already, or its amounts
-/// would be lost.
+/// would be lost. The error is out of memory.
 pub fn voided_for(alloc: Global, transaction: &Txn, reason: Text) -> Result<Txn, OutOfMemory>
     requires { is_none transaction.now.voided ≡ true }
     ensures { IfOk result (λ new. new ≡ voided_for reason transaction.now) }

@@ -10,7 +10,7 @@ use Rattle.book_command.specs.declared.command.Format.TheVariants.{QifDayFirst}
 use Rattle.book_wire.specs.Asked.{Asks, NotCommand, asked_of_data}
 use Rattle.book_wire.specs.Commands.{word_form}
 use Rattle.book_wire.specs.Formats.{format_form}
-use Rattle.book_wire.specs.Posting.{split, kept_split}
+use Rattle.book_wire.specs.Posting.{split, edited_split}
 use Rattle.book_wire.specs.Posting.{mark_form}
 use Rattle.book_wire.specs.Statements.{other}
 use Rattle.book_json.specs.Members.{absent, complete, ends, flag, needed, optional, text}
@@ -108,9 +108,9 @@ number_in_a_post : complete split numbered ≡ Err (codes "id")
 unfolding needed optional text ends split whole whole_signed
 number_in_a_post = refl
 
-number_in_an_edit : complete kept_split numbered
+number_in_an_edit : complete edited_split numbered
     ≡ Ok (record { account = 3; value = pos 1; quantity = pos 1; memo = []; action = []; id = Some 2 })
-unfolding needed optional text ends split kept_split whole whole_signed
+unfolding needed optional text ends split edited_split whole whole_signed
 number_in_an_edit = refl
 
 -- of a statement file the text is read first, and its currency last

@@ -28,8 +28,8 @@ split = do
   })
 
 -- A split of a transaction that is edited: it has the number of a split that is kept, where it gives one.
-unfoldable pub kept_split : Reader GivenSplit
-kept_split = do
+unfoldable pub edited_split : Reader GivenSplit
+edited_split = do
   given ← split
   id ← optional whole (codes "id")
   gives (record given { id = id })
@@ -66,7 +66,7 @@ edit = do
   number ← needed whole (codes "transaction")
   force ← flag (codes "force")
   day ← needed day_form (codes "day")
-  given ← transaction kept_split
+  given ← transaction edited_split
   gives (update.Edit number force day given)
 
 -- The transaction that is deleted. An absent `force` is false.

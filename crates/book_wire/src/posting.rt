@@ -1,7 +1,7 @@
 ghost use Rattle.std.specs.Prelude.{codes};
 ghost use Rattle.book_json.specs.Members.{flag, needed};
 ghost use Rattle.book_json.specs.Reads.{rest, Gives};
-ghost use Rattle.book_wire.specs.Posting.{drop_transaction, edit, kept_split, mark, post, split, transaction};
+ghost use Rattle.book_wire.specs.Posting.{drop_transaction, edit, edited_split, mark, post, split, transaction};
 ghost use Rattle.book_wire.specs.Posting.{mark_form, unvoid, void, voided};
 
 use book_command::{GivenSplit, GivenTxn, Update, What};
@@ -154,9 +154,9 @@ struct EditedSplit;
 impl Object for EditedSplit {
     type Value = GivenSplit;
 
-    ghost reader = { kept_split };
+    ghost reader = { edited_split };
 
-    #[tactic(auto, unfolding(crate::specs::Posting::kept_split))]
+    #[tactic(auto, unfolding(crate::specs::Posting::edited_split))]
     fn read(members: &mut Reading) -> Result<GivenSplit, Fault> {
         let mut split = split(members)?;
         split.id = members.optional("id")?;

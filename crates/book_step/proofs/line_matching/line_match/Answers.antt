@@ -16,24 +16,24 @@ use Rattle.book_step.proofs.OutcomeLemmas.{refused}
 use Rattle.book_step.proofs.VoidRuleLemmas.{one_broken, one_kept}
 use Rattle.book_step.proofs.line_matching.line_match.Goals as goal
 
-pub returns-in_err-check_holder : goal.returns-in_err-check_holder
-returns-in_err-check_holder c =
+pub returns-in_err-check_holder_not_voided : goal.returns-in_err-check_holder_not_voided
+returns-in_err-check_holder_not_voided c =
     let state = c.args.present.now in
     let line = c.in_ok-line.line.now in
     let held = c.in_ok-held.held in
-    let rule = c.in_err-check_holder.field-0.0 in
-    refused state (matching state c.args.number c.args.split) rule c.from_residual-in_err-check_holder.result
-    c.from_residual-in_err-check_holder.ensures.1
+    let rule = c.in_err-check_holder_not_voided.field-0.0 in
+    refused state (matching state c.args.number c.args.split) rule c.from_residual-in_err-check_holder_not_voided.result
+    c.from_residual-in_err-check_holder_not_voided.ensures.1
     (match-voided state c.args.number c.args.split line held.split rule c.in_ok-line.ensures.there
     c.in_ok-held.ensures.split
-    (one_broken (voided_transaction_of state.book.transactions c.args.split) rule c.in_err-check_holder.ensures))
+    (one_broken (voided_transaction_of state.book.transactions c.args.split) rule c.in_err-check_holder_not_voided.ensures))
 
 pub returns-in_err-check_match : goal.returns-in_err-check_match
 returns-in_err-check_match c =
     let state = c.args.present.now in
     let line = c.in_ok-line.line.now in
     let held = c.in_ok-held.held in
-    let unvoided = one_kept (voided_transaction_of state.book.transactions c.args.split) c.in_ok-check_holder.ensures in
+    let unvoided = one_kept (voided_transaction_of state.book.transactions c.args.split) c.in_ok-check_holder_not_voided.ensures in
     let rule = c.in_err-check_match.field-0.0 in
     let broken = subst (λ (s : Split). first_broken (match_rules state.book.lines c.args.number line c.args.split s)
     ≡ Some rule) (ap (λ (h : Held). h.split) c.held.view_is) c.in_err-check_match.ensures in
@@ -64,7 +64,7 @@ returns c =
     let sound = subst (λ (s : State). IsSound s) c.present.view_is c.present.invariant in
     let kept = subst (λ (s : Split). first_broken (match_rules state.book.lines c.args.number line c.args.split s)
     ≡ None) (ap (λ (h : Held). h.split) c.held.view_is) c.in_ok-check_match.ensures in
-    let alive = one_kept (voided_transaction_of state.book.transactions c.args.split) c.in_ok-check_holder.ensures in
+    let alive = one_kept (voided_transaction_of state.book.transactions c.args.split) c.in_ok-check_holder_not_voided.ensures in
     match-changed state c.args.number c.args.split line held c.in_ok-edit.edit c.changing.result sound
     c.in_ok-held.ensures.there c.in_ok-line.ensures.there c.in_ok-held.ensures.split alive kept c.in_ok-edit.ensures
     (c.changing.ensures answer.LineMatch refl)

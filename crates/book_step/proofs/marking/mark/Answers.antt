@@ -17,20 +17,20 @@ use Rattle.book_step.proofs.OutcomeLemmas.{refused}
 use Rattle.book_step.proofs.VoidRuleLemmas.{one_broken, one_kept}
 use Rattle.book_step.proofs.marking.mark.Goals as goal
 
-pub returns-in_err-check_holder : goal.returns-in_err-check_holder
-returns-in_err-check_holder c =
+pub returns-in_err-check_holder_not_voided : goal.returns-in_err-check_holder_not_voided
+returns-in_err-check_holder_not_voided c =
     let state = c.args.present.now in
     let held = c.in_ok-held.held in
-    let rule = c.in_err-check_holder.field-0.0 in
+    let rule = c.in_err-check_holder_not_voided.field-0.0 in
     refused state (marking state c.args.number c.args.cleared c.args.force) rule
-    c.from_residual-in_err-check_holder.result c.from_residual-in_err-check_holder.ensures.1
+    c.from_residual-in_err-check_holder_not_voided.result c.from_residual-in_err-check_holder_not_voided.ensures.1
     (mark-voided state c.args.number c.args.cleared c.args.force held.split rule c.in_ok-held.ensures.split
-    (one_broken (voided_transaction_of state.book.transactions c.args.number) rule c.in_err-check_holder.ensures))
+    (one_broken (voided_transaction_of state.book.transactions c.args.number) rule c.in_err-check_holder_not_voided.ensures))
 
 pub returns-in_err-check_unreconciled : goal.returns-in_err-check_unreconciled
 returns-in_err-check_unreconciled c =
     let state = c.args.present.now in
-    let unvoided = one_kept (voided_transaction_of state.book.transactions c.args.number) c.in_ok-check_holder.ensures in
+    let unvoided = one_kept (voided_transaction_of state.book.transactions c.args.number) c.in_ok-check_holder_not_voided.ensures in
     let split = c.held.inside.split.now in
     let there = subst (λ (h : Held). split_at c.args.number state.book.transactions ≡ Some h.split) (sym c.held.view_is)
     c.in_ok-held.ensures.split in
@@ -42,7 +42,7 @@ returns-in_err-check_unreconciled c =
 pub returns-then-is_mark : goal.returns-then-is_mark
 returns-then-is_mark c =
     let state = c.args.present.now in
-    let unvoided = one_kept (voided_transaction_of state.book.transactions c.args.number) c.in_ok-check_holder.ensures in
+    let unvoided = one_kept (voided_transaction_of state.book.transactions c.args.number) c.in_ok-check_holder_not_voided.ensures in
     let split = c.held.inside.split.now in
     let there = subst (λ (h : Held). split_at c.args.number state.book.transactions ≡ Some h.split) (sym c.held.view_is)
     c.in_ok-held.ensures.split in
@@ -83,5 +83,5 @@ returns c =
     let made = c.in_ok-transaction.ensures
     ∙ ap (λ (m : Mark). remarked number m held.transaction) c.mark_asked-mark.ensures in
     mark-changed state number c.args.cleared c.args.force held c.in_ok-transaction.transaction c.changing.result sound
-    has there (one_kept (voided_transaction_of state.book.transactions number) c.in_ok-check_holder.ensures)
+    has there (one_kept (voided_transaction_of state.book.transactions number) c.in_ok-check_holder_not_voided.ensures)
     c.in_ok-check_unreconciled.ensures differs made (c.changing.ensures answer.Mark refl)

@@ -9,7 +9,7 @@ use Rattle.book_splits.specs.declared.transaction.Txn.{Txn}
 use Rattle.book_splits.specs.declared.void.Void.{Void}
 use Rattle.book_splits.proofs.TransactionRuleLemmas.{is_none_of}
 use Rattle.book_rows.specs.TransactionBytes.{txn_made}
-use Rattle.book_rows.proofs.transaction.read_unvoided.Goals as goal
+use Rattle.book_rows.proofs.transaction.read_in_format_one.Goals as goal
 
 -- The fields that format 1 has of a transaction.
 abbrev Fields : Type 0
