@@ -1,3 +1,4 @@
 pub mod ListLemmas
 pub mod Named
+pub mod ToldRules
 pub mod Worked
