@@ -75,8 +75,8 @@ pub record HoldsAsBefore (keeping : Keeping) : Type 0 where
   pub rows : IsTrue keeping.sure → (rows : List Row) → keeping.held rows → keeping.holds rows
   pub left : IsTrue keeping.honest → (rows : List Row) → keeping.may_leave rows → keeping.might_leave rows
 
--- As long as the keeper is honest, the next one may find no rows that it could not find before, but the rows that were
--- held, and no others, written anew in format 2.
+-- As long as the keeper is honest, the next one may find no rows that it could not find before, but some rows written
+-- anew in format 2. Where it was known which rows the keeper held, it is these that were written anew.
 abbrev pub LeavesSameOrAnew : Keeping → Type 0
 LeavesSameOrAnew keeping =
     IsTrue keeping.honest → (rows : List Row) → keeping.may_leave rows
