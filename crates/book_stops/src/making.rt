@@ -14,7 +14,7 @@ const PIECE: usize = 4096;
 
 /// What a run came to.
 #[derive(Clone, Copy)]
-pub(crate) struct Made {
+pub(crate) struct Progress {
     /// How many lines were answered as done, or none where the run says that it lacked memory: memory is ample here,
     /// and a disk that failed has to be told as the keeper's failure.
     pub(crate) done: Option<usize>,
@@ -49,7 +49,11 @@ fn no_ports(alloc: Global) -> io::Result<MemPorts> {
 }
 
 /// Makes a run of the lines over the keeper, by the program's own call. The words are those of `Run::new`.
-pub(crate) fn made<K: Keeper>(alloc: Global, keeper: &mut K, lines: &[&str]) -> io::Result<Made> {
+pub(crate) fn made<K: Keeper>(
+    alloc: Global,
+    keeper: &mut K,
+    lines: &[&str],
+) -> io::Result<Progress> {
     let run = Run::new(alloc, 1)?;
     let mut source = MemSource::new(input_of(alloc, lines)?, PIECE, Many::new(alloc));
     let mut output = output_of(alloc)?;
@@ -60,17 +64,17 @@ pub(crate) fn made<K: Keeper>(alloc: Global, keeper: &mut K, lines: &[&str]) -> 
 }
 
 /// What a run of so many lines came to, by its status and its answers.
-fn made_of(status: Status, answers: &[u8], count: usize) -> Made {
+fn made_of(status: Status, answers: &[u8], count: usize) -> Progress {
     let answers = str::from_utf8(answers).unwrap_or("");
     if status == Status::Memory || answers.contains("\"memory\"") {
-        return Made {
+        return Progress {
             done: None,
             is_whole: false,
         };
     }
     let is_done = |line: &&str| line.contains("\"ok\":");
     let done = answers.lines().filter(is_done).count();
-    Made {
+    Progress {
         done: Some(done),
         is_whole: status == Status::Done && done == count,
     }

@@ -1,4 +1,4 @@
-use crate::making::{Made, made};
+use crate::making::{Progress, made};
 use book_keeper::{Change, Keeper, MemKeeper, Row};
 use gate_rows::{are_same, copy_of, memory, no_rows, unread};
 use std::alloc::Global;
@@ -56,7 +56,7 @@ impl<'a> Start<'a> {
         self,
         alloc: Global,
         rows: &[Row],
-        made: Made,
+        made: Progress,
     ) -> io::Result<Option<(Found, usize)>> {
         match made.done {
             Some(done) if self.is_new() => self.found_in_new(alloc, rows, done),

@@ -1,5 +1,5 @@
 use crate::disk::{Ending, FusedFiles, Fuses, first_files, next_files};
-use crate::making::{Made, made};
+use crate::making::{Progress, made};
 use crate::start::{Found, Start};
 use book_commodity::discard;
 use book_keeper::{Keeper, Row};
@@ -23,7 +23,7 @@ const FEW_PAGES: Options = Options {
 /// A run that ended: what it came to, whether its files were closed without an error, and the files.
 #[derive(Drop)]
 struct Ended {
-    made: Made,
+    made: Progress,
     is_closed: bool,
     files: FusedFiles,
 }
@@ -86,7 +86,7 @@ fn run_over(alloc: Global, connection: Connection<Store>, lines: &[&str]) -> io:
 }
 
 /// Closes the connection after a run. How the run ended.
-fn close_after(made: io::Result<Made>, connection: Connection<Store>) -> io::Result<Ended> {
+fn close_after(made: io::Result<Progress>, connection: Connection<Store>) -> io::Result<Ended> {
     let (is_closed, files) = closed(connection);
     match made {
         Ok(made) => Ok(Ended {
@@ -109,7 +109,7 @@ fn run_on(alloc: Global, files: FusedFiles, is_new: bool, lines: &[&str]) -> io:
 /// The run that ended before its first line.
 fn unopened(files: FusedFiles) -> Ended {
     Ended {
-        made: Made {
+        made: Progress {
             done: Some(0),
             is_whole: false,
         },
