@@ -1,4 +1,4 @@
-use Rattle.std.proofs.Common.{ap, sym, subst, ◌∙◌, inl}
+use Rattle.std.proofs.Common.{ap, sym, subst, refl, rules, ◌∙◌, inl}
 use Rattle.book_serve.specs.Served.{link_reports}
 use Rattle.book_app.specs.Numbers.{status_served}
 use Rattle.book_app.specs.ServeClause.{ServeClause, across}
@@ -57,13 +57,17 @@ returns-in-Ok-open_book-clause-serve g c =
     subst (λ (s : Status). ServeClause c.args.serve keeping of ports s) (sym c.status_served.ensures)
     (served_clause c.args.serve keeping of ports c.serve_links.result served)
 
-pub returns-in-Ok-open_book-clause-port_fault : goal.returns-in-Ok-open_book-clause-port_fault
-returns-in-Ok-open_book-clause-port_fault g c =
-    λ is. c.serve_links.ensures.port_fault (port_end c.serve_links.result (sym c.status_served.ensures ∙ is))
-
-pub returns-in-Ok-open_book-clause-no_port_fault : goal.returns-in-Ok-open_book-clause-no_port_fault
-returns-in-Ok-open_book-clause-no_port_fault g c =
-    λ other. c.serve_links.ensures.no_port_fault (λ is. other (c.status_served.ensures ∙ ap status_served is))
+pub returns-in-Ok-open_book-clause-causes : goal.returns-in-Ok-open_book-clause-causes
+returns-in-Ok-open_book-clause-causes g c = record {
+  usage = search rules;
+  keeper_fault = search rules;
+  port_faults = record {
+    rose = λ is. c.serve_links.ensures.port_faults.rose
+        (port_end c.serve_links.result (sym c.status_served.ensures ∙ is));
+    same = λ other. c.serve_links.ensures.port_faults.same
+        (λ is. other (c.status_served.ensures ∙ ap status_served is));
+  };
+}
 
 -- no book was opened
 pub returns-clause-rows : goal.returns-clause-rows
@@ -81,5 +85,12 @@ returns-clause-serve g c =
     subst (λ (s : Status). ServeClause c.args.serve keeping of ports s) (sym c.status_unopened.ensures)
     (unopened_links c.args.serve keeping of ports c.in-Err.error (none_accepted _ _ _ _) c.in-Err.ensures.before)
 
-pub returns-clause-port_fault : goal.returns-clause-port_fault
-returns-clause-port_fault g c = λ is. absurd (no_port_unopened c.in-Err.error (sym c.status_unopened.ensures ∙ is))
+pub returns-clause-causes : goal.returns-clause-causes
+returns-clause-causes g c = record {
+  usage = search rules;
+  keeper_fault = search rules;
+  port_faults = record {
+    rose = λ is. absurd (no_port_unopened c.in-Err.error (sym c.status_unopened.ensures ∙ is));
+    same = λ other. refl;
+  };
+}
