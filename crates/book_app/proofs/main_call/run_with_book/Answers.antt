@@ -1,4 +1,4 @@
-use Rattle.std.proofs.Common.{◌≡◌, ◌∙◌, Option, None, Some, refl, ap, subst, arith}
+use Rattle.std.proofs.Common.{◌≡◌, ◌∙◌, Option, None, Some, refl, ap, subst}
 use Rattle.std.specs.Prelude.{IfSome}
 use Rattle.book_serve.specs.Served.{link_reports}
 use Rattle.book_app.specs.ServeClause.{ServeClause, across}
@@ -72,21 +72,3 @@ returns-in-None-clause-serve g c =
     subst
     (λ (named : Option ServeWords). IfSome named (λ serve. ServeClause serve keeping of ports c.run_over_input.result))
     c.in-None.ensures tt
-
-pub returns-in-None-clause-causes : goal.returns-in-None-clause-causes
-returns-in-None-clause-causes g c =
-    let causes = c.run_over_input.ensures.causes in
-    record {
-      book = record {
-        usage = causes.book.usage;
-        keeper_fault = causes.book.keeper_fault;
-        port_faults = record {
-          rose = λ is. let rose = causes.book.port_faults.rose is in absurd (omega (arith, rose));
-          same = λ other. refl;
-        };
-      };
-      streams = record {
-        input_faults = causes.streams.input_faults;
-        output_faults = causes.streams.output_faults;
-      };
-    }
