@@ -1,4 +1,4 @@
-use Rattle.std.proofs.Common.{ℕ, Option, None, Some, ◌≡◌, ◌∙◌, refl, sym, ap, subst}
+use Rattle.std.proofs.Common.{ℕ, Option, None, Some, ◌≡◌, ◌∙◌, sym, ap, subst}
 use Rattle.std.specs.Prelude.{IfSome}
 use Rattle.book_serve.specs.Served.{link_reports}
 use Rattle.book_app.specs.ServeClause.{ServeClause, across}
@@ -6,6 +6,7 @@ use Rattle.book_app.specs.StatusClause.{IsBookRun, over}
 use Rattle.book_app.specs.Words.{named_import, named_serve, work_named}
 use Rattle.book_app.specs.declared.status.Status.TheVariants.{InputFault, KeeperFault, PortFault, Usage}
 use Rattle.book_app.specs.declared.words.ServeWords.{ServeWords}
+use Rattle.book_app.proofs.CauseLemmas.{tells_none}
 use Rattle.book_app.proofs.ServeLemmas.{sample_serves_none}
 use Rattle.book_app.proofs.StatusClauseLemmas.{no_sample, not_asked, path_of_sample, run_of_sample}
 use Rattle.book_app.proofs.main_call.book_main.Goals as goal
@@ -35,18 +36,12 @@ returns-in-Some-clause-causes g c =
         );
         keeper_fault = λ is.
             absurd (no_sample c.in-Some.number _ _ c.run_sample.result KeeperFault shown (λ text never. never) is);
-        port_faults = record {
-          rose = λ is.
-              absurd (no_sample c.in-Some.number _ _ c.run_sample.result PortFault shown (λ text never. never) is);
-          same = λ other. refl;
-        };
+        port_faults = tells_none PortFault c.run_sample.result _
+            (no_sample c.in-Some.number _ _ c.run_sample.result PortFault shown (λ text never. never));
       };
       streams = record {
-        input_faults = record {
-          rose = λ is.
-              absurd (no_sample c.in-Some.number _ _ c.run_sample.result InputFault shown (λ text never. never) is);
-          same = λ other. refl;
-        };
+        input_faults = tells_none InputFault c.run_sample.result _
+            (no_sample c.in-Some.number _ _ c.run_sample.result InputFault shown (λ text never. never));
         output_faults = c.run_sample.ensures.output_faults;
       };
     }

@@ -1,4 +1,4 @@
-use Rattle.std.proofs.Common.{◌≡◌, ◌∙◌, Option, None, Some, refl, ap, subst}
+use Rattle.std.proofs.Common.{◌≡◌, ◌∙◌, Option, None, Some, ap, subst}
 use Rattle.std.specs.Prelude.{IfSome}
 use Rattle.book_serve.specs.Served.{link_reports}
 use Rattle.book_app.specs.ServeClause.{ServeClause, across}
@@ -6,6 +6,7 @@ use Rattle.book_app.specs.StatusClause.{IsBookRun, over}
 use Rattle.book_app.specs.Words.{named_import, work_named}
 use Rattle.book_app.specs.declared.words.ServeWords.{ServeWords}
 use Rattle.book_app.specs.declared.status.Status.TheVariants.{InputFault, OutputFault}
+use Rattle.book_app.proofs.CauseLemmas.{tells_none}
 use Rattle.book_app.proofs.StatusClauseLemmas.{no_serving, run_of_serving}
 use Rattle.book_app.proofs.main_call.run_with_book.Goals as goal
 
@@ -29,14 +30,10 @@ returns-in-Some-clause-causes g c =
         port_faults = causes.port_faults;
       };
       streams = record {
-        input_faults = record {
-          rose = λ is. absurd (no_serving keeping c.run_serve.result InputFault rows (λ never. never) is);
-          same = λ other. refl;
-        };
-        output_faults = record {
-          rose = λ is. absurd (no_serving keeping c.run_serve.result OutputFault rows (λ never. never) is);
-          same = λ other. refl;
-        };
+        input_faults = tells_none InputFault c.run_serve.result _
+            (no_serving keeping c.run_serve.result InputFault rows (λ never. never));
+        output_faults = tells_none OutputFault c.run_serve.result _
+            (no_serving keeping c.run_serve.result OutputFault rows (λ never. never));
       };
     }
 

@@ -1,8 +1,10 @@
-use Rattle.std.proofs.Common.{sym, subst, inl}
+use Rattle.std.proofs.Common.{◌≡◌, ◌∙◌, None, Some, sym, subst, inl}
 use Rattle.book_serve.specs.Served.{link_reports}
 use Rattle.book_app.specs.ServeClause.{ServeClause, across}
 use Rattle.book_app.specs.StatusClause.{ServedRows, over}
+use Rattle.book_app.specs.Words.{named_book}
 use Rattle.book_app.specs.declared.status.Status.{Status}
+use Rattle.book_app.proofs.CauseLemmas.{causes_of_serving}
 use Rattle.book_app.proofs.ServeLemmas.{has_served, none_accepted, served_clause, served_rows}
 use Rattle.book_app.proofs.ServeLemmas.{unopened_links}
 use Rattle.book_engine.proofs.StandLemmas.{kept_format}
@@ -55,6 +57,12 @@ returns-in-Ok-open_book-clause-serve g c =
     c.serve_links.ensures.served in
     subst (λ (s : Status). ServeClause c.args.serve keeping of ports s) (sym c.status_served.ensures)
     (served_clause c.args.serve keeping of ports c.serve_links.result served)
+
+pub returns-in-Ok-open_book-clause-causes : goal.returns-in-Ok-open_book-clause-causes
+returns-in-Ok-open_book-clause-causes g c =
+    causes_of_serving (named_book c.args.words.now ≡ None) _ _ _ _ c.serve_links.result c.status_served.result
+    (λ none. let e : Some c.in-Some.book.now ≡ None = c.in-Some.ensures ∙ none in cc) c.status_served.ensures
+    c.serve_links.ensures.port_faults
 
 -- no book was opened
 pub returns-clause-rows : goal.returns-clause-rows
