@@ -1,14 +1,17 @@
 -- The causes of a status, from those of the end that it tells.
-use Rattle.std.proofs.Common.{◌≡◌, ◌∙◌, ℕ, ap, refl, sym}
+use Rattle.std.proofs.Common.{◌≡◌, ◌∙◌, ℕ, List, ap, refl, sym}
 use Rattle.book_lines.specs.EndFaults.{TellsFault}
 use Rattle.book_lines.specs.declared.running.RunEnd.{RunEnd}
 use Rattle.book_lines.specs.declared.running.RunEnd.TheVariants as end
 use Rattle.book_serve.specs.declared.serve_end.ServeEnd.{ServeEnd}
 use Rattle.book_serve.specs.declared.serve_end.ServeEnd.TheVariants as close
-use Rattle.book_app.specs.Causes.{HasBookCauses, HasCauses, HasStreamCauses, in_streams, without_ports, without_streams}
+use Rattle.book_app.specs.Causes.{HasBookCauses, HasCauses, HasStreamCauses, counted, in_streams, without_ports}
+use Rattle.book_app.specs.Causes.{without_streams}
 use Rattle.book_app.specs.Numbers.{status_of, status_served}
+use Rattle.book_app.specs.StatusClause.{IsShownAs}
 use Rattle.book_app.specs.declared.status.Status.{Status}
-use Rattle.book_app.specs.declared.status.Status.TheVariants.{Usage, KeeperFault, PortFault}
+use Rattle.book_app.specs.declared.status.Status.TheVariants.{Usage, InputFault, OutputFault, KeeperFault, PortFault}
+use Rattle.book_app.proofs.StatusClauseLemmas.{no_sample}
 
 -- a fault that never comes leaves its count
 pub tells_none : {E : Type 0} (fault ended : E) (count : ℕ) → (ended ≡ fault → ⊥) → TellsFault fault ended count count
@@ -79,5 +82,30 @@ causes_of_serving no_words keeper_before keeper_after ports_before ports_after e
       port_faults = record {
         rose = λ fault. ports.rose (port_end ended (sym is ∙ fault));
         same = λ other. ports.same (λ port. other (is ∙ ap status_served port));
+      };
+    }
+
+-- a sample was shown, with words that name a number
+pub causes_of_sample :
+    (no_words : Type 0) (keeper input output_before output_after ports number : ℕ) (before after : List ℕ → Type 0)
+    (status : Status) → (no_words → ⊥) → IsShownAs number before after status
+    → TellsFault OutputFault status output_before output_after
+    → HasCauses no_words (counted keeper input output_before ports) (counted keeper input output_after ports) status
+causes_of_sample no_words keeper input output_before output_after ports number before after status named shown output =
+    record {
+      book = record {
+        usage = (
+          λ usage. absurd (no_sample number before after status Usage shown (λ text never. never) usage),
+          λ none. absurd (named none),
+        );
+        keeper_fault = λ fault.
+            absurd (no_sample number before after status KeeperFault shown (λ text never. never) fault);
+        port_faults = tells_none PortFault status ports
+            (no_sample number before after status PortFault shown (λ text never. never));
+      };
+      streams = record {
+        input_faults = tells_none InputFault status input
+            (no_sample number before after status InputFault shown (λ text never. never));
+        output_faults = output;
       };
     }

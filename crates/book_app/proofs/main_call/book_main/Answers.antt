@@ -3,12 +3,11 @@ use Rattle.std.specs.Prelude.{IfSome}
 use Rattle.book_serve.specs.Served.{link_reports}
 use Rattle.book_app.specs.ServeClause.{ServeClause, across}
 use Rattle.book_app.specs.StatusClause.{IsBookRun, over}
-use Rattle.book_app.specs.Words.{named_import, named_serve, work_named}
-use Rattle.book_app.specs.declared.status.Status.TheVariants.{InputFault, KeeperFault, PortFault, Usage}
+use Rattle.book_app.specs.Words.{AreNoWords, named_import, named_serve, work_named}
 use Rattle.book_app.specs.declared.words.ServeWords.{ServeWords}
-use Rattle.book_app.proofs.CauseLemmas.{tells_none}
+use Rattle.book_app.proofs.CauseLemmas.{causes_of_sample}
 use Rattle.book_app.proofs.ServeLemmas.{sample_serves_none}
-use Rattle.book_app.proofs.StatusClauseLemmas.{no_sample, not_asked, path_of_sample, run_of_sample}
+use Rattle.book_app.proofs.StatusClauseLemmas.{not_asked, path_of_sample, run_of_sample}
 use Rattle.book_app.proofs.main_call.book_main.Goals as goal
 
 -- the words name a number
@@ -27,24 +26,9 @@ returns-in-Some-clause-path g c =
 
 pub returns-in-Some-clause-causes : goal.returns-in-Some-clause-causes
 returns-in-Some-clause-causes g c =
-    let shown = c.run_sample.ensures.shown in
-    record {
-      book = record {
-        usage = (
-          λ is. absurd (no_sample c.in-Some.number _ _ c.run_sample.result Usage shown (λ text never. never) is),
-          λ none. absurd (let e : Some c.in-Some.number ≡ None = c.in-Some.ensures ∙ none.no_number in cc),
-        );
-        keeper_fault = λ is.
-            absurd (no_sample c.in-Some.number _ _ c.run_sample.result KeeperFault shown (λ text never. never) is);
-        port_faults = tells_none PortFault c.run_sample.result _
-            (no_sample c.in-Some.number _ _ c.run_sample.result PortFault shown (λ text never. never));
-      };
-      streams = record {
-        input_faults = tells_none InputFault c.run_sample.result _
-            (no_sample c.in-Some.number _ _ c.run_sample.result InputFault shown (λ text never. never));
-        output_faults = c.run_sample.ensures.output_faults;
-      };
-    }
+    causes_of_sample (AreNoWords c.args.words.now) _ _ _ _ _ c.in-Some.number _ _ c.run_sample.result
+    (λ none. let e : Some c.in-Some.number ≡ None = c.in-Some.ensures ∙ none.no_number in cc)
+    c.run_sample.ensures.shown c.run_sample.ensures.output_faults
 
 pub returns-in-Some-clause-serve : goal.returns-in-Some-clause-serve
 returns-in-Some-clause-serve g c =
