@@ -5,12 +5,12 @@
 
 ghost use Rattle.sqlite.specs.Files.{over_files};
 ghost use Rattle.sqlite.specs.WalFiles.{image_at};
-ghost use Rattle.std.specs.Prelude.{◌≡◌, ◌≢◌, ◌↔◌, IfOk, IfSome, MatchResult, None, OnErr};
+ghost use Rattle.std.specs.Prelude.{◌≡◌, ◌≢◌, IfOk, IfSome, MatchResult, None, OnErr};
 ghost use Rattle.std.specs.IoError.{error_kind};
-ghost use Rattle.book_keeper.specs.Faults.{Rose};
 ghost use Rattle.book_ports.specs.OverTcp.{accepted_by, left_of, links_of, port_of, read_faults_of, written_to};
 ghost use Rattle.book_ports.specs.OverTcp.{write_faults_of};
 ghost use Rattle.book_serve.specs.Served.{link_reports};
+ghost use Rattle.book_app.specs.Causes.{HasBookCauses, without_streams};
 ghost use Rattle.book_app.specs.ServeClause.{ServeClause, across};
 ghost use Rattle.book_app.specs.StatusClause.{HasBookPath, IsStreamRun};
 ghost use Rattle.book_app.specs.Words.{AreNoWords, given_serve, given_work};
@@ -45,11 +45,12 @@ fn run_in<T: Start>(
         (over_file (image_at T.Start) (has_clean_store over_files) (is_sure over_files) (HoldsRows over_files)
         (MayLeave over_files) (λ keeper. keeper.faults) result.1)
         result.0.status }
-    ensures usage { (result.0.status ≡ Status.Usage) ↔ MatchResult words
-        (λ given. AreNoWords given.items) (λ error. error_kind error ≡ ErrorKind.InvalidData) }
     ensures path { IfOk words (λ given. HasBookPath given.items result.1.path result.0.status) }
     ensures memory { OnErr words (result.0.status ≢ Status.Usage → result.0.status ≡ Status.Memory) }
-    ensures keeper_fault { result.0.status ≡ Status.KeeperFault → Rose 0 result.1.faults }
+    ensures causes { HasBookCauses (MatchResult words
+        (λ given. AreNoWords given.items) (λ error. error_kind error ≡ ErrorKind.InvalidData))
+        (without_streams 0 ports.old.faults)
+        (without_streams result.1.faults ports.new.faults) result.0.status }
     ensures serve { IfSome (given_serve (λ given. given.items) words) (λ serve. ServeClause serve
         (over_file (image_at T.Start) (has_clean_store over_files) (is_sure over_files) (HoldsRows over_files)
         (MayLeave over_files) (λ keeper. keeper.faults) result.1)
@@ -57,8 +58,6 @@ fn run_in<T: Start>(
         (across links_of links_of accepted_by port_of ports.old ports.new) result.0.status) }
     ensures other_words { given_serve (λ given. given.items) words ≡ None → ports.new ≡ ports.old }
     ensures open_links { ports.new.open_links ≡ ports.old.open_links }
-    ensures port_fault { result.0.status ≡ Status.PortFault → Rose ports.old.faults ports.new.faults }
-    ensures no_port_fault { result.0.status ≢ Status.PortFault → ports.new.faults ≡ ports.old.faults }
 {
     let mut keeper = FileKeeper::at(rt, book_in(&words), start);
     let ended = run_program(rt, words, &mut keeper, ports);

@@ -1,3 +1,4 @@
+pub mod CauseLemmas
 pub mod FreshLemmas
 pub mod ImportLemmas
 pub mod LeadsLemmas

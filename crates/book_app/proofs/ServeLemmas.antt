@@ -17,7 +17,6 @@ use Rattle.book_app.specs.ServeClause.{HasServedBook, NoneAccepted, PortsSeen, S
 use Rattle.book_app.specs.StatusClause.{HasLed, Keeping, MayOpenTo, NowOpensTo, OpenedTo, RowsByAnswer}
 use Rattle.book_app.specs.StatusClause.{ServedRows}
 use Rattle.book_app.specs.Words.{named_number, named_serve}
-use Rattle.book_app.specs.declared.status.Status.TheVariants.{PortFault}
 use Rattle.book_app.specs.declared.words.ServeWords.{ServeWords}
 use Rattle.book_app.proofs.LeadsLemmas.{To, leads-through, link-leads, stays}
 
@@ -111,18 +110,6 @@ pub none_accepted : {L : Type 0} (coming closed : Option (List L)) (accepted por
   port_after = port;
 })
 none_accepted coming closed accepted port = record { coming = refl; closed = refl; accepted = refl; port = refl }
-
--- a fault of the ports is said where they failed alone
-pub port_end : (ended : ServeEnd) → status_served ended ≡ PortFault → ended ≡ end.PortFault
-port_end end.Done is = absurd cc
-port_end end.PortFault is = refl
-port_end end.OutOfMemory is = absurd cc
-
-pub no_port_unopened : (why : OpenError) → status_unopened why ≡ PortFault → ⊥
-no_port_unopened error.Keeper is = cc
-no_port_unopened (error.BadRows kind id) is = cc
-no_port_unopened (error.UnsoundBook kind id) is = cc
-no_port_unopened error.OutOfMemory is = cc
 
 -- the words of a sample are not those of `serve`
 pub sample_serves_none :

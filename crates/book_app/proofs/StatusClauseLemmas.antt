@@ -30,7 +30,7 @@ use Rattle.book_app.specs.StatusClause.{OpenedTo}
 use Rattle.book_app.specs.StatusClause.{HasBookPath, HoldsAsBefore, HoldsOpened, HoldsUnopened, IsUnopened, LeavesSameOrAnew, RowsByAnswer}
 use Rattle.book_app.specs.StatusClause.{ImportClause, IsImported, IsImportRun, IsShownAs}
 use Rattle.book_app.specs.StatusClause.{HasLed, IsStreamRun, SampleClause, ServedRows, StatusClause, WorkClause, over}
-use Rattle.book_app.specs.Words.{Work, Lines, Import, Serve, Sample, named_number, work_named}
+use Rattle.book_app.specs.Words.{Work, Lines, Import, Serve, Sample, named_number}
 use Rattle.book_app.specs.declared.words.ImportWords.{ImportWords}
 use Rattle.book_app.specs.declared.words.ServeWords.{ServeWords}
 use Rattle.book_app.specs.declared.status.Status.{Status}
@@ -278,17 +278,6 @@ run_of_sample work number keeping input before after status rows is run =
       wrote = run.wrote;
       clause = (record { input = refl; rows = rows }, run.clause);
     })
-
--- the answering of lines, and an import, never end by a fault of the ports
-pub no_port_fault :
-    (import : Option ImportWords) (keeping : Keeping) (input_before input_after : Option (List ℕ))
-    (before after : List ℕ → Type 0) (status : Status)
-    → IsBookRun (work_named import None None) keeping input_before input_after before after status
-    → status ≢ PortFault
-no_port_fault None keeping input_before input_after before after status run =
-    λ is. subst (λ (s : Status). StatusClause keeping before after run.bytes run.read run.left run.text s) is run.clause
-no_port_fault (Some words) keeping input_before input_after before after status run =
-    λ is. subst (λ (s : Status). ImportClause words keeping before after run.read run.left run.text s) is run.clause
 
 -- where no link was served
 pub unopened_rows :

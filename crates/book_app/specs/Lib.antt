@@ -1,3 +1,4 @@
+pub mod Causes
 pub mod Fresh
 pub mod Later
 pub mod Machine

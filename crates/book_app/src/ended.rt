@@ -1,9 +1,9 @@
 ghost use Rattle.std.specs.Prelude.{◌≡◌, ◌≢◌, ◌↔◌, None, IfOk, IfSome, IsTrue, OnErr, MatchResult};
 ghost use Rattle.std.specs.IoError.{error_kind};
 ghost use Rattle.std.specs.Process.{exit_status};
-ghost use Rattle.book_keeper.specs.Faults.{Rose};
 ghost use Rattle.book_keeper.specs.OverStd.{left_of, sink_over, source_faults, sink_faults};
 ghost use Rattle.book_keeper.specs.Written.{may_hold};
+ghost use Rattle.book_app.specs.Causes.{HasCauses, counted};
 ghost use Rattle.book_app.specs.Numbers.{number_of};
 ghost use Rattle.book_serve.specs.Served.{link_reports};
 ghost use Rattle.book_app.specs.ServeClause.{ServeClause, across};
@@ -52,21 +52,16 @@ pub fn run_over<K: Keeper, I: Read, O: Write, P: Ports>(
     ensures path { HasBookPath words.now (K.path_given keeper.new) result.ended.status }
     ensures honest { IsTrue (K.honest keeper.new) → IsTrue (K.honest keeper.old) }
     ensures sure { IsTrue (K.sure keeper.new) → IsTrue (K.sure keeper.old) }
-    ensures usage { (result.ended.status ≡ Status.Usage) ↔ AreNoWords words.now }
-    ensures keeper_fault { result.ended.status ≡ Status.KeeperFault
-        → Rose (K.faults keeper.old) (K.faults keeper.new) }
-    ensures input_fault { result.ended.status ≡ Status.InputFault → Rose 0 (source_faults result.input) }
-    ensures no_input_fault { result.ended.status ≢ Status.InputFault → source_faults result.input ≡ 0 }
-    ensures output_fault { result.ended.status ≡ Status.OutputFault → Rose 0 (sink_faults result.output) }
-    ensures no_output_fault { result.ended.status ≢ Status.OutputFault → sink_faults result.output ≡ 0 }
+    ensures causes { HasCauses (AreNoWords words.now)
+        (counted (K.faults keeper.old) 0 0 (P.faults ports.old))
+        (counted (K.faults keeper.new) (source_faults result.input) (sink_faults result.output)
+        (P.faults ports.new)) result.ended.status }
     ensures serve { IfSome (named_serve words.now) (λ serve. ServeClause serve
         (over K.Keeper keeper.old keeper.new)
         (link_reports P.L.left P.L.written P.L.Source.faults P.L.Sink.faults)
         (across P.coming P.closed P.accepted_links P.port_given ports.old ports.new) result.ended.status) }
     ensures other_words { named_serve words.now ≡ None → ports.new ≡ ports.old }
     ensures open_links { P.open_links ports.new ≡ P.open_links ports.old }
-    ensures port_fault { result.ended.status ≡ Status.PortFault → Rose (P.faults ports.old) (P.faults ports.new) }
-    ensures no_port_fault { result.ended.status ≢ Status.PortFault → P.faults ports.new ≡ P.faults ports.old }
 {
     let mut input = FileSource::new(reader);
     let mut output = StreamSink::new(writer);
@@ -91,26 +86,21 @@ pub(crate) fn run_words<K: Keeper, I: Read, O: Write, P: Ports>(
     ensures run { IsBookRun (given_work (λ given. given.items) words)
         (over K.Keeper keeper.old keeper.new) (I.remaining reader) (left_of I.remaining result.input)
         (may_hold O.contents (sink_over writer)) (may_hold O.contents result.output) result.ended.status }
-    ensures usage { (result.ended.status ≡ Status.Usage) ↔ MatchResult words
-        (λ given. AreNoWords given.items) (λ error. error_kind error ≡ ErrorKind.InvalidData) }
     ensures path { IfOk words (λ given. HasBookPath given.items (K.path_given keeper.new) result.ended.status) }
     ensures honest { IsTrue (K.honest keeper.new) → IsTrue (K.honest keeper.old) }
     ensures sure { IsTrue (K.sure keeper.new) → IsTrue (K.sure keeper.old) }
     ensures memory { OnErr words (result.ended.status ≢ Status.Usage → result.ended.status ≡ Status.Memory) }
-    ensures keeper_fault { result.ended.status ≡ Status.KeeperFault
-        → Rose (K.faults keeper.old) (K.faults keeper.new) }
-    ensures input_fault { result.ended.status ≡ Status.InputFault → Rose 0 (source_faults result.input) }
-    ensures no_input_fault { result.ended.status ≢ Status.InputFault → source_faults result.input ≡ 0 }
-    ensures output_fault { result.ended.status ≡ Status.OutputFault → Rose 0 (sink_faults result.output) }
-    ensures no_output_fault { result.ended.status ≢ Status.OutputFault → sink_faults result.output ≡ 0 }
+    ensures causes { HasCauses (MatchResult words
+        (λ given. AreNoWords given.items) (λ error. error_kind error ≡ ErrorKind.InvalidData))
+        (counted (K.faults keeper.old) 0 0 (P.faults ports.old))
+        (counted (K.faults keeper.new) (source_faults result.input) (sink_faults result.output)
+        (P.faults ports.new)) result.ended.status }
     ensures serve { IfSome (given_serve (λ given. given.items) words) (λ serve. ServeClause serve
         (over K.Keeper keeper.old keeper.new)
         (link_reports P.L.left P.L.written P.L.Source.faults P.L.Sink.faults)
         (across P.coming P.closed P.accepted_links P.port_given ports.old ports.new) result.ended.status) }
     ensures other_words { given_serve (λ given. given.items) words ≡ None → ports.new ≡ ports.old }
     ensures open_links { P.open_links ports.new ≡ P.open_links ports.old }
-    ensures port_fault { result.ended.status ≡ Status.PortFault → Rose (P.faults ports.old) (P.faults ports.new) }
-    ensures no_port_fault { result.ended.status ≢ Status.PortFault → P.faults ports.new ≡ P.faults ports.old }
 {
     match words {
         Ok(words) => run_over(alloc, words.as_slice(), keeper, reader, writer, ports),

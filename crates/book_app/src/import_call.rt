@@ -1,8 +1,8 @@
-ghost use Rattle.std.specs.Prelude.{◌≡◌, ◌≢◌, ◌↔◌, None, IsTrue};
-ghost use Rattle.book_keeper.specs.Faults.{Rose};
+ghost use Rattle.std.specs.Prelude.{◌≡◌, None, IsTrue};
 ghost use Rattle.book_lines.specs.RunClause.{at};
 ghost use Rattle.book_engine.specs.Books.{machine_kept};
 ghost use Rattle.book_engine.specs.Standing.{Stands};
+ghost use Rattle.book_app.specs.Causes.{HasCauses, HasStreamCauses, in_streams, without_ports};
 ghost use Rattle.book_app.specs.Later.{IsLater};
 ghost use Rattle.book_app.specs.StatusClause.{HasBookPath, IsBookRun, IsImportRun, over};
 ghost use Rattle.book_app.specs.Words.{Import, named_book};
@@ -36,10 +36,8 @@ fn import_input<K: Keeper, S: Source, O: Sink>(
     ensures fault { result ≡ Status.InputFault → keeper.new ≡ keeper.old }
     ensures stands { Stands K.Keeper keeper.new importer.new.engine }
     ensures keeper { IsLater K.path_given K.honest K.sure keeper.old keeper.new }
-    ensures input_fault { result ≡ Status.InputFault → Rose (S.faults input.old) (S.faults input.new) }
-    ensures no_input_fault { result ≢ Status.InputFault → S.faults input.new ≡ S.faults input.old }
-    ensures output_fault { result ≡ Status.OutputFault → Rose (O.faults output.old) (O.faults output.new) }
-    ensures no_output_fault { result ≢ Status.OutputFault → O.faults output.new ≡ O.faults output.old }
+    ensures causes { HasStreamCauses (in_streams (S.faults input.old) (O.faults output.old))
+        (in_streams (S.faults input.new) (O.faults output.new)) result }
 {
     status_after(run_whole::<Answering, K, Importer, S, O>(
         alloc, importer, keeper, input, output, room,
@@ -61,13 +59,10 @@ pub fn run_import<K: Keeper, S: Source, O: Sink>(
     ensures path { HasBookPath words.now (K.path_given keeper.new) result }
     ensures honest { IsTrue (K.honest keeper.new) → IsTrue (K.honest keeper.old) }
     ensures sure { IsTrue (K.sure keeper.new) → IsTrue (K.sure keeper.old) }
-    ensures usage { (result ≡ Status.Usage) ↔ (named_book words.now ≡ None) }
     ensures untouched { result ≡ Status.Usage → keeper.new ≡ keeper.old }
-    ensures keeper_fault { result ≡ Status.KeeperFault → Rose (K.faults keeper.old) (K.faults keeper.new) }
-    ensures input_fault { result ≡ Status.InputFault → Rose (S.faults input.old) (S.faults input.new) }
-    ensures no_input_fault { result ≢ Status.InputFault → S.faults input.new ≡ S.faults input.old }
-    ensures output_fault { result ≡ Status.OutputFault → Rose (O.faults output.old) (O.faults output.new) }
-    ensures no_output_fault { result ≢ Status.OutputFault → O.faults output.new ≡ O.faults output.old }
+    ensures causes { HasCauses (named_book words.now ≡ None)
+        (without_ports (K.faults keeper.old) (S.faults input.old) (O.faults output.old))
+        (without_ports (K.faults keeper.new) (S.faults input.new) (O.faults output.new)) result }
 {
     let Some(book) = named_book(words) else {
         return Status::Usage;

@@ -1,9 +1,10 @@
-ghost use Rattle.std.specs.Prelude.{◌≡◌, ◌≢◌, ◌↔◌, None, IfSome, IsTrue};
-ghost use Rattle.book_keeper.specs.Faults.{Rose};
+ghost use Rattle.std.specs.Prelude.{◌≡◌, ◌≢◌, None, IfSome, IsTrue};
+ghost use Rattle.book_lines.specs.EndFaults.{TellsFault};
 ghost use Rattle.book_lines.specs.RunClause.{at};
 ghost use Rattle.book_engine.specs.Books.{machine_kept};
 ghost use Rattle.book_engine.specs.Standing.{Stands};
 ghost use Rattle.book_serve.specs.Served.{link_reports};
+ghost use Rattle.book_app.specs.Causes.{HasCauses, HasStreamCauses, counted, in_streams, without_ports};
 ghost use Rattle.book_app.specs.ServeClause.{ServeClause, across};
 ghost use Rattle.book_app.specs.StatusClause.{HasBookPath, IsBookRun, IsLineRun, IsShownAs, over};
 ghost use Rattle.book_app.specs.Later.{IsLater};
@@ -41,10 +42,8 @@ pub fn run_lines<K: Keeper, S: Source, O: Sink>(
         (at (machine_kept engine.new) (O.written output.new) (K.faults keeper.new)) result }
     ensures stands { Stands K.Keeper keeper.new engine.new }
     ensures keeper { IsLater K.path_given K.honest K.sure keeper.old keeper.new }
-    ensures input_fault { result ≡ Status.InputFault → Rose (S.faults input.old) (S.faults input.new) }
-    ensures no_input_fault { result ≢ Status.InputFault → S.faults input.new ≡ S.faults input.old }
-    ensures output_fault { result ≡ Status.OutputFault → Rose (O.faults output.old) (O.faults output.new) }
-    ensures no_output_fault { result ≢ Status.OutputFault → O.faults output.new ≡ O.faults output.old }
+    ensures causes { HasStreamCauses (in_streams (S.faults input.old) (O.faults output.old))
+        (in_streams (S.faults input.new) (O.faults output.new)) result }
 {
     status_after(run::<Answering, K, Engine, S, O>(alloc, engine, keeper, input, output, room))
 }
@@ -63,13 +62,10 @@ fn run_book<K: Keeper, S: Source, O: Sink>(
     ensures path { HasBookPath words.now (K.path_given keeper.new) result }
     ensures honest { IsTrue (K.honest keeper.new) → IsTrue (K.honest keeper.old) }
     ensures sure { IsTrue (K.sure keeper.new) → IsTrue (K.sure keeper.old) }
-    ensures usage { (result ≡ Status.Usage) ↔ (named_book words.now ≡ None) }
     ensures untouched { result ≡ Status.Usage → keeper.new ≡ keeper.old }
-    ensures keeper_fault { result ≡ Status.KeeperFault → Rose (K.faults keeper.old) (K.faults keeper.new) }
-    ensures input_fault { result ≡ Status.InputFault → Rose (S.faults input.old) (S.faults input.new) }
-    ensures no_input_fault { result ≢ Status.InputFault → S.faults input.new ≡ S.faults input.old }
-    ensures output_fault { result ≡ Status.OutputFault → Rose (O.faults output.old) (O.faults output.new) }
-    ensures no_output_fault { result ≢ Status.OutputFault → O.faults output.new ≡ O.faults output.old }
+    ensures causes { HasCauses (named_book words.now ≡ None)
+        (without_ports (K.faults keeper.old) (S.faults input.old) (O.faults output.old))
+        (without_ports (K.faults keeper.new) (S.faults input.new) (O.faults output.new)) result }
 {
     let Some(book) = named_book(words) else {
         return Status::Usage;
@@ -86,8 +82,7 @@ fn run_book<K: Keeper, S: Source, O: Sink>(
 /// Shows the sample of the number that the words name, once `clap` has parted them.
 fn run_sample<O: Sink>(alloc: Global, words: &[Text], number: u64, output: &mut O) -> Status
     ensures shown { IsShownAs number (O.written output.old) (O.written output.new) result }
-    ensures output_fault { result ≡ Status.OutputFault → Rose (O.faults output.old) (O.faults output.new) }
-    ensures no_output_fault { result ≢ Status.OutputFault → O.faults output.new ≡ O.faults output.old }
+    ensures output_faults { TellsFault Status.OutputFault result (O.faults output.old) (O.faults output.new) }
 {
     let Ok(mut room) = room_after(alloc, words) else {
         return Status::Memory;
@@ -109,13 +104,10 @@ fn run_over_input<K: Keeper, S: Source, O: Sink>(
     ensures path { HasBookPath words.now (K.path_given keeper.new) result }
     ensures honest { IsTrue (K.honest keeper.new) → IsTrue (K.honest keeper.old) }
     ensures sure { IsTrue (K.sure keeper.new) → IsTrue (K.sure keeper.old) }
-    ensures usage { (result ≡ Status.Usage) ↔ (named_book words.now ≡ None) }
     ensures untouched { result ≡ Status.Usage → keeper.new ≡ keeper.old }
-    ensures keeper_fault { result ≡ Status.KeeperFault → Rose (K.faults keeper.old) (K.faults keeper.new) }
-    ensures input_fault { result ≡ Status.InputFault → Rose (S.faults input.old) (S.faults input.new) }
-    ensures no_input_fault { result ≢ Status.InputFault → S.faults input.new ≡ S.faults input.old }
-    ensures output_fault { result ≡ Status.OutputFault → Rose (O.faults output.old) (O.faults output.new) }
-    ensures no_output_fault { result ≢ Status.OutputFault → O.faults output.new ≡ O.faults output.old }
+    ensures causes { HasCauses (named_book words.now ≡ None)
+        (without_ports (K.faults keeper.old) (S.faults input.old) (O.faults output.old))
+        (without_ports (K.faults keeper.new) (S.faults input.new) (O.faults output.new)) result }
 {
     match named_import(words) {
         Some(import) => run_import(alloc, words, import, keeper, input, output),
@@ -138,21 +130,16 @@ fn run_with_book<K: Keeper, S: Source, O: Sink, P: Ports>(
     ensures path { HasBookPath words.now (K.path_given keeper.new) result }
     ensures honest { IsTrue (K.honest keeper.new) → IsTrue (K.honest keeper.old) }
     ensures sure { IsTrue (K.sure keeper.new) → IsTrue (K.sure keeper.old) }
-    ensures usage { (result ≡ Status.Usage) ↔ (named_book words.now ≡ None) }
     ensures untouched { result ≡ Status.Usage → keeper.new ≡ keeper.old }
-    ensures keeper_fault { result ≡ Status.KeeperFault → Rose (K.faults keeper.old) (K.faults keeper.new) }
-    ensures input_fault { result ≡ Status.InputFault → Rose (S.faults input.old) (S.faults input.new) }
-    ensures no_input_fault { result ≢ Status.InputFault → S.faults input.new ≡ S.faults input.old }
-    ensures output_fault { result ≡ Status.OutputFault → Rose (O.faults output.old) (O.faults output.new) }
-    ensures no_output_fault { result ≢ Status.OutputFault → O.faults output.new ≡ O.faults output.old }
+    ensures causes { HasCauses (named_book words.now ≡ None)
+        (counted (K.faults keeper.old) (S.faults input.old) (O.faults output.old) (P.faults ports.old))
+        (counted (K.faults keeper.new) (S.faults input.new) (O.faults output.new) (P.faults ports.new)) result }
     ensures serve { IfSome (named_serve words.now) (λ serve. ServeClause serve
         (over K.Keeper keeper.old keeper.new)
         (link_reports P.L.left P.L.written P.L.Source.faults P.L.Sink.faults)
         (across P.coming P.closed P.accepted_links P.port_given ports.old ports.new) result) }
     ensures other_words { named_serve words.now ≡ None → ports.new ≡ ports.old }
     ensures open_links { P.open_links ports.new ≡ P.open_links ports.old }
-    ensures port_fault { result ≡ Status.PortFault → Rose (P.faults ports.old) (P.faults ports.new) }
-    ensures no_port_fault { result ≢ Status.PortFault → P.faults ports.new ≡ P.faults ports.old }
 {
     match named_serve(words) {
         Some(serve) => run_serve(alloc, words, serve, keeper, ports),
@@ -186,22 +173,17 @@ pub fn book_main<K: Keeper, S: Source, O: Sink, P: Ports>(
     ensures path { HasBookPath words.now (K.path_given keeper.new) result }
     ensures honest { IsTrue (K.honest keeper.new) → IsTrue (K.honest keeper.old) }
     ensures sure { IsTrue (K.sure keeper.new) → IsTrue (K.sure keeper.old) }
-    ensures usage { (result ≡ Status.Usage) ↔ AreNoWords words.now }
     ensures untouched { result ≡ Status.Usage → keeper.new ≡ keeper.old }
     ensures sample { named_number words.now ≢ None → keeper.new ≡ keeper.old }
-    ensures keeper_fault { result ≡ Status.KeeperFault → Rose (K.faults keeper.old) (K.faults keeper.new) }
-    ensures input_fault { result ≡ Status.InputFault → Rose (S.faults input.old) (S.faults input.new) }
-    ensures no_input_fault { result ≢ Status.InputFault → S.faults input.new ≡ S.faults input.old }
-    ensures output_fault { result ≡ Status.OutputFault → Rose (O.faults output.old) (O.faults output.new) }
-    ensures no_output_fault { result ≢ Status.OutputFault → O.faults output.new ≡ O.faults output.old }
+    ensures causes { HasCauses (AreNoWords words.now)
+        (counted (K.faults keeper.old) (S.faults input.old) (O.faults output.old) (P.faults ports.old))
+        (counted (K.faults keeper.new) (S.faults input.new) (O.faults output.new) (P.faults ports.new)) result }
     ensures serve { IfSome (named_serve words.now) (λ serve. ServeClause serve
         (over K.Keeper keeper.old keeper.new)
         (link_reports P.L.left P.L.written P.L.Source.faults P.L.Sink.faults)
         (across P.coming P.closed P.accepted_links P.port_given ports.old ports.new) result) }
     ensures other_words { named_serve words.now ≡ None → ports.new ≡ ports.old }
     ensures open_links { P.open_links ports.new ≡ P.open_links ports.old }
-    ensures port_fault { result ≡ Status.PortFault → Rose (P.faults ports.old) (P.faults ports.new) }
-    ensures no_port_fault { result ≢ Status.PortFault → P.faults ports.new ≡ P.faults ports.old }
 {
     match named_number(words) {
         Some(number) => run_sample(alloc, words, number, output),

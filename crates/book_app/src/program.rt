@@ -1,7 +1,7 @@
-ghost use Rattle.std.specs.Prelude.{◌≡◌, ◌≢◌, ◌↔◌, None, IfOk, IfSome, IsTrue, MatchResult, OnErr};
+ghost use Rattle.std.specs.Prelude.{◌≡◌, ◌≢◌, None, IfOk, IfSome, IsTrue, MatchResult, OnErr};
 ghost use Rattle.std.specs.IoError.{error_kind};
-ghost use Rattle.book_keeper.specs.Faults.{Rose};
 ghost use Rattle.book_serve.specs.Served.{link_reports};
+ghost use Rattle.book_app.specs.Causes.{HasBookCauses, without_streams};
 ghost use Rattle.book_app.specs.ServeClause.{ServeClause, across};
 ghost use Rattle.book_app.specs.StatusClause.{HasBookPath, IsStreamRun, over};
 ghost use Rattle.book_app.specs.Words.{AreNoWords, given_serve, given_work};
@@ -27,21 +27,20 @@ pub fn run_program<R: Input + Print + AllocGlobal, K: Keeper, P: Ports>(
 ) -> Ended
     ensures run { IsStreamRun (given_work (λ given. given.items) words)
         (over K.Keeper keeper.old keeper.new) result.status }
-    ensures usage { (result.status ≡ Status.Usage) ↔ MatchResult words
-        (λ given. AreNoWords given.items) (λ error. error_kind error ≡ ErrorKind.InvalidData) }
     ensures path { IfOk words (λ given. HasBookPath given.items (K.path_given keeper.new) result.status) }
     ensures honest { IsTrue (K.honest keeper.new) → IsTrue (K.honest keeper.old) }
     ensures sure { IsTrue (K.sure keeper.new) → IsTrue (K.sure keeper.old) }
     ensures memory { OnErr words (result.status ≢ Status.Usage → result.status ≡ Status.Memory) }
-    ensures keeper_fault { result.status ≡ Status.KeeperFault → Rose (K.faults keeper.old) (K.faults keeper.new) }
+    ensures causes { HasBookCauses (MatchResult words
+        (λ given. AreNoWords given.items) (λ error. error_kind error ≡ ErrorKind.InvalidData))
+        (without_streams (K.faults keeper.old) (P.faults ports.old))
+        (without_streams (K.faults keeper.new) (P.faults ports.new)) result.status }
     ensures serve { IfSome (given_serve (λ given. given.items) words) (λ serve. ServeClause serve
         (over K.Keeper keeper.old keeper.new)
         (link_reports P.L.left P.L.written P.L.Source.faults P.L.Sink.faults)
         (across P.coming P.closed P.accepted_links P.port_given ports.old ports.new) result.status) }
     ensures other_words { given_serve (λ given. given.items) words ≡ None → ports.new ≡ ports.old }
     ensures open_links { P.open_links ports.new ≡ P.open_links ports.old }
-    ensures port_fault { result.status ≡ Status.PortFault → Rose (P.faults ports.old) (P.faults ports.new) }
-    ensures no_port_fault { result.status ≢ Status.PortFault → P.faults ports.new ≡ P.faults ports.old }
 {
     run_words(
         rt.alloc(),

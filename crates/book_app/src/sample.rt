@@ -1,5 +1,5 @@
-ghost use Rattle.std.specs.Prelude.{◌≡◌, ◌≢◌, [], IfOk};
-ghost use Rattle.book_keeper.specs.Faults.{Rose};
+ghost use Rattle.std.specs.Prelude.{◌≡◌, [], IfOk};
+ghost use Rattle.book_lines.specs.EndFaults.{TellsFault};
 ghost use Rattle.book_engine.specs.Machine.{fresh};
 ghost use Rattle.book_sample.specs.Sample.{sample_text};
 ghost use Rattle.book_sample.specs.Shown.{IsShown};
@@ -37,8 +37,7 @@ pub(crate) fn show_in_memory<O: Sink>(
     room: &mut LineRoom,
 ) -> SampleEnd
     ensures shown { IsShown answers fresh (sample_text number) (O.written output.old) (O.written output.new) result }
-    ensures output_fault { result ≡ SampleEnd.OutputFault → Rose (O.faults output.old) (O.faults output.new) }
-    ensures no_output_fault { result ≢ SampleEnd.OutputFault → O.faults output.new ≡ O.faults output.old }
+    ensures output_faults { TellsFault SampleEnd.OutputFault result (O.faults output.old) (O.faults output.new) }
 {
     let mut keeper = MemKeeper::new(Many::new(alloc), Many::new(alloc));
     match fresh_engine(alloc, &mut keeper) {

@@ -1,7 +1,8 @@
-ghost use Rattle.std.specs.Prelude.{◌≡◌, ◌≢◌, ◌↔◌, None, IsTrue};
-ghost use Rattle.book_keeper.specs.Faults.{Rose};
+ghost use Rattle.std.specs.Prelude.{◌≡◌, None, IsTrue};
+ghost use Rattle.book_lines.specs.EndFaults.{TellsFault};
 ghost use Rattle.book_engine.specs.Standing.{Stands};
 ghost use Rattle.book_serve.specs.Served.{IsServing, server_state, link_reports};
+ghost use Rattle.book_app.specs.Causes.{HasBookCauses, without_streams};
 ghost use Rattle.book_app.specs.Later.{IsLater};
 ghost use Rattle.book_app.specs.Numbers.{status_served};
 ghost use Rattle.book_app.specs.Respond.{kept_answers};
@@ -41,8 +42,7 @@ fn serve_links<K: Keeper, P: Ports>(
     ensures stands { Stands K.Keeper keeper.new engine.new }
     ensures keeper { IsLater K.path_given K.honest K.sure keeper.old keeper.new }
     ensures open_links { P.open_links ports.new ≡ P.open_links ports.old }
-    ensures port_fault { result ≡ ServeEnd.PortFault → Rose (P.faults ports.old) (P.faults ports.new) }
-    ensures no_port_fault { result ≢ ServeEnd.PortFault → P.faults ports.new ≡ P.faults ports.old }
+    ensures port_faults { TellsFault ServeEnd.PortFault result (P.faults ports.old) (P.faults ports.new) }
 {
     serve::<Answering, K, Engine, P>(
         alloc,
@@ -69,14 +69,13 @@ pub fn run_serve<K: Keeper, P: Ports>(
         (link_reports P.L.left P.L.written P.L.Source.faults P.L.Sink.faults)
         (across P.coming P.closed P.accepted_links P.port_given ports.old ports.new) result }
     ensures open_links { P.open_links ports.new ≡ P.open_links ports.old }
-    ensures port_fault { result ≡ Status.PortFault → Rose (P.faults ports.old) (P.faults ports.new) }
-    ensures no_port_fault { result ≢ Status.PortFault → P.faults ports.new ≡ P.faults ports.old }
     ensures path { HasBookPath words.now (K.path_given keeper.new) result }
     ensures honest { IsTrue (K.honest keeper.new) → IsTrue (K.honest keeper.old) }
     ensures sure { IsTrue (K.sure keeper.new) → IsTrue (K.sure keeper.old) }
-    ensures usage { (result ≡ Status.Usage) ↔ (named_book words.now ≡ None) }
     ensures untouched { result ≡ Status.Usage → keeper.new ≡ keeper.old }
-    ensures keeper_fault { result ≡ Status.KeeperFault → Rose (K.faults keeper.old) (K.faults keeper.new) }
+    ensures causes { HasBookCauses (named_book words.now ≡ None)
+        (without_streams (K.faults keeper.old) (P.faults ports.old))
+        (without_streams (K.faults keeper.new) (P.faults ports.new)) result }
 {
     let Some(book) = named_book(words) else {
         return Status::Usage;

@@ -29,7 +29,7 @@ use Rattle.book_app.specs.declared.words.ImportWords.{ImportWords}
 use Rattle.book_app.specs.declared.words.ServeWords.{ServeWords}
 use Rattle.book_complete.specs.Complete.{DoneClause, DoneOrMemory, EndedWell, EndsWell, HasServedWell, IsCompleteRun}
 use Rattle.book_complete.specs.Complete.{IsToldOrMemory, LinksComplete, MemoryClause}
-use Rattle.book_complete.specs.Quiet.{AreQuiet, DidNotRise, Faults, HasCauses}
+use Rattle.book_complete.specs.Quiet.{AreQuiet, DidNotRise, FaultsSeen, IsCaused}
 use Rattle.book_complete.specs.Ready.{AreWords, BookOpens, IsReady}
 use Rattle.book_complete.proofs.CountLaws.{quiet-not_rose, quiet-told}
 use Rattle.book_complete.proofs.OpenLaws.{opens-not_bad, opens-not_unsound}
@@ -54,11 +54,11 @@ few-not_many bytes all (inr many) = let count = all.count in omega (arith, count
 
 -- ---- by the work
 
-module _ (words : List (List ℕ)) (keeping : Keeping) (faults : Faults) (before after : List ℕ → Type 0)
+module _ (words : List (List ℕ)) (keeping : Keeping) (faults : FaultsSeen) (before after : List ℕ → Type 0)
     (bytes read left text : List ℕ) (are : AreWords words) (book : BookOpens keeping) (quiet : AreQuiet keeping faults)
   where
     lines-status :
-        (ended : Status) → AreAll bytes → HasCauses words keeping faults ended
+        (ended : Status) → AreAll bytes → IsCaused words keeping faults ended
         → StatusClause keeping before after bytes read left text ended
         → DoneOrMemory ended (DoneClause Lines keeping before after bytes read left text)
         (MemoryClause Lines keeping read text)
@@ -73,15 +73,17 @@ module _ (words : List (List ℕ)) (keeping : Keeping) (faults : Faults) (before
     lines-status status.Memory all causes clause =
         inr (refl, clause)
     lines-status status.Usage all causes clause =
-        absurd (are (causes.usage.0 refl))
+        absurd (are (causes.book.usage.0 refl))
     lines-status status.InputLimit all causes clause =
         absurd (few-not_many bytes all clause.run.0)
     lines-status status.InputFault all causes clause =
-        absurd (quiet-not_rose faults.input_before faults.input_after quiet.input (causes.input_fault refl))
+        absurd (quiet-not_rose faults.input_before faults.input_after quiet.input
+        (causes.streams.input_faults.rose refl))
     lines-status status.OutputFault all causes clause =
-        absurd (quiet-not_rose faults.output_before faults.output_after quiet.output (causes.output_fault refl))
+        absurd (quiet-not_rose faults.output_before faults.output_after quiet.output
+        (causes.streams.output_faults.rose refl))
     lines-status status.KeeperFault all causes clause =
-        absurd (quiet-not_rose keeping.faults_before keeping.faults_after quiet.keeper (causes.keeper_fault refl))
+        absurd (quiet-not_rose keeping.faults_before keeping.faults_after quiet.keeper (causes.book.keeper_fault refl))
     lines-status (status.BadRows kind id) all causes clause =
         absurd (not-bad keeping kind id book clause.1)
     lines-status (status.UnsoundBook kind id) all causes clause =
@@ -90,7 +92,7 @@ module _ (words : List (List ℕ)) (keeping : Keeping) (faults : Faults) (before
         absurd clause
 
     import-status :
-        (import : ImportWords) (ended : Status) → length read ≤ 2 ^ 23 → HasCauses words keeping faults ended
+        (import : ImportWords) (ended : Status) → length read ≤ 2 ^ 23 → IsCaused words keeping faults ended
         → ImportClause import keeping before after read left text ended
         → DoneOrMemory ended (DoneClause (Import import) keeping before after bytes read left text)
         (MemoryClause (Import import) keeping read text)
@@ -107,15 +109,17 @@ module _ (words : List (List ℕ)) (keeping : Keeping) (faults : Faults) (before
     import-status import status.Memory few causes clause =
         inr (refl, clause)
     import-status import status.Usage few causes clause =
-        absurd (are (causes.usage.0 refl))
+        absurd (are (causes.book.usage.0 refl))
     import-status import status.InputLimit few causes clause =
         let many = clause.0.asked.0 in absurd (omega (arith, few, many))
     import-status import status.InputFault few causes clause =
-        absurd (quiet-not_rose faults.input_before faults.input_after quiet.input (causes.input_fault refl))
+        absurd (quiet-not_rose faults.input_before faults.input_after quiet.input
+        (causes.streams.input_faults.rose refl))
     import-status import status.OutputFault few causes clause =
-        absurd (quiet-not_rose faults.output_before faults.output_after quiet.output (causes.output_fault refl))
+        absurd (quiet-not_rose faults.output_before faults.output_after quiet.output
+        (causes.streams.output_faults.rose refl))
     import-status import status.KeeperFault few causes clause =
-        absurd (quiet-not_rose keeping.faults_before keeping.faults_after quiet.keeper (causes.keeper_fault refl))
+        absurd (quiet-not_rose keeping.faults_before keeping.faults_after quiet.keeper (causes.book.keeper_fault refl))
     import-status import (status.BadRows kind id) few causes clause =
         absurd (not-bad keeping kind id book clause.1)
     import-status import (status.UnsoundBook kind id) few causes clause =
@@ -124,9 +128,9 @@ module _ (words : List (List ℕ)) (keeping : Keeping) (faults : Faults) (before
         absurd clause
 
 serve-status :
-    (words : List (List ℕ)) (keeping : Keeping) (faults : Faults) (ended : Status) → AreWords words
+    (words : List (List ℕ)) (keeping : Keeping) (faults : FaultsSeen) (ended : Status) → AreWords words
     → BookOpens keeping → DidNotRise keeping.faults_before keeping.faults_after
-    → DidNotRise faults.ports_before faults.ports_after → HasCauses words keeping faults ended
+    → DidNotRise faults.ports_before faults.ports_after → IsCaused words keeping faults ended
     → ServedRows keeping ended
     → DoneOrMemory ended (HasLed keeping) (HoldsUnopened keeping ⊎ HasLed keeping)
 serve-status words keeping faults status.Done are book kept ports causes clause =
@@ -134,11 +138,11 @@ serve-status words keeping faults status.Done are book kept ports causes clause 
 serve-status words keeping faults status.Memory are book kept ports causes clause =
     inr (refl, clause)
 serve-status words keeping faults status.Usage are book kept ports causes clause =
-    absurd (are (causes.usage.0 refl))
+    absurd (are (causes.book.usage.0 refl))
 serve-status words keeping faults status.PortFault are book kept ports causes clause =
-    absurd (quiet-not_rose faults.ports_before faults.ports_after ports (causes.port_fault refl))
+    absurd (quiet-not_rose faults.ports_before faults.ports_after ports (causes.book.port_faults.rose refl))
 serve-status words keeping faults status.KeeperFault are book kept ports causes clause =
-    absurd (quiet-not_rose keeping.faults_before keeping.faults_after kept (causes.keeper_fault refl))
+    absurd (quiet-not_rose keeping.faults_before keeping.faults_after kept (causes.book.keeper_fault refl))
 serve-status words keeping faults (status.BadRows kind id) are book kept ports causes clause =
     absurd (not-bad keeping kind id book clause.1)
 serve-status words keeping faults (status.UnsoundBook kind id) are book kept ports causes clause =
@@ -151,8 +155,8 @@ serve-status words keeping faults status.InputLimit are book kept ports causes c
     absurd clause
 
 sample-status :
-    (words : List (List ℕ)) (number : ℕ) (keeping : Keeping) (faults : Faults) (text : List ℕ) (ended : Status)
-    → DidNotRise faults.output_before faults.output_after → HasCauses words keeping faults ended
+    (words : List (List ℕ)) (number : ℕ) (keeping : Keeping) (faults : FaultsSeen) (text : List ℕ) (ended : Status)
+    → DidNotRise faults.output_before faults.output_after → IsCaused words keeping faults ended
     → SampleClause number text ended
     → DoneOrMemory ended (AreLastAnswers answers fresh (sample_text number) text) (text ≡ [])
 sample-status words number keeping faults text status.Done output causes clause =
@@ -160,7 +164,7 @@ sample-status words number keeping faults text status.Done output causes clause 
 sample-status words number keeping faults text status.Memory output causes clause =
     inr (refl, clause)
 sample-status words number keeping faults text status.OutputFault output causes clause =
-    absurd (quiet-not_rose faults.output_before faults.output_after output (causes.output_fault refl))
+    absurd (quiet-not_rose faults.output_before faults.output_after output (causes.streams.output_faults.rose refl))
 sample-status words number keeping faults text status.Usage output causes clause =
     absurd clause
 sample-status words number keeping faults text status.InputLimit output causes clause =
@@ -188,10 +192,10 @@ with-both ended A B a b (inl done) = inl (done.0, (a, b, done.1))
 with-both ended A B a b (inr spent) = inr (spent.0, (a, b, spent.1))
 
 work-status :
-    (words : List (List ℕ)) (work : Work) (keeping : Keeping) (faults : Faults) (input : Option (List ℕ))
+    (words : List (List ℕ)) (work : Work) (keeping : Keeping) (faults : FaultsSeen) (input : Option (List ℕ))
     (before after : List ℕ → Type 0) (bytes read left text : List ℕ) (ended : Status) → AreWords words
     → IsReady work keeping faults input → Are input bytes → bytes ≡ read ++ left
-    → HasCauses words keeping faults ended → WorkClause work keeping before after bytes read left text ended
+    → IsCaused words keeping faults ended → WorkClause work keeping before after bytes read left text ended
     → DoneOrMemory ended (DoneClause work keeping before after bytes read left text)
     (MemoryClause work keeping read text)
 work-status words Lines keeping faults input before after bytes read left text ended are ready is parts causes clause =
@@ -221,9 +225,9 @@ work-status words (Sample number) keeping faults input before after bytes read l
 -- Completeness: a run with words of the grammar that meets what its work has to meet is complete. So `run`, `import`,
 -- `serve` and `sample` end by Done or by Memory.
 pub book_run-complete :
-    (words : List (List ℕ)) (work : Work) (keeping : Keeping) (faults : Faults)
+    (words : List (List ℕ)) (work : Work) (keeping : Keeping) (faults : FaultsSeen)
     (input_before input_after : Option (List ℕ)) (output_before output_after : List ℕ → Type 0) (ended : Status)
-    → AreWords words → IsReady work keeping faults input_before → HasCauses words keeping faults ended
+    → AreWords words → IsReady work keeping faults input_before → IsCaused words keeping faults ended
     → IsBookRun work keeping input_before input_after output_before output_after ended
     → IsCompleteRun work keeping input_before input_after output_before output_after ended
 book_run-complete words work keeping faults input_before input_after output_before output_after ended are ready causes
@@ -291,9 +295,9 @@ served-well serve keeping of ports ended book = record {
 -- Completeness of `serve`: it ends by Done or by Memory, and each link of which no read and no write failed ends by
 -- Done, Cut, Limit or OutOfMemory.
 pub serve-complete :
-    {L : Type 0} (words : List (List ℕ)) (serve : ServeWords) (keeping : Keeping) (faults : Faults)
+    {L : Type 0} (words : List (List ℕ)) (serve : ServeWords) (keeping : Keeping) (faults : FaultsSeen)
     (of : LinkReports L) (ports : PortsSeen L) (input : Option (List ℕ)) (ended : Status) → AreWords words
-    → IsReady (Serve serve) keeping faults input → HasCauses words keeping faults ended
+    → IsReady (Serve serve) keeping faults input → IsCaused words keeping faults ended
     → ServedRows keeping ended → ServeClause serve keeping of ports ended → LinksComplete serve keeping of ports ended
 serve-complete words serve keeping faults of ports input status.Done are ready causes rows clause =
     inl (refl, served-well serve keeping of ports close.Done clause)
@@ -302,11 +306,11 @@ serve-complete words serve keeping faults of ports input status.Memory are ready
 serve-complete words serve keeping faults of ports input status.Memory are ready causes rows (inr book) =
     inr (refl, inr (served-well serve keeping of ports close.OutOfMemory book))
 serve-complete words serve keeping faults of ports input status.Usage are ready causes rows clause =
-    absurd (are (causes.usage.0 refl))
+    absurd (are (causes.book.usage.0 refl))
 serve-complete words serve keeping faults of ports input status.PortFault are ready causes rows clause =
-    absurd (quiet-not_rose faults.ports_before faults.ports_after ready.2 (causes.port_fault refl))
+    absurd (quiet-not_rose faults.ports_before faults.ports_after ready.2 (causes.book.port_faults.rose refl))
 serve-complete words serve keeping faults of ports input status.KeeperFault are ready causes rows clause =
-    absurd (quiet-not_rose keeping.faults_before keeping.faults_after ready.1 (causes.keeper_fault refl))
+    absurd (quiet-not_rose keeping.faults_before keeping.faults_after ready.1 (causes.book.keeper_fault refl))
 serve-complete words serve keeping faults of ports input (status.BadRows kind id) are ready causes rows clause =
     absurd (not-bad keeping kind id ready.0 rows.1)
 serve-complete words serve keeping faults of ports input (status.UnsoundBook kind id) are ready causes rows clause =

@@ -21,7 +21,7 @@ use Rattle.book_app.specs.Words.{Import, Lines, Sample, Work, is_book, named_boo
 use Rattle.book_app.specs.declared.status.Status.{Status}
 use Rattle.book_complete.specs.Complete.{AreAllTold, DoneOrMemory, IsCompleteRun, IsImportTold}
 use Rattle.book_complete.specs.NoFail.{BytesLeft, RowsKept, may_be_given}
-use Rattle.book_complete.specs.Quiet.{AreQuiet, DidNotRise, Faults, HasCauses}
+use Rattle.book_complete.specs.Quiet.{AreQuiet, DidNotRise, FaultsSeen, IsCaused}
 use Rattle.book_complete.specs.Ready.{AreWords, BookOpens, IsReady}
 use Rattle.book_complete.specs.SureRun.{AreRunWords, AskFor, IsAnsweredWhole, IsAsBefore, IsImportedWhole, IsSureImport}
 use Rattle.book_complete.specs.SureRun.{IsSureRun, IsSureSample}
@@ -41,7 +41,7 @@ sure_keeping before after = record {
 }
 
 -- The counts of objects that never fail, beside those of some ports.
-abbrev pub no_faults : ℕ → ℕ → Faults
+abbrev pub no_faults : ℕ → ℕ → FaultsSeen
 no_faults ports_before ports_after = record {
   input_before = 0;
   input_after = 0;
@@ -212,7 +212,7 @@ module _ (machine : Machine) (room : ℕ) (input_before input_after : BytesLeft)
   pub sure-run :
       (words : List (List ℕ)) (ports_before ports_after : ℕ) (ended : Status) → AreRunWords words
       → AreAll input_before.left
-      → HasCauses words (sure_keeping keeper_before keeper_after) (no_faults ports_before ports_after) ended
+      → IsCaused words (sure_keeping keeper_before keeper_after) (no_faults ports_before ports_after) ended
       → IsBookRun (work_of words) (sure_keeping keeper_before keeper_after) (Some input_before.left)
       (Some input_after.left) (may_be_given room kept_before) (may_be_given room kept_after) ended
       → IsSureRun machine room input_before input_after keeper_before keeper_after kept_before kept_after ended
@@ -233,7 +233,7 @@ module _ (machine : Machine) (room : ℕ) (input_before input_after : BytesLeft)
   pub sure-import :
       (words : List (List ℕ)) (import : ImportWords) (ports_before ports_after : ℕ) (ended : Status)
       → AskFor words (Import import) → length input_before.left ≤ 2 ^ 23
-      → HasCauses words (sure_keeping keeper_before keeper_after) (no_faults ports_before ports_after) ended
+      → IsCaused words (sure_keeping keeper_before keeper_after) (no_faults ports_before ports_after) ended
       → IsBookRun (work_of words) (sure_keeping keeper_before keeper_after) (Some input_before.left)
       (Some input_after.left) (may_be_given room kept_before) (may_be_given room kept_after) ended
       → IsSureImport import machine room input_before input_after keeper_before keeper_after kept_before kept_after
@@ -254,7 +254,7 @@ pub sure-sample :
     (number room : ℕ) (keeping : Keeping) (input_before input_after : Option (List ℕ))
     (kept_before kept_after : List ℕ) (words : List (List ℕ)) (ports_before ports_after : ℕ) (ended : Status)
     → length kept_before ≤ room → AskFor words (Sample number)
-    → HasCauses words keeping (no_faults ports_before ports_after) ended
+    → IsCaused words keeping (no_faults ports_before ports_after) ended
     → IsBookRun (work_of words) keeping input_before input_after (may_be_given room kept_before)
     (may_be_given room kept_after) ended
     → IsSureSample number room kept_before kept_after ended

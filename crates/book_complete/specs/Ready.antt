@@ -8,7 +8,7 @@ use Rattle.book_engine.specs.Machine.{Machine}
 use Rattle.book_engine.specs.Opens.{Opens, OpensTo}
 use Rattle.book_app.specs.StatusClause.{Keeping}
 use Rattle.book_app.specs.Words.{AreNoWords, Import, Lines, Sample, Serve, Work}
-use Rattle.book_complete.specs.Quiet.{AreQuiet, DidNotRise, Faults}
+use Rattle.book_complete.specs.Quiet.{AreQuiet, DidNotRise, FaultsSeen}
 
 -- The words are of the program's grammar.
 abbrev pub AreWords : List (List ℕ) → Type 0
@@ -36,7 +36,7 @@ pub record HasOneFile (input : Option (List ℕ)) : Type 0 where
   pub few : length bytes ≤ 2 ^ 23
 
 -- By the work, what it has to meet. A sample has a book of its own and reads no input; links are no input either.
-abbrev pub IsReady : Work → Keeping → Faults → Option (List ℕ) → Type 0
+abbrev pub IsReady : Work → Keeping → FaultsSeen → Option (List ℕ) → Type 0
 IsReady Lines keeping faults input = BookOpens keeping × AreQuiet keeping faults × HasFewLines input
 IsReady (Import import) keeping faults input = BookOpens keeping × AreQuiet keeping faults × HasOneFile input
 IsReady (Serve serve) keeping faults input =

@@ -5,3 +5,4 @@ pub mod Room
 pub mod RunClause
 pub mod Loop
 pub mod WholeClause
+pub mod EndFaults

@@ -1,5 +1,6 @@
-ghost use Rattle.std.specs.Prelude.{◌≡◌, ◌≢◌, ◌∷◌, [], ℕ, List, ◌+◌, ◌^◌, ◌<◌, ◌≤◌, length, OnOk, OnErr, IfErr, Err};
-ghost use Rattle.book_keeper.specs.Faults.{HasCause, Rose};
+ghost use Rattle.std.specs.Prelude.{◌≡◌, ◌∷◌, [], ℕ, List, ◌+◌, ◌^◌, ◌<◌, ◌≤◌, length, OnOk, OnErr, IfErr, Err};
+ghost use Rattle.book_keeper.specs.Faults.{HasCause};
+ghost use Rattle.book_lines.specs.EndFaults.{TellsFault};
 ghost use Rattle.book_lines.specs.Lines.{rest_line};
 ghost use Rattle.book_lines.specs.Room.{seen};
 ghost use Rattle.book_lines.specs.RunClause.{at};
@@ -68,8 +69,7 @@ pub fn take_piece<W, K, M: Machine<W, K>, O: Sink>(
         IfErr result (λ end. (begun : List ℕ) → line.old ≡ seen begun
         → count.old + length (rest_line begun) ≤ 1000000
         → HasStopped M.answers begun piece.now before after count.old end) }
-    ensures output_fault { result ≡ Err RunEnd.OutputFault → Rose (O.faults output.old) (O.faults output.new) }
-    ensures no_output_fault { result ≢ Err RunEnd.OutputFault → O.faults output.new ≡ O.faults output.old }
+    ensures output_faults { TellsFault (Err RunEnd.OutputFault) result (O.faults output.old) (O.faults output.new) }
     ensures stands { M.stands machine.new keeper.new }
     ensures follows { M.follows keeper.old keeper.new }
 {

@@ -1,6 +1,7 @@
-ghost use Rattle.std.specs.Prelude.{◌≡◌, ◌≢◌, ◌∷◌, [], ℕ, List, ◌+◌, ◌^◌, ◌<◌, ◌≤◌, take, Ok, IfOk, OnErr};
-ghost use Rattle.book_keeper.specs.Faults.{HasCause, Rose};
+ghost use Rattle.std.specs.Prelude.{◌≡◌, ◌∷◌, [], ℕ, List, ◌+◌, ◌^◌, ◌<◌, ◌≤◌, take, Ok, IfOk, OnErr};
+ghost use Rattle.book_keeper.specs.Faults.{HasCause};
 ghost use Rattle.std.specs.Io.KnownBytes.{Consumes, IsAtEnd, Keeps};
+ghost use Rattle.book_lines.specs.EndFaults.{TellsFault};
 ghost use Rattle.book_lines.specs.Lines.{rest_line};
 ghost use Rattle.book_lines.specs.Room.{seen};
 ghost use Rattle.book_lines.specs.RunClause.{at, IsRun};
@@ -59,8 +60,7 @@ fn end_input<W, K, M: Machine<W, K>, O: Sink>(
         let after = at machine.new (O.written output.new) (M.faults keeper.new) in
         (begun : List ℕ) → line.now ≡ seen begun
         → HasEnded M.answers before (rest_line begun) after result }
-    ensures output_fault { result ≡ RunEnd.OutputFault → Rose (O.faults output.old) (O.faults output.new) }
-    ensures no_output_fault { result ≢ RunEnd.OutputFault → O.faults output.new ≡ O.faults output.old }
+    ensures output_faults { TellsFault RunEnd.OutputFault result (O.faults output.old) (O.faults output.new) }
     ensures stands { M.stands machine.new keeper.new }
     ensures follows { M.follows keeper.old keeper.new }
 {
@@ -88,10 +88,8 @@ fn run_pieces<W, K, M: Machine<W, K>, S: Source, O: Sink>(
     ensures run { let before = at machine.old (O.written output.old) (M.faults keeper.old) in
         let after = at machine.new (O.written output.new) (M.faults keeper.new) in
         IsRun M.answers (S.left input.old) (S.left input.new) before after result }
-    ensures input_fault { result ≡ RunEnd.InputFault → Rose (S.faults input.old) (S.faults input.new) }
-    ensures no_input_fault { result ≢ RunEnd.InputFault → S.faults input.new ≡ S.faults input.old }
-    ensures output_fault { result ≡ RunEnd.OutputFault → Rose (O.faults output.old) (O.faults output.new) }
-    ensures no_output_fault { result ≢ RunEnd.OutputFault → O.faults output.new ≡ O.faults output.old }
+    ensures input_faults { TellsFault RunEnd.InputFault result (S.faults input.old) (S.faults input.new) }
+    ensures output_faults { TellsFault RunEnd.OutputFault result (O.faults output.old) (O.faults output.new) }
     ensures stands { M.stands machine.new keeper.new }
     ensures follows { M.follows keeper.old keeper.new }
 {
@@ -139,10 +137,8 @@ pub fn run<W, K, M: Machine<W, K>, S: Source, O: Sink>(
     ensures run { let before = at machine.old (O.written output.old) (M.faults keeper.old) in
         let after = at machine.new (O.written output.new) (M.faults keeper.new) in
         IsRun M.answers (S.left input.old) (S.left input.new) before after result }
-    ensures input_fault { result ≡ RunEnd.InputFault → Rose (S.faults input.old) (S.faults input.new) }
-    ensures no_input_fault { result ≢ RunEnd.InputFault → S.faults input.new ≡ S.faults input.old }
-    ensures output_fault { result ≡ RunEnd.OutputFault → Rose (O.faults output.old) (O.faults output.new) }
-    ensures no_output_fault { result ≢ RunEnd.OutputFault → O.faults output.new ≡ O.faults output.old }
+    ensures input_faults { TellsFault RunEnd.InputFault result (S.faults input.old) (S.faults input.new) }
+    ensures output_faults { TellsFault RunEnd.OutputFault result (O.faults output.old) (O.faults output.new) }
     ensures stands { M.stands machine.new keeper.new }
     ensures follows { M.follows keeper.old keeper.new }
 {

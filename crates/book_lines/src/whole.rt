@@ -1,6 +1,6 @@
-ghost use Rattle.std.specs.Prelude.{◌≡◌, ◌≢◌, ℕ, List, [], ◌^◌, ◌≤◌, Err, IfErr, OnOk};
+ghost use Rattle.std.specs.Prelude.{◌≡◌, ℕ, List, [], ◌^◌, ◌≤◌, Err, IfErr, OnOk};
 ghost use Rattle.std.specs.Io.KnownBytes.{IsAtEnd};
-ghost use Rattle.book_keeper.specs.Faults.{Rose};
+ghost use Rattle.book_lines.specs.EndFaults.{TellsFault};
 ghost use Rattle.book_lines.specs.Room.{seen};
 ghost use Rattle.book_lines.specs.RunClause.{at};
 ghost use Rattle.book_lines.specs.WholeClause.{HasAsked, HasHalted, HasRead, IsWhole};
@@ -25,8 +25,7 @@ fn read_whole<S: Source>(
     ensures ended { OnOk result (IsAtEnd (S.left input.new)) }
     ensures short { OnOk result (line.new.size ≤ 2 ^ 23) }
     ensures halted { IfErr result (λ end. HasHalted line.new.size end) }
-    ensures input_fault { result ≡ Err RunEnd.InputFault → Rose (S.faults input.old) (S.faults input.new) }
-    ensures no_input_fault { result ≢ Err RunEnd.InputFault → S.faults input.new ≡ S.faults input.old }
+    ensures input_faults { TellsFault (Err RunEnd.InputFault) result (S.faults input.old) (S.faults input.new) }
 {
     let mut taken: u64 = 0;
     'pieces: while taken <= MAX_LINE as u64 {
@@ -55,8 +54,7 @@ fn answer_whole<W, K, M: Machine<W, K>, O: Sink>(
     ensures asked { let before = at machine.old (O.written output.old) (M.faults keeper.old) in
         let after = at machine.new (O.written output.new) (M.faults keeper.new) in
         (bytes : List ℕ) → line.now ≡ seen bytes → HasAsked M.answers before bytes after result }
-    ensures output_fault { result ≡ RunEnd.OutputFault → Rose (O.faults output.old) (O.faults output.new) }
-    ensures no_output_fault { result ≢ RunEnd.OutputFault → O.faults output.new ≡ O.faults output.old }
+    ensures output_faults { TellsFault RunEnd.OutputFault result (O.faults output.old) (O.faults output.new) }
     ensures stands { M.stands machine.new keeper.new }
     ensures follows { M.follows keeper.old keeper.new }
 {
@@ -85,10 +83,8 @@ pub fn run_whole<W, K, M: Machine<W, K>, S: Source, O: Sink>(
         IsWhole M.answers (S.left input.old) (S.left input.new) before after result }
     ensures limit { result ≡ RunEnd.InputLimit → keeper.new ≡ keeper.old }
     ensures fault { result ≡ RunEnd.InputFault → keeper.new ≡ keeper.old }
-    ensures input_fault { result ≡ RunEnd.InputFault → Rose (S.faults input.old) (S.faults input.new) }
-    ensures no_input_fault { result ≢ RunEnd.InputFault → S.faults input.new ≡ S.faults input.old }
-    ensures output_fault { result ≡ RunEnd.OutputFault → Rose (O.faults output.old) (O.faults output.new) }
-    ensures no_output_fault { result ≢ RunEnd.OutputFault → O.faults output.new ≡ O.faults output.old }
+    ensures input_faults { TellsFault RunEnd.InputFault result (S.faults input.old) (S.faults input.new) }
+    ensures output_faults { TellsFault RunEnd.OutputFault result (O.faults output.old) (O.faults output.new) }
     ensures stands { M.stands machine.new keeper.new }
     ensures follows { M.follows keeper.old keeper.new }
 {

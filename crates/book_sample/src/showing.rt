@@ -1,5 +1,5 @@
-ghost use Rattle.std.specs.Prelude.{◌≡◌, ◌≢◌, IfOk};
-ghost use Rattle.book_keeper.specs.Faults.{Rose};
+ghost use Rattle.std.specs.Prelude.{IfOk};
+ghost use Rattle.book_lines.specs.EndFaults.{TellsFault};
 ghost use Rattle.book_lines.specs.Lines.{AreAll, lines};
 ghost use Rattle.book_lines.specs.Transcript.{IsTranscript};
 ghost use Rattle.book_sample.specs.Sample.{sample_text};
@@ -71,8 +71,7 @@ pub fn show_sample<W, K, M: Machine<W, K>, O: Sink>(
     requires { M.stands machine.old keeper.old }
     ensures shown { IsShown M.answers machine.old (sample_text number) (O.written output.old) (O.written output.new)
         result }
-    ensures output_fault { result ≡ SampleEnd.OutputFault → Rose (O.faults output.old) (O.faults output.new) }
-    ensures no_output_fault { result ≢ SampleEnd.OutputFault → O.faults output.new ≡ O.faults output.old }
+    ensures output_faults { TellsFault SampleEnd.OutputFault result (O.faults output.old) (O.faults output.new) }
 {
     let Ok(answers) = answers_to::<W, K, M>(alloc, machine, keeper, number, room) else {
         return SampleEnd::OutOfMemory;

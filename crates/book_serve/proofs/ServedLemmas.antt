@@ -7,6 +7,7 @@ use Rattle.std.proofs.lemmas.List.{map-append}
 use Rattle.std.proofs.lemmas.List.Elements.{All-append, All-cons, All-nil}
 use Rattle.book_keeper.specs.Faults.{Rose}
 use Rattle.book_keeper.specs.Stream.{Are}
+use Rattle.book_lines.specs.EndFaults.{TellsFault}
 use Rattle.book_lines.specs.RunClause.{at}
 use Rattle.book_ports.specs.Accepting.{HasNothing, IsFirst, with_last}
 use Rattle.book_serve.specs.Exchange.{RequestRelation}
@@ -165,16 +166,14 @@ pub served_link : {S L : Type 0} (answers : RequestRelation S) (of : LinkReports
     → HasAnsweredLink answers (of.left link.accepted) (of.left link.closed)
     (at a.machine (of.written link.accepted) a.faults)
     (at b.machine (of.written link.closed) b.faults) link.end
-    → (link.end ≡ end.ReadFault → Rose (of.read_faults link.accepted) (of.read_faults link.closed))
-    → ((link.end ≡ end.ReadFault → ⊥) → of.read_faults link.closed ≡ of.read_faults link.accepted)
-    → (link.end ≡ end.WriteFault → Rose (of.write_faults link.accepted) (of.write_faults link.closed))
-    → ((link.end ≡ end.WriteFault → ⊥) → of.write_faults link.closed ≡ of.write_faults link.accepted)
+    → TellsFault end.ReadFault link.end (of.read_faults link.accepted) (of.read_faults link.closed)
+    → TellsFault end.WriteFault link.end (of.write_faults link.accepted) (of.write_faults link.closed)
     → IsFirst link.accepted a.coming coming → b.coming ≡ coming
     → closed ≡ a.closed → b.closed ≡ with_last link.closed closed
     → count ≡ a.accepted + 1 → b.accepted ≡ count → given ≡ port → b.port ≡ given
     → HasServedLink answers of port a b link
-served_link answers of port a b link coming closed count given unwritten none_read none_written served read_fault
-    no_read_fault write_fault no_write_fault first coming_is closed_is last count_is accepted_is given_is port_is =
+served_link answers of port a b link coming closed count given unwritten none_read none_written served reads writes
+    first coming_is closed_is last count_is accepted_is given_is port_is =
     record {
       in_turn = (
         b.machine,
@@ -182,10 +181,10 @@ served_link answers of port a b link coming closed count given unwritten none_re
         record {
           unwritten = unwritten;
           served = served;
-          read_fault = λ e. rose_some _ _ none_read (read_fault e);
-          no_read_fault = λ n. no_read_fault n ∙ none_read;
-          write_fault = λ e. rose_some _ _ none_written (write_fault e);
-          no_write_fault = λ n. no_write_fault n ∙ none_written;
+          read_fault = λ e. rose_some _ _ none_read (reads.rose e);
+          no_read_fault = λ n. reads.same n ∙ none_read;
+          write_fault = λ e. rose_some _ _ none_written (writes.rose e);
+          no_write_fault = λ n. writes.same n ∙ none_written;
         },
         (refl, refl),
       );

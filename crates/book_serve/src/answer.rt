@@ -1,6 +1,7 @@
-ghost use Rattle.std.specs.Prelude.{◌≡◌, ◌≢◌, true, false, Err, IfErr, IfOk, IsTrue, OnOk, OnErr};
-ghost use Rattle.book_keeper.specs.Faults.{HasCause, Rose};
+ghost use Rattle.std.specs.Prelude.{◌≡◌, true, false, Err, IfErr, IfOk, IsTrue, OnOk, OnErr};
+ghost use Rattle.book_keeper.specs.Faults.{HasCause};
 ghost use Rattle.book_keeper.specs.Stream.{Wrote, WrotePart};
+ghost use Rattle.book_lines.specs.EndFaults.{TellsFault};
 ghost use Rattle.book_lines.specs.Loop.{text_of};
 ghost use Rattle.book_lines.specs.Marks.{memory_answer, keeper_answer};
 ghost use Rattle.book_lines.specs.RunClause.{at};
@@ -91,8 +92,7 @@ pub fn answer_request<W, K, M: Responder<W, K>, O: Sink>(
     ensures ended { let before = at machine.old (O.written output.old) (M.faults keeper.old) in
         let after = at machine.new (O.written output.new) (M.faults keeper.new) in
         IfErr result (EndsByRequest M.answers before request after) }
-    ensures fault { result ≡ Err LinkEnd.WriteFault → Rose (O.faults output.old) (O.faults output.new) }
-    ensures no_fault { result ≢ Err LinkEnd.WriteFault → O.faults output.new ≡ O.faults output.old }
+    ensures write_faults { TellsFault (Err LinkEnd.WriteFault) result (O.faults output.old) (O.faults output.new) }
     ensures stands { M.stands machine.new keeper.new }
     ensures follows { M.follows keeper.old keeper.new }
 {
@@ -119,8 +119,7 @@ fn refusal_response(alloc: Global, status: u16) -> Result<Bytes, OutOfMemory>
 pub fn refuse<O: Sink>(alloc: Global, output: &mut O, status: u16) -> LinkEnd
     requires { IsTrue (is_answered status) }
     ensures ended { EndsByRefusal (O.written output.old) (O.written output.new) status result }
-    ensures fault { result ≡ LinkEnd.WriteFault → Rose (O.faults output.old) (O.faults output.new) }
-    ensures no_fault { result ≢ LinkEnd.WriteFault → O.faults output.new ≡ O.faults output.old }
+    ensures write_faults { TellsFault LinkEnd.WriteFault result (O.faults output.old) (O.faults output.new) }
 {
     let Ok(bytes) = refusal_response(alloc, status) else {
         return LinkEnd::OutOfMemory;

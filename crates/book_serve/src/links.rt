@@ -1,5 +1,5 @@
-ghost use Rattle.std.specs.Prelude.{◌≡◌, ◌≢◌, Err, IfErr, OnOk};
-ghost use Rattle.book_keeper.specs.Faults.{Rose};
+ghost use Rattle.std.specs.Prelude.{◌≡◌, Err, IfErr, OnOk};
+ghost use Rattle.book_lines.specs.EndFaults.{TellsFault};
 ghost use Rattle.book_lines.specs.RunClause.{at};
 ghost use Rattle.book_serve.specs.Link.{HasAnsweredLink};
 ghost use Rattle.book_serve.specs.Served.{EndsServing, HasServedNext, IsServing, server_state, link_reports};
@@ -22,10 +22,8 @@ fn serve_whole<W, K, M: Responder<W, K>, L: Link>(
     ensures served { let before = at machine.old (L.written link) (M.faults keeper.old) in
         let after = at machine.new (L.written result.0) (M.faults keeper.new) in
         HasAnsweredLink M.answers (L.left link) (L.left result.0) before after result.1 }
-    ensures read_fault { result.1 ≡ LinkEnd.ReadFault → Rose (L.Source.faults link) (L.Source.faults result.0) }
-    ensures no_read_fault { result.1 ≢ LinkEnd.ReadFault → L.Source.faults result.0 ≡ L.Source.faults link }
-    ensures write_fault { result.1 ≡ LinkEnd.WriteFault → Rose (L.Sink.faults link) (L.Sink.faults result.0) }
-    ensures no_write_fault { result.1 ≢ LinkEnd.WriteFault → L.Sink.faults result.0 ≡ L.Sink.faults link }
+    ensures read_faults { TellsFault LinkEnd.ReadFault result.1 (L.Source.faults link) (L.Source.faults result.0) }
+    ensures write_faults { TellsFault LinkEnd.WriteFault result.1 (L.Sink.faults link) (L.Sink.faults result.0) }
     ensures stands { M.stands machine.new keeper.new }
     ensures follows { M.follows keeper.old keeper.new }
 {
@@ -58,8 +56,7 @@ fn serve_next_link<W, K, M: Responder<W, K>, P: Ports>(
         (P.accepted_links ports.new) (P.port_given ports.new) in
         IfErr result (EndsServing M.answers of port before after) }
     ensures open_links { P.open_links ports.new ≡ P.open_links ports.old }
-    ensures fault { result ≡ Err ServeEnd.PortFault → Rose (P.faults ports.old) (P.faults ports.new) }
-    ensures no_fault { result ≢ Err ServeEnd.PortFault → P.faults ports.new ≡ P.faults ports.old }
+    ensures port_faults { TellsFault (Err ServeEnd.PortFault) result (P.faults ports.old) (P.faults ports.new) }
     ensures stands { M.stands machine.new keeper.new }
     ensures follows { M.follows keeper.old keeper.new }
 {
@@ -95,8 +92,7 @@ pub fn serve<W, K, M: Responder<W, K>, P: Ports>(
         (P.accepted_links ports.new) (P.port_given ports.new) in
         IsServing M.answers of links port before after result }
     ensures open_links { P.open_links ports.new ≡ P.open_links ports.old }
-    ensures fault { result ≡ ServeEnd.PortFault → Rose (P.faults ports.old) (P.faults ports.new) }
-    ensures no_fault { result ≢ ServeEnd.PortFault → P.faults ports.new ≡ P.faults ports.old }
+    ensures port_faults { TellsFault ServeEnd.PortFault result (P.faults ports.old) (P.faults ports.new) }
     ensures stands { M.stands machine.new keeper.new }
     ensures follows { M.follows keeper.old keeper.new }
 {

@@ -1,5 +1,5 @@
-ghost use Rattle.std.specs.Prelude.{◌≡◌, ◌≢◌, [], Err, IfErr, OnOk};
-ghost use Rattle.book_keeper.specs.Faults.{Rose};
+ghost use Rattle.std.specs.Prelude.{◌≢◌, [], Err, IfErr, OnOk};
+ghost use Rattle.book_lines.specs.EndFaults.{TellsFault};
 ghost use Rattle.book_lines.specs.RunClause.{at};
 ghost use Rattle.book_serve.specs.Link.{HasAnsweredLink, IsServed};
 ghost use Rattle.book_serve.specs.Serving.{HasAnsweredNext};
@@ -31,10 +31,8 @@ fn serve_next<W, K, M: Responder<W, K>, S: Source, O: Sink>(
         let after = at machine.new (O.written output.new) (M.faults keeper.new) in
         IfErr result (IsServed M.answers 1 inbox.old (S.left input.old) (S.left input.new) before after) }
     ensures unlimited { result ≢ Err LinkEnd.Limit }
-    ensures read_fault { result ≡ Err LinkEnd.ReadFault → Rose (S.faults input.old) (S.faults input.new) }
-    ensures no_read_fault { result ≢ Err LinkEnd.ReadFault → S.faults input.new ≡ S.faults input.old }
-    ensures write_fault { result ≡ Err LinkEnd.WriteFault → Rose (O.faults output.old) (O.faults output.new) }
-    ensures no_write_fault { result ≢ Err LinkEnd.WriteFault → O.faults output.new ≡ O.faults output.old }
+    ensures read_faults { TellsFault (Err LinkEnd.ReadFault) result (S.faults input.old) (S.faults input.new) }
+    ensures write_faults { TellsFault (Err LinkEnd.WriteFault) result (O.faults output.old) (O.faults output.new) }
     ensures stands { M.stands machine.new keeper.new }
     ensures follows { M.follows keeper.old keeper.new }
 {
@@ -63,10 +61,8 @@ pub fn serve_link<W, K, M: Responder<W, K>, S: Source, O: Sink>(
     ensures served { let before = at machine.old (O.written output.old) (M.faults keeper.old) in
         let after = at machine.new (O.written output.new) (M.faults keeper.new) in
         HasAnsweredLink M.answers (S.left input.old) (S.left input.new) before after result }
-    ensures read_fault { result ≡ LinkEnd.ReadFault → Rose (S.faults input.old) (S.faults input.new) }
-    ensures no_read_fault { result ≢ LinkEnd.ReadFault → S.faults input.new ≡ S.faults input.old }
-    ensures write_fault { result ≡ LinkEnd.WriteFault → Rose (O.faults output.old) (O.faults output.new) }
-    ensures no_write_fault { result ≢ LinkEnd.WriteFault → O.faults output.new ≡ O.faults output.old }
+    ensures read_faults { TellsFault LinkEnd.ReadFault result (S.faults input.old) (S.faults input.new) }
+    ensures write_faults { TellsFault LinkEnd.WriteFault result (O.faults output.old) (O.faults output.new) }
     ensures stands { M.stands machine.new keeper.new }
     ensures follows { M.follows keeper.old keeper.new }
 {

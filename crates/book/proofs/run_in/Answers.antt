@@ -21,11 +21,14 @@ returns g c = record {
       (c.at-keeper.ensures.empty sure) begun begins))
       (trusted_store over_files c.run_program-ended.new.keeper)
       c.run_program-ended.ensures.run;
-  usage = c.run_program-ended.ensures.usage;
+  causes = record {
+    usage = c.run_program-ended.ensures.causes.usage;
+    keeper_fault = λ fault.
+        rose_from_none _ _ c.at-keeper.ensures.faults (c.run_program-ended.ensures.causes.keeper_fault fault);
+    port_faults = c.run_program-ended.ensures.causes.port_faults;
+  };
   path = c.run_program-ended.ensures.path;
   memory = c.run_program-ended.ensures.memory;
-  keeper_fault = λ fault.
-      rose_from_none _ _ c.at-keeper.ensures.faults (c.run_program-ended.ensures.keeper_fault fault);
   serve =
       serve_seen _ (BeginsWith _) (AreBegun _) 0 _ _ _ _ c.at-keeper.ensures.faults
       (λ still.
@@ -40,6 +43,4 @@ returns g c = record {
       c.run_program-ended.ensures.serve;
   other_words = c.run_program-ended.ensures.other_words;
   open_links = c.run_program-ended.ensures.open_links;
-  port_fault = c.run_program-ended.ensures.port_fault;
-  no_port_fault = c.run_program-ended.ensures.no_port_fault;
 }

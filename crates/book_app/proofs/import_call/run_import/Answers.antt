@@ -1,9 +1,10 @@
-use Rattle.std.proofs.Common.{sym, subst}
+use Rattle.std.proofs.Common.{◌≡◌, ◌∙◌, None, Some, sym, subst}
 use Rattle.book_engine.specs.Books.{machine_kept}
 use Rattle.book_app.specs.Numbers.{status_unopened}
 use Rattle.book_app.specs.StatusClause.{IsBookRun, over}
-use Rattle.book_app.specs.Words.{Import}
+use Rattle.book_app.specs.Words.{Import, named_book}
 use Rattle.book_app.specs.declared.status.Status.{Status}
+use Rattle.book_app.proofs.CauseLemmas.{causes_of_run}
 use Rattle.book_engine.proofs.StandLemmas.{kept_format}
 use Rattle.book_app.proofs.StatusClauseLemmas.{not_asked, run_of_import, run_of_nothing, same_rows, still_unopened, unopened, unopened_import}
 use Rattle.book_app.proofs.StatusClauseLemmas.{untouched}
@@ -33,6 +34,13 @@ returns-in-Ok-open_book-clause-run g c =
     (λ is. same_rows g.K.Keeper c.args.keeper.now c.open_book.new.keeper
     c.import_input.new.keeper (c.import_input.ensures.fault is) c.in-Ok-open_book.ensures.before)
     c.import_input.ensures.run
+
+pub returns-in-Ok-open_book-clause-causes : goal.returns-in-Ok-open_book-clause-causes
+returns-in-Ok-open_book-clause-causes g c =
+    let run = c.import_input.ensures.run in
+    causes_of_run (named_book c.args.words.now ≡ None) _ _ _ _ _ _ run.ended c.import_input.result
+    (λ none. let e : Some c.in-Some.book.now ≡ None = c.in-Some.ensures ∙ none in cc) run.status_is
+    c.import_input.ensures.causes
 
 pub returns-clause-run : goal.returns-clause-run
 returns-clause-run g c =

@@ -3,11 +3,11 @@ use Rattle.std.specs.Prelude.{IfSome}
 use Rattle.book_serve.specs.Served.{link_reports}
 use Rattle.book_app.specs.ServeClause.{ServeClause, across}
 use Rattle.book_app.specs.StatusClause.{IsBookRun, over}
-use Rattle.book_app.specs.Words.{named_import, named_serve, work_named}
-use Rattle.book_app.specs.declared.status.Status.TheVariants.{InputFault, KeeperFault, PortFault, Usage}
+use Rattle.book_app.specs.Words.{AreNoWords, named_import, named_serve, work_named}
 use Rattle.book_app.specs.declared.words.ServeWords.{ServeWords}
+use Rattle.book_app.proofs.CauseLemmas.{causes_of_sample}
 use Rattle.book_app.proofs.ServeLemmas.{sample_serves_none}
-use Rattle.book_app.proofs.StatusClauseLemmas.{no_sample, not_asked, path_of_sample, run_of_sample}
+use Rattle.book_app.proofs.StatusClauseLemmas.{not_asked, path_of_sample, run_of_sample}
 use Rattle.book_app.proofs.main_call.book_main.Goals as goal
 
 -- the words name a number
@@ -24,27 +24,11 @@ returns-in-Some-clause-path g c =
     path_of_sample c.args.words.now (g.K.Keeper.path_given c.args.keeper.now) c.in-Some.number c.run_sample.result
     c.in-Some.ensures
 
-pub returns-in-Some-clause-usage : goal.returns-in-Some-clause-usage
-returns-in-Some-clause-usage g c = (
-  λ is. absurd (no_sample c.in-Some.number _ _ c.run_sample.result Usage c.run_sample.ensures.shown
-      (λ text never. never) is),
-  λ none. absurd (let e : Some c.in-Some.number ≡ None = c.in-Some.ensures ∙ none.no_number in cc),
-)
-
-pub returns-in-Some-clause-keeper_fault : goal.returns-in-Some-clause-keeper_fault
-returns-in-Some-clause-keeper_fault g c =
-    λ is. absurd (no_sample c.in-Some.number _ _ c.run_sample.result KeeperFault c.run_sample.ensures.shown
-    (λ text never. never) is)
-
-pub returns-in-Some-clause-input_fault : goal.returns-in-Some-clause-input_fault
-returns-in-Some-clause-input_fault g c =
-    λ is. absurd (no_sample c.in-Some.number _ _ c.run_sample.result InputFault c.run_sample.ensures.shown
-    (λ text never. never) is)
-
-pub returns-in-Some-clause-port_fault : goal.returns-in-Some-clause-port_fault
-returns-in-Some-clause-port_fault g c =
-    λ is. absurd (no_sample c.in-Some.number _ _ c.run_sample.result PortFault c.run_sample.ensures.shown
-    (λ text never. never) is)
+pub returns-in-Some-clause-causes : goal.returns-in-Some-clause-causes
+returns-in-Some-clause-causes g c =
+    causes_of_sample (AreNoWords c.args.words.now) _ _ _ _ _ c.in-Some.number _ _ c.run_sample.result
+    (λ none. let e : Some c.in-Some.number ≡ None = c.in-Some.ensures ∙ none.no_number in cc)
+    c.run_sample.ensures.shown c.run_sample.ensures.output_faults
 
 pub returns-in-Some-clause-serve : goal.returns-in-Some-clause-serve
 returns-in-Some-clause-serve g c =
@@ -65,8 +49,17 @@ returns-in-None-clause-run g c =
     (g.O.Sink.written c.args.output.now) (g.O.Sink.written c.run_with_book.new.output) c.run_with_book.result)
     c.in-None.ensures c.run_with_book.ensures.run
 
-pub returns-in-None-clause-usage : goal.returns-in-None-clause-usage
-returns-in-None-clause-usage g c = (
-  λ is. record { no_book = c.run_with_book.ensures.usage.0 is; no_number = sym c.in-None.ensures },
-  λ none. c.run_with_book.ensures.usage.1 none.no_book,
-)
+pub returns-in-None-clause-causes : goal.returns-in-None-clause-causes
+returns-in-None-clause-causes g c =
+    let causes = c.run_with_book.ensures.causes in
+    record {
+      book = record {
+        usage = (
+          λ is. record { no_book = causes.book.usage.0 is; no_number = sym c.in-None.ensures },
+          λ none. causes.book.usage.1 none.no_book,
+        );
+        keeper_fault = causes.book.keeper_fault;
+        port_faults = causes.book.port_faults;
+      };
+      streams = causes.streams;
+    }

@@ -1,9 +1,10 @@
-use Rattle.std.proofs.Common.{sym, subst}
+use Rattle.std.proofs.Common.{◌≡◌, ◌∙◌, None, Some, sym, subst}
 use Rattle.book_engine.specs.Books.{machine_kept}
 use Rattle.book_app.specs.Numbers.{status_unopened}
 use Rattle.book_app.specs.StatusClause.{IsBookRun, over}
-use Rattle.book_app.specs.Words.{Lines}
+use Rattle.book_app.specs.Words.{Lines, named_book}
 use Rattle.book_app.specs.declared.status.Status.{Status}
+use Rattle.book_app.proofs.CauseLemmas.{causes_of_run}
 use Rattle.book_engine.proofs.StandLemmas.{kept_format}
 use Rattle.book_app.proofs.StatusClauseLemmas.{run_of_lines, run_of_nothing, still_unopened, unopened, unopened_clause, untouched}
 use Rattle.book_app.proofs.StatusClauseLemmas.{not_asked}
@@ -27,6 +28,13 @@ returns-in-Ok-open_book-clause-run g c =
     (λ honest rows held. c.in-Ok-open_book.ensures.opened (later.still_honest honest) rows held)
     (λ still. let stood = c.run_lines.ensures.stands.rows still in (stood.0, stood.1, stood.2.0, kept_format c.run_lines.new.engine stood.0 stood.2))
     c.run_lines.ensures.stands.left c.run_lines.ensures.run
+
+pub returns-in-Ok-open_book-clause-causes : goal.returns-in-Ok-open_book-clause-causes
+returns-in-Ok-open_book-clause-causes g c =
+    let run = c.run_lines.ensures.run in
+    causes_of_run (named_book c.args.words.now ≡ None) _ _ _ _ _ _ run.ended c.run_lines.result
+    (λ none. let e : Some c.in-Some.book.now ≡ None = c.in-Some.ensures ∙ none in cc) run.status_is
+    c.run_lines.ensures.causes
 
 pub returns-clause-run : goal.returns-clause-run
 returns-clause-run g c =

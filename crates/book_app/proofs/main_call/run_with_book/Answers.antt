@@ -6,7 +6,8 @@ use Rattle.book_app.specs.StatusClause.{IsBookRun, over}
 use Rattle.book_app.specs.Words.{named_import, work_named}
 use Rattle.book_app.specs.declared.words.ServeWords.{ServeWords}
 use Rattle.book_app.specs.declared.status.Status.TheVariants.{InputFault, OutputFault}
-use Rattle.book_app.proofs.StatusClauseLemmas.{no_port_fault, no_serving, run_of_serving}
+use Rattle.book_app.proofs.CauseLemmas.{tells_none}
+use Rattle.book_app.proofs.StatusClauseLemmas.{no_serving, run_of_serving}
 use Rattle.book_app.proofs.main_call.run_with_book.Goals as goal
 
 -- the words are those of `serve`
@@ -17,17 +18,24 @@ returns-in-Some-clause-run g c =
     c.run_serve.result c.run_serve.ensures.rows
     (ap (λ (named : Option ServeWords). work_named (named_import c.args.words.now) named None) c.in-Some.ensures)
 
-pub returns-in-Some-clause-input_fault : goal.returns-in-Some-clause-input_fault
-returns-in-Some-clause-input_fault g c =
-    λ is. absurd (no_serving
-    (over g.K.Keeper c.args.keeper.now c.run_serve.new.keeper)
-    c.run_serve.result InputFault c.run_serve.ensures.rows (λ never. never) is)
-
-pub returns-in-Some-clause-output_fault : goal.returns-in-Some-clause-output_fault
-returns-in-Some-clause-output_fault g c =
-    λ is. absurd (no_serving
-    (over g.K.Keeper c.args.keeper.now c.run_serve.new.keeper)
-    c.run_serve.result OutputFault c.run_serve.ensures.rows (λ never. never) is)
+pub returns-in-Some-clause-causes : goal.returns-in-Some-clause-causes
+returns-in-Some-clause-causes g c =
+    let keeping = over g.K.Keeper c.args.keeper.now c.run_serve.new.keeper in
+    let causes = c.run_serve.ensures.causes in
+    let rows = c.run_serve.ensures.rows in
+    record {
+      book = record {
+        usage = causes.usage;
+        keeper_fault = causes.keeper_fault;
+        port_faults = causes.port_faults;
+      };
+      streams = record {
+        input_faults = tells_none InputFault c.run_serve.result _
+            (no_serving keeping c.run_serve.result InputFault rows (λ never. never));
+        output_faults = tells_none OutputFault c.run_serve.result _
+            (no_serving keeping c.run_serve.result OutputFault rows (λ never. never));
+      };
+    }
 
 pub returns-in-Some-clause-serve : goal.returns-in-Some-clause-serve
 returns-in-Some-clause-serve g c =
@@ -61,11 +69,3 @@ returns-in-None-clause-serve g c =
     subst
     (λ (named : Option ServeWords). IfSome named (λ serve. ServeClause serve keeping of ports c.run_over_input.result))
     c.in-None.ensures tt
-
-pub returns-in-None-clause-port_fault : goal.returns-in-None-clause-port_fault
-returns-in-None-clause-port_fault g c =
-    λ is. absurd (no_port_fault (named_import c.args.words.now)
-    (over g.K.Keeper c.args.keeper.now c.run_over_input.new.keeper)
-    (g.S.Source.left c.args.input.now) (g.S.Source.left c.run_over_input.new.input)
-    (g.O.Sink.written c.args.output.now) (g.O.Sink.written c.run_over_input.new.output) c.run_over_input.result
-    c.run_over_input.ensures.run is)

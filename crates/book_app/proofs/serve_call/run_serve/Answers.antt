@@ -1,10 +1,11 @@
-use Rattle.std.proofs.Common.{ap, sym, subst, ◌∙◌, inl}
+use Rattle.std.proofs.Common.{◌≡◌, ◌∙◌, None, Some, sym, subst, inl}
 use Rattle.book_serve.specs.Served.{link_reports}
-use Rattle.book_app.specs.Numbers.{status_served}
 use Rattle.book_app.specs.ServeClause.{ServeClause, across}
 use Rattle.book_app.specs.StatusClause.{ServedRows, over}
+use Rattle.book_app.specs.Words.{named_book}
 use Rattle.book_app.specs.declared.status.Status.{Status}
-use Rattle.book_app.proofs.ServeLemmas.{has_served, no_port_unopened, none_accepted, port_end, served_clause, served_rows}
+use Rattle.book_app.proofs.CauseLemmas.{causes_of_serving}
+use Rattle.book_app.proofs.ServeLemmas.{has_served, none_accepted, served_clause, served_rows}
 use Rattle.book_app.proofs.ServeLemmas.{unopened_links}
 use Rattle.book_engine.proofs.StandLemmas.{kept_format}
 use Rattle.book_app.proofs.StatusClauseLemmas.{not_asked, still_unopened, unopened_rows}
@@ -57,13 +58,11 @@ returns-in-Ok-open_book-clause-serve g c =
     subst (λ (s : Status). ServeClause c.args.serve keeping of ports s) (sym c.status_served.ensures)
     (served_clause c.args.serve keeping of ports c.serve_links.result served)
 
-pub returns-in-Ok-open_book-clause-port_fault : goal.returns-in-Ok-open_book-clause-port_fault
-returns-in-Ok-open_book-clause-port_fault g c =
-    λ is. c.serve_links.ensures.port_fault (port_end c.serve_links.result (sym c.status_served.ensures ∙ is))
-
-pub returns-in-Ok-open_book-clause-no_port_fault : goal.returns-in-Ok-open_book-clause-no_port_fault
-returns-in-Ok-open_book-clause-no_port_fault g c =
-    λ other. c.serve_links.ensures.no_port_fault (λ is. other (c.status_served.ensures ∙ ap status_served is))
+pub returns-in-Ok-open_book-clause-causes : goal.returns-in-Ok-open_book-clause-causes
+returns-in-Ok-open_book-clause-causes g c =
+    causes_of_serving (named_book c.args.words.now ≡ None) _ _ _ _ c.serve_links.result c.status_served.result
+    (λ none. let e : Some c.in-Some.book.now ≡ None = c.in-Some.ensures ∙ none in cc) c.status_served.ensures
+    c.serve_links.ensures.port_faults
 
 -- no book was opened
 pub returns-clause-rows : goal.returns-clause-rows
@@ -80,6 +79,3 @@ returns-clause-serve g c =
     c.args.ports.now c.args.ports.now in
     subst (λ (s : Status). ServeClause c.args.serve keeping of ports s) (sym c.status_unopened.ensures)
     (unopened_links c.args.serve keeping of ports c.in-Err.error (none_accepted _ _ _ _) c.in-Err.ensures.before)
-
-pub returns-clause-port_fault : goal.returns-clause-port_fault
-returns-clause-port_fault g c = λ is. absurd (no_port_unopened c.in-Err.error (sym c.status_unopened.ensures ∙ is))

@@ -11,36 +11,15 @@ returns g c =
           sure-run machine g.row.ROOM c.args.input.now new.input c.args.keeper.now new.keeper c.args.output.now
           new.output c.kept.ensures.fits c.rows.ensures.rises c.rows-2.ensures.rises opens c.args.words.now
           (g.P.Ports.faults c.args.ports.now) (g.P.Ports.faults new.ports) c.book_main-status.result are all
-          (record {
-            usage = run.usage;
-            keeper_fault = run.keeper_fault;
-            input_fault = run.input_fault;
-            output_fault = run.output_fault;
-            port_fault = run.port_fault;
-          })
-          run.run;
+          run.causes run.run;
       import = λ machine import ask opens few.
           sure-import machine g.row.ROOM c.args.input.now new.input c.args.keeper.now new.keeper c.args.output.now
           new.output c.kept.ensures.fits c.rows.ensures.rises c.rows-2.ensures.rises opens c.args.words.now import
           (g.P.Ports.faults c.args.ports.now) (g.P.Ports.faults new.ports) c.book_main-status.result ask few
-          (record {
-            usage = run.usage;
-            keeper_fault = run.keeper_fault;
-            input_fault = run.input_fault;
-            output_fault = run.output_fault;
-            port_fault = run.port_fault;
-          })
-          run.run;
+          run.causes run.run;
       sample = λ number ask.
           sure-sample number g.row.ROOM (sure_keeping c.args.keeper.now new.keeper) (Some c.args.input.now.left)
           (Some new.input.left) c.args.output.now new.output c.args.words.now (g.P.Ports.faults c.args.ports.now)
           (g.P.Ports.faults new.ports) c.book_main-status.result c.kept.ensures.fits ask
-          (record {
-            usage = run.usage;
-            keeper_fault = run.keeper_fault;
-            input_fault = run.input_fault;
-            output_fault = run.output_fault;
-            port_fault = run.port_fault;
-          })
-          run.run;
+          run.causes run.run;
     }

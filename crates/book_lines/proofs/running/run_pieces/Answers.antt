@@ -148,7 +148,7 @@ pieces-preserved g c =
       );
       fits = c.in-Ok.ensures.limit (omega (arith, c.pieces.invariant.fits, c.if-taken-eq-MAX_BYTES.false));
       input = c.in-Ok.ensures.cause.done ∙ c.pieces.invariant.input;
-      output = c.take_piece.ensures.no_output_fault (c.in_default.not-Err OutputFault) ∙ c.pieces.invariant.output;
+      output = c.take_piece.ensures.output_faults.same (c.in_default.not-Err OutputFault) ∙ c.pieces.invariant.output;
       stands = c.take_piece.ensures.stands;
       follows = g.met.M.Machine.follows_through _ _ _ c.pieces.invariant.follows c.take_piece.ensures.follows;
     }

@@ -35,7 +35,7 @@ links-preserved g c =
           c.links.invariant.served c.in_default.ensures.served;
       few = let more = c.links-test.true in omega (arith, more);
       open_links = c.serve_next_link.ensures.open_links ∙ c.links.invariant.open_links;
-      quiet = c.serve_next_link.ensures.no_fault (c.in_default.not-Err PortFault) ∙ c.links.invariant.quiet;
+      quiet = c.serve_next_link.ensures.port_faults.same (c.in_default.not-Err PortFault) ∙ c.links.invariant.quiet;
       stands = c.serve_next_link.ensures.stands;
       follows = g.met.M.Responder.follows_through _ _ _ c.links.invariant.follows c.serve_next_link.ensures.follows;
     }

@@ -21,8 +21,8 @@ returns-in-OutOfMemory-clause-ended g c =
           (record { accepted = c.in-Ok-Some.link; closed = w.result.0; end = w.result.1 }) (g.P.Ports.coming given)
           (g.P.Ports.closed given) (g.P.Ports.accepted_links given) (g.P.Ports.port_given given)
           (rw is at c.in-Ok-Some.ensures.unwritten) (rw is at c.in-Ok-Some.ensures.no_read_fault)
-          (rw is at c.in-Ok-Some.ensures.no_write_fault) w.ensures.served w.ensures.read_fault w.ensures.no_read_fault
-          w.ensures.write_fault w.ensures.no_write_fault (rw is at c.in-Ok-Some.ensures.first) c.close.ensures.coming
+          (rw is at c.in-Ok-Some.ensures.no_write_fault) w.ensures.served w.ensures.read_faults
+          w.ensures.write_faults (rw is at c.in-Ok-Some.ensures.first) c.close.ensures.coming
           c.in-Ok-Some.ensures.closed c.close.ensures.closed (rw is at c.in-Ok-Some.ensures.accepted)
           c.close.ensures.accepted (rw is at c.in-Ok-Some.ensures.port) c.close.ensures.port,
       c.in-OutOfMemory.is,
@@ -47,8 +47,8 @@ returns-in_default-clause-served g c =
           (record { accepted = c.in-Ok-Some.link; closed = w.result.0; end = w.result.1 }) (g.P.Ports.coming given)
           (g.P.Ports.closed given) (g.P.Ports.accepted_links given) (g.P.Ports.port_given given)
           (rw is at c.in-Ok-Some.ensures.unwritten) (rw is at c.in-Ok-Some.ensures.no_read_fault)
-          (rw is at c.in-Ok-Some.ensures.no_write_fault) w.ensures.served w.ensures.read_fault w.ensures.no_read_fault
-          w.ensures.write_fault w.ensures.no_write_fault (rw is at c.in-Ok-Some.ensures.first) c.close.ensures.coming
+          (rw is at c.in-Ok-Some.ensures.no_write_fault) w.ensures.served w.ensures.read_faults
+          w.ensures.write_faults (rw is at c.in-Ok-Some.ensures.first) c.close.ensures.coming
           c.in-Ok-Some.ensures.closed c.close.ensures.closed (rw is at c.in-Ok-Some.ensures.accepted)
           c.close.ensures.accepted (rw is at c.in-Ok-Some.ensures.port) c.close.ensures.port,
       c.in_default.not-OutOfMemory,

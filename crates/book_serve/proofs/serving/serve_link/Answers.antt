@@ -31,8 +31,8 @@ requests-preserved g c =
           (g.S.Source.left c.serve_next.new.input) start now then' c.requests.count c.requests.invariant.served
           e.stepped;
       few = let open' = c.requests-test.true in omega (arith, open');
-      input = c.serve_next.ensures.no_read_fault (c.in_default.not-Err ReadFault) ∙ c.requests.invariant.input;
-      output = c.serve_next.ensures.no_write_fault (c.in_default.not-Err WriteFault) ∙ c.requests.invariant.output;
+      input = c.serve_next.ensures.read_faults.same (c.in_default.not-Err ReadFault) ∙ c.requests.invariant.input;
+      output = c.serve_next.ensures.write_faults.same (c.in_default.not-Err WriteFault) ∙ c.requests.invariant.output;
       stands = e.stands;
       follows = g.met.M.Responder.follows_through _ _ _ c.requests.invariant.follows e.follows;
     }
