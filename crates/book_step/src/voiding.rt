@@ -70,7 +70,11 @@ pub(crate) fn check_not_voided(number: u64, transaction: &Txn) -> Result<(), Rul
 }
 
 /// The transaction that has the split of this number is not voided.
-pub(crate) fn check_holder_not_voided(present: &Present, number: u64, held: &Held) -> Result<(), Rule>
+pub(crate) fn check_holder_not_voided(
+    present: &Present,
+    number: u64,
+    held: &Held,
+) -> Result<(), Rule>
     requires { IsHeld present.now.book.transactions number held.now }
     ensures { ReportsFirst (voided_transaction_of present.now.book.transactions number ∷ []) result }
 {
