@@ -46,8 +46,10 @@ Shows what the book in the file BOOK has, and changes nothing in it. WORD .. is 
   journal             all transactions by day, with their splits
   journal FROM TO     those from one day to another, as 2024-01-31
   account NUMBER      the register of an account, with the other side of each split
-  find TEXT           the transactions with TEXT in num, description or a memo
-  command NUMBER      the line `edit` of a transaction as it stands
+  find TEXT           the transactions with TEXT in num, description, a memo or
+                      the reason for which they were voided
+  command NUMBER      the line `edit` of a transaction as it stands; of a voided
+                      one `unvoid`, and then `edit` with what it had
   export              the whole book, as a journal for ledger and hledger
   check               what is wrong with the file, or how much a sound book has
   copy TO             makes a copy of the book at the path TO
